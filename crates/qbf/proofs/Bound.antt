@@ -1,0 +1,52 @@
+-- With n places left a walk makes fewer than 2 ^ (n + 1) visits, on any state.
+use Prim.Native.Nat.{ℕ, zero, suc, _+_, _*_, _^_, _≤_, _<_, suc-le-suc, zero-le}
+use native.Mathlib.Omega.{arith}
+use mathlib.Core.Path.{_≡_, refl, sym, ap, _∙_}
+use mathlib.Core.Bool.{Bool, true, false, cond}
+use mathlib.Core.List.{List, [], _∷_}
+use mathlib.Core.Option.{Option, none, some}
+use lib.ListN.{length}
+use lib.Dec.{eqb, leb}
+use Rattle.qbf.specs.Formula.{Clause, Limits, Node, Prefix, Quantifier, _▹_}
+use Rattle.qbf.specs.Truth.{Outcome, decided, mixed}
+use Rattle.qbf.specs.Learning.{Constraint, LearningResult, Next, Store, afterOff, below, goesUp, leaf, learningSearch, onward, proceed, raise, settle, up, upOrOnward, visit}
+use Rattle.qbf.proofs.Visits.{on-visits}
+
+module _ (L : Limits) (D : Prefix) (R : List Clause) where
+  -- what is done after an off side of n visits adds one, and the on side's visits if that is visited
+  abbrev pub Counts : ℕ → Next → Type 0
+  Counts n (up r) = r .visits ≡ suc n
+  Counts n (onward k) = (q : LearningResult) → k q .visits ≡ suc (n + q .visits)
+
+  pub counts : (κ : Quantifier) (s : Node) (o : Outcome Constraint) (st : Store) (n : ℕ) → Counts n (afterOff L D R κ s o st n)
+  counts κ s (mixed ls) st n = λ q. refl
+  counts κ s (decided b A) st n = by (goesUp D κ (suc (length s)) b A)
+    where
+      by : (x : Bool) → Counts n (upOrOnward L D R x κ s b A st n)
+      by true = refl
+      by false = λ q. on-visits L D R κ s b A (q .outcome) (q .store) (suc (n + q .visits))
+
+  went-bound : (m n : ℕ) (o : Next) → Counts m o → (g : Store → LearningResult) (st : Store) → m < 2 ^ n → g st .visits < 2 ^ n → proceed o g st .visits < 2 ^ suc n
+  went-bound m n (up r) c g st h k = omega (arith, c, h)
+  went-bound m n (onward f) c g st h k = omega (arith, c (g st), h, k)
+
+  visit-bound : (eligible : ℕ → ℕ → Bool) (next : Node → Store → LearningResult) (n : ℕ) (s : Node) (st : Store) → next s st .visits < 2 ^ suc n → visit D R eligible next s st .visits < 2 ^ suc n
+  visit-bound eligible next n s st h = by (leaf D R eligible s st)
+    where
+      by : (o : Option (Outcome Constraint)) → settle o next s st .visits < 2 ^ suc n
+      by none = h
+      by (some o) = omega (arith, h)
+
+  below-bound : (ks : List Quantifier) (s : Node) (st : Store) → below L D R ks s st .visits < 2 ^ suc (length ks)
+  below-bound [] s st = omega arith
+  below-bound (κ ∷ ks) s st =
+      went-bound (f (s ▹ false) st .visits) (suc (length ks)) (afterOff L D R κ s (f (s ▹ false) st .outcome) (f (s ▹ false) st .store) (f (s ▹ false) st .visits))
+      (counts κ s (f (s ▹ false) st .outcome) (f (s ▹ false) st .store) (f (s ▹ false) st .visits)) (f (s ▹ true)) (f (s ▹ false) st .store)
+      (visit-bound eqb (below L D R ks) (length ks) (s ▹ false) st (below-bound ks (s ▹ false) st))
+      (visit-bound eqb (below L D R ks) (length ks) (s ▹ true) (f (s ▹ false) st .store) (below-bound ks (s ▹ true) (f (s ▹ false) st .store)))
+    where
+      f : Node → Store → LearningResult
+      f t st′ = raise D (visit D R eqb (below L D R ks) t st′)
+
+  pub search-bound : (ks : List Quantifier) (s : Node) (st : Store) → learningSearch L D R ks s st .visits < 2 ^ suc (length ks)
+  search-bound ks s st = visit-bound leb (below L D R ks) (length ks) s st (below-bound ks s st)

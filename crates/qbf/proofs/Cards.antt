@@ -1,0 +1,66 @@
+-- Demand 2: the card of a reached state.
+use Prim.Native.Nat.{ℕ, zero, suc, _+_, _*_, _-_, _≤_, _<_, zero-le, suc-le-suc}
+use native.Mathlib.Nat.{not-suc-le-zero, le-of-suc-le-suc, suc-mul}
+use native.Mathlib.Omega.{arith}
+use mathlib.Core.Path.{_≡_, refl, sym, ap, _∙_, subst}
+use mathlib.Core.Logic.{_⊎_, inl, inr}
+use mathlib.Core.Bool.{Bool, true, false, cond, not, _&&_, _||_, true≢false, false≢true}
+use mathlib.Core.List.{List, [], _∷_, _++_, map}
+use lib.ListN.{length, replicate, length-append, length-map, length-replicate}
+use lib.Dec.{leb, leb→le, nleb→lt}
+use Rattle.qbf.specs.Formula.{Clause, Formula, Node, Prefix, quantifiers}
+use Rattle.qbf.specs.Truth.{freeVariables, outline, select, verdictOf}
+use Rattle.qbf.specs.Card.{Mem, byteOf, bytesOf, lineBytes, tableOf, zeroTable}
+use Rattle.qbf.specs.Calls.{Call, State, card, cardRefused, cardReply, cardReplyOf, formulaOk, guarded, lines, step}
+use Rattle.qbf.specs.Runs.{after, fresh}
+use Rattle.qbf.specs.Demands.{CardOwed, CardRight}
+use Rattle.qbf.proofs.Basics.{≡→T}
+use Rattle.qbf.proofs.WellFormed.{FormulaFacts, formula-facts, clauses-rising, capacity, free-before, inside}
+use Rattle.qbf.proofs.Starting.{starts-empty, learning, Searched, searched}
+use Rattle.qbf.proofs.Runs.{Reached, reached-formed, step-ok, fresh-reached}
+use Rattle.qbf.proofs.Topmost.{tops, card-right}
+
+bytes-length : (f : ℕ) (ls : List Node) → ((s : Node) → Mem s ls → length s ≤ f) → length (bytesOf f ls) ≡ length ls * f
+bytes-length f [] h = omega arith
+bytes-length f (s ∷ ls) h =
+    omega (arith, bytes-length f ls (λ t m. h t (inr m)), h s (inl refl), length-append (lineBytes f s) (bytesOf f ls), length-append (map byteOf s) (replicate (f - length s) 0), length-map s byteOf, length-replicate {A = ℕ} (f - length s) 0)
+
+module _ (p : Bool) (D : Prefix) (R : List Clause) where
+  table-length : (len : ℕ) (ls : List Node) → CardRight p D R ls → length ls * freeVariables D ≤ len → length (tableOf (freeVariables D) len ls) ≡ len
+  table-length len ls h fits =
+      omega (arith, fits, bytes-length (freeVariables D) ls (λ s m. h .topmost s .0 m .within), length-append (bytesOf (freeVariables D) ls) (replicate (len - length ls * freeVariables D) 0), length-replicate {A = ℕ} (len - length ls * freeVariables D) 0)
+
+  pub owed : (len : ℕ) (ls : List Node) → CardRight p D R ls → CardOwed p D R len (cardReply (freeVariables D) len ls)
+  owed len ls h = by (leb (length ls * freeVariables D) len) refl
+    where
+      by : (x : Bool) → leb (length ls * freeVariables D) len ≡ x → CardOwed p D R len (cond x (lines ls (tableOf (freeVariables D) len ls)) (cardRefused 21 (zeroTable len)))
+      by true e = record { right = h; table = refl; whole = table-length len ls h (leb→le (length ls * freeVariables D) len (≡→T (leb (length ls * freeVariables D) len) e)) }
+      by false e = record { number = refl; zeros = refl; them = ls; right = h; over = nleb→lt (length ls * freeVariables D) len (≡→T (not (leb (length ls * freeVariables D) len)) (ap not e)) }
+
+-- the outcome of a walk from the empty node, at a reached state, is the one by truth
+pub walk-true : (x : State) → Reached x → outline (learning (x .formula) (x .store) (quantifiers (x .formula .prefix)) [] .outcome) ≡ verdictOf (x .formula .prefix) (x .formula .clauses) (quantifiers (x .formula .prefix)) []
+walk-true x h = searched (x .formula) (x .store) (quantifiers (x .formula .prefix)) [] (h .formula-ok) (h .sound) (starts-empty (x .formula) (h .formula-ok)) .verdict
+
+pub after-reached : (x : State) → Reached x → (cs : List Call) → Reached (after x cs)
+after-reached x h [] = h
+after-reached x h (c ∷ cs) = after-reached (step x c .state) (step-ok x h c .next) cs
+
+-- the reply to a card, by truth
+pub card-reply : (x : State) → Reached x → (len : ℕ)
+    → step x (card len) .out .reply ≡ cardReply (freeVariables (x .formula .prefix)) len (select true (tops (x .formula .prefix) (x .formula .clauses) (quantifiers (x .formula .prefix)) []))
+card-reply x h len = ap (λ (g : Bool). guarded g x (card len) .out .reply) (reached-formed x h) ∙ ap (cardReplyOf true (x .formula .prefix) len) (walk-true x h)
+
+pub card-owed : (x : State) → Reached x → (len : ℕ) → CardOwed true (x .formula .prefix) (x .formula .clauses) len (step x (card len) .out .reply)
+card-owed x h len =
+    subst (CardOwed true D R len) (sym (card-reply x h len)) (owed true D R len (select true (tops D R (quantifiers D) [])) (card-right D R (free-before (x .formula) (h .formula-ok)) true))
+  where
+    D : Prefix
+    D = x .formula .prefix
+
+    R : List Clause
+    R = x .formula .clauses
+
+-- DEMAND 2
+pub demand-2 : (b : Formula) → formulaOk b ≡ true → (cs : List Call) (len : ℕ)
+    → let x = after (fresh b) cs in CardOwed true (x .formula .prefix) (x .formula .clauses) len (step x (card len) .out .reply)
+demand-2 b e cs len = card-owed (after (fresh b) cs) (after-reached (fresh b) (fresh-reached b e) cs) len

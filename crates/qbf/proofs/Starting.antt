@@ -1,0 +1,115 @@
+-- A walk of a well-formed book from a start node: all that calls need to know of it.
+use Prim.Native.Nat.{ℕ, zero, suc, _+_, _≤_, _<_, suc-le-suc, zero-le}
+use native.Mathlib.Nat.{le-of-suc-le-suc, not-suc-le-zero, le-refl}
+use native.Mathlib.Omega.{arith}
+use mathlib.Core.Path.{_≡_, refl, sym, ap, _∙_, subst}
+use mathlib.Core.Bool.{Bool, true, false}
+use mathlib.Core.List.{List, [], _∷_}
+use lib.ListN.{length, drop, getD}
+use lib.Dec.{leb}
+use Rattle.qbf.specs.Formula.{Clause, Formula, Limits, Node, Prefix, Quantifier, exists, forall, free, quantifiers}
+use Rattle.qbf.specs.Truth.{Outcome, bound, decided, freeCount, mixed, outline, verdictOf}
+use Rattle.qbf.specs.Plain.{PlainResult, plainSearch}
+use Rattle.qbf.specs.Learning.{LearningResult, Store, learningSearch}
+use Rattle.qbf.specs.Card.{Mem}
+use Rattle.qbf.proofs.WellFormed.{FormulaFacts, clauses-rising, capacity, free-before, inside}
+use Rattle.qbf.proofs.Game.{Rising}
+use Rattle.qbf.proofs.Leaves.{SoundStore, Fair}
+use Rattle.qbf.proofs.Search.{FreeFirst, search-ok, search-verdict}
+use Rattle.qbf.proofs.Start.{fair-start}
+use Rattle.qbf.proofs.PlainSearch.{plain-verdict}
+use Rattle.qbf.proofs.Visits.{search-le}
+
+abbrev pub SoundFor : Formula → Store → Type 0
+SoundFor b st = SoundStore (b .limits) (b .prefix) (b .clauses) st
+
+-- ---- the places of the flags
+flags-fit : (ks : List Quantifier) → freeCount ks ≤ length ks
+flags-fit [] = zero-le
+flags-fit (free ∷ ks) = suc-le-suc (flags-fit ks)
+flags-fit (exists ∷ ks) = zero-le
+flags-fit (forall ∷ ks) = zero-le
+
+flags-rest : (ks : List Quantifier) → drop (freeCount ks) ks ≡ bound ks
+flags-rest [] = refl
+flags-rest (free ∷ ks) = flags-rest ks
+flags-rest (exists ∷ ks) = refl
+flags-rest (forall ∷ ks) = refl
+
+flags-kind : (ks : List Quantifier) (i : ℕ) → i < freeCount ks → getD ks i free ≡ free
+flags-kind [] i h = refl
+flags-kind (free ∷ ks) zero h = refl
+flags-kind (free ∷ ks) (suc i) h = flags-kind ks i (le-of-suc-le-suc h)
+flags-kind (exists ∷ ks) i h = absurd (not-suc-le-zero h)
+flags-kind (forall ∷ ks) i h = absurd (not-suc-le-zero h)
+
+since-first : (ks : List Quantifier) → FreeFirst ks → FreeFirst (bound ks)
+since-first [] h = h
+since-first (free ∷ ks) h = since-first ks (h .1)
+since-first (exists ∷ ks) h = h
+since-first (forall ∷ ks) h = h
+
+-- ---- a start node
+pub record Starts (b : Formula) (ks : List Quantifier) (s : Node) : Type 0 where
+  pub order : FreeFirst ks
+  pub rest : drop (length s) (quantifiers (b .prefix)) ≡ ks
+  pub small : length s ≤ length (quantifiers (b .prefix))
+  pub fair : Fair (b .prefix) (b .clauses) leb s
+
+-- the node of a full reading
+pub starts-full : (b : Formula) → FormulaFacts b → (s : Node) → length s ≡ freeCount (quantifiers (b .prefix)) → Starts b (bound (quantifiers (b .prefix))) s
+starts-full b f s e =
+    record {
+      order = since-first (quantifiers (b .prefix)) (free-before b f);
+      rest = ap (λ (n : ℕ). drop n (quantifiers (b .prefix))) e ∙ flags-rest (quantifiers (b .prefix));
+      small = small;
+      fair = fair-start (b .prefix) (b .clauses) s small (λ i h. flags-kind (quantifiers (b .prefix)) i (omega (arith, e, h)));
+    }
+  where
+    small : length s ≤ length (quantifiers (b .prefix))
+    small = omega (arith, e, flags-fit (quantifiers (b .prefix)))
+
+-- the empty node
+pub starts-empty : (b : Formula) → FormulaFacts b → Starts b (quantifiers (b .prefix)) []
+starts-empty b f = record { order = free-before b f; rest = refl; small = zero-le; fair = fair-start (b .prefix) (b .clauses) [] zero-le (λ i h. absurd (not-suc-le-zero h)) }
+
+outline-same : (o : Outcome (Unit {0})) → outline o ≡ o
+outline-same (decided v x) = refl
+outline-same (mixed ls) = refl
+
+module _ (b : Formula) (st : Store) (ks : List Quantifier) (s : Node) where
+  abbrev pub learning : LearningResult
+  learning = learningSearch (b .limits) (b .prefix) (b .clauses) ks s st
+
+  abbrev pub plainly : PlainResult
+  plainly = plainSearch (b .prefix) (b .clauses) ks s
+
+  pub record Searched : Type 0 where
+    pub kept-sound : SoundFor b (learning .store)
+    pub verdict : outline (learning .outcome) ≡ verdictOf (b .prefix) (b .clauses) ks s
+    pub agree : outline (learning .outcome) ≡ plainly .outcome
+    pub fewer : learning .visits ≤ plainly .visits
+
+  pub searched : FormulaFacts b → SoundFor b st → Starts b ks s → Searched
+  searched f h g =
+      record {
+        kept-sound = search-ok L (capacity b f) D R up (λ r m l n. inside D l) ks (g .order) s st (g .rest) (g .small) (g .fair) h .store-ok;
+        verdict = true-verdict;
+        agree = true-verdict ∙ sym (plain-verdict D R up (λ r m l n. inside D l) ks (g .order) s (g .rest) (g .small)) ∙ outline-same (plainly .outcome);
+        fewer = search-le L (capacity b f) D R up (λ r m l n. inside D l) ks (g .order) s st (g .rest) (g .small) (g .fair) h;
+      }
+    where
+      L : Limits
+      L = b .limits
+
+      D : Prefix
+      D = b .prefix
+
+      R : List Clause
+      R = b .clauses
+
+      up : (r : Clause) → Mem r R → Rising D 0 r
+      up = clauses-rising b f
+
+      true-verdict : outline (learning .outcome) ≡ verdictOf D R ks s
+      true-verdict = search-verdict L (capacity b f) D R up (λ r m l n. inside D l) ks (g .order) s st (g .rest) (g .small) (g .fair) h

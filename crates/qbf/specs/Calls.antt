@@ -1,0 +1,217 @@
+-- The calls rule, query, card and forget on a state, with every refusal. Paper 01, "Calls and card" and both lists of refusals.
+use Prim.Native.Nat.{ℕ, suc, _*_}
+use mathlib.Core.Bool.{Bool, true, false, cond, not, _&&_, _||_}
+use mathlib.Core.List.{List, [], _∷_, _++_}
+use mathlib.Core.Option.{Option, none, some}
+use lib.ListN.{length}
+use lib.Dec.{leb, ltb, eqb}
+use Rattle.qbf.specs.Formula.{Limits, Quantifier, free, exists, forall, isFree, Prefix, quantifiers, Literal, numberOf, positive, Clause, Node, Formula, any, all, placeOf, place, quantifierAt}
+use Rattle.qbf.specs.Truth.{Verdict, Outcome, decided, mixed, outline, decidedNodes, select, bound, freeVariables}
+use Rattle.qbf.specs.Learning.{Polarity, Constraint, Store, constraints, emptyStore, union, lastPlace, dropped, LearningResult, learningSearch}
+use Rattle.qbf.specs.Card.{tableOf, zeroTable}
+
+-- A call with its arguments as a caller may give them: any signed numbers; of a card's table its length.
+pub data Call : Type 0 where
+  rule : List Literal → Call
+  query : List Literal → Call
+  card : ℕ → Call
+  forget : Call
+
+-- What a call answers but for its visits; `done` is an accepted rule, or a store emptied. A card has its lines and the bytes of its
+-- table, and a refused card the bytes too.
+pub data Reply : Type 0 where
+  done : Reply
+  refused : ℕ → Reply
+  swap keep : Reply
+  lines : List Node → List ℕ → Reply
+  cardRefused : ℕ → List ℕ → Reply
+
+pub record Answer : Type 0 where
+  pub reply : Reply
+  pub visits : ℕ
+
+abbrev pub answer : Reply → ℕ → Answer
+answer r n = record { reply = r; visits = n }
+
+-- ---- refusals of the arguments. "The first fault decides."
+abbrev pub _orElse_ : Option ℕ → Option ℕ → Option ℕ
+none orElse b = b
+(some a) orElse b = some a
+
+infixr 20 _orElse_
+abbrev pub given : Bool → ℕ → Option ℕ
+given true n = some n
+given false n = none
+
+-- "then each number from the left 3, 4 or 5, 6": the first fault among a rule's literals, after those whose numbers are in `seen`
+abbrev pub literalFault : Limits → Prefix → List ℕ → List Literal → Option ℕ
+literalFault L D seen [] = none
+literalFault L D seen (l ∷ ls) =
+    given (eqb (numberOf l) 0 || ltb (L .numbers) (numberOf l)) 3
+    orElse given (eqb (placeOf D (numberOf l)) 0) 5
+    orElse given (any (eqb (numberOf l)) seen) 6
+    orElse literalFault L D (numberOf l ∷ seen) ls
+
+-- "20 a rule when 255 stand", "7 no literal, or over 16"
+abbrev pub ruleFault : Formula → List Literal → Option ℕ
+ruleFault b ls =
+    given (leb (b .limits .clauses) (length (b .clauses))) 20
+    orElse given (eqb (length ls) 0 || ltb (b .limits .literals) (length ls)) 7
+    orElse literalFault (b .limits) (b .prefix) [] ls
+
+-- "8 a query names a non-flag, or a flag twice"
+abbrev pub queryFault : Formula → List ℕ → List Literal → Option ℕ
+queryFault b seen [] = none
+queryFault b seen (l ∷ ls) =
+    given (not (positive l) || eqb (place (b .prefix) l) 0 || ltb (freeVariables (b .prefix)) (place (b .prefix) l) || any (eqb (numberOf l)) seen) 8
+    orElse queryFault b (numberOf l ∷ seen) ls
+
+-- ---- rule
+-- "held in place order"
+abbrev pub clauseOf : Prefix → List Literal → Clause
+clauseOf D ls = union D ls []
+
+-- "else the rule is accepted and goes to the end"
+abbrev pub withRule : Option ℕ → Formula → List Literal → Formula
+withRule none b ls = record { limits = b .limits; prefix = b .prefix; clauses = b .clauses ++ (clauseOf (b .prefix) ls ∷ []) }
+withRule (some n) b ls = b
+
+-- "if accepted, all passes go and bars remain"
+abbrev pub storeAfterRule : Option ℕ → Store → Store
+storeAfterRule none st = record { clauses = st .clauses; cubes = [] }
+storeAfterRule (some n) st = st
+
+abbrev pub ruleReply : Option ℕ → Reply
+ruleReply none = done
+ruleReply (some n) = refused n
+
+-- ---- query
+-- "Query takes the numbers of the flags that are on; a flag not named is off." The node of all its flags.
+abbrev pub startNode : List Literal → Prefix → Node
+startNode ls [] = []
+startNode ls (d ∷ ds) = cond (isFree (d .quantifier)) (any (λ l. eqb (d .number) (numberOf l)) ls ∷ startNode ls ds) []
+
+-- "Yes is swap and No is keep"; the start node of a query is never Mixed
+abbrev pub queryReply : {X : Type 0} → Outcome X → Reply
+queryReply (decided true x) = swap
+queryReply (decided false x) = keep
+queryReply (mixed ds) = keep
+
+-- ---- card
+-- "The table holds its length divided by f, rounded down; with f = 0 a line is empty and always fits."
+-- "21 the card has more lines than the table holds": judged on the lines that the search ends with.
+abbrev pub cardReply : ℕ → ℕ → List Node → Reply
+cardReply f size ls = cond (leb (length ls * f) size) (lines ls (tableOf f size ls)) (cardRefused 21 (zeroTable size))
+
+-- the lines have the verdict p: Yes for a card
+abbrev pub cardReplyOf : Verdict → Prefix → ℕ → Outcome (Unit {0}) → Reply
+cardReplyOf p D size o = cardReply (freeVariables D) size (select p (decidedNodes [] o))
+
+-- ---- what a call does to a well-formed state
+pub record Called : Type 0 where
+  pub store : Store
+  pub out : Answer
+
+abbrev pub learningAnswer : (Outcome (Unit {0}) → Reply) → LearningResult → Called
+learningAnswer tell w = record { store = w .store; out = answer (tell (outline (w .outcome))) (w .visits) }
+
+abbrev pub learningQuery : Option ℕ → Formula → Store → List Literal → Called
+learningQuery (some n) b st ls = record { store = st; out = answer (refused n) 0 }
+learningQuery none b st ls =
+    learningAnswer queryReply (learningSearch (b .limits) (b .prefix) (b .clauses) (bound (quantifiers (b .prefix))) (startNode ls (b .prefix)) st)
+
+-- "A card starts at the empty node."
+abbrev pub learningCard : Verdict → Formula → Store → ℕ → Called
+learningCard p b st size =
+    learningAnswer (cardReplyOf p (b .prefix) size) (learningSearch (b .limits) (b .prefix) (b .clauses) (quantifiers (b .prefix)) [] st)
+
+-- "Forget empties the store."
+abbrev pub learningCall : Formula → Store → Call → Called
+learningCall b st (rule ls) = record { store = storeAfterRule (ruleFault b ls) st; out = answer (ruleReply (ruleFault b ls)) 0 }
+learningCall b st (query ls) = learningQuery (queryFault b [] ls) b st ls
+learningCall b st (card size) = learningCard true b st size
+learningCall b st forget = record { store = emptyStore; out = answer done 0 }
+
+abbrev pub nextFormula : Formula → Call → Formula
+nextFormula b (rule ls) = withRule (ruleFault b ls) b ls
+nextFormula b (query ls) = b
+nextFormula b (card size) = b
+nextFormula b forget = b
+
+-- ---- the state, and when it is malformed
+pub record State : Type 0 where
+  pub formula : Formula
+  pub store : Store
+
+-- the places rise from above d: each is declared, and no variable stands twice
+abbrev pub inOrder : Prefix → ℕ → List Literal → Bool
+inOrder D d [] = true
+inOrder D d (l ∷ ls) = ltb d (place D l) && inOrder D (place D l) ls
+
+abbrev pub noFree : List Quantifier → Bool
+noFree ks = all (λ κ. not (isFree κ)) ks
+
+abbrev pub freeFirst : List Quantifier → Bool
+freeFirst [] = true
+freeFirst (free ∷ ks) = freeFirst ks
+freeFirst (exists ∷ ks) = noFree ks
+freeFirst (forall ∷ ks) = noFree ks
+
+-- each number is 1 to the limit, and none is declared twice
+abbrev pub numbersOk : Limits → List ℕ → Prefix → Bool
+numbersOk L seen [] = true
+numbersOk L seen (d ∷ ds) =
+    leb 1 (d .number) && leb (d .number) (L .numbers) && not (any (eqb (d .number)) seen) && numbersOk L (d .number ∷ seen) ds
+
+abbrev pub prefixOk : Limits → Prefix → Bool
+prefixOk L D = numbersOk L [] D && freeFirst (quantifiers D)
+
+abbrev pub clauseOk : Limits → Prefix → Clause → Bool
+clauseOk L D r = leb 1 (length r) && leb (length r) (L .literals) && inOrder D 0 r
+
+abbrev pub clausesOk : Limits → Prefix → List Clause → Bool
+clausesOk L D R = leb (length R) (L .clauses) && all (clauseOk L D) R
+
+-- a store has room for one constraint of each polarity
+abbrev pub limitsOk : Limits → Bool
+limitsOk L = leb 1 (L .constraints)
+
+abbrev pub formulaOk : Formula → Bool
+formulaOk b = limitsOk (b .limits) && (prefixOk (b .limits) (b .prefix) && clausesOk (b .limits) (b .prefix) (b .clauses))
+
+-- in place order and reduced
+abbrev pub constraintOk : Prefix → Polarity → Constraint → Bool
+constraintOk D v e = inOrder D 0 e && not (dropped v (quantifierAt D (lastPlace D e)))
+
+abbrev pub storeOk : Limits → Prefix → Store → Bool
+storeOk L D st =
+    leb (length (constraints false st)) (L .constraints)
+    && leb (length (constraints true st)) (L .constraints)
+    && all (constraintOk D false) (constraints false st)
+    && all (constraintOk D true) (constraints true st)
+
+-- "22 the state is malformed": it is not well formed
+abbrev pub wellFormed : State → Bool
+wellFormed x = formulaOk (x .formula) && storeOk (x .formula .limits) (x .formula .prefix) (x .store)
+
+-- ---- one call
+pub record Stepped : Type 0 where
+  pub state : State
+  pub out : Answer
+
+-- "A refusal returns its number .. and zeroes the card table."
+abbrev pub refusal : ℕ → Call → Reply
+refusal n (rule ls) = refused n
+refusal n (query ls) = refused n
+refusal n (card size) = cardRefused n (zeroTable size)
+refusal n forget = refused n
+
+-- "Order: 22, ..": a malformed state is refused first, and stays as it is
+abbrev pub guarded : Bool → State → Call → Stepped
+guarded true x c =
+    let r = learningCall (x .formula) (x .store) c in
+    record { state = record { formula = nextFormula (x .formula) c; store = r .store }; out = r .out }
+guarded false x c = record { state = x; out = answer (refusal 22 c) 0 }
+
+abbrev pub step : State → Call → Stepped
+step x c = guarded (wellFormed x) x c

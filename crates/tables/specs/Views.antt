@@ -1,0 +1,73 @@
+-- How the tables that the code lends show a prefix, a node, clauses and learned constraints.
+-- A table by variable number has the cells 0 to `numbers`; cell 0 is no variable's. Past its end `getD` gives 0.
+use Prim.Native.Nat.{ℕ, zero, suc, _+_, _*_, _≤_, _<_}
+use mathlib.Core.Path.{_≡_}
+use mathlib.Core.Bool.{Bool, true, false, cond}
+use mathlib.Core.List.{List, [], _∷_, _++_}
+use mathlib.Core.Option.{Option, none, some}
+use lib.ListN.{length, getD, take, drop}
+use lib.IntN.{ℤ, pos, negsuc}
+use Rattle.qbf.specs.Formula.{Quantifier, free, exists, forall, Prefix, Literal, Node, numberOf, placeOf, quantifierAt, valueAt}
+
+-- ---- the codes of the tables' cells
+abbrev pub quantifierCode : Quantifier → ℕ
+quantifierCode free = 0
+quantifierCode exists = 1
+quantifierCode forall = 2
+
+-- 0 open, 1 off, 2 on
+abbrev pub valueCode : Option Bool → ℕ
+valueCode none = 0
+valueCode (some false) = 1
+valueCode (some true) = 2
+
+-- ---- tables by variable number
+-- the place of each number, 0 where it is not declared
+pub record Places (D : Prefix) (t : List ℕ) : Type 0 where
+  pub at : (n : ℕ) → getD t n 0 ≡ placeOf D n
+
+-- the quantifier of each number
+pub record Kinds (D : Prefix) (t : List ℕ) : Type 0 where
+  pub at : (n : ℕ) → getD t n 0 ≡ quantifierCode (quantifierAt D (placeOf D n))
+
+-- the value of each number at a node
+pub record Values (D : Prefix) (s : Node) (t : List ℕ) : Type 0 where
+  pub at : (n : ℕ) → getD t n 0 ≡ valueCode (valueAt s (placeOf D n))
+
+-- What a literal is under a table of values: 0 open, 1 false, 2 true. A negative literal exchanges off and on.
+abbrev pub negated : ℕ → ℕ
+negated zero = 0
+negated (suc zero) = 2
+negated (suc (suc n)) = 1
+
+abbrev pub signed : Literal → ℕ → ℕ
+signed (pos n) v = v
+signed (negsuc n) v = negated v
+
+abbrev pub status : List ℕ → Literal → ℕ
+status vs l = signed l (getD vs (numberOf l) 0)
+
+-- ---- rows of a flat table
+-- Row k is the first literals of the cells from k * stride on. The sizes are the number of rows, then the length of each row.
+abbrev pub row : ℕ → List ℤ → List ℕ → ℕ → List ℤ
+row stride flat sizes k = take (getD sizes (suc k) 0) (drop (k * stride) flat)
+
+-- the first n rows
+unfoldable pub rows : ℕ → List ℤ → List ℕ → ℕ → List (List ℤ)
+rows stride flat sizes zero = []
+rows stride flat sizes (suc n) = rows stride flat sizes n ++ (row stride flat sizes n ∷ [])
+
+abbrev pub rowsOf : ℕ → List ℤ → List ℕ → List (List ℤ)
+rowsOf stride flat sizes = rows stride flat sizes (getD sizes 0 0)
+
+-- the rows that stand lie within the table
+pub record Table (stride capacity : ℕ) (flat : List ℤ) (sizes : List ℕ) : Type 0 where
+  pub room : length flat ≡ capacity * stride
+  pub counted : length sizes ≡ suc capacity
+  pub few : getD sizes 0 0 ≤ capacity
+  pub short : (k : ℕ) → k < getD sizes 0 0 → getD sizes (suc k) 0 ≤ stride
+
+-- the index of the first element at which the test passes; how many there are where none does
+abbrev pub indexOf : {A : Type 0} → (A → Bool) → List A → ℕ
+indexOf f [] = 0
+indexOf f (x ∷ xs) = cond (f x) 0 (suc (indexOf f xs))
