@@ -3,10 +3,11 @@
 use Prim.Native.Nat.{ℕ, zero, suc, _+_, _*_, _≤_, _<_}
 use mathlib.Core.Path.{_≡_}
 use mathlib.Core.Bool.{Bool, true, false, cond}
-use mathlib.Core.List.{List, [], _∷_, _++_}
+use mathlib.Core.List.{List, [], _∷_, _++_, map}
 use mathlib.Core.Option.{Option, none, some}
 use lib.ListN.{length, getD, take, drop}
 use lib.IntN.{ℤ, pos, negsuc}
+use lib.Dec.{leb, eqb}
 use Rattle.qbf.specs.Formula.{Quantifier, free, exists, forall, Prefix, Literal, Node, numberOf, placeOf, quantifierAt, valueAt}
 
 -- ---- the codes of the tables' cells
@@ -34,6 +35,12 @@ pub record Kinds (D : Prefix) (t : List ℕ) : Type 0 where
 pub record Values (D : Prefix) (s : Node) (t : List ℕ) : Type 0 where
   pub at : (n : ℕ) → getD t n 0 ≡ valueCode (valueAt s (placeOf D n))
 
+-- ---- a table by place: in cell 0 the count of the variables, then the number of each place's variable
+pub record Numbers (D : Prefix) (t : List ℕ) : Type 0 where
+  pub count : getD t 0 0 ≡ length D
+  pub at : (i : ℕ) → i < length D → getD t (suc i) 0 ≡ getD (map (λ d. d .number) D) i 0
+
+-- ---- literals
 -- What a literal is under a table of values: 0 open, 1 false, 2 true. A negative literal exchanges off and on.
 abbrev pub negated : ℕ → ℕ
 negated zero = 0
@@ -66,6 +73,12 @@ pub record Table (stride capacity : ℕ) (flat : List ℤ) (sizes : List ℕ) : 
   pub counted : length sizes ≡ suc capacity
   pub few : getD sizes 0 0 ≤ capacity
   pub short : (k : ℕ) → k < getD sizes 0 0 → getD sizes (suc k) 0 ≤ stride
+
+-- ---- looking up
+-- "eligible at a node of length k if its last place is k; at the start node, if it is at most k"
+abbrev pub eligible : Bool → ℕ → ℕ → Bool
+eligible true = leb
+eligible false = eqb
 
 -- the index of the first element at which the test passes; how many there are where none does
 abbrev pub indexOf : {A : Type 0} → (A → Bool) → List A → ℕ
