@@ -1,3 +1,6 @@
+pub mod Rows
+pub mod Bench
+pub mod Cases
 pub mod Basics
 pub mod Game
 pub mod Constraints
@@ -10,7 +13,6 @@ pub mod Search
 pub mod Start
 pub mod PlainSearch
 pub mod Visits
-pub mod Bench
 pub mod WellFormed
 pub mod Runs
 pub mod Topmost

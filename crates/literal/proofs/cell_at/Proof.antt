@@ -1,0 +1,27 @@
+use mathlib.Core.Path.{_≡_, sym}
+use denote.Ref.{now}
+use lib.ListN.{List·getD-eq-default}
+use borrow.Author.Needs.{needs}
+use Rattle.literal.proofs.cell_at.Statement.{statement}
+use Rattle.literal.proofs.cell_at.Tie as tie
+use Rattle.literal.proofs.cell_at.Reads as reads
+use Rattle.literal.proofs.cell_at.Lts as lts
+
+-- src/literal.rt:65:9
+mul-result : tie.Need-mul-result
+mul-result c = search needs
+
+-- src/literal.rt:65:9
+shared-slice-read-result : tie.Need-shared-slice-read-result
+shared-slice-read-result c = search needs
+
+-- src/literal.rt:61:1
+returns : tie.Need-returns
+returns c = search needs
+
+-- src/literal.rt:61:1
+returns-2 : tie.Need-returns-2
+returns-2 c = sym (List·getD-eq-default (now (c .before .args .table)) 0 (c .if1 .left))
+
+pub cell-at-spec : {M : Type 1} → statement M
+cell-at-spec = tie.close (tie.spec mul-result shared-slice-read-result returns returns-2)
