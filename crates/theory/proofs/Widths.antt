@@ -1,25 +1,21 @@
--- Widths, once over the limits: declarations, and the literals of a rule or entry.
-use Prim.Native.Nat.{ℕ, zero, suc, _+_, _-_, _≤_, _<_, suc-le-suc, zero-le}
-use native.Mathlib.Nat.{not-suc-le-zero, le-refl}
+-- Widths, once over the limits: declarations, and the literals of a clause or constraint.
+use Prim.Native.Nat.{ℕ, zero, suc, _+_, _≤_, suc-le-suc, zero-le}
 use native.Mathlib.Omega.{arith}
-use mathlib.Core.Path.{_≡_, refl, sym, ap, _∙_, subst}
-use mathlib.Core.Logic.{_⊎_, inl, inr}
-use mathlib.Core.Bool.{Bool, true, false, cond, not, _&&_, _||_, true≢false, false≢true}
-use mathlib.Core.List.{List, [], _∷_, map}
+use mathlib.Core.Path.{_≡_, refl, sym, ap, _∙_}
+use mathlib.Core.Logic.{inl, inr}
+use mathlib.Core.Bool.{Bool, true, false, cond}
+use mathlib.Core.List.{List, [], _∷_}
 use lib.ListN.{length, length-map}
-use lib.Dec.{eqb, leb, leb→le}
-use Rattle.qbf.specs.Formula.{Limits, Literal, Prefix, any, paper, place, quantifiers}
+use lib.Dec.{eqb}
+use Rattle.qbf.specs.Formula.{Limits, Literal, Prefix, paper, place, quantifiers}
 use Rattle.qbf.specs.Card.{Mem}
 use Rattle.qbf.specs.Calls.{numbersOk}
-use Rattle.qbf.proofs.Basics.{≡→T, and-left, and-right, not-true, any-false→, eqb-true, false-eqb}
-use Rattle.qbf.proofs.Game.{Rising}
-use Rattle.qbf.proofs.WellFormed.{FormulaFacts, inside}
+use Rattle.theory.proofs.Basics.{eqb-true, false-eqb}
+use Rattle.theory.proofs.Game.{Rising}
+use Rattle.theory.proofs.WellFormed.{inside}
+use Rattle.theory.proofs.Prefixes.{Distinct, numbers, fine}
 
 -- ---- distinct numbers from 1 to n are at most n
-abbrev Distinct : List ℕ → Type 0
-Distinct [] = Unit {0}
-Distinct (x ∷ xs) = ((y : ℕ) → Mem y xs → y ≡ x → ⊥) × Distinct xs
-
 remove : ℕ → List ℕ → List ℕ
 remove n [] = []
 remove n (x ∷ xs) = cond (eqb x n) (remove n xs) (x ∷ remove n xs)
@@ -74,55 +70,10 @@ at-most (suc n) xs d h = omega (arith, remove-one (suc n) xs d, at-most n (remov
         less y k q = omega (arith, k .0, k .1, q)
 
 -- ---- declarations
-abbrev numbers : Prefix → List ℕ
-numbers D = map (λ d. d .number) D
-
 module _ (L : Limits) where
-  record Fine (seen : List ℕ) (D : Prefix) : Type 0 where
-    ranged : (y : ℕ) → Mem y (numbers D) → (1 ≤ y) × (y ≤ L .numbers)
-    fresh : (y : ℕ) → Mem y (numbers D) → any (eqb y) seen ≡ false
-    distinct : Distinct (numbers D)
-
-  fine : (seen : List ℕ) (D : Prefix) → numbersOk L seen D ≡ true → Fine seen D
-  fine seen [] e = record { ranged = λ y m. absurd m; fresh = λ y m. absurd m; distinct = tt }
-  fine seen (d ∷ D) e = by (fine (d .number ∷ seen) D (and-right (p && q && r) (numbersOk L (d .number ∷ seen) D) e))
-    where
-      p : Bool
-      p = leb 1 (d .number)
-
-      q : Bool
-      q = leb (d .number) (L .numbers)
-
-      r : Bool
-      r = not (any (eqb (d .number)) seen)
-
-      pq : (p && q) ≡ true
-      pq = and-left (p && q) r (and-left (p && q && r) (numbersOk L (d .number ∷ seen) D) e)
-
-      new : any (eqb (d .number)) seen ≡ false
-      new = not-true (any (eqb (d .number)) seen) (and-right (p && q) r (and-left (p && q && r) (numbersOk L (d .number ∷ seen) D) e))
-
-      by : Fine (d .number ∷ seen) D → Fine seen (d ∷ D)
-      by f = record { ranged = range; fresh = unseen; distinct = (λ y m z. absurd (apart y (f .fresh y m) z), f .distinct) }
-        where
-          range : (y : ℕ) → Mem y (numbers (d ∷ D)) → (1 ≤ y) × (y ≤ L .numbers)
-          range y (inl z) = subst (λ (n : ℕ). (1 ≤ n) × (n ≤ L .numbers)) (sym z) (leb→le 1 (d .number) (≡→T p (and-left p q pq)), leb→le (d .number) (L .numbers) (≡→T q (and-right p q pq)))
-          range y (inr m) = f .ranged y m
-
-          apart : (y : ℕ) → any (eqb y) (d .number ∷ seen) ≡ false → y ≡ d .number → ⊥
-          apart y g z = false-eqb y (d .number) (any-false→ (eqb y) (d .number ∷ seen) g (d .number) (inl refl)) z
-
-          unseen : (y : ℕ) → Mem y (numbers (d ∷ D)) → any (eqb y) seen ≡ false
-          unseen y (inl z) = ap (λ (n : ℕ). any (eqb n) seen) z ∙ new
-          unseen y (inr m) = tail-false (eqb y (d .number)) (any (eqb y) seen) (f .fresh y m)
-            where
-              tail-false : (a b : Bool) → (a || b) ≡ false → b ≡ false
-              tail-false true b g = absurd (true≢false g)
-              tail-false false b g = g
-
   pub prefix-width : (D : Prefix) → numbersOk L [] D ≡ true → length (quantifiers D) ≤ L .numbers
   prefix-width D e =
-      let f = fine [] D e in
+      let f = fine L [] D e in
       omega (arith, at-most (L .numbers) (numbers D) (f .distinct) (f .ranged), length-map D (λ d. d .number), length-map D (λ d. d .quantifier))
 
 -- ---- what is in place order

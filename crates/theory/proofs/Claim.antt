@@ -1,43 +1,33 @@
--- What an entry that a visit returns is good for.
-use Prim.Native.Nat.{ℕ, zero, suc, _+_, _-_, _≤_, _<_, suc-le-suc, zero-le}
-use native.Mathlib.Nat.{le-of-suc-le-suc, not-suc-le-zero, le-refl}
+-- What a constraint that a visit returns is good for.
+use Prim.Native.Nat.{ℕ, zero, suc, _+_, _-_, _≤_, _<_}
 use native.Mathlib.Omega.{arith}
-use mathlib.Core.Path.{_≡_, refl, sym, ap, _∙_, subst}
+use mathlib.Core.Path.{_≡_, sym, ap, _∙_, subst}
 use mathlib.Core.Logic.{_⊎_, inl, inr}
-use mathlib.Core.Bool.{Bool, true, false, cond, not, _&&_, _||_, Bool·beq, true≢false, false≢true}
-use mathlib.Core.List.{List, [], _∷_, _++_}
-use mathlib.Core.Option.{Option, none, some}
-use lib.ListN.{length, getD, getElem?, drop}
+use mathlib.Core.Bool.{Bool, true, false, Bool·beq, true≢false}
+use mathlib.Core.List.{List}
+use lib.ListN.{length, getD, drop}
 use Rattle.qbf.specs.Formula.{Clause, Literal, Node, Prefix, Quantifier, _▹_, equals, free, has, place, positive, quantifierAt, quantifiers, valueAt}
 use Rattle.qbf.specs.Learning.{Constraint, dropped, lastPlace, reduce}
 use Rattle.qbf.specs.Card.{Mem}
-use Rattle.qbf.proofs.Basics.{dichotomy, length-▹, value-low, value-top, value-high, value-some, le-or-lt, has-le, has-agrees, has-low, has-up, beq→≡}
-use Rattle.qbf.proofs.Game.{Rising, rising-above, drop-step, Win, win-one, win-both, has-top}
-use Rattle.qbf.proofs.Constraints.{last-max, last-mem, Reduced, reduce-sub, reduce-rising, reduce-rest, reduce-reduced}
-
-pub drop-cons : (K : List Quantifier) (i : ℕ) → i < length K → drop i K ≡ getD K i free ∷ drop (suc i) K
-drop-cons [] i h = absurd (not-suc-le-zero h)
-drop-cons (κ ∷ K) zero h = refl
-drop-cons (κ ∷ K) (suc i) h = drop-cons K i (le-of-suc-le-suc h)
+use Rattle.theory.proofs.Basics.{dichotomy, length-▹, value-some, le-or-lt, has-agrees, has-up, beq→≡}
+use Rattle.theory.proofs.Rest.{drop-cons}
+use Rattle.theory.proofs.Game.{Rising, Win, win-one, win-both, has-top}
+use Rattle.theory.proofs.Constraints.{last-max, reduce-rising, reduce-rest}
+use Rattle.theory.proofs.Shape.{Holds, Shaped, shaped-reduced}
 
 module _ (D : Prefix) (R : List Clause) (v : Bool) where
   -- the node t wins with what is left after it
   abbrev pub Wins : Node → Type 0
   Wins t = Win D R v (drop (length t) (quantifiers D)) t
 
-  abbrev pub Holds : Constraint → Node → Type 0
-  Holds E t = (l : Literal) → Mem l E → has D v t l ≡ true
-
   abbrev pub Claim : Constraint → Node → Type 0
   Claim E s =
-      (t : Node) → lastPlace D E ≤ length t → length t ≤ length s → Holds E t
+      (t : Node) → lastPlace D E ≤ length t → length t ≤ length s → Holds D v E t
       → ((p : ℕ) → lastPlace D E < p → p ≤ length t → dropped v (quantifierAt D p) ≡ true → valueAt t p ≡ valueAt s p)
       → Wins t
 
   pub record Good (E : Constraint) (s : Node) : Type 0 where
-    pub held : Holds E s
-    pub rising : Rising D 0 E
-    pub reduced : Reduced D v E
+    pub shaped : Shaped D v E s
     pub claim : Claim E s
 
   -- one step of the game, in terms of the whole declaration
@@ -86,26 +76,13 @@ module _ (D : Prefix) (R : List Clause) (v : Bool) where
 
     -- what is reduced is good
     module _ (up : Rising D 0 U) (high : (l : Literal) → Mem l U → length s < place D l → dropped v (quantifierAt D (place D l)) ≡ true) where
-      last-small : lastPlace D (reduce D v U) ≤ length s
-      last-small = by (le-or-lt (lastPlace D (reduce D v U)) (length s)) (last-mem D 0 (reduce D v U))
-        where
-          by : (lastPlace D (reduce D v U) ≤ length s) ⊎ (length s < lastPlace D (reduce D v U))
-              → (lastPlace D (reduce D v U) ≡ 0) ⊎ ((l : Literal) × Mem l (reduce D v U) × (place D l ≡ lastPlace D (reduce D v U))) → lastPlace D (reduce D v U) ≤ length s
-          by (inl h) q = h
-          by (inr h) (inl q) = omega (arith, q)
-          by (inr h) (inr w) =
-              absurd (true≢false (sym (high (w .0) (reduce-sub D v U (w .0) (w .1)) (omega (arith, h, w .2)))
-              ∙ ap (λ (i : ℕ). dropped v (quantifierAt D i)) (w .2) ∙ reduce-reduced D v U))
-
       pub good : Good (reduce D v U) s
       good = record {
-        held = λ l m. low l (reduce-sub D v U l m) (omega (arith, last-small, last-max D 0 (reduce D v U) (reduce-rising D v 0 U up) l m));
-        rising = reduce-rising D v 0 U up;
-        reduced = reduce-reduced D v U;
+        shaped = shaped-reduced D v U s up low high;
         claim = λ t ge le h agree. cl t ge le h agree (le-or-lt (length s) (length t));
       }
         where
-          cl : (t : Node) → lastPlace D (reduce D v U) ≤ length t → length t ≤ length s → Holds (reduce D v U) t
+          cl : (t : Node) → lastPlace D (reduce D v U) ≤ length t → length t ≤ length s → Holds D v (reduce D v U) t
               → ((p : ℕ) → lastPlace D (reduce D v U) < p → p ≤ length t → dropped v (quantifierAt D p) ≡ true → valueAt t p ≡ valueAt s p)
               → (length s ≤ length t) ⊎ (length t < length s) → Wins t
           cl t ge le h agree q =

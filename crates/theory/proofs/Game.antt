@@ -1,20 +1,21 @@
--- A node is won for Yes (true) if all completions of its flags are true, and for No (false) if none is.
-use Prim.Native.Nat.{ℕ, zero, suc, _+_, _-_, _≤_, _<_, suc-le-suc, zero-le}
-use native.Mathlib.Nat.{le-of-suc-le-suc, not-suc-le-zero, le-of-lt, le-trans, add-zero, add-suc, suc-add, suc-inj, lt-irrefl, le-refl, le-antisymm}
+-- A node is won for Yes (true) if all completions of its free variables are true, and for No (false) if none is.
+use Prim.Native.Nat.{ℕ, zero, suc, _≤_, _<_}
+use native.Mathlib.Nat.{le-of-suc-le-suc, not-suc-le-zero}
 use native.Mathlib.Omega.{arith}
 use mathlib.Core.Path.{_≡_, refl, sym, ap, _∙_, subst}
 use mathlib.Core.Logic.{_⊎_, inl, inr}
-use mathlib.Core.Bool.{Bool, true, false, cond, not, _&&_, _||_, Bool·beq, true≢false, false≢true}
-use mathlib.Core.List.{List, [], _∷_, _++_}
+use mathlib.Core.Bool.{Bool, true, false, not, _&&_, _||_, Bool·beq, true≢false, false≢true}
+use mathlib.Core.List.{List, [], _∷_}
 use mathlib.Core.Option.{Option, none, some}
-use lib.ListN.{length, getD, getElem?, drop}
+use lib.ListN.{length}
 use Rattle.qbf.specs.Formula.{Clause, Literal, Node, Prefix, Quantifier, _▹_, all, dead, equals, exists, forall, free, has, isOpen, place, positive, quantifierAt, quantifiers, satisfied, valueAt}
 use Rattle.qbf.specs.Truth.{completions}
 use Rattle.qbf.specs.Learning.{dropped}
 use Rattle.qbf.specs.Card.{Mem}
-use Rattle.qbf.proofs.Basics.{dichotomy, or-cases, or-left, or-right, or-false, or-false-left, or-false-right, and-left, and-right, and-both, and-false-left, and-false-right, all→, →all, any→, →any, →any-false, all-false, length-▹, value-low, value-top, value-high, value-some, le-or-lt, has-le, has-agrees, has-low, has-up, beq-refl, beq→≡}
+use Rattle.theory.proofs.Basics.{dichotomy, or-cases, or-left, or-right, or-false, or-false-left, or-false-right, and-left, and-right, and-both, and-false-left, and-false-right, all→, →all, any→, →any, →any-false, all-false, length-▹, value-top, value-some, le-or-lt, has-le, has-up, beq-refl}
+use Rattle.theory.proofs.Rest.{Rest, drop-end, rest-up, rest-kind}
 
--- the places of a rule or entry rise from above d
+-- the places of a clause or constraint rise from above d
 abbrev pub Rising : Prefix → ℕ → List Literal → Type 0
 Rising D d [] = Unit {0}
 Rising D d (l ∷ ls) = (d < place D l) × Rising D (place D l) ls
@@ -23,49 +24,6 @@ pub rising-above : (D : Prefix) (d : ℕ) (ls : List Literal) → Rising D d ls 
 rising-above D d [] h l m = absurd m
 rising-above D d (k ∷ ls) h l (inl p) = subst (λ (x : Literal). d < place D x) (sym p) (h .0)
 rising-above D d (k ∷ ls) h l (inr m) = omega (arith, h .0, rising-above D (place D k) ls (h .1) l m)
-
--- what is left of the declared kinds after a node
-pub drop-step : (K : List Quantifier) (i : ℕ) (κ : Quantifier) (ks : List Quantifier) → drop i K ≡ κ ∷ ks → (getD K i free ≡ κ) × (drop (suc i) K ≡ ks)
-drop-step [] zero κ ks e = absurd (no-cons e)
-  where
-    code : List Quantifier → Type 0
-    code [] = Unit {0}
-    code (x ∷ xs) = ⊥
-
-    no-cons : [] ≡ κ ∷ ks → ⊥
-    no-cons p = subst code p tt
-drop-step [] (suc i) κ ks e = absurd (no-cons e)
-  where
-    code : List Quantifier → Type 0
-    code [] = Unit {0}
-    code (x ∷ xs) = ⊥
-
-    no-cons : [] ≡ κ ∷ ks → ⊥
-    no-cons p = subst code p tt
-drop-step (x ∷ K) zero κ ks e = (ap (λ (l : List Quantifier). head l) e, ap (λ (l : List Quantifier). tail l) e)
-  where
-    head : List Quantifier → Quantifier
-    head [] = free
-    head (y ∷ ys) = y
-
-    tail : List Quantifier → List Quantifier
-    tail [] = []
-    tail (y ∷ ys) = ys
-drop-step (x ∷ K) (suc i) κ ks e = drop-step K i κ ks e
-
--- past the end there are flags only
-pub drop-end : (K : List Quantifier) (i : ℕ) → drop i K ≡ [] → (j : ℕ) → i ≤ j → getD K j free ≡ free
-drop-end [] i e j h = refl
-drop-end (x ∷ K) zero e j h = absurd (no-nil e)
-  where
-    code : List Quantifier → Type 0
-    code [] = ⊥
-    code (y ∷ ys) = Unit {0}
-
-    no-nil : x ∷ K ≡ [] → ⊥
-    no-nil p = subst code p tt
-drop-end (x ∷ K) (suc i) e zero h = absurd (not-suc-le-zero h)
-drop-end (x ∷ K) (suc i) e (suc j) h = drop-end K i e j (le-of-suc-le-suc h)
 
 module _ (D : Prefix) (R : List Clause) where
   abbrev pub Win : Bool → List Quantifier → Node → Type 0
@@ -98,7 +56,7 @@ module _ (D : Prefix) (R : List Clause) where
   win-down false ks s false w = or-false-left (completions true D R ks (s ▹ false)) (completions true D R ks (s ▹ true)) w
   win-down false ks s true w = or-false-right (completions true D R ks (s ▹ false)) (completions true D R ks (s ▹ true)) w
 
-  -- every rule satisfied: Yes
+  -- every clause satisfied: Yes
   satisfied-up : (s : Node) (b : Bool) → all (satisfied D s) R ≡ true → all (satisfied D (s ▹ b)) R ≡ true
   satisfied-up s b e = →all (satisfied D (s ▹ b)) R (λ r m. one r (all→ (satisfied D s) R e r m))
     where
@@ -164,7 +122,7 @@ module _ (D : Prefix) (R : List Clause) where
   pub has-top : (v : Bool) (s : Node) (b : Bool) (l : Literal) → place D l ≡ suc (length s) → Bool·beq v (positive l) ≡ b → has D v (s ▹ b) l ≡ true
   has-top v s b l e q = ap (λ (p : ℕ). equals (valueAt (s ▹ b) p) (Bool·beq v (positive l))) e ∙ ap (λ o. equals o (Bool·beq v (positive l))) (value-top s b) ∙ ap (Bool·beq b) q ∙ beq-refl b
 
-  -- a dead rule stays dead at a side that makes its literals there false
+  -- a dead clause stays dead at a side that makes its literals there false
   dead-up : (s : Node) (r : Clause) (b : Bool) → Dead s r
       → ((l : Literal) → Mem l r → place D l ≡ suc (length s) → Bool·beq false (positive l) ≡ b) → Dead (s ▹ b) r
   dead-up s r b d c = record { low = λ l m h. lows l m (le-or-lt (place D l) (length s)) h; high = λ l m h. d .high l m (omega (arith, h, length-▹ s b)) }
@@ -173,16 +131,7 @@ module _ (D : Prefix) (R : List Clause) where
       lows l m (inl g) h = has-up D false s b l (d .low l m g)
       lows l m (inr g) h = let e : place D l ≡ suc (length s) = omega (arith, g, h, length-▹ s b) in has-top false s b l e (c l m e)
 
-  abbrev Rest : Node → List Quantifier → Type 0
-  Rest s ks = drop (length s) (quantifiers D) ≡ ks
-
-  pub rest-up : (s : Node) (b : Bool) (κ : Quantifier) (ks : List Quantifier) → Rest s (κ ∷ ks) → Rest (s ▹ b) ks
-  rest-up s b κ ks e = ap (λ (i : ℕ). drop i (quantifiers D)) (length-▹ s b) ∙ drop-step (quantifiers D) (length s) κ ks e .1
-
-  pub rest-kind : (s : Node) (κ : Quantifier) (ks : List Quantifier) → Rest s (κ ∷ ks) → quantifierAt D (suc (length s)) ≡ κ
-  rest-kind s κ ks e = drop-step (quantifiers D) (length s) κ ks e .0
-
-  pub win-dead : (ks : List Quantifier) (s : Node) (r : Clause) → Rest s ks → Mem r R → Rising D 0 r → Dead s r → Win false ks s
+  pub win-dead : (ks : List Quantifier) (s : Node) (r : Clause) → Rest D s ks → Mem r R → Rising D 0 r → Dead s r → Win false ks s
   win-dead [] s r e m up d = all-false (satisfied D s) R r m (→any-false (has D true s) r (λ l n. gone l n (le-or-lt (place D l) (length s))))
     where
       flip : (o : Option Bool) (c : Bool) → equals o (Bool·beq false c) ≡ true → equals o (Bool·beq true c) ≡ false
@@ -200,8 +149,8 @@ module _ (D : Prefix) (R : List Clause) where
       gone l n (inl h) = flip (valueAt s (place D l)) (positive l) (d .low l n h)
       gone l n (inr h) = absurd (beyond (place D l) h (d .high l n h))
   win-dead (κ ∷ ks) s r e m up d =
-      by (dichotomy (dropped false κ)) (λ b t. win-dead ks (s ▹ b) r (rest-up s b κ ks e) m up t)
+      by (dichotomy (dropped false κ)) (λ b t. win-dead ks (s ▹ b) r (rest-up D s b κ ks e) m up t)
     where
       by : (dropped false κ ≡ true) ⊎ (dropped false κ ≡ false) → ((b : Bool) → Dead (s ▹ b) r → Win false ks (s ▹ b)) → Win false (κ ∷ ks) s
       by (inl o) w = let c = choice (suc (length s)) 0 r up in win-one false κ ks s (c .0) o (w (c .0) (dead-up s r (c .0) d (c .1)))
-      by (inr o) w = win-both false κ ks s o (λ b. w b (dead-up s r b d (λ l n q. absurd (true≢false (sym (d .high l n (omega (arith, q))) ∙ ap (dropped false) (ap (quantifierAt D) q ∙ rest-kind s κ ks e) ∙ o)))))
+      by (inr o) w = win-both false κ ks s o (λ b. w b (dead-up s r b d (λ l n q. absurd (true≢false (sym (d .high l n (omega (arith, q))) ∙ ap (dropped false) (ap (quantifierAt D) q ∙ rest-kind D s κ ks e) ∙ o)))))

@@ -1,22 +1,20 @@
--- The plain walk gives the verdict by quantification.
-use Prim.Native.Nat.{ℕ, zero, suc, _+_, _≤_, _<_}
-use native.Mathlib.Nat.{le-of-suc-le-suc, not-suc-le-zero, le-refl}
-use native.Mathlib.Omega.{arith}
-use mathlib.Core.Path.{_≡_, refl, sym, ap, _∙_, subst}
+-- The plain search gives the verdict by quantification.
+use Prim.Native.Nat.{_≤_}
+use mathlib.Core.Path.{_≡_, refl, sym, _∙_, subst}
 use mathlib.Core.Logic.{_⊎_, inl, inr}
-use mathlib.Core.Bool.{Bool, true, false, cond, not, _&&_, _||_, Bool·beq, true≢false, false≢true}
-use mathlib.Core.List.{List, [], _∷_, _++_}
+use mathlib.Core.Bool.{Bool, true, false, not, true≢false, false≢true}
+use mathlib.Core.List.{List, [], _∷_}
 use lib.ListN.{length, drop}
 use Rattle.qbf.specs.Formula.{Clause, Literal, Node, Prefix, Quantifier, _▹_, all, any, dead, exists, forall, free, place, quantifiers, satisfied}
 use Rattle.qbf.specs.Truth.{Outcome, decided, mixed, outline, verdictOf}
 use Rattle.qbf.specs.Plain.{PlainResult, both, bySides, plainAfterOff, plainBranch, plainSearch, plainSettle, plainVisit, stops}
 use Rattle.qbf.specs.Learning.{dropped}
 use Rattle.qbf.specs.Card.{Mem}
-use Rattle.qbf.proofs.Basics.{dichotomy, any→, length-▹}
-use Rattle.qbf.proofs.Game.{Rising, Win, win-one, win-both, win-satisfied, dead→Dead, win-dead, rest-up}
-use Rattle.qbf.proofs.Verdict.{every, some-one, NoFree, Says, says-win, says-mixed, mixed-free}
-use Rattle.qbf.proofs.Branch.{drop-lt, drop-all}
-use Rattle.qbf.proofs.Search.{Below, FreeFirst, full}
+use Rattle.theory.proofs.Basics.{dichotomy, any→}
+use Rattle.theory.proofs.Game.{Rising, Win, win-one, win-both, win-satisfied, dead→Dead, win-dead}
+use Rattle.theory.proofs.Rest.{drop-all, rest-up, rest-small}
+use Rattle.theory.proofs.Verdict.{NoFree, Says, says-win, says-mixed, mixed-free}
+use Rattle.theory.proofs.Search.{Below, FreeFirst, full}
 
 abbrev U : Type 0
 U = Unit {0}
@@ -26,7 +24,7 @@ module _ (D : Prefix) (R : List Clause) (ok : (r : Clause) → Mem r R → Risin
   win-of true x ks s h = h .all-true
   win-of false x ks s h = h .some-true
 
-  -- both sides at a flag
+  -- both sides at a free variable
   free-says : (ks : List Quantifier) (s : Node) (a b : Outcome U) → Says D R ks (s ▹ false) a → Says D R ks (s ▹ true) b → Says D R (free ∷ ks) s (both s a b)
   free-says ks s (decided true x) (decided true y) p q = says-win D R true tt (free ∷ ks) s (win-both D R true free ks s refl (λ c. combine c))
     where
@@ -101,10 +99,10 @@ module _ (D : Prefix) (R : List Clause) (ok : (r : Clause) → Mem r R → Risin
     plain-says (κ ∷ ks) fl s rest small =
         settle-says (κ ∷ ks) s (plainBranch κ (plainSearch D R ks)) rest
         (λ nd ns. branch (stops κ (plainSearch D R ks (s ▹ false) .outcome)) refl
-        (plain-says ks (fl .1) (s ▹ false) (rest-up D R s false κ ks rest) (shorter false)) (plain-says ks (fl .1) (s ▹ true) (rest-up D R s true κ ks rest) (shorter true)))
+        (plain-says ks (fl .1) (s ▹ false) (rest-up D s false κ ks rest) (shorter false)) (plain-says ks (fl .1) (s ▹ true) (rest-up D s true κ ks rest) (shorter true)))
       where
         shorter : (b : Bool) → length (s ▹ b) ≤ length (quantifiers D)
-        shorter b = omega (arith, length-▹ s b, drop-lt (quantifiers D) (length s) κ ks rest)
+        shorter b = rest-small D s b κ ks rest
 
         branch : (x : Bool) → stops κ (plainSearch D R ks (s ▹ false) .outcome) ≡ x → Says D R ks (s ▹ false) (plainSearch D R ks (s ▹ false) .outcome) → Says D R ks (s ▹ true) (plainSearch D R ks (s ▹ true) .outcome)
             → Says D R (κ ∷ ks) s (plainAfterOff x κ (plainSearch D R ks) s (plainSearch D R ks (s ▹ false) .outcome) (plainSearch D R ks (s ▹ false) .visits) .outcome)

@@ -4,10 +4,10 @@ use mathlib.Core.Path.{_≡_, refl, sym, ap, _∙_, subst}
 use mathlib.Core.Logic.{_⊎_, inl, inr}
 use mathlib.Core.Bool.{Bool, true, false, cond, not, _&&_, _||_, true≢false, false≢true}
 use mathlib.Core.List.{List, [], _∷_, _++_}
 use Rattle.qbf.specs.Formula.{Clause, Node, Prefix, Quantifier, _▹_, exists, forall, free}
 use Rattle.qbf.specs.Truth.{DecidedNode, Outcome, completions, decided, decidedNodes, mixed, outline, verdictOf}
-use Rattle.qbf.proofs.Basics.{dichotomy, or-cases, or-left, or-right, and-left, and-right, and-both}
-use Rattle.qbf.proofs.Game.{Win}
+use Rattle.theory.proofs.Basics.{dichotomy, or-cases, or-left, or-right, and-left, and-right, and-both}
+use Rattle.theory.proofs.Game.{Win}
 
 pub decided-outline : {X : Type 0} (s : Node) (o : Outcome X) → decidedNodes s (outline o) ≡ decidedNodes s o
 decided-outline s (decided v x) = refl
@@ -82,7 +82,7 @@ module _ (D : Prefix) (R : List Clause) where
   says-win true x ks s w = record { all-true = w; some-true = consistent ks s w; verdict = verdict-win true ks s w }
   says-win false x ks s w = record { all-true = never ks s w; some-true = w; verdict = verdict-win false ks s w }
 
-  -- a flag node whose sides are neither both Yes nor both No
+  -- a free node whose sides are neither both Yes nor both No
   pub says-mixed : {X : Type 0} (ks : List Quantifier) (s : Node) (a b : Outcome X) → Says ks (s ▹ false) a → Says ks (s ▹ true) b
       → (every a && every b) ≡ false → (some-one a || some-one b) ≡ true
       → Says {X = X} (free ∷ ks) s (mixed (decidedNodes (s ▹ false) a ++ decidedNodes (s ▹ true) b))

@@ -1,16 +1,17 @@
--- With n places left a walk makes fewer than 2 ^ (n + 1) visits, on any state.
-use Prim.Native.Nat.{ℕ, zero, suc, _+_, _*_, _^_, _≤_, _<_, suc-le-suc, zero-le}
+-- With n places left a search, learning or plain, makes fewer than 2 ^ (n + 1) visits, on any state.
+use Prim.Native.Nat.{ℕ, suc, _+_, _^_, _<_}
 use native.Mathlib.Omega.{arith}
-use mathlib.Core.Path.{_≡_, refl, sym, ap, _∙_}
-use mathlib.Core.Bool.{Bool, true, false, cond}
+use mathlib.Core.Path.{_≡_, refl}
+use mathlib.Core.Bool.{Bool, true, false}
 use mathlib.Core.List.{List, [], _∷_}
 use mathlib.Core.Option.{Option, none, some}
 use lib.ListN.{length}
 use lib.Dec.{eqb, leb}
-use Rattle.qbf.specs.Formula.{Clause, Limits, Node, Prefix, Quantifier, _▹_}
+use Rattle.qbf.specs.Formula.{Clause, Limits, Node, Prefix, Quantifier, _▹_, all, any, dead, satisfied}
 use Rattle.qbf.specs.Truth.{Outcome, decided, mixed}
+use Rattle.qbf.specs.Plain.{PlainResult, plainAfterOff, plainBranch, plainSearch, plainSettle, plainVisit, stops}
 use Rattle.qbf.specs.Learning.{Constraint, LearningResult, Next, Store, afterOff, below, goesUp, leaf, learningSearch, onward, proceed, raise, settle, up, upOrOnward, visit}
-use Rattle.qbf.proofs.Visits.{on-visits}
+use Rattle.theory.proofs.Visits.{on-visits}
 
 module _ (L : Limits) (D : Prefix) (R : List Clause) where
   -- what is done after an off side of n visits adds one, and the on side's visits if that is visited
@@ -50,3 +51,26 @@ module _ (L : Limits) (D : Prefix) (R : List Clause) where
 
   pub search-bound : (ks : List Quantifier) (s : Node) (st : Store) → learningSearch L D R ks s st .visits < 2 ^ suc (length ks)
   search-bound ks s st = visit-bound leb (below L D R ks) (length ks) s st (below-bound ks s st)
+
+-- ---- the plain search
+module _ (D : Prefix) (R : List Clause) where
+  plain-visit-bound : (next : Node → PlainResult) (n : ℕ) (s : Node) → next s .visits < 2 ^ suc n → plainVisit D R next s .visits < 2 ^ suc n
+  plain-visit-bound next n s h = by (any (dead D s) R) (all (satisfied D s) R)
+    where
+      by : (x y : Bool) → plainSettle x y next s .visits < 2 ^ suc n
+      by true y = omega (arith, h)
+      by false true = omega (arith, h)
+      by false false = h
+
+  pub plain-bound : (ks : List Quantifier) (s : Node) → plainSearch D R ks s .visits < 2 ^ suc (length ks)
+  plain-bound [] s = plain-visit-bound (λ t. record { outcome = decided false tt; visits = 1 }) 0 s (omega arith)
+  plain-bound (κ ∷ ks) s =
+      plain-visit-bound (plainBranch κ f) (suc (length ks)) s
+      (by (stops κ (f (s ▹ false) .outcome)) (f (s ▹ false) .outcome) (f (s ▹ false) .visits) (plain-bound ks (s ▹ false)) (plain-bound ks (s ▹ true)))
+    where
+      f : Node → PlainResult
+      f = plainSearch D R ks
+
+      by : (x : Bool) (o : Outcome (Unit {0})) (m : ℕ) → m < 2 ^ suc (length ks) → f (s ▹ true) .visits < 2 ^ suc (length ks) → plainAfterOff x κ f s o m .visits < 2 ^ suc (suc (length ks))
+      by true o m h k = omega (arith, h)
+      by false o m h k = omega (arith, h, k)

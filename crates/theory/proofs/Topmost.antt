@@ -2,20 +2,20 @@
 use Prim.Native.Nat.{ℕ, zero, suc, _≤_, _<_, suc-le-suc, zero-le}
 use native.Mathlib.Nat.{suc-inj, not-suc-le-zero, le-of-suc-le-suc}
 use native.Mathlib.Omega.{arith}
-use mathlib.Core.Path.{_≡_, refl, sym, ap, ap₂, _∙_, subst}
-use mathlib.Core.Logic.{_⊎_, inl, inr, _↔_}
-use mathlib.Core.Bool.{Bool, true, false, cond, not, _&&_, _||_, Bool·beq, true≢false, false≢true}
+use mathlib.Core.Path.{_≡_, refl, sym, ap, _∙_, subst}
+use mathlib.Core.Logic.{_⊎_, inl, inr}
+use mathlib.Core.Bool.{Bool, true, false, cond, not, Bool·beq, true≢false, false≢true}
 use mathlib.Core.List.{List, [], _∷_, _++_}
 use lib.ListN.{length, take, drop}
 use Rattle.qbf.specs.Formula.{Clause, Node, Prefix, Quantifier, _▹_, exists, forall, free, quantifiers}
 use Rattle.qbf.specs.Truth.{DecidedNode, Outcome, bound, completions, decidedNodes, freeCount, hasVerdict, select, truth, verdictOf}
 use Rattle.qbf.specs.Card.{Before, IsLine, Mem, Rises, liesOn}
 use Rattle.qbf.specs.Demands.{CardRight}
-use Rattle.qbf.proofs.Basics.{dichotomy, and-left, and-right, or-false-left, or-false-right, beq-refl, beq→≡}
-use Rattle.qbf.proofs.Game.{Win, win-down}
-use Rattle.qbf.proofs.Verdict.{NoFree, without-free, never, verdict-win, verdict-mixed, consistent}
-use Rattle.qbf.proofs.Branch.{mem-append}
-use Rattle.qbf.proofs.Search.{Below, FreeFirst}
+use Rattle.theory.proofs.Basics.{beq-refl, beq→≡}
+use Rattle.theory.proofs.Game.{Win, win-down}
+use Rattle.theory.proofs.Verdict.{NoFree, without-free, verdict-win, verdict-mixed, consistent}
+use Rattle.theory.proofs.Stores.{mem-append}
+use Rattle.theory.proofs.Search.{FreeFirst}
 
 pub append-nil : (s : Node) → s ++ [] ≡ s
 append-nil [] = refl
@@ -125,7 +125,7 @@ module _ (D : Prefix) (R : List Clause) where
   not-both false true ks s a b = absurd (true≢false (sym (consistent D R ks s b) ∙ a))
   not-both false false ks s a b = refl
 
-  -- THE induction: a node that is won, or a flag node that is not, over its two sides
+  -- THE induction: a node that is won, or a free node that is not, over its two sides
   module _ (P : List Quantifier → Node → List DecidedNode → Type 0)
       (leaf : (v : Bool) (ks : List Quantifier) (s : Node) → Win D R v ks s → P ks s (mark s v ∷ []))
       (fork : (ks : List Quantifier) (s : Node) → ((v : Bool) → Win D R v (free ∷ ks) s → ⊥) → P ks (s ▹ false) (tops ks (s ▹ false)) → P ks (s ▹ true) (tops ks (s ▹ true))

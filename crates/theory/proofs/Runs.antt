@@ -1,31 +1,28 @@
 -- Lists of calls: the learning run answers as the plain run does, and visits no more.
-use Prim.Native.Nat.{ℕ, zero, suc, _+_, _-_, _≤_, _<_, suc-le-suc, zero-le}
-use native.Mathlib.Nat.{le-of-suc-le-suc, not-suc-le-zero, le-refl}
-use native.Mathlib.Omega.{arith}
+use Prim.Native.Nat.{ℕ}
+use native.Mathlib.Nat.{le-refl}
 use mathlib.Core.Path.{_≡_, refl, sym, ap, _∙_, subst}
 use mathlib.Core.Logic.{_⊎_, inl, inr}
-use mathlib.Core.Bool.{Bool, true, false, cond, not, _&&_, _||_, Bool·beq, true≢false, false≢true}
-use mathlib.Core.List.{List, [], _∷_, _++_, map}
+use mathlib.Core.Bool.{Bool, true, false, _||_, true≢false}
+use mathlib.Core.List.{List, [], _∷_, _++_}
 use mathlib.Core.Option.{Option, none, some}
-use lib.ListN.{length, drop, getD, length-map}
-use lib.Dec.{eqb, leb, ltb, leb→le}
-use Rattle.qbf.specs.Formula.{Clause, Formula, Literal, Node, Prefix, Quantifier, _▹_, all, any, exists, forall, free, isFree, numberOf, quantifiers, satisfied}
-use Rattle.qbf.specs.Truth.{Outcome, bound, combine, completions, freeCount, oneSideEnough}
-use Rattle.qbf.specs.Learning.{Constraint, Store, constraints, emptyStore}
-use Rattle.qbf.specs.Card.{Mem}
-use Rattle.qbf.specs.Calls.{Call, Reply, State, Stepped, card, cardReplyOf, clauseOf, forget, formulaOk, guarded, learningAnswer, learningCard, learningQuery, nextFormula, query, queryFault, queryReply, rule, ruleFault, startNode, step, storeAfterRule, storeOk, wellFormed, withRule}
+use lib.ListN.{length, drop}
+use Rattle.qbf.specs.Formula.{Clause, Formula, Limits, Literal, Node, Prefix, Quantifier, _▹_, all, quantifiers, satisfied}
+use Rattle.qbf.specs.Truth.{Outcome, bound, combine, completions, oneSideEnough}
+use Rattle.qbf.specs.Learning.{Constraint, Store, emptyStore}
+use Rattle.qbf.specs.Calls.{Call, Reply, State, Stepped, card, cardReplyOf, clauseOf, forget, formulaOk, guarded, learningAnswer, learningCard, learningQuery, nextFormula, query, queryFault, queryReply, rule, ruleFault, startNode, step, storeAfterRule, wellFormed, withRule}
 use Rattle.qbf.specs.Runs.{fresh, learningRun, plainAnswer, plainCall, plainCard, plainQuery, plainRun}
 use Rattle.qbf.specs.Demands.{Agree, AllAgree}
-use Rattle.qbf.proofs.Basics.{≡→T, false-eqb, dichotomy, and-left, and-right, or-cases, or-left, or-right, and-both}
-use Rattle.qbf.proofs.Game.{Rising, Win}
-use Rattle.qbf.proofs.Claim.{Wins, Holds}
-use Rattle.qbf.proofs.WellFormed.{FormulaFacts, formula-facts, facts-formula, clauses-rising, rule-formula, store-formed, capacity, free-before, inside}
-use Rattle.qbf.proofs.Leaves.{Valid, SoundStore, Fair}
-use Rattle.qbf.proofs.Verdict.{decided-outline, Says, NoFree}
-use Rattle.qbf.proofs.Starting.{SoundFor, Starts, starts-full, starts-empty, learning, plainly, Searched, searched}
-use Rattle.qbf.proofs.Branch.{mem-append}
+use Rattle.theory.proofs.Basics.{and-left, and-right, or-cases, or-left, or-right, and-both}
+use Rattle.theory.proofs.Game.{Win}
+use Rattle.theory.proofs.Shape.{Formed}
+use Rattle.theory.proofs.Stores.{stored-empty, stored-rule, stored-weaker}
+use Rattle.theory.proofs.AcceptedRule.{next-formula}
+use Rattle.theory.proofs.WellFormed.{FormulaFacts, formula-facts, facts-state}
+use Rattle.theory.proofs.Leaves.{Valid, SoundStore}
+use Rattle.theory.proofs.Starting.{SoundFor, Starts, start-length, starts-full, starts-empty, learning, plainly, searched}
 
--- ---- a rule more: what no completion made true stays so
+-- ---- a clause more: what no completion made true stays so
 more-clauses : (D : Prefix) (a : Bool) (R Q : List Clause) (ks : List Quantifier) (s : Node) → completions a D (R ++ Q) ks s ≡ true → completions a D R ks s ≡ true
 more-clauses D a R Q [] s e = front R e
   where
@@ -59,41 +56,32 @@ pub record Reached (x : State) : Type 0 where
   pub sound : SoundStore (x .formula .limits) (x .formula .prefix) (x .formula .clauses) (x .store)
 
 pub reached-formed : (x : State) → Reached x → wellFormed x ≡ true
-reached-formed x h =
-    and-both (formulaOk (x .formula)) (storeOk (x .formula .limits) (x .formula .prefix) (x .store)) (facts-formula (x .formula) (h .formula-ok))
-    (store-formed (x .formula .limits) (x .formula .prefix) (x .formula .clauses) (x .store) (h .sound))
+reached-formed x h = facts-state x (record { formula-ok = h .formula-ok; store-ok = stored-weaker (Valid D R) L (Formed D) (λ v E w. w .formed) (x .store) (h .sound) })
+  where
+    L : Limits
+    L = x .formula .limits
+
+    D : Prefix
+    D = x .formula .prefix
+
+    R : List Clause
+    R = x .formula .clauses
 
 clause-valid : (D : Prefix) (R Q : List Clause) (E : Constraint) → Valid D R false E → Valid D (R ++ Q) false E
-clause-valid D R Q E w = record { rising = w .rising; reduced = w .reduced; exact = λ t p q. clause-stays D R Q (drop (length t) (quantifiers D)) t (w .exact t p q) }
+clause-valid D R Q E w = record { formed = w .formed; exact = λ t p q. clause-stays D R Q (drop (length t) (quantifiers D)) t (w .exact t p q) }
 
 rule-keeps-sound : (b : Formula) (ls : List Literal) (st : Store) → SoundFor b st → (o : Option ℕ) → SoundFor (withRule o b ls) (storeAfterRule o st)
 rule-keeps-sound b ls st h (some n) = h
-rule-keeps-sound b ls st h none = record { valid = members; bounded = lengths }
-  where
-    members : (v : Bool) (E : Constraint) → Mem E (constraints v (storeAfterRule none st)) → Valid (b .prefix) (b .clauses ++ (clauseOf (b .prefix) ls ∷ [])) v E
-    members true E m = absurd m
-    members false E m = clause-valid (b .prefix) (b .clauses) (clauseOf (b .prefix) ls ∷ []) E (h .valid false E m)
-
-    lengths : (v : Bool) → length (constraints v (storeAfterRule none st)) ≤ b .limits .constraints
-    lengths true = zero-le
-    lengths false = h .bounded false
+rule-keeps-sound b ls st h none =
+    let Q : List Clause = clauseOf (b .prefix) ls ∷ [] in
+    stored-rule (Valid (b .prefix) (b .clauses)) (b .limits) (Valid (b .prefix) (b .clauses ++ Q)) (clause-valid (b .prefix) (b .clauses) Q) st h
 
 -- ---- one call
--- a query starts at a full reading
-pub start-length : (ls : List Literal) (ds : Prefix) → length (startNode ls ds) ≡ freeCount (quantifiers ds)
-start-length ls [] = refl
-start-length ls (d ∷ ds) = by (d .quantifier) (start-length ls ds)
-  where
-    by : (κ : Quantifier) → length (startNode ls ds) ≡ freeCount (quantifiers ds) → length (cond (isFree κ) (any (λ l. eqb (d .number) (numberOf l)) ls ∷ startNode ls ds) []) ≡ freeCount (κ ∷ quantifiers ds)
-    by free h = ap suc h
-    by exists h = refl
-    by forall h = refl
-
 module _ (b : Formula) (f : FormulaFacts b) (st : Store) (h : SoundFor b st) where
-  -- a walk from a start node, whatever is told of its outcome
+  -- a search from a start node, whatever is answered of its outcome
   pub search-agrees : (ks : List Quantifier) (s : Node) → Starts b ks s → (tell : Outcome (Unit {0}) → Reply)
       → SoundFor b (learningAnswer tell (learning b st ks s) .store) × Agree (learningAnswer tell (learning b st ks s) .out) (plainAnswer tell (plainly b st ks s))
-  search-agrees ks s g tell = let w = searched b st ks s f h g in (w .kept-sound, record { reply = ap tell (w .agree); visits = w .fewer })
+  search-agrees ks s g tell = let w = searched b st ks s f h g in (w .stays-sound, record { reply = ap tell (w .agree); visits = w .fewer })
 
   query-ok : (o : Option ℕ) (ls : List Literal) → SoundFor b (learningQuery o b st ls .store) × Agree (learningQuery o b st ls .out) (plainQuery o b ls)
   query-ok (some n) ls = (h, record { reply = refl; visits = le-refl 0 })
@@ -103,17 +91,9 @@ module _ (b : Formula) (f : FormulaFacts b) (st : Store) (h : SoundFor b st) whe
   card-ok p len = search-agrees (quantifiers (b .prefix)) [] (starts-empty b f) (cardReplyOf p (b .prefix) len)
 
 none-stored : (b : Formula) → SoundFor b emptyStore
-none-stored b = record { valid = members; bounded = lengths }
-  where
-    members : (v : Bool) (E : Constraint) → Mem E (constraints v emptyStore) → Valid (b .prefix) (b .clauses) v E
-    members true E m = absurd m
-    members false E m = absurd m
+none-stored b = stored-empty (Valid (b .prefix) (b .clauses)) (b .limits)
 
-    lengths : (v : Bool) → length (constraints v emptyStore) ≤ b .limits .constraints
-    lengths true = zero-le
-    lengths false = zero-le
-
--- one call from a reached state: a reached state, the plain run's next book, and replies that agree
+-- one call from a reached state: a reached state, the plain run's next formula, and replies that agree
 pub record CallOk (x : State) (c : Call) (r : Stepped) : Type 0 where
   pub next : Reached (r .state)
   pub same-formula : r .state .formula ≡ nextFormula (x .formula) c
@@ -122,7 +102,7 @@ pub record CallOk (x : State) (c : Call) (r : Stepped) : Type 0 where
 pub call-ok : (x : State) → Reached x → (c : Call) → CallOk x c (guarded true x c)
 call-ok x h (rule ls) =
     record {
-      next = record { formula-ok = rule-formula (x .formula) ls (h .formula-ok) (ruleFault (x .formula) ls) refl; sound = rule-keeps-sound (x .formula) ls (x .store) (h .sound) (ruleFault (x .formula) ls) };
+      next = record { formula-ok = next-formula (x .formula) (h .formula-ok) (rule ls); sound = rule-keeps-sound (x .formula) ls (x .store) (h .sound) (ruleFault (x .formula) ls) };
       same-formula = refl;
       agree = record { reply = refl; visits = le-refl 0 };
     }
@@ -138,7 +118,7 @@ call-ok x h forget =
 pub step-ok : (x : State) → Reached x → (c : Call) → CallOk x c (step x c)
 step-ok x h c = subst (λ (g : Bool). CallOk x c (guarded g x c)) (sym (reached-formed x h)) (call-ok x h c)
 
-run-agrees : (cs : List Call) (x : State) → Reached x → (b : Formula) → x .formula ≡ b → AllAgree (learningRun x cs) (plainRun b cs)
+pub run-agrees : (cs : List Call) (x : State) → Reached x → (b : Formula) → x .formula ≡ b → AllAgree (learningRun x cs) (plainRun b cs)
 run-agrees [] x h b e = tt
 run-agrees (c ∷ cs) x h b e =
     let w = step-ok x h c in (
@@ -148,7 +128,3 @@ run-agrees (c ∷ cs) x h b e =
 
 pub fresh-reached : (b : Formula) → formulaOk b ≡ true → Reached (fresh b)
 fresh-reached b e = record { formula-ok = formula-facts b e; sound = none-stored b }
-
--- THE THEOREM over lists of calls: from a freshly opened book the box answers each call as the plain run does, in no more visits
-pub demand-3 : (b : Formula) → formulaOk b ≡ true → (cs : List Call) → AllAgree (learningRun (fresh b) cs) (plainRun b cs)
-demand-3 b e cs = run-agrees cs (fresh b) (fresh-reached b e) b refl

@@ -1,20 +1,18 @@
--- Entries as sets: putting a literal in, uniting, leaving a place out; the first element that passes a test.
-use Prim.Native.Nat.{ℕ, zero, suc, _+_, _-_, _≤_, _<_, suc-le-suc, zero-le}
-use native.Mathlib.Nat.{le-of-suc-le-suc, not-suc-le-zero, le-refl}
+-- Constraints as sets: putting a literal in, uniting, leaving a place out; the first element that passes a test.
+use Prim.Native.Nat.{ℕ, _≤_, _<_}
 use native.Mathlib.Omega.{arith}
 use mathlib.Core.Path.{_≡_, refl, sym, ap, _∙_, subst}
 use mathlib.Core.Logic.{_⊎_, inl, inr}
-use mathlib.Core.Bool.{Bool, true, false, cond, not, _&&_, _||_, Bool·beq, true≢false, false≢true}
-use mathlib.Core.List.{List, [], _∷_, _++_}
+use mathlib.Core.Bool.{Bool, true, false, cond, not, _||_, Bool·beq, true≢false, false≢true}
+use mathlib.Core.List.{List, [], _∷_}
 use mathlib.Core.Option.{Option, none, some}
-use lib.ListN.{length}
-use lib.Dec.{eqb, leb, ltb, ltb→lt, nltb→le, not-T}
+use lib.Dec.{eqb, ltb, ltb→lt, nltb→le}
 use Rattle.qbf.specs.Formula.{Literal, Node, Prefix, any, equals, has, place, positive, valueAt}
-use Rattle.qbf.specs.Learning.{Constraint, first, insert, mentions, union, without}
+use Rattle.qbf.specs.Learning.{Constraint, first, insert, lastPlace, mentions, union, without}
 use Rattle.qbf.specs.Card.{Mem}
-use Rattle.qbf.proofs.Basics.{dichotomy, any→, →any, eqb-true, true-eqb, false-eqb, ≡→T, beq→≡}
-use Rattle.qbf.proofs.Game.{Rising}
-use Rattle.qbf.proofs.Constraints.{rising-from}
+use Rattle.theory.proofs.Basics.{dichotomy, any→, →any, eqb-true, true-eqb, false-eqb, ≡→T, beq→≡}
+use Rattle.theory.proofs.Game.{Rising}
+use Rattle.theory.proofs.Constraints.{last-max, last-mem, rising-from}
 
 module _ (D : Prefix) where
   abbrev pub Covers : Constraint → ℕ → Type 0
@@ -133,6 +131,19 @@ module _ (D : Prefix) where
 
   pub →mentions : (p : ℕ) (E : Constraint) → Covers E p → mentions D p E ≡ true
   →mentions p E w = →any (λ l. eqb (place D l) p) E (w .0) (w .1) (true-eqb (place D (w .0)) p (w .2))
+
+  -- a place that no literal stands beyond is named exactly if it is the last
+  pub mentions-last : (p : ℕ) (E : Constraint) → Rising D 0 E → lastPlace D E ≤ p → 0 < p → mentions D p E ≡ eqb (lastPlace D E) p
+  mentions-last p E up h z = by (dichotomy (mentions D p E)) (dichotomy (eqb (lastPlace D E) p))
+    where
+      ends : (lastPlace D E ≡ 0) ⊎ Covers E (lastPlace D E) → lastPlace D E ≡ p → mentions D p E ≡ true
+      ends (inl q) e = absurd (omega (arith, q, e, z))
+      ends (inr w) e = →mentions p E (w .0, w .1, w .2 ∙ e)
+
+      by : (mentions D p E ≡ true) ⊎ (mentions D p E ≡ false) → (eqb (lastPlace D E) p ≡ true) ⊎ (eqb (lastPlace D E) p ≡ false) → mentions D p E ≡ eqb (lastPlace D E) p
+      by (inl m) q = let w = mentions→ p E m in m ∙ sym (true-eqb (lastPlace D E) p (omega (arith, h, w .2, last-max D 0 E up (w .0) (w .1))))
+      by (inr m) (inl q) = absurd (true≢false (sym (ends (last-mem D 0 E) (eqb-true (lastPlace D E) p q)) ∙ m))
+      by (inr m) (inr q) = m ∙ sym q
 
   -- two literals of one place that have one value at s have one value anywhere
   pub twins : (v : Bool) (s u : Node) (l m : Literal) → place D l ≡ place D m → has D v s l ≡ true → has D v s m ≡ true → has D v u m ≡ true → has D v u l ≡ true

@@ -8,17 +8,17 @@ use mathlib.Core.Bool.{Bool, true, false, cond, not, _&&_, _||_, true≢false, f
 use mathlib.Core.List.{List, [], _∷_, _++_, map}
 use lib.ListN.{length, replicate, length-append, length-map, length-replicate}
 use lib.Dec.{leb, leb→le, nleb→lt}
 use Rattle.qbf.specs.Formula.{Clause, Formula, Node, Prefix, quantifiers}
 use Rattle.qbf.specs.Truth.{freeVariables, outline, select, verdictOf}
 use Rattle.qbf.specs.Card.{Mem, byteOf, bytesOf, lineBytes, tableOf, zeroTable}
 use Rattle.qbf.specs.Calls.{Call, State, card, cardRefused, cardReply, cardReplyOf, formulaOk, guarded, lines, step}
 use Rattle.qbf.specs.Runs.{after, fresh}
 use Rattle.qbf.specs.Demands.{CardOwed, CardRight}
-use Rattle.qbf.proofs.Basics.{≡→T}
-use Rattle.qbf.proofs.WellFormed.{FormulaFacts, formula-facts, clauses-rising, capacity, free-before, inside}
-use Rattle.qbf.proofs.Starting.{starts-empty, learning, Searched, searched}
-use Rattle.qbf.proofs.Runs.{Reached, reached-formed, step-ok, fresh-reached}
-use Rattle.qbf.proofs.Topmost.{tops, card-right}
+use Rattle.theory.proofs.Basics.{≡→T}
+use Rattle.theory.proofs.WellFormed.{FormulaFacts, formula-facts, clauses-rising, capacity, free-before, inside}
+use Rattle.theory.proofs.Starting.{starts-empty, learning, Searched, searched}
+use Rattle.theory.proofs.Runs.{Reached, reached-formed, step-ok, fresh-reached}
+use Rattle.theory.proofs.Topmost.{tops, card-right}
 
 bytes-length : (f : ℕ) (ls : List Node) → ((s : Node) → Mem s ls → length s ≤ f) → length (bytesOf f ls) ≡ length ls * f
 bytes-length f [] h = omega arith
@@ -37,9 +37,9 @@ module _ (p : Bool) (D : Prefix) (R : List Clause) where
       by true e = record { right = h; table = refl; whole = table-length len ls h (leb→le (length ls * freeVariables D) len (≡→T (leb (length ls * freeVariables D) len) e)) }
       by false e = record { number = refl; zeros = refl; them = ls; right = h; over = nleb→lt (length ls * freeVariables D) len (≡→T (not (leb (length ls * freeVariables D) len)) (ap not e)) }
 
--- the outcome of a walk from the empty node, at a reached state, is the one by truth
-pub walk-true : (x : State) → Reached x → outline (learning (x .formula) (x .store) (quantifiers (x .formula .prefix)) [] .outcome) ≡ verdictOf (x .formula .prefix) (x .formula .clauses) (quantifiers (x .formula .prefix)) []
-walk-true x h = searched (x .formula) (x .store) (quantifiers (x .formula .prefix)) [] (h .formula-ok) (h .sound) (starts-empty (x .formula) (h .formula-ok)) .verdict
+-- the outcome of a search from the empty node, at a reached state, is the one by truth
+pub search-true : (x : State) → Reached x → outline (learning (x .formula) (x .store) (quantifiers (x .formula .prefix)) [] .outcome) ≡ verdictOf (x .formula .prefix) (x .formula .clauses) (quantifiers (x .formula .prefix)) []
+search-true x h = searched (x .formula) (x .store) (quantifiers (x .formula .prefix)) [] (h .formula-ok) (h .sound) (starts-empty (x .formula) (h .formula-ok)) .verdict
 
 pub after-reached : (x : State) → Reached x → (cs : List Call) → Reached (after x cs)
 after-reached x h [] = h
@@ -48,7 +48,7 @@ after-reached x h (c ∷ cs) = after-reached (step x c .state) (step-ok x h c .n
 -- the reply to a card, by truth
 pub card-reply : (x : State) → Reached x → (len : ℕ)
     → step x (card len) .out .reply ≡ cardReply (freeVariables (x .formula .prefix)) len (select true (tops (x .formula .prefix) (x .formula .clauses) (quantifiers (x .formula .prefix)) []))
-card-reply x h len = ap (λ (g : Bool). guarded g x (card len) .out .reply) (reached-formed x h) ∙ ap (cardReplyOf true (x .formula .prefix) len) (walk-true x h)
+card-reply x h len = ap (λ (g : Bool). guarded g x (card len) .out .reply) (reached-formed x h) ∙ ap (cardReplyOf true (x .formula .prefix) len) (search-true x h)
 
 pub card-owed : (x : State) → Reached x → (len : ℕ) → CardOwed true (x .formula .prefix) (x .formula .clauses) len (step x (card len) .out .reply)
 card-owed x h len =
@@ -59,8 +59,3 @@ card-owed x h len =
 
     R : List Clause
     R = x .formula .clauses
-
--- DEMAND 2
-pub demand-2 : (b : Formula) → formulaOk b ≡ true → (cs : List Call) (len : ℕ)
-    → let x = after (fresh b) cs in CardOwed true (x .formula .prefix) (x .formula .clauses) len (step x (card len) .out .reply)
-demand-2 b e cs len = card-owed (after (fresh b) cs) (after-reached (fresh b) (fresh-reached b e) cs) len

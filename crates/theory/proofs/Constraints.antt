@@ -1,15 +1,15 @@
--- Entries: the last place, reducing.
-use Prim.Native.Nat.{ℕ, zero, suc, _+_, _-_, _≤_, _<_, suc-le-suc, zero-le}
-use native.Mathlib.Nat.{le-of-suc-le-suc, not-suc-le-zero, le-refl}
+-- Constraints: the last place, reduction.
+use Prim.Native.Nat.{ℕ, _≤_, _<_}
+use native.Mathlib.Nat.{le-refl}
 use native.Mathlib.Omega.{arith}
-use mathlib.Core.Path.{_≡_, refl, sym, ap, _∙_, subst}
+use mathlib.Core.Path.{_≡_, refl, sym, ap, _∙_}
 use mathlib.Core.Logic.{_⊎_, inl, inr}
-use mathlib.Core.Bool.{Bool, true, false, cond, not, _&&_, _||_, Bool·beq, true≢false, false≢true}
-use mathlib.Core.List.{List, [], _∷_, _++_}
+use mathlib.Core.Bool.{Bool, true, false, cond}
+use mathlib.Core.List.{[], _∷_}
 use Rattle.qbf.specs.Formula.{Literal, Prefix, free, place, quantifierAt}
 use Rattle.qbf.specs.Learning.{Constraint, dropped, keepOrDrop, lastPlace, lastPlaceFrom, reduce}
 use Rattle.qbf.specs.Card.{Mem}
-use Rattle.qbf.proofs.Game.{Rising, rising-above}
+use Rattle.theory.proofs.Game.{Rising}
 
 pub last-from : (D : Prefix) (d : ℕ) (E : Constraint) → Rising D d E → d ≤ lastPlaceFrom D d E
 last-from D d [] up = le-refl d
@@ -46,10 +46,8 @@ module _ (D : Prefix) (v : Bool) where
       by true [] ih n = absurd n
       by false [] ih (inl p) = inl p
       by false [] ih (inr n) = absurd n
-      by true (x ∷ xs) ih (inl p) = inl p
-      by true (x ∷ xs) ih (inr n) = inr (ih n)
-      by false (x ∷ xs) ih (inl p) = inl p
-      by false (x ∷ xs) ih (inr n) = inr (ih n)
+      by o (x ∷ xs) ih (inl p) = inl p
+      by o (x ∷ xs) ih (inr n) = inr (ih n)
 
   pub reduce-rising : (d : ℕ) (U : Constraint) → Rising D d U → Rising D d (reduce D v U)
   reduce-rising d [] up = tt
@@ -58,8 +56,7 @@ module _ (D : Prefix) (v : Bool) where
       by : (o : Bool) (rs : Constraint) → Rising D (place D k) rs → Rising D d (keepOrDrop o k rs)
       by true [] ih = tt
       by false [] ih = (up .0, tt)
-      by true (x ∷ xs) ih = (up .0, ih)
-      by false (x ∷ xs) ih = (up .0, ih)
+      by o (x ∷ xs) ih = (up .0, ih)
 
   -- a literal stays, or is of the kind that is dropped and beyond the last place
   pub reduce-rest : (d : ℕ) (U : Constraint) → Rising D d U → (l : Literal) → Mem l U
@@ -82,14 +79,8 @@ module _ (D : Prefix) (v : Bool) where
           go : ⊥ ⊎ ((dropped v (quantifierAt D (place D l)) ≡ true) × (place D k < place D l)) → Mem l (k ∷ []) ⊎ ((dropped v (quantifierAt D (place D l)) ≡ true) × (place D k < place D l))
           go (inl z) = absurd z
           go (inr w) = inr w
-      by true e (x ∷ xs) ih (inl p) = inl (inl p)
-      by true e (x ∷ xs) ih (inr n) = go (ih n)
-        where
-          go : Mem l (x ∷ xs) ⊎ ((dropped v (quantifierAt D (place D l)) ≡ true) × (lastPlaceFrom D (place D k) (x ∷ xs) < place D l)) → Mem l (k ∷ x ∷ xs) ⊎ ((dropped v (quantifierAt D (place D l)) ≡ true) × (lastPlaceFrom D (place D k) (x ∷ xs) < place D l))
-          go (inl z) = inl (inr z)
-          go (inr w) = inr w
-      by false e (x ∷ xs) ih (inl p) = inl (inl p)
-      by false e (x ∷ xs) ih (inr n) = go (ih n)
+      by o e (x ∷ xs) ih (inl p) = inl (inl p)
+      by o e (x ∷ xs) ih (inr n) = go (ih n)
         where
           go : Mem l (x ∷ xs) ⊎ ((dropped v (quantifierAt D (place D l)) ≡ true) × (lastPlaceFrom D (place D k) (x ∷ xs) < place D l)) → Mem l (k ∷ x ∷ xs) ⊎ ((dropped v (quantifierAt D (place D l)) ≡ true) × (lastPlaceFrom D (place D k) (x ∷ xs) < place D l))
           go (inl z) = inl (inr z)
@@ -102,8 +93,7 @@ module _ (D : Prefix) (v : Bool) where
       by : (o : Bool) → dropped v (quantifierAt D (place D k)) ≡ o → (rs : Constraint) → dropped v (quantifierAt D (lastPlaceFrom D d rs)) ≡ false → dropped v (quantifierAt D (lastPlaceFrom D d (keepOrDrop o k rs))) ≡ false
       by true e [] ih = h
       by false e [] ih = e
-      by true e (x ∷ xs) ih = ih
-      by false e (x ∷ xs) ih = ih
+      by o e (x ∷ xs) ih = ih
 
   dropped-free : dropped v free ≡ false
   dropped-free = by v

@@ -1,0 +1,84 @@
+-- The demands as theorems about the definitions of crate qbf. A reached state is one that a list of calls leads to from a freshly
+-- opened formula; `after (fresh b) cs` is such a state, and `formulaOk b ≡ true` says that no refusal stops the opening.
+use Prim.Native.Nat.{ℕ, suc, _^_, _≤_, _<_}
+use mathlib.Core.Path.{_≡_, refl}
+use mathlib.Core.Bool.{Bool, true}
+use mathlib.Core.List.{List, []}
+use mathlib.Core.Option.{Option, some}
+use lib.ListN.{length}
+use Rattle.qbf.specs.Formula.{Clause, Formula, Limits, Literal, Node, Prefix, Quantifier, quantifiers}
+use Rattle.qbf.specs.Truth.{outline, verdictOf}
+use Rattle.qbf.specs.Plain.{plainSearch}
+use Rattle.qbf.specs.Learning.{Constraint, Store, constraints, learningSearch}
+use Rattle.qbf.specs.Card.{Mem}
+use Rattle.qbf.specs.Calls.{Call, State, card, formulaOk, query, startNode, step, wellFormed}
+use Rattle.qbf.specs.Runs.{after, fresh, learningRun, plainRun}
+use Rattle.qbf.specs.Demands.{AllAgree, CardOwed, Leaves, QueryOwed, refusalOf}
+use Rattle.theory.proofs.Leaves.{Valid}
+use Rattle.theory.proofs.Starting.{Starts, learning, plainly, searched}
+use Rattle.theory.proofs.Refusals.{refusals, refused-leaves, refused-known}
+use Rattle.theory.proofs.Runs.{Reached, fresh-reached, reached-formed, run-agrees}
+use Rattle.theory.proofs.Preserved.{step-formed}
+use Rattle.theory.proofs.Cards.{after-reached, card-owed}
+use Rattle.theory.proofs.Queries.{query-owed}
+use Rattle.theory.proofs.Bound.{search-bound, plain-bound}
+
+-- ---- demand 1: "Nothing refused changes the book's declarations or rules, and every refusal has its number and leaves what the
+-- paper says." On any state, well formed or not.
+pub demand-1 : (x : State) (c : Call) (n : ℕ) → refusalOf (step x c .out .reply) ≡ some n → Leaves n x (step x c)
+demand-1 = refused-leaves
+
+-- the number is one of the paper's for that call
+pub refusal-known : (x : State) (c : Call) (n : ℕ) → refusalOf (step x c .out .reply) ≡ some n → Mem n (refusals c)
+refusal-known = refused-known
+
+-- "no .. state makes the box .. run without end": with the places of ks left a search makes fewer than 2 ^ (length ks + 1) visits
+pub visits-bounded : (L : Limits) (D : Prefix) (R : List Clause) (ks : List Quantifier) (s : Node) (st : Store) → learningSearch L D R ks s st .visits < 2 ^ suc (length ks)
+visits-bounded = search-bound
+
+pub plain-visits-bounded : (D : Prefix) (R : List Clause) (ks : List Quantifier) (s : Node) → plainSearch D R ks s .visits < 2 ^ suc (length ks)
+plain-visits-bounded = plain-bound
+
+-- a well-formed state stays well formed, reached or not
+pub well-formed-stays : (x : State) → wellFormed x ≡ true → (c : Call) → wellFormed (step x c .state) ≡ true
+well-formed-stays = step-formed
+
+-- ---- reached states
+module _ (b : Formula) (e : formulaOk b ≡ true) (cs : List Call) where
+  abbrev state : State
+  state = after (fresh b) cs
+
+  reached : Reached state
+  reached = after-reached (fresh b) (fresh-reached b e) cs
+
+  pub reached-well-formed : wellFormed state ≡ true
+  reached-well-formed = reached-formed state reached
+
+  -- every stored constraint is valid: where it ends, a node at which all its literals have their value has its verdict
+  pub stored-valid : (v : Bool) (E : Constraint) → Mem E (constraints v (state .store)) → Valid (state .formula .prefix) (state .formula .clauses) v E
+  stored-valid v E m = reached .sound .each v E m
+
+  -- from a start node both searches give the verdict that truth defines, the learning one in no more visits
+  module _ (ks : List Quantifier) (s : Node) (start : Starts (state .formula) ks s) where
+    pub search-gives-truth : outline (learning (state .formula) (state .store) ks s .outcome) ≡ verdictOf (state .formula .prefix) (state .formula .clauses) ks s
+    search-gives-truth = searched (state .formula) (state .store) ks s (reached .formula-ok) (reached .sound) start .verdict
+
+    pub searches-agree : outline (learning (state .formula) (state .store) ks s .outcome) ≡ plainly (state .formula) (state .store) ks s .outcome
+    searches-agree = searched (state .formula) (state .store) ks s (reached .formula-ok) (reached .sound) start .agree
+
+    pub search-visits-fewer : learning (state .formula) (state .store) ks s .visits ≤ plainly (state .formula) (state .store) ks s .visits
+    search-visits-fewer = searched (state .formula) (state .store) ks s (reached .formula-ok) (reached .sound) start .fewer
+
+  -- the answer to a query is the truth of its reading, or refusal 8
+  pub query-true : (ls : List Literal) → QueryOwed (state .formula .prefix) (state .formula .clauses) (startNode ls (state .formula .prefix)) (step state (query ls) .out .reply)
+  query-true ls = query-owed state reached ls
+
+  -- ---- demand 2: "On every card of an opened book that is not refused, a reading lies on a line exactly when the quantified rules are
+  -- true for it. The lines are the topmost ones, each once, in the fixed order, and no reading lies on two." The only refusal is 21.
+  pub demand-2 : (size : ℕ) → CardOwed true (state .formula .prefix) (state .formula .clauses) size (step state (card size) .out .reply)
+  demand-2 size = card-owed state reached size
+
+-- ---- demand 3: "Take every list of these calls .. on one freshly opened book, its store empty. .. every call gives the answer of the
+-- plain run", visits never more than the plain search's. One claim about the whole list.
+pub demand-3 : (b : Formula) → formulaOk b ≡ true → (cs : List Call) → AllAgree (learningRun (fresh b) cs) (plainRun b cs)
+demand-3 b e cs = run-agrees cs (fresh b) (fresh-reached b e) b refl

@@ -1,0 +1,180 @@
+-- Well-formed formulas, stores and states: the tests, and what they say.
+use Prim.Native.Nat.{ℕ, suc, _+_, _≤_, zero-le}
+use native.Mathlib.Omega.{arith}
+use mathlib.Core.Path.{_≡_, refl, ap}
+use mathlib.Core.Bool.{Bool, true, false, cond, not, _&&_, false≢true}
+use mathlib.Core.List.{List, [], _∷_}
+use lib.ListN.{length}
+use lib.Dec.{eqb, leb, ltb, leb→le, le→leb, ltb→lt, lt→ltb}
+use Rattle.qbf.specs.Formula.{Clause, Formula, Limits, Literal, Prefix, Quantifier, all, exists, forall, free, numberOf, place, placeFrom, placeOf, quantifierAt, quantifiers}
+use Rattle.qbf.specs.Learning.{Constraint, Store, constraints, dropped, lastPlace}
+use Rattle.qbf.specs.Card.{Mem}
+use Rattle.qbf.specs.Calls.{State, clauseOk, clausesOk, constraintOk, formulaOk, freeFirst, inOrder, limitsOk, noFree, numbersOk, prefixOk, storeOk, wellFormed}
+use Rattle.theory.proofs.Basics.{T→≡, ≡→T, and-left, and-right, and-both, all→, →all, not-true}
+use Rattle.theory.proofs.Game.{Rising}
+use Rattle.theory.proofs.Verdict.{NoFree}
+use Rattle.theory.proofs.Stores.{ShapedStore}
+use Rattle.theory.proofs.Shape.{Formed}
+use Rattle.theory.proofs.Search.{FreeFirst}
+
+pub leb-true : (m n : ℕ) → m ≤ n → leb m n ≡ true
+leb-true m n h = T→≡ (leb m n) (le→leb m n h)
+
+pub true-leb : (m n : ℕ) → leb m n ≡ true → m ≤ n
+true-leb m n e = leb→le m n (≡→T (leb m n) e)
+
+pub rising→ : (D : Prefix) (d : ℕ) (ls : List Literal) → inOrder D d ls ≡ true → Rising D d ls
+rising→ D d [] e = tt
+rising→ D d (l ∷ ls) e = (
+  ltb→lt d (place D l) (≡→T (ltb d (place D l)) (and-left (ltb d (place D l)) (inOrder D (place D l) ls) e)),
+  rising→ D (place D l) ls (and-right (ltb d (place D l)) (inOrder D (place D l) ls) e),
+)
+
+pub →rising : (D : Prefix) (d : ℕ) (ls : List Literal) → Rising D d ls → inOrder D d ls ≡ true
+→rising D d [] h = refl
+→rising D d (l ∷ ls) h =
+    and-both (ltb d (place D l)) (inOrder D (place D l) ls) (T→≡ (ltb d (place D l)) (lt→ltb d (place D l) (h .0))) (→rising D (place D l) ls (h .1))
+
+no-free : (ks : List Quantifier) → noFree ks ≡ true → NoFree ks
+no-free [] e = tt
+no-free (free ∷ ks) e = absurd (false≢true e)
+no-free (exists ∷ ks) e = no-free ks e
+no-free (forall ∷ ks) e = no-free ks e
+
+none-first : (ks : List Quantifier) → NoFree ks → FreeFirst ks
+none-first [] h = tt
+none-first (free ∷ ks) h = absurd h
+none-first (exists ∷ ks) h = (h, none-first ks h)
+none-first (forall ∷ ks) h = (h, none-first ks h)
+
+pub free-first : (ks : List Quantifier) → freeFirst ks ≡ true → FreeFirst ks
+free-first [] e = tt
+free-first (free ∷ ks) e = (tt, free-first ks e)
+free-first (exists ∷ ks) e = (no-free ks e, none-first ks (no-free ks e))
+free-first (forall ∷ ks) e = (no-free ks e, none-first ks (no-free ks e))
+
+-- ---- a place is at most the count of the declarations
+place-from : (p n : ℕ) (ds : Prefix) → placeFrom (suc p) n ds ≤ p + length (quantifiers ds)
+place-from p n [] = zero-le
+place-from p n (d ∷ ds) = by (eqb n (d .number)) (place-from (suc p) n ds)
+  where
+    by : (x : Bool) → placeFrom (suc (suc p)) n ds ≤ suc p + length (quantifiers ds) → cond x (suc p) (placeFrom (suc (suc p)) n ds) ≤ p + suc (length (quantifiers ds))
+    by true h = omega arith
+    by false h = omega (arith, h)
+
+pub inside : (D : Prefix) (l : Literal) → place D l ≤ length (quantifiers D)
+unfolding placeOf
+inside D l = omega (arith, place-from 0 (numberOf l) D)
+
+-- ---- formulas
+pub record FormulaFacts (b : Formula) : Type 0 where
+  pub limits-ok : limitsOk (b .limits) ≡ true
+  pub prefix-ok : prefixOk (b .limits) (b .prefix) ≡ true
+  pub clauses-ok : clausesOk (b .limits) (b .prefix) (b .clauses) ≡ true
+
+module _ (b : Formula) where
+  abbrev lim : Bool
+  lim = limitsOk (b .limits)
+
+  abbrev dec : Bool
+  dec = prefixOk (b .limits) (b .prefix)
+
+  abbrev rls : Bool
+  rls = clausesOk (b .limits) (b .prefix) (b .clauses)
+
+  pub formula-facts : formulaOk b ≡ true → FormulaFacts b
+  formula-facts e =
+      record { limits-ok = and-left lim (dec && rls) e; prefix-ok = and-left dec rls (and-right lim (dec && rls) e); clauses-ok = and-right dec rls (and-right lim (dec && rls) e) }
+
+  pub facts-formula : FormulaFacts b → formulaOk b ≡ true
+  facts-formula h = and-both lim (dec && rls) (h .limits-ok) (and-both dec rls (h .prefix-ok) (h .clauses-ok))
+
+  module _ (h : FormulaFacts b) where
+    pub capacity : 1 ≤ b .limits .constraints
+    capacity = true-leb 1 (b .limits .constraints) (h .limits-ok)
+
+    pub numbers-ok : numbersOk (b .limits) [] (b .prefix) ≡ true
+    numbers-ok = and-left (numbersOk (b .limits) [] (b .prefix)) (freeFirst (quantifiers (b .prefix))) (h .prefix-ok)
+
+    pub free-before : FreeFirst (quantifiers (b .prefix))
+    free-before = free-first (quantifiers (b .prefix)) (and-right (numbersOk (b .limits) [] (b .prefix)) (freeFirst (quantifiers (b .prefix))) (h .prefix-ok))
+
+    pub clause-count : length (b .clauses) ≤ b .limits .clauses
+    clause-count =
+        true-leb (length (b .clauses)) (b .limits .clauses) (and-left (leb (length (b .clauses)) (b .limits .clauses)) (all (clauseOk (b .limits) (b .prefix)) (b .clauses)) (h .clauses-ok))
+
+    pub each-clause : all (clauseOk (b .limits) (b .prefix)) (b .clauses) ≡ true
+    each-clause = and-right (leb (length (b .clauses)) (b .limits .clauses)) (all (clauseOk (b .limits) (b .prefix)) (b .clauses)) (h .clauses-ok)
+
+pub clauses-rising : (b : Formula) → FormulaFacts b → (r : Clause) → Mem r (b .clauses) → Rising (b .prefix) 0 r
+clauses-rising b h r m =
+    rising→ (b .prefix) 0 r (and-right (leb 1 (length r) && leb (length r) (b .limits .literals)) (inOrder (b .prefix) 0 r) (all→ (clauseOk (b .limits) (b .prefix)) (b .clauses) (each-clause b h) r m))
+
+-- ---- stores
+module _ (D : Prefix) (v : Bool) (E : Constraint) where
+  constraint-formed : constraintOk D v E ≡ true → Formed D v E
+  constraint-formed e =
+      record {
+        rising = rising→ D 0 E (and-left (inOrder D 0 E) (not (dropped v (quantifierAt D (lastPlace D E)))) e);
+        reduced = not-true (dropped v (quantifierAt D (lastPlace D E))) (and-right (inOrder D 0 E) (not (dropped v (quantifierAt D (lastPlace D E)))) e);
+      }
+
+  formed-constraint : Formed D v E → constraintOk D v E ≡ true
+  formed-constraint g = and-both (inOrder D 0 E) (not (dropped v (quantifierAt D (lastPlace D E)))) (→rising D 0 E (g .rising)) (ap not (g .reduced))
+
+module _ (L : Limits) (D : Prefix) (st : Store) where
+  abbrev fits : Bool → Bool
+  fits v = leb (length (constraints v st)) (L .constraints)
+
+  abbrev each-ok : Bool → Bool
+  each-ok v = all (constraintOk D v) (constraints v st)
+
+  -- the four tests, by polarity
+  tests : storeOk L D st ≡ true → (v : Bool) → (fits v ≡ true) × (each-ok v ≡ true)
+  tests e = by (four (fits false) (fits true) (each-ok false) (each-ok true) e)
+    where
+      four : (a b c d : Bool) → (a && b && c && d) ≡ true → (a ≡ true) × (b ≡ true) × (c ≡ true) × (d ≡ true)
+      four true true true d h = (refl, refl, refl, h)
+      four true true false d h = absurd (false≢true h)
+      four true false c d h = absurd (false≢true h)
+      four false b c d h = absurd (false≢true h)
+
+      by : (fits false ≡ true) × (fits true ≡ true) × (each-ok false ≡ true) × (each-ok true ≡ true) → (v : Bool) → (fits v ≡ true) × (each-ok v ≡ true)
+      by w true = (w .1, w .3)
+      by w false = (w .0, w .2)
+
+  pub store-shaped : storeOk L D st ≡ true → ShapedStore L D st
+  store-shaped e =
+      record {
+        each = λ v E m. constraint-formed D v E (all→ (constraintOk D v) (constraints v st) (tests e v .1) E m);
+        bounded = λ v. true-leb (length (constraints v st)) (L .constraints) (tests e v .0);
+      }
+
+  pub shaped-store : ShapedStore L D st → storeOk L D st ≡ true
+  shaped-store h =
+      and-both (fits false && fits true && each-ok false) (each-ok true)
+      (and-both (fits false && fits true) (each-ok false) (and-both (fits false) (fits true) (room false) (room true)) (each-formed false)) (each-formed true)
+    where
+      room : (v : Bool) → fits v ≡ true
+      room v = leb-true (length (constraints v st)) (L .constraints) (h .bounded v)
+
+      each-formed : (v : Bool) → each-ok v ≡ true
+      each-formed v = →all (constraintOk D v) (constraints v st) (λ E m. formed-constraint D v E (h .each v E m))
+
+-- ---- states
+pub record StateFacts (x : State) : Type 0 where
+  pub formula-ok : FormulaFacts (x .formula)
+  pub store-ok : ShapedStore (x .formula .limits) (x .formula .prefix) (x .store)
+
+module _ (x : State) where
+  abbrev book : Bool
+  book = formulaOk (x .formula)
+
+  abbrev kept : Bool
+  kept = storeOk (x .formula .limits) (x .formula .prefix) (x .store)
+
+  pub state-facts : wellFormed x ≡ true → StateFacts x
+  state-facts e = record { formula-ok = formula-facts (x .formula) (and-left book kept e); store-ok = store-shaped (x .formula .limits) (x .formula .prefix) (x .store) (and-right book kept e) }
+
+  pub facts-state : StateFacts x → wellFormed x ≡ true
+  facts-state h = and-both book kept (facts-formula (x .formula) (h .formula-ok)) (shaped-store (x .formula .limits) (x .formula .prefix) (x .store) (h .store-ok))
