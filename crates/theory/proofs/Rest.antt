@@ -9,7 +9,7 @@ use lib.ListN.{length, getD, drop}
 use Rattle.qbf.specs.Formula.{Node, Prefix, Quantifier, _▹_, free, quantifierAt, quantifiers}
 use Rattle.theory.proofs.Basics.{length-▹}
 
-nil-cons : (κ : Quantifier) (ks : List Quantifier) → _≡_ {A = List Quantifier} [] (κ ∷ ks) → ⊥
+pub nil-cons : (κ : Quantifier) (ks : List Quantifier) → _≡_ {A = List Quantifier} [] (κ ∷ ks) → ⊥
 nil-cons κ ks e = let z : _≡_ {A = ℕ} 0 1 = cc in omega arith
 
 cons-nil : (κ : Quantifier) (ks : List Quantifier) → _≡_ {A = List Quantifier} (κ ∷ ks) [] → ⊥
