@@ -1,11 +1,11 @@
 -- A literal's status: the value of its number, with off and on exchanged where the literal is negative.
 use mathlib.Core.Path.{_≡_, refl, ap, subst, _∙_}
-use mathlib.Core.Bool.{Bool, true, false}
+use mathlib.Core.Bool.{true, false}
 use Prim.Native.Nat.{ℕ, zero, suc}
 use native.Mathlib.Nat.{not-suc-le-zero}
 use borrow.Author.Tests.{ltb-true}
 use lib.Dec.{T}
-use lib.IntN.{ℤ, pos, negsuc}
+use lib.IntN.{pos, negsuc}
 use mathlib.Core.List.{List}
 use lib.ListN.{getD}
 use lib.Signed.{ltZ}
@@ -14,6 +14,9 @@ use mir.Val.{SFits, toZ, ofZ}
 use Rattle.qbf.specs.Formula.{Literal, numberOf}
 use Rattle.tables.specs.Views.{negated, signed, status}
 use Rattle.literal.proofs.Signed.{tested}
+
+pub negated-off : (v : ℕ) → v ≡ 1 → 2 ≡ negated v
+negated-off v is = rw is
 
 -- a value that is not open and not off
 pub negated-on : (v : ℕ) → (v ≡ 0 → ⊥) → (v ≡ 1 → ⊥) → 1 ≡ negated v

@@ -26,7 +26,7 @@ abbrev pub SoundFor : Formula → Store → Type 0
 SoundFor b st = SoundStore (b .limits) (b .prefix) (b .clauses) st
 
 -- ---- the places of the free variables
-free-fit : (ks : List Quantifier) → freeCount ks ≤ length ks
+pub free-fit : (ks : List Quantifier) → freeCount ks ≤ length ks
 free-fit [] = zero-le
 free-fit (free ∷ ks) = suc-le-suc (free-fit ks)
 free-fit (exists ∷ ks) = zero-le

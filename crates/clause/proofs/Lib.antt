@@ -1,0 +1,6 @@
+pub mod Lists
+pub mod Rows
+pub mod RowSearch
+pub mod Scan
+pub mod Lost
+pub mod TrueLiteral
