@@ -88,8 +88,19 @@ pub fn kind_of<'a>(kinds: &'a [u16; tables::BY_NUMBER], n: Number) -> u16
     cell_at(kinds, i)
 }
 
+// The place of a literal's variable, 0 where it is not declared.
 pub fn literal_place<'a>(places: &'a [u16; tables::BY_NUMBER], lit: i16) -> usize
-    ensures { λ r. ⌜ ((D : Prefix) → Places D (now (places .entry)) → r ≡ place D lit) ⌝ }
+    ensures { λ r. ⌜
+        (r ≡ getD (now (places .entry)) (numberOf lit) 0)
+        × ((D : Prefix) → Places D (now (places .entry)) → r ≡ place D lit)
+        ⌝ }
 {
     place_of(places, number_of(lit)).0
+}
+
+// The quantifier of a literal's variable.
+pub fn literal_kind<'a>(kinds: &'a [u16; tables::BY_NUMBER], lit: i16) -> u16
+    ensures { λ r. ⌜ r ≡ getD (now (kinds .entry)) (numberOf lit) 0 ⌝ }
+{
+    kind_of(kinds, number_of(lit))
 }

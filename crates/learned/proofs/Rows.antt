@@ -1,0 +1,171 @@
+-- The rows of a flat table after one was written behind the others, and after the table moved down by one row.
+use mathlib.Core.Path.{_≡_, refl, sym, ap, subst, _∙_}
+use mathlib.Core.List.{List, [], _∷_, _++_, append-assoc}
+use Prim.Native.Nat.{ℕ, zero, suc, _+_, _*_, _-_, _<_, _≤_}
+use native.Mathlib.Omega.{arith}
+use native.Mathlib.Nat.{zero-add, suc-add, suc-mul, mul-le-mul-right, le-refl}
+use native.Mathlib.Numerals.{add-one}
+use borrow.Author.Count.{below-more}
+use lib.IntN.{ℤ}
+use lib.ListN.{length, getD, take, drop, set, length-drop, length-set, length-append, List·getD-append}
+use lib.Seq.{getD-drop, take-all, take-at, drop-at, take-nil, take-append-le, drop-append-le, take-take, drop-drop, paste, length-paste, length-take-le, getD-set-same, getD-set-other}
+use Rattle.tables.specs.Views.{row, rows, rowsOf, Table}
+use Rattle.tables.proofs.Laws.{rows-length, rows-suc, rows-zero}
+use Rattle.learned.specs.Store.{moved}
+
+-- ---- parts of lists
+module _ {A : Type 0} where
+  take-drop : (s n : ℕ) (l : List A) → take n (drop s l) ≡ drop s (take (s + n) l)
+  take-drop zero n l = ap (λ (k : ℕ). take k l) (sym (zero-add n))
+  take-drop (suc s) n [] = take-nil n ∙ sym (ap (drop (suc s)) (take-nil (suc s + n)))
+  take-drop (suc s) n (x ∷ xs) = take-drop s n xs ∙ ap (λ (k : ℕ). drop (suc s) (take k (x ∷ xs))) (sym (suc-add s n))
+
+  -- a part that lies within the first list
+  part-left : (s n : ℕ) (xs ys : List A) → s + n ≤ length xs → take n (drop s (xs ++ ys)) ≡ take n (drop s xs)
+  part-left s n xs ys h = take-drop s n (xs ++ ys) ∙ ap (drop s) (take-append-le (s + n) xs ys h) ∙ sym (take-drop s n xs)
+
+  -- a part before the place of a copy
+  part-before : (s n : ℕ) (d : List A) (at : ℕ) (e : List A) (m : ℕ) → s + n ≤ at → at ≤ length d → take n (drop s (paste d at e m)) ≡ take n (drop s d)
+  part-before s n d at e m h k =
+      let long : length (take at d) ≡ at = length-take-le at d k in
+      part-left s n (take at d ++ take m e) (drop (at + m) d) (simp length-append (omega arith))
+      ∙ part-left s n (take at d) (take m e) (omega arith)
+      ∙ take-drop s n (take at d) ∙ ap (drop s) (take-take (s + n) at d h) ∙ sym (take-drop s n d)
+
+  -- the copy itself
+  part-copy : (d : List A) (at : ℕ) (e : List A) → at ≤ length d → take (length e) (drop at (paste d at e (length e))) ≡ e
+  part-copy d at e k =
+      ap (λ (l : List A). take (length e) (drop at l)) (append-assoc (take at d) (take (length e) e) (drop (at + length e) d))
+      ∙ ap (take (length e)) (drop-at (take at d) (take (length e) e ++ drop (at + length e) d) at (length-take-le at d k))
+      ∙ take-at (take (length e) e) (drop (at + length e) d) (length e) (length-take-le (length e) e (omega arith))
+      ∙ take-all (length e) e (omega arith)
+
+-- ---- tables that have the same rows
+module _ (w : ℕ) (f : List ℤ) (l : List ℕ) (f′ : List ℤ) (l′ : List ℕ) where
+  same-rows : (n : ℕ) → ((k : ℕ) → k < n → row w f′ l′ k ≡ row w f l k) → rows w f′ l′ n ≡ rows w f l n
+  same-rows zero h = rows-zero w f′ l′ ∙ sym (rows-zero w f l)
+  same-rows (suc n) h =
+      rows-suc w f′ l′ n
+      ∙ ap (λ (x : List ℤ). rows w f′ l′ n ++ (x ∷ [])) (h n (le-refl (suc n)))
+      ∙ ap (λ (xs : List (List ℤ)). xs ++ (row w f l n ∷ [])) (same-rows n (λ k lt. h k (omega arith)))
+      ∙ sym (rows-suc w f l n)
+
+  next-rows : (n : ℕ) → ((k : ℕ) → k < n → row w f′ l′ k ≡ row w f l (suc k)) → rows w f′ l′ n ≡ drop 1 (rows w f l (suc n))
+  next-rows zero h = rows-zero w f′ l′ ∙ sym (ap (drop 1) (rows-suc w f l 0 ∙ ap (λ (xs : List (List ℤ)). xs ++ (row w f l 0 ∷ [])) (rows-zero w f l)))
+  next-rows (suc n) h =
+      rows-suc w f′ l′ n
+      ∙ ap (λ (x : List ℤ). rows w f′ l′ n ++ (x ∷ [])) (h n (le-refl (suc n)))
+      ∙ ap (λ (xs : List (List ℤ)). xs ++ (row w f l (suc n) ∷ [])) (next-rows n (λ k lt. h k (omega arith)))
+      ∙ sym (drop-append-le 1 (rows w f l (suc n)) (row w f l (suc n) ∷ []) (omega (arith, rows-length w f l (suc n))))
+      ∙ sym (ap (drop 1) (rows-suc w f l (suc n)))
+
+-- row k ends before row n begins
+pub before : (w k n : ℕ) → k < n → k * w + w ≤ n * w
+before w k n h = subst (λ (m : ℕ). m ≤ n * w) (suc-mul k w) (mul-le-mul-right w h)
+
+-- ---- a row written behind the others: at n, which is how many stand
+module _ (w cap : ℕ) (f : List ℤ) (l : List ℕ) (e : List ℤ) (t : Table w cap f l) (low : getD l 0 0 < cap) (fits : length e ≤ w) where
+  abbrev n : ℕ
+  n = getD l 0 0
+
+  abbrev f′ : List ℤ
+  f′ = paste f (n * w) e (length e)
+
+  abbrev l′ : List ℕ
+  l′ = set (set l (n + 1) (length e)) 0 (n + 1)
+
+  ends : n * w + w ≤ length f
+  ends = rw (t .room) (before w n cap low)
+
+  long : length (set l (n + 1) (length e)) ≡ suc cap
+  long = length-set l (n + 1) (length e) ∙ t .counted
+
+  count : getD l′ 0 0 ≡ n + 1
+  count = getD-set-same (set l (n + 1) (length e)) 0 (n + 1) 0 (omega (arith, long))
+
+  new-size : getD l′ (suc n) 0 ≡ length e
+  new-size =
+      getD-set-other (set l (n + 1) (length e)) 0 (suc n) (n + 1) 0 (omega arith)
+      ∙ ap (λ (i : ℕ). getD (set l (n + 1) (length e)) i 0) (sym (add-one n))
+      ∙ getD-set-same l (n + 1) (length e) 0 (omega (arith, t .counted))
+
+  old-size : (k : ℕ) → k < n → getD l′ (suc k) 0 ≡ getD l (suc k) 0
+  old-size k h =
+      getD-set-other (set l (n + 1) (length e)) 0 (suc k) (n + 1) 0 (omega arith)
+      ∙ getD-set-other l (n + 1) (suc k) (length e) 0 (omega arith)
+
+  old-row : (k : ℕ) → k < n → row w f′ l′ k ≡ row w f l k
+  old-row k h =
+      ap (λ (m : ℕ). take m (drop (k * w) f′)) (old-size k h)
+      ∙ part-before (k * w) (getD l (suc k) 0) f (n * w) e (length e) (omega (arith, t .short k h, before w k n h)) (omega (arith, ends))
+
+  new-row : row w f′ l′ n ≡ e
+  new-row = ap (λ (m : ℕ). take m (drop (n * w) f′)) new-size ∙ part-copy f (n * w) e (omega (arith, ends))
+
+  pub appended-rows : rowsOf w f′ l′ ≡ rowsOf w f l ++ (e ∷ [])
+  appended-rows =
+      ap (rows w f′ l′) (count ∙ add-one n)
+      ∙ rows-suc w f′ l′ n
+      ∙ ap (λ (x : List ℤ). rows w f′ l′ n ++ (x ∷ [])) new-row
+      ∙ ap (λ (xs : List (List ℤ)). xs ++ (e ∷ [])) (same-rows w f l f′ l′ n old-row)
+
+  pub appended-table : Table w cap f′ l′
+  appended-table = record {
+    room = length-paste f (n * w) e (length e) (omega (arith, ends)) (omega arith) ∙ t .room;
+    counted = length-set (set l (n + 1) (length e)) 0 (n + 1) ∙ long;
+    few = rw count (omega arith);
+    short = rw count (below-more (λ (k : ℕ). getD l′ (suc k) 0 ≤ w) n (λ k h. rw (old-size k h) (t .short k h)) (rw new-size fits));
+  }
+
+-- ---- the table moved down by one row
+module _ (w cap : ℕ) (f : List ℤ) (l : List ℕ) (t : Table w cap f l) (some : 0 < getD l 0 0) where
+  abbrev m : ℕ
+  m = getD l 0 0 - 1
+
+  abbrev g : List ℤ
+  g = moved w f
+
+  abbrev q : List ℕ
+  q = set (moved 1 l) 0 m
+
+  moved-long : {A : Type 0} (k : ℕ) (xs : List A) → k ≤ length xs → length (moved k xs) ≡ length xs
+  unfolding moved
+  moved-long k xs h = length-append (drop k xs) (drop (length xs - k) xs) ∙ simp length-drop (omega arith)
+
+  first-count : getD q 0 0 ≡ m
+  first-count = getD-set-same (moved 1 l) 0 m 0 (omega (arith, moved-long 1 l (omega (arith, t .counted)), t .counted))
+
+  next-size : (k : ℕ) → k < m → getD q (suc k) 0 ≡ getD l (suc (suc k)) 0
+  unfolding moved
+  next-size k h =
+      getD-set-other (moved 1 l) 0 (suc k) m 0 (omega arith)
+      ∙ List·getD-append (drop 1 l) (drop (length l - 1) l) 0 (suc k) (simp length-drop (omega (arith, t .counted, t .few)))
+      ∙ getD-drop 1 l (suc k) 0
+      ∙ (let z : 1 + suc k ≡ suc (suc k) = omega arith in ap (λ (i : ℕ). getD l i 0) z)
+
+  next-row : (k : ℕ) → k < m → row w g q k ≡ row w f l (suc k)
+  unfolding moved
+  next-row k h =
+      let lower : suc k < cap = omega (arith, t .few) in
+      let within : suc k * w + w ≤ length f = rw (t .room) (before w (suc k) cap lower) in
+      let z : suc k * w ≡ k * w + w = suc-mul k w in
+      ap (λ (i : ℕ). take i (drop (k * w) g)) (next-size k h)
+      ∙ part-left (k * w) (getD l (suc (suc k)) 0) (drop w f) (drop (length f - w) f) (simp length-drop (omega (arith, t .short (suc k) (omega arith))))
+      ∙ ap (take (getD l (suc (suc k)) 0)) (drop-drop (k * w) w f ∙ (let y : w + k * w ≡ suc k * w = omega arith in ap (λ (i : ℕ). drop i f) y))
+
+  pub dropped-rows : rowsOf w g q ≡ drop 1 (rowsOf w f l)
+  dropped-rows =
+      ap (rows w g q) first-count
+      ∙ next-rows w f l g q m next-row
+      ∙ (let y : suc m ≡ getD l 0 0 = omega arith in ap (λ (i : ℕ). drop 1 (rows w f l i)) y)
+
+  pub dropped-table : Table w cap g q
+  dropped-table =
+      let one : 0 < cap = omega (arith, t .few) in
+      let within : 0 * w + w ≤ length f = rw (t .room) (before w 0 cap one) in
+      record {
+        room = moved-long w f (omega arith) ∙ t .room;
+        counted = length-set (moved 1 l) 0 m ∙ moved-long 1 l (omega (arith, t .counted)) ∙ t .counted;
+        few = rw first-count (omega (arith, t .few));
+        short = rw first-count (λ k h. rw (next-size k h) (t .short (suc k) (omega arith)));
+      }

@@ -1,0 +1,16 @@
+// Literals written into a table of literals.
+ghost use mathlib.Core.Path.{_≡_};
+ghost use Prim.Native.Nat.{ℕ, _+_, _≤_};
+ghost use lib.ListN.{length};
+ghost use lib.Seq.{paste};
+
+pub fn write(cells: &mut [i16], at: usize, lits: &[i16])
+    requires { ⌜ at + length (now lits) ≤ length (now cells) ⌝ }
+    ensures { λ _. ⌜ now (cells .exit) ≡ paste (now (cells .entry)) at (now (lits .entry)) (length (now (lits .entry))) ⌝ }
+{
+    let mut i: usize = 0;
+    while i < lits.len() {
+        cells[at + i] = lits[i];
+        i += 1;
+    }
+}
