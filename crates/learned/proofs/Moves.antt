@@ -1,12 +1,12 @@
 -- Loops that move elements to the front of a table, and that copy a list into one.
 use mathlib.Core.Path.{_≡_, refl, sym, ap, subst, _∙_}
 use mathlib.Core.List.{List, [], _∷_, _++_}
-use Prim.Native.Nat.{ℕ, zero, suc, _+_, _-_, _<_, _≤_}
+use Prim.Native.Nat.{ℕ, zero, suc, _+_, _-_, _<_}
 use native.Mathlib.Omega.{arith}
 use native.Mathlib.Nat.{le-of-suc-le-suc, not-suc-le-zero, add-comm}
 use native.Mathlib.Numerals.{add-one}
 use lib.ListN.{length, getD, take, drop, set, length-take, length-drop, length-set}
-use lib.Seq.{getD-append-add, getD-drop, take-all, take-suc, take-suc-set, paste, paste-zero, paste-suc}
+use lib.Seq.{getD-append-add, getD-drop, take-all, paste, paste-zero, paste-suc}
 use Rattle.learned.specs.Store.{moved}
 
 module _ {A : Type 0} where
@@ -69,8 +69,3 @@ module _ {A : Type 0} where
 
   pub paste-end : {d₀ : List A} {at : ℕ} {l : List A} {i : ℕ} {d : List A} → Pasting d₀ at l i d → i ≡ length l → d ≡ paste d₀ at l (length l)
   paste-end {d₀} {at} {l} inv e = inv .is ∙ ap (λ (m : ℕ). paste d₀ at l m) e
-
-  -- one more element copied to the front
-  pub copy-more : (d l : List A) (i : ℕ) (z : A) {v : A} → v ≡ getD l i z → i < length d → i < length l → take i d ≡ take i l
-      → take (i + 1) (set d i v) ≡ take (i + 1) l
-  copy-more d l i z {v} q h k e = rw (add-one, take-suc-set d i v h, take-suc l i z k, e, q)

@@ -1,12 +1,12 @@
 -- A part of one of two tables, and the rows of a table as parts.
-use mathlib.Core.Path.{_≡_, refl, sym, ap, subst, _∙_}
-use mathlib.Core.Bool.{Bool, true, false, cond}
-use mathlib.Core.List.{List, [], _∷_, _++_}
+use mathlib.Core.Path.{_≡_, sym, ap, _∙_}
+use mathlib.Core.Bool.{true, false, cond}
+use mathlib.Core.List.{List, [], _++_}
 use Prim.Native.Nat.{ℕ, suc, _+_, _*_, _-_, _<_, _≤_}
 use native.Mathlib.Omega.{arith}
 use native.Mathlib.Numerals.{add-one}
 use lib.IntN.{ℤ}
-use lib.ListN.{length, getD, take, drop, length-take, length-drop}
+use lib.ListN.{length, getD, take, drop, length-drop}
 use lib.Seq.{length-take-le, paste, take-all, take-append-seam}
 use Rattle.tables.specs.Views.{row, rowsOf, Table}
 use Rattle.tables.proofs.Laws.{rows-at}
@@ -40,6 +40,9 @@ module _ (cs ls : List ℤ) (b : Bounds) (w : Within cs ls b) where
 module _ {w cap : ℕ} {f : List ℤ} {l : List ℕ} (t : Table w cap f l) (k : ℕ) (low : k < getD l 0 0) where
   pub row-ends : k * w + getD l (suc k) 0 ≤ length f
   row-ends = let h : k < cap = omega (arith, t .few) in omega (arith, before w k cap h, t .short k low, t .room)
+
+  pub row-length : length (row w f l k) ≡ getD l (suc k) 0
+  row-length = length-take-le (getD l (suc k) 0) (drop (k * w) f) (simp length-drop (omega (arith, row-ends)))
 
   -- as the code has it
   pub row-short : getD l (k + 1) 0 ≤ w

@@ -1,16 +1,16 @@
 -- What each step of a push leaves in the tables.
-use mathlib.Core.Path.{_≡_, refl, sym, ap, subst, _∙_}
+use mathlib.Core.Path.{_≡_, sym, ap, _∙_}
 use mathlib.Core.List.{List, [], _∷_, _++_}
 use Prim.Native.Nat.{ℕ, suc, _+_, _*_, _-_, _<_, _≤_}
 use native.Mathlib.Omega.{arith}
 use lib.IntN.{ℤ}
-use lib.ListN.{length, getD, drop, set, length-drop}
-use lib.Seq.{paste}
+use lib.ListN.{length, getD, drop, set, length-drop, length-set}
+use lib.Seq.{paste, getD-set-same}
 use Rattle.qbf.specs.Formula.{paper}
 use Rattle.tables.specs.Views.{row, rows, rowsOf, Table}
 use Rattle.tables.proofs.Laws.{rows-length}
 use Rattle.learned.specs.Store.{moved, Made, Pushed}
-use Rattle.learned.proofs.Rows.{appended-rows, appended-table, dropped-rows, dropped-table}
+use Rattle.learned.proofs.Rows.{appended-rows, appended-table, dropped-rows, dropped-table, none-rows, none-table}
 
 module _ (f : List ℤ) (l : List ℕ) (t : Table (paper .numbers) (paper .constraints) f l) where
   -- the cells moved down by one row, and the sizes by one cell
@@ -18,6 +18,15 @@ module _ (f : List ℤ) (l : List ℕ) (t : Table (paper .numbers) (paper .const
       → Made (drop 1 (rowsOf (paper .numbers) f l)) f₁ (set l₁ 0 (getD l 0 0 - 1))
   dropping f₁ l₁ j k h p x q y =
       rw (p, x, q, y) (record { table = dropped-table _ _ f l t h; rows = dropped-rows _ _ f l t h })
+
+  -- no row stands any more
+  pub clearing : Made [] f (set l 0 0)
+  clearing =
+      let h : getD (set l 0 0) 0 0 ≡ 0 = getD-set-same l 0 0 0 (omega (arith, t .counted)) in
+      record {
+        table = none-table _ _ f (set l 0 0) (t .room) (length-set l 0 0 ∙ t .counted) h;
+        rows = none-rows _ (paper .constraints) f (set l 0 0) h;
+      }
 
   pub appending : (e f₁ : List ℤ) → getD l 0 0 < paper .constraints → length e ≤ paper .numbers
       → f₁ ≡ paste f (getD l 0 0 * paper .numbers) e (length e)

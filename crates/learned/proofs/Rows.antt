@@ -1,5 +1,5 @@
 -- The rows of a flat table after one was written behind the others, and after the table moved down by one row.
-use mathlib.Core.Path.{_≡_, refl, sym, ap, subst, _∙_}
+use mathlib.Core.Path.{_≡_, sym, ap, subst, _∙_}
 use mathlib.Core.List.{List, [], _∷_, _++_, append-assoc}
 use Prim.Native.Nat.{ℕ, zero, suc, _+_, _*_, _-_, _<_, _≤_}
 use native.Mathlib.Omega.{arith}
@@ -169,3 +169,11 @@ module _ (w cap : ℕ) (f : List ℤ) (l : List ℕ) (t : Table w cap f l) (some
         few = rw first-count (omega (arith, t .few));
         short = rw first-count (λ k h. rw (next-size k h) (t .short (suc k) (omega arith)));
       }
+
+-- ---- a table in which no row stands
+module _ (w cap : ℕ) where
+  pub none-rows : (f : List ℤ) (l : List ℕ) → getD l 0 0 ≡ 0 → rowsOf w f l ≡ []
+  none-rows f l h = ap (rows w f l) h ∙ rows-zero w f l
+
+  pub none-table : (f : List ℤ) (l : List ℕ) → length f ≡ cap * w → length l ≡ suc cap → getD l 0 0 ≡ 0 → Table w cap f l
+  none-table f l r c h = record { room = r; counted = c; few = omega arith; short = λ k lt. absurd (omega arith) }

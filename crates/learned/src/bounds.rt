@@ -1,7 +1,7 @@
 // "The bar handed back is that part of the rule table": a part is named by its bounds, and its literals are copied where they change.
 use super::cells::write;
 ghost use mathlib.Core.Path.{_≡_};
-ghost use Prim.Native.Nat.{ℕ, _+_, _*_, _≤_, _<_};
+ghost use Prim.Native.Nat.{_+_, _*_, _≤_, _<_};
 ghost use mathlib.Core.Bool.{true};
 ghost use lib.ListN.{length, take};
 ghost use Rattle.qbf.specs.Formula.{paper};

@@ -1,11 +1,10 @@
-// "The oldest eligible bar with all literals false", "the oldest eligible pass with all literals true". The rows are tried in the
+// "The oldest eligible bar with all literals false", "The oldest eligible pass with all literals true". The rows are tried in the
 // order of their age; a row's last place is tried before its literals, since most rows fail there.
 use literal::literal_place;
 use literal::status_of;
 ghost use mathlib.Core.Path.{_≡_};
-ghost use mathlib.Core.Bool.{Bool, true, false, cond};
-ghost use Prim.Native.Nat.{ℕ, _+_, _*_, _≤_, _<_};
-ghost use lib.IntN.{ℤ};
+ghost use mathlib.Core.Bool.{true, false, cond};
+ghost use Prim.Native.Nat.{_+_, _*_, _<_};
 ghost use lib.ListN.{length, getD};
 ghost use Rattle.qbf.specs.Formula.{paper, Prefix, Node, all, has};
 ghost use Rattle.qbf.specs.Learning.{lastPlace};

@@ -1,10 +1,9 @@
 // "a 65th of a kind displaces the oldest": the table moves down by one row, so that the rows stand in the order of their age.
 use super::cells::write;
 ghost use mathlib.Core.Path.{_≡_};
-ghost use Prim.Native.Nat.{ℕ, suc, _+_, _-_, _*_, _≤_, _<_};
-ghost use mathlib.Core.List.{List, [], _∷_, _++_};
-ghost use lib.IntN.{ℤ};
-ghost use lib.ListN.{length, getD, drop};
+ghost use Prim.Native.Nat.{suc, _+_, _-_, _*_, _≤_, _<_};
+ghost use mathlib.Core.List.{[], _∷_, _++_};
+ghost use lib.ListN.{length, getD, drop, set};
 ghost use Rattle.qbf.specs.Formula.{paper};
 ghost use Rattle.tables.specs.Views.{rowsOf, Table};
 ghost use Rattle.learned.specs.Store.{moved, Made, Pushed};
@@ -114,4 +113,11 @@ pub fn push(
 {
     make_room(store, sizes);
     append(store, sizes, lits);
+}
+
+// No row stands any more; the cells are left as they are.
+pub fn clear(sizes: &mut [u16; tables::CONSTRAINT_SIZES])
+    ensures { λ _. ⌜ now (sizes .exit) ≡ set (now (sizes .entry)) 0 0 ⌝ }
+{
+    sizes[0] = 0;
 }

@@ -1,15 +1,10 @@
+-- `learned::bounds::copy` meets its contract: the literals are written at the front of the area.
 use borrow.Author.Needs.{needs}
 use Rattle.learned.proofs.bounds.copy.Statement.{statement}
 use Rattle.learned.proofs.bounds.copy.Tie as tie
-use Rattle.learned.proofs.bounds.copy.Reads as reads
-use Rattle.learned.proofs.bounds.copy.Lts as lts
-use Rattle.learned.proofs.cells.write.Reads as write-reads
-use mathlib.Core.Path.{_≡_, ap, _∙_}
-use native.Mathlib.Omega.{arith}
+use mathlib.Core.Path.{ap, _∙_}
 use denote.Ref.{now}
-use lib.IntN.{ℤ}
 use lib.ListN.{length, take}
-use mathlib.Core.List.{List}
 use Rattle.learned.proofs.Parts.{front}
 
 write-requires : tie.Need-write-requires

@@ -1,10 +1,9 @@
+-- `learned::bounds::part` meets its contract: the branch taken says in which table the part lies, and that it ends there.
 use borrow.Author.Needs.{needs}
 use Rattle.learned.proofs.bounds.part.Statement.{statement}
 use Rattle.learned.proofs.bounds.part.Tie as tie
-use Rattle.learned.proofs.bounds.part.Reads as reads
-use Rattle.learned.proofs.bounds.part.Lts as lts
 use native.Mathlib.Omega.{arith}
-use mathlib.Core.Path.{_≡_, ap, _∙_}
+use mathlib.Core.Path.{ap, _∙_}
 use denote.Ref.{now}
 use lib.ListN.{length}
 use Rattle.learned.proofs.Parts.{part-length, ends-learned, ends-clauses, part-learned, part-clauses}

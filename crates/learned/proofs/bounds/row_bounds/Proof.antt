@@ -1,10 +1,7 @@
+-- `learned::bounds::row_bounds` meets its contract: its fields are read off the sizes.
 use borrow.Author.Needs.{needs}
 use Rattle.learned.proofs.bounds.row_bounds.Statement.{statement}
 use Rattle.learned.proofs.bounds.row_bounds.Tie as tie
-use Rattle.learned.proofs.bounds.row_bounds.Reads as reads
-use Rattle.learned.proofs.bounds.row_bounds.Lts as lts
-use Rattle.learned.proofs.bounds.wide.Reads as wide-reads
-use mathlib.Core.Path.{_≡_}
 use native.Mathlib.Numerals.{add-one}
 
 mul-t3 : tie.Need-mul-t3

@@ -1,9 +1,7 @@
+-- `learned::cells::write` meets its contract: after i turns the first i literals are written.
 use Rattle.learned.proofs.cells.write.Statement.{statement}
 use Rattle.learned.proofs.cells.write.Tie as tie
-use Rattle.learned.proofs.cells.write.Reads as reads
-use Rattle.learned.proofs.cells.write.Lts as lts
 use borrow.Author.Needs.{needs}
-use mathlib.Core.Path.{_≡_}
 use Prim.Native.Nat.{_+_, _-_, _≤_}
 use native.Mathlib.Omega.{arith}
 use borrow.Author.Needs.{sfits-of}

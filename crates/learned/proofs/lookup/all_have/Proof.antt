@@ -1,17 +1,11 @@
+-- `learned::lookup::all_have` meets its contract: the literals before i have the truth value.
 use Rattle.learned.proofs.lookup.all_have.Statement.{statement}
 use Rattle.learned.proofs.lookup.all_have.Tie as tie
-use Rattle.learned.proofs.lookup.all_have.Reads as reads
-use Rattle.learned.proofs.lookup.all_have.Lts as lts
-use Rattle.literal.proofs.status_of.Reads as status-of-reads
-use Rattle.learned.proofs.lookup.wanted.Reads as wanted-reads
 use borrow.Author.Needs.{needs}
-use mathlib.Core.Path.{_≡_, refl}
+use mathlib.Core.Path.{refl}
 use Prim.Native.Nat.{_-_}
 use borrow.Author.Needs.{sfits-of}
-use denote.Ref.{now}
-use lib.IntN.{pos}
-use lib.ListN.{length, getD}
-use Rattle.tables.specs.Views.{status}
+use lib.ListN.{length}
 use Rattle.literal.proofs.Signed.{back}
 use Rattle.learned.proofs.Matches.{Having, have-more, have-stop, have-end}
 

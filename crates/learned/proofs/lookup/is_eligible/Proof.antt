@@ -1,10 +1,6 @@
+-- `learned::lookup::is_eligible` meets its contract: by whether the node is the start node.
 use Rattle.learned.proofs.lookup.is_eligible.Statement.{statement}
 use Rattle.learned.proofs.lookup.is_eligible.Tie as tie
-use Rattle.learned.proofs.lookup.is_eligible.Reads as reads
-use Rattle.learned.proofs.lookup.is_eligible.Lts as lts
-use mathlib.Core.Path.{_≡_, sym, ap}
-use mathlib.Core.Bool.{Bool}
-use Rattle.tables.specs.Views.{eligible}
 
 returns : tie.Need-returns
 returns c = rw (c .if1 .taken)

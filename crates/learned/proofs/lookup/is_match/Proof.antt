@@ -1,11 +1,7 @@
+-- `learned::lookup::is_match` meets its contract: a constraint that is not eligible does not match, whatever its literals are.
 use borrow.Author.Needs.{needs}
 use Rattle.learned.proofs.lookup.is_match.Statement.{statement}
 use Rattle.learned.proofs.lookup.is_match.Tie as tie
-use Rattle.learned.proofs.lookup.is_match.Reads as reads
-use Rattle.learned.proofs.lookup.is_match.Lts as lts
-use Rattle.learned.proofs.lookup.all_have.Reads as all-have-reads
-use Rattle.learned.proofs.lookup.is_eligible.Reads as is-eligible-reads
-use Rattle.learned.proofs.lookup.last_place.Reads as last-place-reads
 use denote.Ref.{now}
 use Rattle.learned.proofs.Matches.{match-eligible, match-not}
 

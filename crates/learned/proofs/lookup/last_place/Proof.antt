@@ -1,14 +1,12 @@
+-- `learned::lookup::last_place` meets its contract: the place of the literal at the end.
 use borrow.Author.Needs.{needs}
 use Rattle.learned.proofs.lookup.last_place.Statement.{statement}
 use Rattle.learned.proofs.lookup.last_place.Tie as tie
-use Rattle.learned.proofs.lookup.last_place.Reads as reads
-use Rattle.learned.proofs.lookup.last_place.Lts as lts
-use Rattle.literal.proofs.literal_place.Reads as literal-place-reads
 use native.Mathlib.Omega.{arith}
 use mathlib.Core.Path.{_≡_, _∙_}
 use borrow.Author.Needs.{sfits-of}
 use denote.Ref.{now}
-use Prim.Native.Nat.{ℕ, _-_}
+use Prim.Native.Nat.{_-_}
 use lib.IntN.{pos}
 use lib.ListN.{length, getD}
 use Rattle.qbf.specs.Formula.{numberOf}

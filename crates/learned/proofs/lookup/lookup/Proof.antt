@@ -1,9 +1,6 @@
+-- `learned::lookup::lookup` meets its contract: none of the rows tried matches, and those left are the newest.
 use Rattle.learned.proofs.lookup.lookup.Statement.{statement}
 use Rattle.learned.proofs.lookup.lookup.Tie as tie
-use Rattle.learned.proofs.lookup.lookup.Reads as reads
-use Rattle.learned.proofs.lookup.lookup.Lts as lts
-use Rattle.learned.proofs.lookup.is_match.Reads as is-match-reads
-use Rattle.learned.proofs.lookup.row_of.Reads as row-of-reads
 use borrow.Author.Needs.{needs}
 use native.Mathlib.Omega.{arith}
 use Rattle.learned.proofs.Matches.{Looking, look-start, look-more, look-found, look-end}

@@ -1,8 +1,7 @@
+-- `learned::lookup::row_of` meets its contract: a row that stands lies within the table.
 use borrow.Author.Needs.{needs}
 use Rattle.learned.proofs.lookup.row_of.Statement.{statement}
 use Rattle.learned.proofs.lookup.row_of.Tie as tie
-use Rattle.learned.proofs.lookup.row_of.Reads as reads
-use Rattle.learned.proofs.lookup.row_of.Lts as lts
 use native.Mathlib.Omega.{arith}
 use Rattle.learned.proofs.Parts.{row-short, row-end, row-is}
 

@@ -1,9 +1,7 @@
+-- `learned::store::append` meets its contract: the row is written behind those that stand.
 use borrow.Author.Needs.{needs}
 use Rattle.learned.proofs.store.append.Statement.{statement}
 use Rattle.learned.proofs.store.append.Tie as tie
-use Rattle.learned.proofs.store.append.Reads as reads
-use Rattle.learned.proofs.store.append.Lts as lts
-use Rattle.learned.proofs.cells.write.Reads as write-reads
 use denote.Ref.{now}
 use Rattle.learned.proofs.Pushing.{appending}
 

@@ -1,10 +1,7 @@
+-- `learned::store::drop_oldest` meets its contract: the rows move down by one row, their sizes by one cell.
 use borrow.Author.Needs.{needs}
 use Rattle.learned.proofs.store.drop_oldest.Statement.{statement}
 use Rattle.learned.proofs.store.drop_oldest.Tie as tie
-use Rattle.learned.proofs.store.drop_oldest.Reads as reads
-use Rattle.learned.proofs.store.drop_oldest.Lts as lts
-use Rattle.learned.proofs.store.move_cells.Reads as move-cells-reads
-use Rattle.learned.proofs.store.move_sizes.Reads as move-sizes-reads
 use native.Mathlib.Omega.{arith}
 use denote.Ref.{now}
 use Rattle.learned.proofs.Pushing.{dropping}

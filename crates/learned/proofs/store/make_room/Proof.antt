@@ -1,9 +1,7 @@
+-- `learned::store::make_room` meets its contract: only a full table loses a row.
 use borrow.Author.Needs.{needs}
 use Rattle.learned.proofs.store.make_room.Statement.{statement}
 use Rattle.learned.proofs.store.make_room.Tie as tie
-use Rattle.learned.proofs.store.make_room.Reads as reads
-use Rattle.learned.proofs.store.make_room.Lts as lts
-use Rattle.learned.proofs.store.drop_oldest.Reads as drop-oldest-reads
 use native.Mathlib.Omega.{arith}
 use denote.Ref.{now}
 use Rattle.learned.proofs.Pushing.{room-none, room-one, room-left}

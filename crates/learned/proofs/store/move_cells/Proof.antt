@@ -1,9 +1,8 @@
+-- `learned::store::move_cells` meets its contract: after i turns the first i cells are those from k on.
 use Rattle.learned.proofs.store.move_cells.Statement.{statement}
 use Rattle.learned.proofs.store.move_cells.Tie as tie
-use Rattle.learned.proofs.store.move_cells.Reads as reads
-use Rattle.learned.proofs.store.move_cells.Lts as lts
 use borrow.Author.Needs.{needs}
-use mathlib.Core.Path.{_≡_, refl}
+use mathlib.Core.Path.{_≡_}
 use Prim.Native.Nat.{_-_, _≤_, _*_}
 use native.Mathlib.Omega.{arith}
 use borrow.Author.Needs.{sfits-of}

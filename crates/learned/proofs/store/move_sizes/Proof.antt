@@ -1,7 +1,6 @@
+-- `learned::store::move_sizes` meets its contract: after i turns the first i cells are those from k on.
 use Rattle.learned.proofs.store.move_sizes.Statement.{statement}
 use Rattle.learned.proofs.store.move_sizes.Tie as tie
-use Rattle.learned.proofs.store.move_sizes.Reads as reads
-use Rattle.learned.proofs.store.move_sizes.Lts as lts
 use borrow.Author.Needs.{needs}
 use mathlib.Core.Path.{_≡_, refl}
 use Prim.Native.Nat.{_-_, _≤_, suc}

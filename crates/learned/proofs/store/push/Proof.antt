@@ -1,10 +1,7 @@
+-- `learned::store::push` meets its contract: room first, then the row.
 use borrow.Author.Needs.{needs}
 use Rattle.learned.proofs.store.push.Statement.{statement}
 use Rattle.learned.proofs.store.push.Tie as tie
-use Rattle.learned.proofs.store.push.Reads as reads
-use Rattle.learned.proofs.store.push.Lts as lts
-use Rattle.learned.proofs.store.append.Reads as append-reads
-use Rattle.learned.proofs.store.make_room.Reads as make-room-reads
 use denote.Ref.{now}
 use Rattle.learned.proofs.Pushing.{pushing}
 
