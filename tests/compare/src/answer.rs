@@ -1,0 +1,85 @@
+//! Calls and answers, in a form that every implementation under comparison can fill in.
+
+use crate::formula::Literal;
+use std::fmt;
+
+#[derive(Clone, Debug, PartialEq, Eq)]
+pub enum Call {
+    Rule(Vec<Literal>),
+    /// The numbers of the free variables that are on.
+    Query(Vec<i16>),
+    /// The length of the lent card table.
+    Card(usize),
+    Forget,
+}
+
+#[derive(Clone, Copy, Debug, PartialEq, Eq)]
+pub enum Said {
+    Refused(u8),
+    Added,
+    Swap,
+    Keep,
+    /// The count of lines.
+    Lines(usize),
+    Forgotten,
+}
+
+#[derive(Clone, Debug, PartialEq, Eq)]
+pub struct Answer {
+    pub said: Said,
+    /// Every byte of the card table after the call; empty for the other calls.
+    pub table: Vec<u8>,
+    pub visits: u64,
+}
+
+impl Answer {
+    pub fn new(said: Said) -> Answer {
+        Answer { said, table: vec![], visits: 0 }
+    }
+
+    /// Demand 3's equality with the plain run: everything but the visits.
+    pub fn same_reply(&self, other: &Answer) -> bool {
+        self.said == other.said && self.table == other.table
+    }
+}
+
+/// Whatever answers calls one after another: this implementation, the plain run, or a library
+/// that is compared with them.
+pub trait Subject {
+    fn call(&mut self, call: &Call) -> Answer;
+
+    fn run(&mut self, calls: &[Call]) -> Vec<Answer> {
+        calls.iter().map(|call| self.call(call)).collect()
+    }
+}
+
+/// What a lent card table holds before a card is written to it: no byte that a line can have.
+pub const LENT_BYTE: u8 = 0xA5;
+
+impl fmt::Display for Call {
+    fn fmt(&self, f: &mut fmt::Formatter) -> fmt::Result {
+        match self {
+            Call::Rule(literals) => write!(f, "rule {literals:?}"),
+            Call::Query(on) => write!(f, "query {on:?}"),
+            Call::Card(length) => write!(f, "card into {length} bytes"),
+            Call::Forget => write!(f, "forget"),
+        }
+    }
+}
+
+impl fmt::Display for Answer {
+    fn fmt(&self, f: &mut fmt::Formatter) -> fmt::Result {
+        match self.said {
+            Said::Refused(number) => write!(f, "refused {number}")?,
+            Said::Added => write!(f, "added")?,
+            Said::Swap => write!(f, "swap")?,
+            Said::Keep => write!(f, "keep")?,
+            Said::Lines(count) => write!(f, "{count} line(s)")?,
+            Said::Forgotten => write!(f, "forgotten")?,
+        }
+        if !self.table.is_empty() {
+            write!(f, ", table {:?}", self.table)?;
+        }
+        Ok(())
+    }
+}

@@ -1,0 +1,94 @@
+//! What decides a node without branching: steps 1 to 4 of the learning search.
+
+use crate::constraint::{last_place, Constraint, Polarity};
+use crate::formula::{Literal, Quantifier};
+use crate::learning::LearningSearch;
+use crate::slip::Slip;
+
+impl LearningSearch<'_> {
+    /// Steps 1 to 4 in the paper's order.
+    pub(crate) fn decide(&self) -> Option<Constraint> {
+        if self.options.slips(Slip::SatisfiedBeforeStoredClause) {
+            return self
+                .dead_clause()
+                .or_else(|| self.satisfied())
+                .or_else(|| self.eligible_match(Polarity::Clause))
+                .or_else(|| self.eligible_match(Polarity::Cube));
+        }
+        self.dead_clause()
+            .or_else(|| self.eligible_match(Polarity::Clause))
+            .or_else(|| self.satisfied())
+            .or_else(|| self.eligible_match(Polarity::Cube))
+    }
+
+    /// "The first dead rule, in order of adding: No, with that rule reduced as the bar."
+    fn dead_clause(&self) -> Option<Constraint> {
+        let hope = |quantifier| match quantifier {
+            Quantifier::Exists => true,
+            Quantifier::Forall => self.options.slips(Slip::OpenForallIsHope),
+            Quantifier::Free => !self.options.slips(Slip::OpenFreeIsNoHope),
+        };
+        let mut dead =
+            self.formula.clauses.iter().filter(|c| self.formula.dead(&self.node, c, hope));
+        let found =
+            if self.options.slips(Slip::LastDeadClause) { dead.next_back() } else { dead.next() };
+        let mut clause = Constraint::new(Polarity::Clause, found?.clone());
+        clause.reduce(self.formula, self.options);
+        Some(clause)
+    }
+
+    /// "The oldest eligible bar with all literals false"; "the oldest eligible pass with all
+    /// literals true".
+    fn eligible_match(&self, polarity: Polarity) -> Option<Constraint> {
+        let entries = self.store.of(polarity);
+        let matches = |entry: &Vec<Literal>| self.eligible(entry) && self.all(entry, polarity);
+        let newest_first = match polarity {
+            Polarity::Clause => self.options.slips(Slip::NewestClauseFirst),
+            Polarity::Cube => self.options.slips(Slip::NewestCubeFirst),
+        };
+        let index = if newest_first {
+            entries.iter().rposition(matches)?
+        } else {
+            entries.iter().position(matches)?
+        };
+        let stored_at = Some(index);
+        Some(Constraint { polarity, literals: entries[index].clone(), stored_at })
+    }
+
+    /// "eligible at a node of length k if its last place is k; at the start node, if it is at
+    /// most k".
+    fn eligible(&self, entry: &[Literal]) -> bool {
+        let length = self.node.len();
+        let last = last_place(self.formula, entry).0;
+        let at_start = length == self.start_length;
+        let at_most = if at_start {
+            !self.options.slips(Slip::StartTestsExactOnly)
+        } else {
+            self.options.slips(Slip::InnerTestsAtMost)
+        };
+        last == length || at_most && last <= length
+    }
+
+    fn all(&self, entry: &[Literal], polarity: Polarity) -> bool {
+        let wanted = Some(polarity.literal_value());
+        entry.iter().all(|&literal| self.formula.value(&self.node, literal) == wanted)
+    }
+
+    /// "Every rule satisfied: Yes. The pass has from each rule its true literal of smallest
+    /// place, reduced."
+    fn satisfied(&self) -> Option<Constraint> {
+        let is_true = |literal: &&Literal| self.formula.value(&self.node, **literal) == Some(true);
+        let mut cube = Constraint::new(Polarity::Cube, vec![]);
+        for clause in &self.formula.clauses {
+            let literal = if self.options.slips(Slip::CubeTakesLargestPlace) {
+                clause.iter().rfind(is_true)?
+            } else {
+                clause.iter().find(is_true)?
+            };
+            cube.literals.push(*literal);
+        }
+        cube.order(self.formula, self.options);
+        cube.reduce(self.formula, self.options);
+        Some(cube)
+    }
+}

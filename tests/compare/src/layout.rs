@@ -1,0 +1,99 @@
+//! The layout of one line of a text: nested brackets, one space between items.
+
+/// A line that is in the layout, before its numbers are judged.
+#[derive(Clone, Debug, PartialEq, Eq)]
+pub enum Form {
+    Book(i32),
+    Flags(Vec<i32>),
+    Exists(Vec<i32>),
+    Forall(Vec<i32>),
+    /// A negative number stands for `(no ..)`; `(no 0)` and `0` are both 0.
+    Rule(Vec<i32>),
+    End,
+}
+
+/// An item: a number, or one under `(no ..)`.
+#[derive(Clone, Copy)]
+struct Item {
+    number: i32,
+    negated: bool,
+}
+
+/// Reads a line, without its byte 10. None: not in the layout.
+pub fn read(line: &[u8]) -> Option<Form> {
+    let mut cursor = Cursor { rest: line };
+    cursor.expect(b"(")?;
+    let keyword = cursor.letters();
+    let mut items = vec![];
+    while cursor.expect(b" ").is_some() {
+        items.push(cursor.item()?);
+    }
+    cursor.expect(b")")?;
+    if !cursor.rest.is_empty() {
+        return None;
+    }
+    form(keyword, &items)
+}
+
+fn form(keyword: &[u8], items: &[Item]) -> Option<Form> {
+    let plain = !items.iter().any(|item| item.negated);
+    let numbers = || items.iter().map(|item| item.number).collect();
+    match keyword {
+        b"book" if plain && items.len() == 1 => Some(Form::Book(items[0].number)),
+        b"flags" if plain => Some(Form::Flags(numbers())),
+        b"exists" if plain && !items.is_empty() => Some(Form::Exists(numbers())),
+        b"forall" if plain && !items.is_empty() => Some(Form::Forall(numbers())),
+        b"rule" => Some(Form::Rule(items.iter().map(literal).collect())),
+        b"end" if items.is_empty() => Some(Form::End),
+        _ => None,
+    }
+}
+
+fn literal(item: &Item) -> i32 {
+    if item.negated {
+        -item.number
+    } else {
+        item.number
+    }
+}
+
+struct Cursor<'a> {
+    rest: &'a [u8],
+}
+
+impl<'a> Cursor<'a> {
+    fn expect(&mut self, bytes: &[u8]) -> Option<()> {
+        self.rest = self.rest.strip_prefix(bytes)?;
+        Some(())
+    }
+
+    fn take_while(&mut self, wanted: impl Fn(u8) -> bool) -> &'a [u8] {
+        let length = self.rest.iter().take_while(|&&byte| wanted(byte)).count();
+        let (taken, rest) = self.rest.split_at(length);
+        self.rest = rest;
+        taken
+    }
+
+    fn letters(&mut self) -> &'a [u8] {
+        self.take_while(|byte| byte.is_ascii_lowercase())
+    }
+
+    fn item(&mut self) -> Option<Item> {
+        if self.expect(b"(no ").is_none() {
+            return Some(Item { number: self.number()?, negated: false });
+        }
+        let number = self.number()?;
+        self.expect(b")")?;
+        Some(Item { number, negated: true })
+    }
+
+    /// "Numbers have 1 to 5 digits and no leading zero (0 alone is allowed)."
+    fn number(&mut self) -> Option<i32> {
+        let digits = self.take_while(|byte| byte.is_ascii_digit());
+        let leading_zero = digits.len() > 1 && digits[0] == b'0';
+        if digits.is_empty() || digits.len() > 5 || leading_zero {
+            return None;
+        }
+        Some(digits.iter().fold(0, |number, digit| 10 * number + i32::from(digit - b'0')))
+    }
+}

@@ -1,0 +1,180 @@
+//! The learning search: visits, branching (step 5) and lines. Steps 1 to 4 are in `decide`.
+
+use crate::constraint::{Constraint, Polarity};
+use crate::formula::{Formula, Quantifier};
+use crate::options::Options;
+use crate::slip::Slip;
+use crate::store::Store;
+use crate::table::Lines;
+
+/// What a visit returns: a constraint, whose polarity is the verdict, or Mixed.
+#[derive(Clone, Debug, PartialEq, Eq)]
+pub enum Outcome {
+    Decided(Constraint),
+    Mixed,
+}
+
+pub struct LearningSearch<'a> {
+    pub(crate) formula: &'a Formula,
+    pub(crate) options: &'a Options,
+    pub(crate) store: &'a mut Store,
+    pub(crate) node: Vec<bool>,
+    pub(crate) start_length: usize,
+    pub lines: Lines,
+    pub visits: u64,
+}
+
+impl<'a> LearningSearch<'a> {
+    /// Searches from a start node; the store is changed on the way.
+    pub fn run(
+        formula: &'a Formula,
+        store: &'a mut Store,
+        start: &[bool],
+        options: &'a Options,
+    ) -> (Outcome, LearningSearch<'a>) {
+        let mut search = LearningSearch {
+            formula,
+            options,
+            store,
+            node: start.to_vec(),
+            start_length: start.len(),
+            lines: Lines::default(),
+            visits: 0,
+        };
+        let outcome = search.visit();
+        (outcome, search)
+    }
+
+    fn visit(&mut self) -> Outcome {
+        self.visits += 1;
+        let lines_above = self.lines.count();
+        let outcome = match self.decide() {
+            Some(constraint) => {
+                self.visits -= u64::from(self.options.slips(Slip::LeafNotCounted));
+                Outcome::Decided(constraint)
+            }
+            None => self.branch(),
+        };
+        self.settle_lines(lines_above, &outcome);
+        outcome
+    }
+
+    /// "Branch on the next variable v, off first."
+    fn branch(&mut self) -> Outcome {
+        let v = self.formula.prefix[self.node.len()];
+        match v.quantifier {
+            Quantifier::Exists => self.quantified(v.number, Polarity::Cube),
+            Quantifier::Forall => self.quantified(v.number, Polarity::Clause),
+            Quantifier::Free => self.free(v.number),
+        }
+    }
+
+    /// "Exists: a Yes goes up. A No whose bar lacks v goes up without a further visit. Two bars
+    /// that name v are joined. Forall: the same with Yes and No, bar and pass exchanged."
+    /// `decides` is the polarity of which one side is enough.
+    fn quantified(&mut self, v: i16, decides: Polarity) -> Outcome {
+        let [first, second] = self.sides();
+        let mut off = self.decided_side(first);
+        if off.polarity == decides || self.goes_up_alone(&off, v) {
+            return self.up(off);
+        }
+        let on = self.decided_side(second);
+        let sent_up = !on.names(v) && !self.options.slips(Slip::QuantifiedOnSideJoined);
+        if on.polarity == decides || sent_up {
+            return self.up(on);
+        }
+        self.reread(&mut off);
+        self.join(&off, &on, v)
+    }
+
+    /// "Flag: an off side of No or Yes whose bar or pass lacks v goes up. Else visit on. If both
+    /// sides are of one kind and not Mixed, the on side's entry goes up if it lacks v, else the
+    /// two are joined. Otherwise Mixed."
+    fn free(&mut self, v: i16) -> Outcome {
+        let [first, second] = self.sides();
+        let off = self.side(first);
+        if let Outcome::Decided(constraint) = &off {
+            if !constraint.names(v) && !self.options.slips(Slip::FreeVisitsBoth) {
+                return self.up(constraint.clone());
+            }
+        }
+        let on = self.side(second);
+        match (off, on) {
+            (Outcome::Decided(mut off), Outcome::Decided(on)) if off.polarity == on.polarity => {
+                if !on.names(v) && !self.options.slips(Slip::FreeOnSideJoined) {
+                    return self.up(on);
+                }
+                self.reread(&mut off);
+                self.join(&off, &on, v)
+            }
+            _ => Outcome::Mixed,
+        }
+    }
+
+    fn goes_up_alone(&self, off: &Constraint, v: i16) -> bool {
+        !off.names(v) && !self.options.slips(Slip::QuantifiedVisitsBoth)
+    }
+
+    fn sides(&self) -> [bool; 2] {
+        if self.options.slips(Slip::OnBeforeOff) {
+            [true, false]
+        } else {
+            [false, true]
+        }
+    }
+
+    fn side(&mut self, value: bool) -> Outcome {
+        self.node.push(value);
+        let outcome = self.visit();
+        self.node.pop();
+        outcome
+    }
+
+    fn decided_side(&mut self, value: bool) -> Constraint {
+        match self.side(value) {
+            Outcome::Decided(constraint) => constraint,
+            Outcome::Mixed => unreachable!("Mixed occurs at free variables only"),
+        }
+    }
+
+    /// "A side's bar or pass goes up reduced."
+    fn up(&self, mut constraint: Constraint) -> Outcome {
+        constraint.reduce(self.formula, self.options);
+        Outcome::Decided(constraint)
+    }
+
+    /// "Joining unites the two without v, reduces, stores the result and sends it up."
+    fn join(&mut self, off: &Constraint, on: &Constraint, v: i16) -> Outcome {
+        let mut joined = off.join(on, v, self.formula, self.options);
+        joined.stored_at = match self.options.slips(Slip::LearnsNothing) {
+            true => None,
+            false => self.store.learn(joined.polarity, &joined.literals, self.options),
+        };
+        Outcome::Decided(joined)
+    }
+
+    /// Nothing, unless slipped: displacement happens "without changing an entry already on its
+    /// way up".
+    fn reread(&self, off: &mut Constraint) {
+        if !self.options.slips(Slip::DisplacementChangesEntryGoingUp) {
+            return;
+        }
+        let entries = self.store.of(off.polarity);
+        if let Some(entry) = off.stored_at.and_then(|index| entries.get(index)) {
+            off.literals = entry.clone();
+        }
+    }
+
+    /// A Yes node within the free variables takes the place of the lines below it.
+    fn settle_lines(&mut self, lines_above: usize, outcome: &Outcome) {
+        let free_count = self.formula.free_count();
+        let yes = matches!(outcome, Outcome::Decided(c) if c.polarity == Polarity::Cube);
+        let halves = self.lines.count() - lines_above >= 2;
+        if yes
+            && self.node.len() <= free_count
+            && !(halves && self.options.slips(Slip::YesHalvesTwoLines))
+        {
+            self.lines.replace_after(lines_above, &self.node);
+        }
+    }
+}

@@ -1,0 +1,34 @@
+//! An implementation of paper 01 over plain data, written from the paper alone.
+//!
+//! It answers the same calls as the proved solver, so that both can be run on one list of
+//! calls and compared. Beside it stand the plain run, an evaluation of truth that uses neither
+//! search, and `Slip`: mistakes that can be switched in at run time, to find the smallest case
+//! that shows each of them.
+
+pub mod answer;
+pub mod check;
+pub mod constraint;
+mod decide;
+pub mod finder;
+pub mod formula;
+pub mod layout;
+pub mod learning;
+pub mod options;
+pub mod plain;
+pub mod plain_run;
+pub mod random;
+pub mod refusal;
+pub mod slip;
+pub mod solver;
+pub mod store;
+pub mod table;
+pub mod text;
+pub mod truth;
+
+pub use answer::{Answer, Call, Said, Subject};
+pub use formula::{Formula, Literal, Quantifier, Variable};
+pub use options::{Limits, Options};
+pub use plain_run::PlainRun;
+pub use slip::Slip;
+pub use solver::{Solver, State};
+pub use store::Store;

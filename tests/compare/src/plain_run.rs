@@ -1,0 +1,64 @@
+//! The plain run: the calls' arguments, the declarations and the clauses; no store.
+
+use crate::answer::{Answer, Call, Said, Subject};
+use crate::formula::{Formula, Literal};
+use crate::options::{Limits, Options};
+use crate::plain;
+use crate::refusal;
+use crate::solver::start_node;
+use crate::table;
+use crate::truth::Verdict;
+
+#[derive(Clone, Debug)]
+pub struct PlainRun {
+    pub formula: Formula,
+    options: Options,
+}
+
+impl Subject for PlainRun {
+    fn call(&mut self, call: &Call) -> Answer {
+        match call {
+            Call::Rule(literals) => self.rule(literals),
+            Call::Query(on) => self.query(on),
+            Call::Card(length) => self.card(*length),
+            Call::Forget => Answer::new(Said::Forgotten),
+        }
+    }
+}
+
+impl PlainRun {
+    pub fn new(formula: Formula, limits: Limits) -> PlainRun {
+        PlainRun { formula, options: Options::with(limits) }
+    }
+
+    fn rule(&mut self, literals: &[Literal]) -> Answer {
+        let wide: Vec<i32> = literals.iter().map(|&literal| i32::from(literal)).collect();
+        if let Some(number) = refusal::of_rule(&self.formula, &wide, &self.options) {
+            return Answer::new(Said::Refused(number));
+        }
+        self.formula.add(literals);
+        Answer::new(Said::Added)
+    }
+
+    fn query(&self, on: &[i16]) -> Answer {
+        if let Some(number) = refusal::of_query(&self.formula, on, &self.options) {
+            return Answer::new(Said::Refused(number));
+        }
+        let found = plain::search(&self.formula, &start_node(&self.formula, on));
+        let said = if found.verdict == Verdict::Yes { Said::Swap } else { Said::Keep };
+        Answer { said, table: vec![], visits: found.visits }
+    }
+
+    /// "too many lines give 21, 0 lines and a zeroed table".
+    fn card(&self, length: usize) -> Answer {
+        let found = plain::search(&self.formula, &[]);
+        let mut table = vec![0; length];
+        let said = if found.lines.len() > table::lines_held(&self.formula, length, &self.options) {
+            Said::Refused(21)
+        } else {
+            table::write(&found.lines, self.formula.free_count(), &mut table, &self.options);
+            Said::Lines(found.lines.len())
+        };
+        Answer { said, table, visits: found.visits }
+    }
+}

@@ -1,0 +1,145 @@
+//! The four calls on a state, answered by the learning search.
+
+use crate::answer::{Answer, Call, Said, Subject, LENT_BYTE};
+use crate::check;
+use crate::constraint::Polarity;
+use crate::formula::{Formula, Literal};
+use crate::learning::{LearningSearch, Outcome};
+use crate::options::Options;
+use crate::refusal;
+use crate::slip::Slip;
+use crate::store::Store;
+use crate::table;
+
+#[derive(Clone, Debug, Default, PartialEq, Eq)]
+pub struct State {
+    pub formula: Formula,
+    pub store: Store,
+}
+
+/// A state and what it is run with. "Each call takes the state that the last one returned, also
+/// after a refusal."
+#[derive(Clone, Debug)]
+pub struct Solver {
+    pub state: State,
+    pub options: Options,
+}
+
+impl Subject for Solver {
+    fn call(&mut self, call: &Call) -> Answer {
+        match call {
+            Call::Rule(literals) => self.rule(literals),
+            Call::Query(on) => self.query(on),
+            Call::Card(length) => {
+                let mut table = vec![LENT_BYTE; *length];
+                self.card(&mut table)
+            }
+            Call::Forget => self.forget(),
+        }
+    }
+}
+
+impl Solver {
+    pub fn new(state: State, options: Options) -> Solver {
+        Solver { state, options }
+    }
+
+    /// A freshly opened formula: its store is empty.
+    pub fn opened(formula: Formula, options: Options) -> Solver {
+        Solver::new(State { formula, store: Store::default() }, options)
+    }
+
+    /// "Rule adds a rule; if accepted, all passes go and bars remain."
+    pub fn rule(&mut self, literals: &[Literal]) -> Answer {
+        let wide: Vec<i32> = literals.iter().map(|&literal| i32::from(literal)).collect();
+        let refused = refusal::of_rule(&self.state.formula, &wide, &self.options);
+        if let Some(number) = self.first_refusal(refused) {
+            if self.options.slips(Slip::RefusedRuleDropsCubes) {
+                self.state.store.cubes.clear();
+            }
+            return Answer::new(Said::Refused(number));
+        }
+        let clauses = &self.state.formula.clauses;
+        let stands = clauses.iter().any(|clause| same_set(clause, literals));
+        if self.options.slips(Slip::WrittenOrderKept) {
+            self.state.formula.clauses.push(literals.to_vec());
+        } else if !(stands && self.options.slips(Slip::EqualClauseNotAdded)) {
+            self.state.formula.add(literals);
+        }
+        self.state.store.rule_added(&self.options);
+        Answer::new(Said::Added)
+    }
+
+    /// "A query starts at the node of all its flags", where "a flag not named is off".
+    pub fn query(&mut self, on: &[i16]) -> Answer {
+        let refused = refusal::of_query(&self.state.formula, on, &self.options);
+        if let Some(number) = self.first_refusal(refused) {
+            return Answer::new(Said::Refused(number));
+        }
+        let start = start_node(&self.state.formula, on);
+        let State { formula, store } = &mut self.state;
+        let (outcome, search) = LearningSearch::run(formula, store, &start, &self.options);
+        let yes = matches!(outcome, Outcome::Decided(c) if c.polarity == Polarity::Cube);
+        let said = if yes { Said::Swap } else { Said::Keep };
+        Answer { said, table: vec![], visits: search.visits }
+    }
+
+    /// "Card writes to a lent byte table and returns lines and visits." The answer carries the
+    /// table's bytes as well.
+    pub fn card(&mut self, table: &mut [u8]) -> Answer {
+        if let Some(number) = self.first_refusal(None) {
+            table.fill(0);
+            return Answer { said: Said::Refused(number), table: table.to_vec(), visits: 0 };
+        }
+        let State { formula, store } = &mut self.state;
+        let (_, search) = LearningSearch::run(formula, store, &[], &self.options);
+        let (lines, visits) = (search.lines, search.visits);
+        let held = table::lines_held(formula, table.len(), &self.options);
+        if lines.too_many(held, &self.options) {
+            return self.too_many_lines(table, visits);
+        }
+        table::write(lines.nodes(), formula.free_count(), table, &self.options);
+        Answer { said: Said::Lines(lines.count()), table: table.to_vec(), visits }
+    }
+
+    /// "Only 21 differs: the walk runs to its end first, its visits are returned and its store
+    /// is kept."
+    fn too_many_lines(&mut self, table: &mut [u8], visits: u64) -> Answer {
+        if self.options.slips(Slip::StoreLostAfter21) {
+            self.state.store = Store::default();
+        }
+        if !self.options.slips(Slip::TableKeptAfter21) {
+            table.fill(0);
+        }
+        let visits = if self.options.slips(Slip::NoVisitsAt21) { 0 } else { visits };
+        Answer { said: Said::Refused(21), table: table.to_vec(), visits }
+    }
+
+    pub fn forget(&mut self) -> Answer {
+        if let Some(number) = self.first_refusal(None) {
+            return Answer::new(Said::Refused(number));
+        }
+        self.state.store.forget(&self.options);
+        Answer::new(Said::Forgotten)
+    }
+
+    /// 22 comes first at every call.
+    fn first_refusal(&self, of_input: Option<u8>) -> Option<u8> {
+        let of_state = (self.options.judges_state && check::malformed(&self.state, &self.options))
+            .then_some(22);
+        if self.options.slips(Slip::StateJudgedLast) {
+            return of_input.or(of_state);
+        }
+        of_state.or(of_input)
+    }
+}
+
+/// The node that gives every free variable its value.
+pub fn start_node(formula: &Formula, on: &[i16]) -> Vec<bool> {
+    let free = &formula.prefix[..formula.free_count()];
+    free.iter().map(|variable| on.contains(&variable.number)).collect()
+}
+
+fn same_set(clause: &[Literal], literals: &[Literal]) -> bool {
+    clause.len() == literals.len() && clause.iter().all(|literal| literals.contains(literal))
+}

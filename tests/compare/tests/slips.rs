@@ -1,0 +1,38 @@
+//! Every slip is shown by a case that the finder finds.
+
+use compare::finder::{find, Difference, Effort, Source};
+use compare::slip::{Slip, ALL};
+
+fn effort(tries: usize) -> Effort {
+    Effort { tries, hits: 1 }
+}
+
+/// Where calls on an opened formula cannot show a slip: entries learned by calls are sound, and a
+/// sound entry is met at its own last place and never learned while it is stored.
+fn source(slip: Slip) -> Source {
+    match slip {
+        Slip::InnerTestsAtMost | Slip::SatisfiedBeforeStoredClause | Slip::EqualNotStoredAgain => {
+            Source::GivenStore
+        }
+        _ if slip.is_of_check() => Source::Malformed,
+        _ => Source::Opened,
+    }
+}
+
+#[test]
+fn every_slip_is_shown() {
+    for (slip, words) in ALL {
+        let found = find(*slip, Difference::Answer, source(*slip), 1, effort(300_000));
+        assert!(found.is_some(), "{slip:?}: {words}");
+    }
+}
+
+#[test]
+fn sound_slips_stay_hidden_on_opened_formulas() {
+    for (slip, words) in ALL {
+        if source(*slip) == Source::GivenStore {
+            let found = find(*slip, Difference::Answer, Source::Opened, 1, effort(30_000));
+            assert!(found.is_none(), "{slip:?}: {words}");
+        }
+    }
+}
