@@ -32,7 +32,7 @@ free-fit (free ∷ ks) = suc-le-suc (free-fit ks)
 free-fit (exists ∷ ks) = zero-le
 free-fit (forall ∷ ks) = zero-le
 
-free-rest : (ks : List Quantifier) → drop (freeCount ks) ks ≡ bound ks
+pub free-rest : (ks : List Quantifier) → drop (freeCount ks) ks ≡ bound ks
 free-rest [] = refl
 free-rest (free ∷ ks) = free-rest ks
 free-rest (exists ∷ ks) = refl
