@@ -1,0 +1,62 @@
+-- The store emptied: a flat table in which no row stands.
+use Prim.Native.Nat.{ℕ, _<_, zero-le}
+use native.Mathlib.Omega.{arith}
+use mathlib.Core.Path.{_≡_, refl, ap, _∙_}
+use mathlib.Core.Bool.{Bool, true, _&&_}
+use mathlib.Core.List.{List, []}
+use lib.ListN.{length, getD, set}
+use lib.Seq.{getD-set-same}
+use lib.Dec.{leb}
+use borrow.Author.Tests.{le-leb}
+use lib.IntN.{ℤ}
+use Rattle.qbf.specs.Formula.{paper}
+use Rattle.qbf.specs.Calls.{forget}
+use Rattle.theory.proofs.Basics.{and-both}
+use Rattle.tables.specs.Views.{rowsOf}
+use Rattle.learned.proofs.Rows.{none-rows}
+use Rattle.state.specs.declared.State.{State}
+use Rattle.state.specs.Reading.{atMost, listing, entryAt, rowsFit, prefixFits, formulaIn, valid}
+use Rattle.state.specs.Derived.{Sized}
+use Rattle.state.proofs.Valid.{valid-facts}
+use Rattle.serving.specs.Serves.{said, Serves}
+use Rattle.serving.proofs.Calls.{served}
+
+-- ---- a table whose count is 0
+pub none-left : (l : List ℕ) → 0 < length l → {s : List ℕ} → s ≡ set l 0 0 → getD s 0 0 ≡ 0
+none-left l long is = ap (λ (t : List ℕ). getD t 0 0) is ∙ getD-set-same l 0 0 0 long
+
+module _ (w cap : ℕ) (s : List ℕ) (none : getD s 0 0 ≡ 0) where
+  pub none-fit : rowsFit w cap s ≡ true
+  none-fit = ap (λ (n : ℕ). leb n cap && atMost w (listing (entryAt s) 0 n)) none ∙ ap (λ (b : Bool). b && true) (le-leb 0 cap zero-le)
+
+  pub none-stand : (f : List ℤ) → rowsOf w f s ≡ []
+  none-stand f = none-rows w cap f s none
+
+-- ---- "Forget empties the store."
+module _ (x : State) (v : valid x ≡ true) (z : Sized x) where
+  pub forgotten : {s t : List ℕ} → s ≡ set (x .«learned_clause_sizes») 0 0 → t ≡ set (x .«learned_cube_sizes») 0 0
+      → Serves x forget (said 0 0 0 0 [])
+      (record {
+        numbers = x .numbers;
+        levels = x .levels;
+        kinds = x .kinds;
+        clauses = x .clauses;
+        «clause_sizes» = x .«clause_sizes»;
+        «learned_clauses» = x .«learned_clauses»;
+        «learned_clause_sizes» = s;
+        «learned_cubes» = x .«learned_cubes»;
+        «learned_cube_sizes» = t;
+      })
+  forgotten {s} {t} e h =
+      let clauses : getD s 0 0 ≡ 0 = none-left (x .«learned_clause_sizes») (omega (arith, z .learned-clause-sizes-room)) e in
+      let cubes : getD t 0 0 ≡ 0 = none-left (x .«learned_cube_sizes») (omega (arith, z .learned-cube-sizes-room)) h in
+      served x forget v _
+      (and-both (p && a && rowsFit 40 64 s) (rowsFit 40 64 t) (and-both (p && a) (rowsFit 40 64 s) (and-both p a (valid-facts x v .prefix-fits) (valid-facts x v .clauses-fit)) (none-fit 40 64 s clauses)) (none-fit 40 64 t cubes))
+      (λ i. record { formula = formulaIn x; store = record { clauses = none-stand 40 64 s clauses (x .«learned_clauses») i; cubes = none-stand 40 64 t cubes (x .«learned_cubes») i } })
+      refl
+    where
+      p : Bool
+      p = prefixFits paper (x .numbers) (x .levels) (x .kinds)
+
+      a : Bool
+      a = rowsFit (paper .literals) (paper .clauses) (x .«clause_sizes»)

@@ -1,0 +1,3 @@
+pub mod Emptied
+pub mod Refusing
+pub mod Adding

@@ -1,0 +1,34 @@
+-- The faults of a rule, as code gives them: a number, 0 where there is none.
+use Prim.Native.Nat.{ℕ, zero, suc}
+use mathlib.Core.Path.{_≡_}
+use mathlib.Core.Bool.{true, false, not, _||_}
+use mathlib.Core.List.{List, []}
+use mathlib.Core.Option.{Option, none, some}
+use lib.Dec.{leb, ltb, eqb}
+use lib.ListN.{length, getD}
+use Rattle.qbf.specs.Formula.{paper, Literal, Prefix}
+use Rattle.qbf.specs.Calls.{_orElse_, given, literalFault}
+use Rattle.tables.specs.Views.{Places}
+use Rattle.state.specs.declared.State.{State}
+use Rattle.state.specs.Reading.{valid}
+
+abbrev pub faultOf : ℕ → Option ℕ
+faultOf zero = none
+faultOf (suc n) = some (suc n)
+
+-- the fault of a literal's number, from its place and its mark, which is 0 where the number is new to the rule
+abbrev pub numberFault : ℕ → ℕ → ℕ → Option ℕ
+numberFault n place mark =
+    given (eqb n 0 || ltb (paper .numbers) n) 3 orElse given (eqb place 0) 5 orElse given (not (eqb mark 0)) 6
+
+-- the fault of a rule where that many clauses stand
+abbrev pub faultAfter : ℕ → Prefix → List Literal → Option ℕ
+faultAfter count D ls =
+    given (leb (paper .clauses) count) 20
+    orElse given (eqb (length ls) 0 || ltb (paper .literals) (length ls)) 7
+    orElse literalFault paper D [] ls
+
+-- r is the first refusal of a rule with these literals on the state x, whose places the table shows
+pub record Judged (x : State) (ls : List Literal) (places : List ℕ) (r : ℕ) : Type 0 where
+  pub malformed : valid x ≡ false → r ≡ 22
+  pub fault : valid x ≡ true → (D : Prefix) → Places D places → faultOf r ≡ faultAfter (getD (x .«clause_sizes») 0 0) D ls

@@ -1,0 +1,10 @@
+-- What the answer of rule or forget says, in the paper's numbers.
+use Prim.Native.Nat.{ℕ}
+use mathlib.Core.List.{[]}
+use Rattle.serving.specs.Serves.{Said, said}
+use Rattle.rules.specs.declared.Change.{Change}
+use Rattle.rules.specs.declared.Change.the-variants.{Done, Refused}
+
+abbrev pub changeSaid : Change → Said
+changeSaid Done = said 0 0 0 0 []
+changeSaid (Refused n) = said n 0 0 0 []

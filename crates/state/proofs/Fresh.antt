@@ -1,0 +1,242 @@
+-- The numbers of a prefix, each 1 to the limit and none twice, and the table of their places as it is filled from the first on.
+use Prim.Native.Nat.{ℕ, zero, suc, _+_, _-_, _≤_, _<_}
+use native.Mathlib.Numerals.{add-one}
+use native.Mathlib.Nat.{le-of-suc-le-suc, not-suc-le-zero}
+use native.Mathlib.Omega.{arith}
+use mathlib.Core.Path.{_≡_, refl, sym, ap, _∙_, subst}
+use mathlib.Core.Logic.{_⊎_, inl, inr}
+use mathlib.Core.Bool.{Bool, true, false, cond, not, _&&_, _||_, false≢true}
+use mathlib.Core.List.{List, [], _∷_, map}
+use lib.ListN.{length, getD, set, replicate, length-set, length-map, getD-replicate, length-replicate, List·getD-eq-default}
+use lib.Seq.{ext-getD, getD-set-same, getD-set-other}
+use lib.Dec.{leb, eqb}
+use borrow.Author.Tests.{eqb-true, eqb-false, eq-eqb, ne-eqb, leb-true, le-leb, lt-leb}
+use Rattle.qbf.specs.Formula.{paper, Prefix, any, placeFrom, placeOf}
+use Rattle.qbf.specs.Calls.{numbersOk}
+use Rattle.theory.proofs.Basics.{dichotomy, and-left, and-right}
+use Rattle.theory.proofs.Widths.{prefix-width}
+use Rattle.tables.specs.Views.{Numbers, Places}
+use Rattle.state.specs.Reading.{listing, entryAt, entries}
+use Rattle.state.specs.Derived.{numbered, Placing}
+use Rattle.state.proofs.Listing.{listing-length, listing-at, listing-next, listing-end}
+
+-- ---- the same of the numbers alone
+abbrev pub position : ℕ → ℕ → List ℕ → ℕ
+position p n [] = 0
+position p n (m ∷ ms) = cond (eqb n m) p (position (suc p) n ms)
+
+abbrev pub fresh : ℕ → List ℕ → List ℕ → Bool
+fresh most seen [] = true
+fresh most seen (n ∷ ns) = leb 1 n && leb n most && not (any (eqb n) seen) && fresh most (n ∷ seen) ns
+
+abbrev pub numbersIn : Prefix → List ℕ
+numbersIn D = map (λ d. d .number) D
+
+place-position : (p n : ℕ) (D : Prefix) → placeFrom p n D ≡ position p n (numbersIn D)
+place-position p n [] = refl
+place-position p n (d ∷ ds) = ap (λ (q : ℕ). cond (eqb n (d .number)) p q) (place-position (suc p) n ds)
+
+numbers-fresh : (seen : List ℕ) (D : Prefix) → numbersOk paper seen D ≡ fresh 40 seen (numbersIn D)
+numbers-fresh seen [] = refl
+numbers-fresh seen (d ∷ ds) =
+    ap (λ (b : Bool). leb 1 (d .number) && leb (d .number) 40 && not (any (eqb (d .number)) seen) && b) (numbers-fresh (d .number ∷ seen) ds)
+
+pub numbers-listed : (D : Prefix) (ns : List ℕ) → Numbers D ns → numbersIn D ≡ entries ns
+numbers-listed D ns shown = ext-getD 0 (numbersIn D) (entries ns) (len ∙ sym long) same
+  where
+    len : length (numbersIn D) ≡ getD ns 0 0
+    len = length-map D (λ d. d .number) ∙ sym (shown .count)
+
+    long : length (entries ns) ≡ getD ns 0 0
+    long = listing-length (entryAt ns) 0 (getD ns 0 0)
+
+    same : (i : ℕ) → i < length (numbersIn D) → getD (numbersIn D) i 0 ≡ getD (entries ns) i 0
+    same i h =
+        let low : i < length D = omega (arith, h, length-map D (λ d. d .number)) in
+        let few : i < getD ns 0 0 = omega (arith, h, len) in
+        let e : 0 + i ≡ i = omega arith in
+        sym (shown .at i low) ∙ sym (listing-at (entryAt ns) 0 (getD ns 0 0) i 0 few ∙ ap (entryAt ns) e)
+
+-- ---- the table as it is filled
+-- the numbers of the first i places, the last one first
+abbrev seenTo : List ℕ → ℕ → List ℕ
+seenTo ns zero = []
+seenTo ns (suc i) = entryAt ns i ∷ seenTo ns i
+
+-- a place that is found, else where the search goes on
+abbrev pick : ℕ → ℕ → ℕ
+pick zero q = q
+pick (suc p) q = suc p
+
+abbrev rest : List ℕ → ℕ → List ℕ
+rest ns i = listing (entryAt ns) i (getD ns 0 0 - i)
+
+abbrev pub isFresh : List ℕ → ℕ → Bool
+isFresh places n = leb 1 n && leb n 40 && eqb (getD places n 0) 0
+
+pub record Filled (ns places : List ℕ) (i : ℕ) : Type 0 where
+  pub low : i ≤ getD ns 0 0
+  pub room : length places ≡ 41
+  pub found : (m : ℕ) → position 1 m (entries ns) ≡ pick (getD places m 0) (position (suc i) m (rest ns i))
+  pub judged : fresh 40 [] (entries ns) ≡ fresh 40 (seenTo ns i) (rest ns i)
+  pub marked : (m : ℕ) → any (eqb m) (seenTo ns i) ≡ not (eqb (getD places m 0) 0)
+
+zero-cell : (n m : ℕ) → _≡_ {A = ℕ} (getD (replicate n 0) m 0) 0
+zero-cell zero m = refl
+zero-cell (suc n) zero = refl
+zero-cell (suc n) (suc m) = zero-cell n m
+
+pub filled-none : (ns : List ℕ) → Filled ns (replicate 41 0) 0
+filled-none ns =
+    let e : getD ns 0 0 - 0 ≡ getD ns 0 0 = omega arith in
+    record {
+      low = omega arith;
+      room = refl;
+      found = λ m. ap (λ (k : ℕ). position 1 m (listing (entryAt ns) 0 k)) (sym e) ∙ ap (λ (p : ℕ). pick p (position 1 m (rest ns 0))) (sym (zero-cell 41 m));
+      judged = ap (λ (k : ℕ). fresh 40 [] (listing (entryAt ns) 0 k)) (sym e);
+      marked = λ m. ap (λ (p : ℕ). not (eqb p 0)) (sym (zero-cell 41 m));
+    }
+
+module _ (ns places : List ℕ) (i : ℕ) (f : Filled ns places i) (more : i < getD ns 0 0) where
+  abbrev here : ℕ
+  here = entryAt ns i
+
+  next : rest ns i ≡ here ∷ rest ns (suc i)
+  next = listing-next (entryAt ns) i (getD ns 0 0) more
+
+  -- the test of the next number
+  judge : fresh 40 [] (entries ns) ≡ (leb 1 here && leb here 40 && eqb (getD places here 0) 0 && fresh 40 (seenTo ns (suc i)) (rest ns (suc i)))
+  judge =
+      f .judged
+      ∙ ap (fresh 40 (seenTo ns i)) next
+      ∙ ap (λ (b : Bool). leb 1 here && leb here 40 && b && fresh 40 (seenTo ns (suc i)) (rest ns (suc i))) (ap not (f .marked here) ∙ twice (eqb (getD places here 0) 0))
+    where
+      twice : (b : Bool) → not (not b) ≡ b
+      twice true = refl
+      twice false = refl
+
+  bad : isFresh places here ≡ false → fresh 40 [] (entries ns) ≡ false
+  bad e = judge ∙ by (leb 1 here) (leb here 40) (eqb (getD places here 0) 0) (fresh 40 (seenTo ns (suc i)) (rest ns (suc i))) e
+    where
+      by : (a b c d : Bool) → (a && b && c) ≡ false → (a && b && c && d) ≡ false
+      by false b c d e = refl
+      by true false c d e = refl
+      by true true false d e = refl
+      by true true true d e = ap (λ x. x && d) e
+
+  module _ (good : isFresh places here ≡ true) where
+    unmarked : getD places here 0 ≡ 0
+    unmarked = eqb-true (getD places here 0) 0 (and-right (leb 1 here && leb here 40) (eqb (getD places here 0) 0) good)
+
+    within : here ≤ 40
+    within = leb-true here 40 (and-right (leb 1 here) (leb here 40) (and-left (leb 1 here && leb here 40) (eqb (getD places here 0) 0) good))
+
+    stored : getD (set places here (suc i)) here 0 ≡ suc i
+    stored = getD-set-same places here (suc i) 0 (omega (arith, f .room, within))
+
+    kept : (m : ℕ) → (m ≡ here → ⊥) → getD (set places here (suc i)) m 0 ≡ getD places m 0
+    kept m n = getD-set-other places here m (suc i) 0 n
+
+    found-next : (m : ℕ) → position 1 m (entries ns) ≡ pick (getD (set places here (suc i)) m 0) (position (suc (suc i)) m (rest ns (suc i)))
+    found-next m = f .found m ∙ ap (λ (l : List ℕ). pick (getD places m 0) (position (suc i) m l)) next ∙ by (dichotomy (eqb m here))
+      where
+        by : (eqb m here ≡ true) ⊎ (eqb m here ≡ false)
+            → pick (getD places m 0) (cond (eqb m here) (suc i) (position (suc (suc i)) m (rest ns (suc i)))) ≡ pick (getD (set places here (suc i)) m 0) (position (suc (suc i)) m (rest ns (suc i)))
+        by (inl e) =
+            let q = eqb-true m here e in
+            ap (λ (b : Bool). pick (getD places m 0) (cond b (suc i) (position (suc (suc i)) m (rest ns (suc i))))) e
+            ∙ ap (λ (p : ℕ). pick p (suc i)) (ap (λ (n : ℕ). getD places n 0) q ∙ unmarked)
+            ∙ ap (λ (p : ℕ). pick p (position (suc (suc i)) m (rest ns (suc i)))) (sym (ap (λ (n : ℕ). getD (set places here (suc i)) n 0) q ∙ stored))
+        by (inr e) =
+            ap (λ (b : Bool). pick (getD places m 0) (cond b (suc i) (position (suc (suc i)) m (rest ns (suc i))))) e
+            ∙ ap (λ (p : ℕ). pick p (position (suc (suc i)) m (rest ns (suc i)))) (sym (kept m (eqb-false m here e)))
+
+    marked-next : (m : ℕ) → any (eqb m) (seenTo ns (suc i)) ≡ not (eqb (getD (set places here (suc i)) m 0) 0)
+    marked-next m = by (dichotomy (eqb m here))
+      where
+        by : (eqb m here ≡ true) ⊎ (eqb m here ≡ false) → (eqb m here || any (eqb m) (seenTo ns i)) ≡ not (eqb (getD (set places here (suc i)) m 0) 0)
+        by (inl e) =
+            ap (λ (b : Bool). b || any (eqb m) (seenTo ns i)) e
+            ∙ sym (ap (λ (p : ℕ). not (eqb p 0)) (ap (λ (n : ℕ). getD (set places here (suc i)) n 0) (eqb-true m here e) ∙ stored) ∙ ap not (ne-eqb (suc i) 0 (λ q. omega arith)))
+        by (inr e) =
+            ap (λ (b : Bool). b || any (eqb m) (seenTo ns i)) e
+            ∙ f .marked m
+            ∙ ap (λ (p : ℕ). not (eqb p 0)) (sym (kept m (eqb-false m here e)))
+
+    grown : Filled ns (set places here (i + 1)) (i + 1)
+    grown =
+        rw add-one
+        (record {
+          low = more;
+          room = length-set places here (suc i) ∙ f .room;
+          found = found-next;
+          judged = judge ∙ by (leb 1 here) (leb here 40) (eqb (getD places here 0) 0) (fresh 40 (seenTo ns (suc i)) (rest ns (suc i))) good;
+          marked = marked-next;
+        })
+      where
+        by : (a b c d : Bool) → (a && b && c) ≡ true → (a && b && c && d) ≡ d
+        by false b c d e = absurd (false≢true e)
+        by true false c d e = absurd (false≢true e)
+        by true true false d e = absurd (false≢true e)
+        by true true true d e = refl
+
+-- n is the next number as it was read, and r the answer of its test
+module _ (ns places : List ℕ) (i : ℕ) (f : Filled ns places i) (more : i < getD ns 0 0) {n : ℕ} (is : n ≡ entryAt ns i) {r : Bool} (said : r ≡ isFresh places n) where
+  test : {b : Bool} → r ≡ b → isFresh places (entryAt ns i) ≡ b
+  test e = ap (isFresh places) (sym is) ∙ sym said ∙ e
+
+  pub filled-bad : r ≡ false → fresh 40 [] (entries ns) ≡ false
+  filled-bad e = bad ns places i f more (test e)
+
+  pub filled-within : r ≡ true → n ≤ 40
+  filled-within e = subst (λ (m : ℕ). m ≤ 40) (sym is) (within ns places i f more (test e))
+
+  pub filled-more : r ≡ true → Filled ns (set places n (i + 1)) (i + 1)
+  filled-more e = subst (λ (m : ℕ). Filled ns (set places m (i + 1)) (i + 1)) (sym is) (grown ns places i f more (test e))
+
+-- ---- what is said of a prefix with these numbers
+module _ (ns : List ℕ) where
+  numbered-by : (D : Prefix) → Numbers D ns → numbered D ≡ (leb (getD ns 0 0) 40 && fresh 40 [] (entries ns))
+  numbered-by D shown =
+      ap (λ (n : ℕ). leb n 40 && numbersOk paper [] D) (sym (shown .count))
+      ∙ ap (λ (b : Bool). leb (getD ns 0 0) 40 && b) (numbers-fresh [] D ∙ ap (fresh 40 []) (numbers-listed D ns shown))
+
+  pub placing-many : (places : List ℕ) → 40 < getD ns 0 0 → Placing ns false places
+  placing-many places h =
+      record {
+        said = λ D shown. sym (numbered-by D shown ∙ ap (λ (b : Bool). b && fresh 40 [] (entries ns)) (lt-leb (getD ns 0 0) 40 h));
+        shown = λ e. absurd (false≢true e);
+      }
+
+  module _ (few : getD ns 0 0 ≤ 40) where
+    judged-by : (D : Prefix) → Numbers D ns → numbered D ≡ fresh 40 [] (entries ns)
+    judged-by D shown = numbered-by D shown ∙ ap (λ (b : Bool). b && fresh 40 [] (entries ns)) (le-leb (getD ns 0 0) 40 few)
+
+    pub placing-bad : (places : List ℕ) → fresh 40 [] (entries ns) ≡ false → Placing ns false places
+    placing-bad places e =
+        record { said = λ D shown. sym (judged-by D shown ∙ e); shown = λ q. absurd (false≢true q) }
+
+    pub placing-end : (places : List ℕ) (i : ℕ) → Filled ns places i → getD ns 0 0 ≤ i → Placing ns true places
+    unfolding placeOf
+    placing-end places i f end = record { said = λ D shown. sym (judged-by D shown ∙ f .judged ∙ ap (fresh 40 (seenTo ns i)) done); shown = λ e D shown. record { at = at D shown } }
+      where
+        done : rest ns i ≡ []
+        done = listing-end (entryAt ns) i (getD ns 0 0) end
+
+        whole : (p : ℕ) → pick p 0 ≡ p
+        whole zero = refl
+        whole (suc p) = refl
+
+        at : (D : Prefix) → Numbers D ns → (n : ℕ) → getD places n 0 ≡ placeOf D n
+        at D shown n =
+            sym
+            (place-position 1 n D
+            ∙ ap (position 1 n) (numbers-listed D ns shown)
+            ∙ f .found n
+            ∙ ap (λ (l : List ℕ). pick (getD places n 0) (position (suc i) n l)) done
+            ∙ whole (getD places n 0))
+
+-- distinct numbers from 1 to 40 are at most 40
+pub numbers-numbered : (D : Prefix) → numbersOk paper [] D ≡ true → numbered D ≡ true
+numbers-numbered D e =
+    ap (λ (b : Bool). b && numbersOk paper [] D) (le-leb (length D) 40 (omega (arith, prefix-width paper D e, length-map D (λ d. d .quantifier)))) ∙ e

@@ -1,0 +1,308 @@
+-- A valid state: what its check tests part by part, and what its tables show of the state that is read.
+use Prim.Native.Nat.{ℕ, zero, suc, _+_, _*_, _≤_, _<_}
+use native.Mathlib.Omega.{arith}
+use mathlib.Core.Path.{_≡_, refl, sym, ap, _∙_, subst}
+use mathlib.Core.Bool.{Bool, true, false, cond, not, _&&_, false≢true}
+use mathlib.Core.List.{List, [], _∷_, map}
+use mathlib.Core.Option.{Option, none, some}
+use lib.ListN.{length, getD, length-map}
+use lib.Dec.{leb}
+use lib.IntN.{ℤ}
+use borrow.Author.Tests.{leb-true}
+use Rattle.qbf.specs.Formula.{paper, Quantifier, free, exists, forall, Variable, Prefix, Clause, quantifiers, quantifierAt, all}
+use Rattle.qbf.specs.Learning.{Constraint}
+use Rattle.qbf.specs.Calls.{State as Read, wellFormed, formulaOk, prefixOk, numbersOk, freeFirst, clauseOk, clausesOk, constraintOk, storeOk}
+use Rattle.theory.proofs.Basics.{and-left, and-right, and-both}
+use Rattle.tables.specs.Views.{quantifierCode, Numbers, Places, Kinds, Table, rowsOf}
+use Rattle.tables.proofs.Laws.{rows-length}
+use Rattle.state.specs.declared.State.{State}
+use Rattle.state.specs.Reading.{listing, atMost, quantifierOf, entryAt, entries, codeAt, variableAt, prefixOf, levelsFit, prefixFits, rowsFit, fits, prefixIn, stateIn, readState, wellFormedRead, valid}
+use Rattle.state.specs.Derived.{numbered, Placing, Quantified, levelsOk, Shown, Sized}
+use Rattle.state.proofs.Listing.{listing-length, listing-at, listing-map, listing-all}
+use Rattle.state.proofs.Scan.{tableOk}
+
+-- ---- the prefix of three tables
+module _ (ns ls ks : List ℕ) where
+  prefix-length : length (prefixOf ns ls ks) ≡ getD ns 0 0
+  prefix-length = listing-length (variableAt ns ls ks) 0 (getD ns 0 0)
+
+  pub prefix-numbers : Numbers (prefixOf ns ls ks) ns
+  prefix-numbers =
+      record {
+        count = sym prefix-length;
+        at = λ i h.
+            sym
+            (ap (λ l. getD l i 0) (listing-map (λ d. d .number) (variableAt ns ls ks) 0 (getD ns 0 0))
+            ∙ listing-at (entryAt ns) 0 (getD ns 0 0) i 0 (omega (arith, h, prefix-length))
+            ∙ ap (entryAt ns) (let e : 0 + i ≡ i = omega arith in e));
+      }
+
+  code-back : (k : ℕ) → k ≤ 2 → k ≡ quantifierCode (quantifierOf k)
+  code-back zero h = refl
+  code-back (suc zero) h = refl
+  code-back (suc (suc n)) h = omega (arith, h)
+
+  pub prefix-quantified : prefixFits paper ns ls ks ≡ true → Quantified (prefixOf ns ls ks) ls ks
+  prefix-quantified e = record { at = λ i h. code-back (codeAt ls ks i) (small i (omega (arith, h, prefix-length))) ∙ ap quantifierCode (sym (read i (omega (arith, h, prefix-length)))) }
+    where
+      codes : atMost 2 (listing (codeAt ls ks) 0 (getD ns 0 0)) ≡ true
+      codes =
+          and-right
+          (atMost 40 (listing (entryAt ls) 0 (getD ns 0 0)))
+          (atMost 2 (listing (codeAt ls ks) 0 (getD ns 0 0)))
+          (and-left _ _ (and-right (leb (getD ns 0 0) 40) (levelsFit paper ns ls ks) e))
+
+      small : (i : ℕ) → i < getD ns 0 0 → codeAt ls ks i ≤ 2
+      small i h =
+          let q : 0 + i ≡ i = omega arith in
+          leb-true (codeAt ls ks i) 2 (ap (λ n. leb (codeAt ls ks n) 2) (sym q) ∙ listing-all (λ m. leb m 2) (codeAt ls ks) 0 (getD ns 0 0) codes i h)
+
+      read : (i : ℕ) → i < getD ns 0 0 → quantifierAt (prefixOf ns ls ks) (suc i) ≡ quantifierOf (codeAt ls ks i)
+      read i h =
+          ap (λ l. getD l i free) (listing-map (λ d. d .quantifier) (variableAt ns ls ks) 0 (getD ns 0 0))
+          ∙ listing-at (λ j. quantifierOf (codeAt ls ks j)) 0 (getD ns 0 0) i free h
+          ∙ ap (λ j. quantifierOf (codeAt ls ks j)) (let e : 0 + i ≡ i = omega arith in e)
+
+  module _ {ok : Bool} {places kinds : List ℕ} (placed : Placing ns ok places) where
+    pub shown-bad : ok ≡ false → Shown ns ls ks false places kinds
+    shown-bad e =
+        record {
+          said = sym (ap (λ (q : Bool). q && levelsOk ns ls ks) (sym (placed .said (prefixOf ns ls ks) prefix-numbers) ∙ e));
+          places-shown = λ q. absurd (false≢true q);
+          kinds-shown = λ q. absurd (false≢true q);
+        }
+
+    pub shown-end : ok ≡ true → ((D : Prefix) → Places D places → Quantified D ls ks → Kinds D kinds) → {r : Bool} → r ≡ levelsOk ns ls ks → Shown ns ls ks r places kinds
+    shown-end e coded s =
+        let P : Places (prefixOf ns ls ks) places = placed .shown e (prefixOf ns ls ks) prefix-numbers in
+        record {
+          said = s ∙ sym (ap (λ (q : Bool). q && levelsOk ns ls ks) (sym (placed .said (prefixOf ns ls ks) prefix-numbers) ∙ e));
+          places-shown = λ q. P;
+          kinds-shown = λ q. coded (prefixOf ns ls ks) P (prefix-quantified (and-left (prefixFits paper ns ls ks) (freeFirst (quantifiers (prefixOf ns ls ks))) (sym s ∙ q)));
+        }
+
+-- ---- a flat table
+pub rows-table : (stride capacity : ℕ) (flat : List ℤ) (sizes : List ℕ) → rowsFit stride capacity sizes ≡ true → length flat ≡ capacity * stride → length sizes ≡ suc capacity
+    → Table stride capacity flat sizes
+rows-table w most flat sizes e room counted =
+    record {
+      room = room;
+      counted = counted;
+      few = leb-true (getD sizes 0 0) most (and-left (leb (getD sizes 0 0) most) (atMost w (entries sizes)) e);
+      short = λ k h.
+          let q : 0 + k ≡ k = omega arith in
+          leb-true (entryAt sizes k) w
+          (ap (λ n. leb (entryAt sizes n) w) (sym q) ∙ listing-all (λ m. leb m w) (entryAt sizes) 0 (getD sizes 0 0) (and-right (leb (getD sizes 0 0) most) (atMost w (entries sizes)) e) k h);
+    }
+
+-- ---- a state
+-- what a test that passes says of a state
+pub record ValidFacts (x : State) : Type 0 where
+  pub read : readState x ≡ some (stateIn x)
+  pub formed : wellFormed (stateIn x) ≡ true
+  pub prefix-fits : prefixFits paper (x .numbers) (x .levels) (x .kinds) ≡ true
+  pub clauses-fit : rowsFit (paper .literals) (paper .clauses) (x .«clause_sizes») ≡ true
+  pub learned-clauses-fit : rowsFit (paper .numbers) (paper .constraints) (x .«learned_clause_sizes») ≡ true
+  pub learned-cubes-fit : rowsFit (paper .numbers) (paper .constraints) (x .«learned_cube_sizes») ≡ true
+
+module _ (x : State) where
+  abbrev p : Bool
+  p = prefixFits paper (x .numbers) (x .levels) (x .kinds)
+
+  abbrev a : Bool
+  a = rowsFit (paper .literals) (paper .clauses) (x .«clause_sizes»)
+
+  abbrev b : Bool
+  b = rowsFit (paper .numbers) (paper .constraints) (x .«learned_clause_sizes»)
+
+  abbrev c : Bool
+  c = rowsFit (paper .numbers) (paper .constraints) (x .«learned_cube_sizes»)
+
+  fits-read : fits x ≡ true → readState x ≡ some (stateIn x)
+  unfolding readState
+  fits-read e = ap (λ (q : Bool). cond q (some (stateIn x)) none) e
+
+  valid-is : valid x ≡ (fits x && wellFormed (stateIn x))
+  unfolding valid readState
+  valid-is = by (fits x)
+    where
+      by : (q : Bool) → wellFormedRead (cond q (some (stateIn x)) none) ≡ (q && wellFormed (stateIn x))
+      by true = refl
+      by false = refl
+
+  pub valid-facts : valid x ≡ true → ValidFacts x
+  valid-facts e =
+      let f : fits x ≡ true = and-left (fits x) (wellFormed (stateIn x)) (sym valid-is ∙ e) in
+      let g : (p && a && b) ≡ true = and-left (p && a && b) c f in
+      record {
+        read = fits-read f;
+        formed = and-right (fits x) (wellFormed (stateIn x)) (sym valid-is ∙ e);
+        prefix-fits = and-left p a (and-left (p && a) b g);
+        clauses-fit = and-right p a (and-left (p && a) b g);
+        learned-clauses-fit = and-right (p && a) b g;
+        learned-cubes-fit = and-right (p && a && b) c f;
+      }
+
+  pub facts-valid : p ≡ true → a ≡ true → b ≡ true → c ≡ true → wellFormed (stateIn x) ≡ true → valid x ≡ true
+  facts-valid h i j k f = valid-is ∙ and-both (fits x) (wellFormed (stateIn x)) (and-both (p && a && b) c (and-both (p && a) b (and-both p a h i) j) k) f
+
+  -- ---- its check, part by part
+  abbrev D : Prefix
+  D = prefixIn x
+
+  abbrev R : List Clause
+  R = rowsOf (paper .literals) (x .clauses) (x .«clause_sizes»)
+
+  abbrev C₀ : List Constraint
+  C₀ = rowsOf (paper .numbers) (x .«learned_clauses») (x .«learned_clause_sizes»)
+
+  abbrev C₁ : List Constraint
+  C₁ = rowsOf (paper .numbers) (x .«learned_cubes») (x .«learned_cube_sizes»)
+
+  abbrev pub numbersPart : Bool
+  numbersPart = numbered D
+
+  abbrev pub levelsPart : Bool
+  levelsPart = levelsOk (x .numbers) (x .levels) (x .kinds)
+
+  abbrev pub clausesPart : Bool
+  clausesPart = a && all (clauseOk paper D) R
+
+  abbrev pub learnedClausesPart : Bool
+  learnedClausesPart = b && all (constraintOk D false) C₀
+
+  abbrev pub learnedCubesPart : Bool
+  learnedCubesPart = c && all (constraintOk D true) C₁
+
+  pub record Parts : Type 0 where
+    pub numbers-ok : numbersPart ≡ true
+    pub levels-ok : levelsPart ≡ true
+    pub clauses-ok : clausesPart ≡ true
+    pub learned-clauses-ok : learnedClausesPart ≡ true
+    pub learned-cubes-ok : learnedCubesPart ≡ true
+
+  counted : (w most : ℕ) (flat : List ℤ) (sizes : List ℕ) → rowsFit w most sizes ≡ true → leb (length (rowsOf w flat sizes)) most ≡ true
+  counted w most flat sizes e = ap (λ (n : ℕ). leb n most) (rows-length w flat sizes (getD sizes 0 0)) ∙ and-left (leb (getD sizes 0 0) most) (atMost w (entries sizes)) e
+
+  pub parts-valid : Parts → valid x ≡ true
+  parts-valid q = facts-valid h i j k (and-both (formulaOk (stateIn x .formula)) (storeOk paper D (stateIn x .store)) formula store)
+    where
+      h : p ≡ true
+      h = and-left p (freeFirst (quantifiers D)) (q .levels-ok)
+
+      i : a ≡ true
+      i = and-left a (all (clauseOk paper D) R) (q .clauses-ok)
+
+      j : b ≡ true
+      j = and-left b (all (constraintOk D false) C₀) (q .learned-clauses-ok)
+
+      k : c ≡ true
+      k = and-left c (all (constraintOk D true) C₁) (q .learned-cubes-ok)
+
+      prefix : prefixOk paper D ≡ true
+      prefix =
+          and-both (numbersOk paper [] D) (freeFirst (quantifiers D)) (and-right (leb (length D) 40) (numbersOk paper [] D) (q .numbers-ok)) (and-right p (freeFirst (quantifiers D)) (q .levels-ok))
+
+      clauses : clausesOk paper D R ≡ true
+      clauses =
+          and-both (leb (length R) 255) (all (clauseOk paper D) R) (counted 16 255 (x .clauses) (x .«clause_sizes») i) (and-right a (all (clauseOk paper D) R) (q .clauses-ok))
+
+      formula : formulaOk (stateIn x .formula) ≡ true
+      formula = and-both (prefixOk paper D) (clausesOk paper D R) prefix clauses
+
+      store : storeOk paper D (stateIn x .store) ≡ true
+      store =
+          and-both
+          (leb (length C₀) 64 && leb (length C₁) 64 && all (constraintOk D false) C₀)
+          (all (constraintOk D true) C₁)
+          (and-both
+          (leb (length C₀) 64 && leb (length C₁) 64)
+          (all (constraintOk D false) C₀)
+          (and-both (leb (length C₀) 64) (leb (length C₁) 64) (counted 40 64 (x .«learned_clauses») (x .«learned_clause_sizes») j) (counted 40 64 (x .«learned_cubes») (x .«learned_cube_sizes») k))
+          (and-right b (all (constraintOk D false) C₀) (q .learned-clauses-ok)))
+          (and-right c (all (constraintOk D true) C₁) (q .learned-cubes-ok))
+
+  pub valid-parts : valid x ≡ true → Parts
+  valid-parts e =
+      record {
+        numbers-ok = and-both (leb (length D) 40) (numbersOk paper [] D) few (and-left (numbersOk paper [] D) (freeFirst (quantifiers D)) prefix);
+        levels-ok = and-both p (freeFirst (quantifiers D)) (f .prefix-fits) (and-right (numbersOk paper [] D) (freeFirst (quantifiers D)) prefix);
+        clauses-ok = and-both a (all (clauseOk paper D) R) (f .clauses-fit) (and-right (leb (length R) 255) (all (clauseOk paper D) R) (and-right (prefixOk paper D) (clausesOk paper D R) formula));
+        learned-clauses-ok = and-both b (all (constraintOk D false) C₀) (f .learned-clauses-fit) (and-right (leb (length C₀) 64 && leb (length C₁) 64) (all (constraintOk D false) C₀) (and-left (leb (length C₀) 64 && leb (length C₁) 64 && all (constraintOk D false) C₀) (all (constraintOk D true) C₁) store));
+        learned-cubes-ok = and-both c (all (constraintOk D true) C₁) (f .learned-cubes-fit) (and-right (leb (length C₀) 64 && leb (length C₁) 64 && all (constraintOk D false) C₀) (all (constraintOk D true) C₁) store);
+      }
+    where
+      f : ValidFacts x
+      f = valid-facts e
+
+      formula : formulaOk (stateIn x .formula) ≡ true
+      formula = and-left (formulaOk (stateIn x .formula)) (storeOk paper D (stateIn x .store)) (f .formed)
+
+      prefix : prefixOk paper D ≡ true
+      prefix = and-left (prefixOk paper D) (clausesOk paper D R) formula
+
+      store : storeOk paper D (stateIn x .store) ≡ true
+      store = and-right (formulaOk (stateIn x .formula)) (storeOk paper D (stateIn x .store)) (f .formed)
+
+      few : leb (length D) 40 ≡ true
+      few =
+          ap (λ (n : ℕ). leb n 40) (prefix-length (x .numbers) (x .levels) (x .kinds))
+          ∙ and-left (leb (getD (x .numbers) 0 0) 40) (levelsFit paper (x .numbers) (x .levels) (x .kinds)) (f .prefix-fits)
+
+  -- r is the answer of a part that fails, or of the last part
+  either : (q r : Bool) → (q ≡ true → r ≡ true) → r ≡ false → false ≡ q
+  either true r f e = sym e ∙ f refl
+  either false r f e = refl
+
+  pub invalid-prefix : {r : Bool} → r ≡ (numbersPart && levelsPart) → r ≡ false → false ≡ valid x
+  invalid-prefix {r} s e = either (valid x) r (λ v. s ∙ and-both numbersPart levelsPart (valid-parts v .numbers-ok) (valid-parts v .levels-ok)) e
+
+  pub invalid-clauses : {r : Bool} → r ≡ clausesPart → r ≡ false → false ≡ valid x
+  invalid-clauses {r} s e = either (valid x) r (λ v. s ∙ valid-parts v .clauses-ok) e
+
+  pub invalid-learned-clauses : {r : Bool} → r ≡ learnedClausesPart → r ≡ false → false ≡ valid x
+  invalid-learned-clauses {r} s e = either (valid x) r (λ v. s ∙ valid-parts v .learned-clauses-ok) e
+
+  pub valid-last : (numbersPart && levelsPart) ≡ true → clausesPart ≡ true → learnedClausesPart ≡ true → {r : Bool} → r ≡ learnedCubesPart → r ≡ valid x
+  valid-last h j k {r} s = by r (valid x) (λ v. s ∙ valid-parts v .learned-cubes-ok) (λ e. parts-valid (record { numbers-ok = and-left numbersPart levelsPart h; levels-ok = and-right numbersPart levelsPart h; clauses-ok = j; learned-clauses-ok = k; learned-cubes-ok = sym s ∙ e }))
+    where
+      by : (r q : Bool) → (q ≡ true → r ≡ true) → (r ≡ true → q ≡ true) → r ≡ q
+      by true q f g = sym (g refl)
+      by false true f g = f refl
+      by false false f g = refl
+
+-- ---- what the tables of a valid state show
+pub record ValidTables (x : State) : Type 0 where
+  pub clauses : Table (paper .literals) (paper .clauses) (x .clauses) (x .«clause_sizes»)
+  pub learned-clauses : Table (paper .numbers) (paper .constraints) (x .«learned_clauses») (x .«learned_clause_sizes»)
+  pub learned-cubes : Table (paper .numbers) (paper .constraints) (x .«learned_cubes») (x .«learned_cube_sizes»)
+
+module _ (x : State) (v : valid x ≡ true) where
+  pub valid-tables : Sized x → ValidTables x
+  valid-tables s =
+      let f = valid-facts x v in
+      record {
+        clauses = rows-table (paper .literals) (paper .clauses) (x .clauses) (x .«clause_sizes») (f .clauses-fit) (s .clauses-room) (s .clause-sizes-room);
+        learned-clauses = rows-table (paper .numbers) (paper .constraints) (x .«learned_clauses») (x .«learned_clause_sizes») (f .learned-clauses-fit) (s .learned-clauses-room) (s .learned-clause-sizes-room);
+        learned-cubes = rows-table (paper .numbers) (paper .constraints) (x .«learned_cubes») (x .«learned_cube_sizes») (f .learned-cubes-fit) (s .learned-cubes-room) (s .learned-cube-sizes-room);
+      }
+
+  pub valid-numbered : numbered (prefixIn x) ≡ true
+  valid-numbered = valid-parts x v .numbers-ok
+
+  pub valid-numbers : Numbers (prefixIn x) (x .numbers)
+  valid-numbers = prefix-numbers (x .numbers) (x .levels) (x .kinds)
+
+  pub valid-quantified : Quantified (prefixIn x) (x .levels) (x .kinds)
+  valid-quantified = prefix-quantified (x .numbers) (x .levels) (x .kinds) (valid-facts x v .prefix-fits)
+
+  -- of the tables that `prefix::read_prefix` derives
+  module _ {ok : Bool} {places kinds : List ℕ} (shown : Shown (x .numbers) (x .levels) (x .kinds) ok places kinds) where
+    pub valid-ok : ok ≡ true
+    valid-ok = shown .said ∙ and-both (numbersPart x) (levelsPart x) (valid-parts x v .numbers-ok) (valid-parts x v .levels-ok)
+
+    pub valid-places : Places (prefixIn x) places
+    valid-places = shown .places-shown valid-ok
+
+    pub valid-kinds : Kinds (prefixIn x) kinds
+    valid-kinds = shown .kinds-shown valid-ok

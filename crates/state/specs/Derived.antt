@@ -1,0 +1,61 @@
+-- What the tables of a state say of its prefix, and what is ensured of the tables that are derived from them.
+use Prim.Native.Nat.{ℕ, zero, suc, _*_, _<_}
+use mathlib.Core.Path.{_≡_}
+use mathlib.Core.Bool.{Bool, true, false, not, _&&_}
+use mathlib.Core.List.{List, [], _∷_}
+use lib.ListN.{length}
+use lib.Dec.{leb, eqb}
+use Rattle.qbf.specs.Formula.{paper, Quantifier, free, exists, forall, isFree, Prefix, quantifiers, quantifierAt, levelBeside}
+use Rattle.qbf.specs.Calls.{numbersOk, freeFirst}
+use Rattle.tables.specs.Views.{quantifierCode, Numbers, Places, Kinds}
+use Rattle.state.specs.declared.State.{State}
+use Rattle.state.specs.Reading.{quantifierOf, codeAt, prefixOf, prefixFits}
+
+-- no more variables than there are numbers, each of its own number
+abbrev pub numbered : Prefix → Bool
+numbered D = leb (length D) (paper .numbers) && numbersOk paper [] D
+
+pub record Placing (ns : List ℕ) (ok : Bool) (places : List ℕ) : Type 0 where
+  pub said : (D : Prefix) → Numbers D ns → ok ≡ numbered D
+  pub shown : ok ≡ true → (D : Prefix) → Numbers D ns → Places D places
+
+-- the levels and the codes of the levels show each place's quantifier
+pub record Quantified (D : Prefix) (ls ks : List ℕ) : Type 0 where
+  pub at : (i : ℕ) → i < length D → codeAt ls ks i ≡ quantifierCode (quantifierAt D (suc i))
+
+-- the quantifier's code at a place; where there is none it is free
+abbrev pub codeFor : List ℕ → List ℕ → ℕ → ℕ
+codeFor ls ks zero = 0
+codeFor ls ks (suc i) = codeAt ls ks i
+
+-- a free variable stands beside a free one only
+abbrev pub ordered : Quantifier → Quantifier → Bool
+ordered free κ = true
+ordered exists κ = not (isFree κ)
+ordered forall κ = not (isFree κ)
+
+-- A place of level l and of code k, next to one of level m and of code c: the code is one, and so is the level that it gives.
+abbrev pub stepOk : ℕ → ℕ → ℕ → ℕ → Bool
+stepOk m c l k =
+    leb k (quantifierCode forall) && (eqb (levelBeside m (quantifierOf c) (quantifierOf k)) l && ordered (quantifierOf c) (quantifierOf k))
+
+abbrev pub levelsOk : List ℕ → List ℕ → List ℕ → Bool
+levelsOk ns ls ks = prefixFits paper ns ls ks && freeFirst (quantifiers (prefixOf ns ls ks))
+
+-- the tables by number that show the prefix, where it is well formed
+pub record Shown (ns ls ks : List ℕ) (ok : Bool) (places kinds : List ℕ) : Type 0 where
+  pub said : ok ≡ (numbered (prefixOf ns ls ks) && levelsOk ns ls ks)
+  pub places-shown : ok ≡ true → Places (prefixOf ns ls ks) places
+  pub kinds-shown : ok ≡ true → Kinds (prefixOf ns ls ks) kinds
+
+-- the length of each table: what the type of a state by value says
+pub record Sized (x : State) : Type 0 where
+  pub numbers-room : length (x .numbers) ≡ suc (paper .numbers)
+  pub levels-room : length (x .levels) ≡ suc (paper .numbers)
+  pub kinds-room : length (x .kinds) ≡ suc (paper .numbers)
+  pub clauses-room : length (x .clauses) ≡ paper .clauses * paper .literals
+  pub clause-sizes-room : length (x .«clause_sizes») ≡ suc (paper .clauses)
+  pub learned-clauses-room : length (x .«learned_clauses») ≡ paper .constraints * paper .numbers
+  pub learned-clause-sizes-room : length (x .«learned_clause_sizes») ≡ suc (paper .constraints)
+  pub learned-cubes-room : length (x .«learned_cubes») ≡ paper .constraints * paper .numbers
+  pub learned-cube-sizes-room : length (x .«learned_cube_sizes») ≡ suc (paper .constraints)

@@ -1,0 +1,96 @@
+-- A state by value, as anyone may hand it in, read as the definitions' state; and when it is valid. Paper 01, refusal 22.
+-- Cells past the counts are not read.
+use Prim.Native.Nat.{ℕ, zero, suc}
+use mathlib.Core.Bool.{Bool, true, false, cond, _&&_}
+use mathlib.Core.List.{List, [], _∷_}
+use mathlib.Core.Option.{Option, none, some}
+use lib.ListN.{length, getD}
+use lib.Dec.{leb, eqb}
+use Rattle.qbf.specs.Formula.{Limits, paper, Quantifier, free, exists, forall, Variable, Prefix, Formula, levels, all}
+use Rattle.qbf.specs.Learning.{Store}
+use Rattle.qbf.specs.Calls.{State as Read, wellFormed}
+use Rattle.tables.specs.Views.{quantifierCode, rowsOf}
+use Rattle.state.specs.declared.State.{State}
+
+-- f i, f (i + 1), ..: k elements
+abbrev pub listing : {A : Type 0} → (ℕ → A) → ℕ → ℕ → List A
+listing f i zero = []
+listing f i (suc k) = f i ∷ listing f (suc i) k
+
+abbrev pub atMost : ℕ → List ℕ → Bool
+atMost n ms = all (λ m. leb m n) ms
+
+abbrev pub same : List ℕ → List ℕ → Bool
+same [] [] = true
+same [] (n ∷ ns) = false
+same (m ∷ ms) [] = false
+same (m ∷ ms) (n ∷ ns) = eqb m n && same ms ns
+
+-- ---- the prefix: the number and the level of each place, and the quantifier of each level
+abbrev pub quantifierOf : ℕ → Quantifier
+quantifierOf zero = free
+quantifierOf (suc zero) = exists
+quantifierOf (suc (suc n)) = forall
+
+-- what stands in a table at the place that follows i others
+abbrev pub entryAt : List ℕ → ℕ → ℕ
+entryAt t i = getD t (suc i) 0
+
+-- a table's first cell is the count of its entries
+abbrev pub entries : List ℕ → List ℕ
+entries t = listing (entryAt t) 0 (getD t 0 0)
+
+-- the quantifier's code is found through the place's level
+abbrev pub codeAt : List ℕ → List ℕ → ℕ → ℕ
+codeAt ls ks i = getD ks (entryAt ls i) 0
+
+abbrev pub variableAt : List ℕ → List ℕ → List ℕ → ℕ → Variable
+variableAt ns ls ks i = record { number = entryAt ns i; quantifier = quantifierOf (codeAt ls ks i) }
+
+abbrev pub prefixOf : List ℕ → List ℕ → List ℕ → Prefix
+prefixOf ns ls ks = listing (variableAt ns ls ks) 0 (getD ns 0 0)
+
+-- Levels and codes are within their tables, and the levels are those that the quantifiers give.
+abbrev pub levelsFit : Limits → List ℕ → List ℕ → List ℕ → Bool
+levelsFit L ns ls ks =
+    atMost (L .numbers) (listing (entryAt ls) 0 (getD ns 0 0))
+    && atMost (quantifierCode forall) (listing (codeAt ls ks) 0 (getD ns 0 0))
+    && same (levels (prefixOf ns ls ks)) (listing (entryAt ls) 0 (getD ns 0 0))
+
+abbrev pub prefixFits : Limits → List ℕ → List ℕ → List ℕ → Bool
+prefixFits L ns ls ks = leb (getD ns 0 0) (L .numbers) && levelsFit L ns ls ks
+
+-- ---- a flat table: no more rows, and none longer, than it has room for
+abbrev pub rowsFit : ℕ → ℕ → List ℕ → Bool
+rowsFit stride capacity sizes = leb (getD sizes 0 0) capacity && atMost stride (entries sizes)
+
+-- ---- the state
+abbrev pub fits : State → Bool
+fits x =
+    prefixFits paper (x .numbers) (x .levels) (x .kinds)
+    && rowsFit (paper .literals) (paper .clauses) (x .«clause_sizes»)
+    && rowsFit (paper .numbers) (paper .constraints) (x .«learned_clause_sizes»)
+    && rowsFit (paper .numbers) (paper .constraints) (x .«learned_cube_sizes»)
+
+abbrev pub prefixIn : State → Prefix
+prefixIn x = prefixOf (x .numbers) (x .levels) (x .kinds)
+
+abbrev pub formulaIn : State → Formula
+formulaIn x = record { limits = paper; prefix = prefixIn x; clauses = rowsOf (paper .literals) (x .clauses) (x .«clause_sizes») }
+
+abbrev pub storeIn : State → Store
+storeIn x =
+    record { clauses = rowsOf (paper .numbers) (x .«learned_clauses») (x .«learned_clause_sizes»); cubes = rowsOf (paper .numbers) (x .«learned_cubes») (x .«learned_cube_sizes») }
+
+abbrev pub stateIn : State → Read
+stateIn x = record { formula = formulaIn x; store = storeIn x }
+
+unfoldable pub readState : State → Option Read
+readState x = cond (fits x) (some (stateIn x)) none
+
+abbrev pub wellFormedRead : Option Read → Bool
+wellFormedRead none = false
+wellFormedRead (some y) = wellFormed y
+
+unfoldable pub valid : State → Bool
+valid x = wellFormedRead (readState x)

@@ -1,0 +1,27 @@
+// Cells of a table, 0 past its end.
+ghost use mathlib.Core.Path.{_≡_};
+ghost use lib.ListN.{getD};
+ghost use Rattle.state.specs.Reading.{entryAt};
+
+pub fn cell<'a>(table: &'a [u16], i: usize) -> u16
+    ensures { λ r. ⌜ r ≡ getD (now (table .entry)) i 0 ⌝ }
+{
+    if i < table.len() { table[i] } else { 0 }
+}
+
+pub fn count<'a>(table: &'a [u16]) -> usize
+    ensures { λ r. ⌜ r ≡ getD (now (table .entry)) 0 0 ⌝ }
+{
+    cell(table, 0) as usize
+}
+
+// What follows i others: cell i + 1.
+pub fn entry<'a>(table: &'a [u16], i: usize) -> usize
+    ensures { λ r. ⌜ r ≡ entryAt (now (table .entry)) i ⌝ }
+{
+    if i < table.len() {
+        cell(table, i + 1) as usize
+    } else {
+        0
+    }
+}

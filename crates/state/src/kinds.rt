@@ -1,0 +1,67 @@
+// The quantifiers of a state: by place through the level, and the table by number that is derived from them.
+ghost use mathlib.Core.Path.{_≡_};
+ghost use Rattle.qbf.specs.Formula.{Prefix};
+ghost use Rattle.qbf.specs.Truth.{freeVariables};
+ghost use Rattle.tables.specs.Views.{Numbers, Places, Kinds};
+ghost use Rattle.state.specs.Derived.{Quantified, codeFor};
+
+// A place that is not declared counts as free.
+pub fn kind_at<'a>(
+    levels: &'a [u16; tables::BY_NUMBER],
+    kinds: &'a [u16; tables::BY_NUMBER],
+    place: usize,
+) -> u16
+    ensures { λ r. ⌜ r ≡ codeFor (now (levels .entry)) (now (kinds .entry)) place ⌝ }
+{
+    if place == 0 {
+        return tables::FREE;
+    }
+    let level = crate::cells::cell(levels, place) as usize;
+    crate::cells::cell(kinds, level)
+}
+
+pub fn kinds_of<'a>(
+    places: &'a [u16; tables::BY_NUMBER],
+    levels: &'a [u16; tables::BY_NUMBER],
+    kinds: &'a [u16; tables::BY_NUMBER],
+) -> [u16; tables::BY_NUMBER]
+    ensures { λ r. ⌜
+        ((D : Prefix) →
+        Places D (now (places .entry)) →
+        Quantified D (now (levels .entry)) (now (kinds .entry)) →
+        Kinds D r)
+        ⌝ }
+{
+    let mut table = [tables::FREE; tables::BY_NUMBER];
+    let mut n: usize = 0;
+    while n < tables::BY_NUMBER {
+        let place = crate::cells::cell(places, n) as usize;
+        table[n] = kind_at(levels, kinds, place);
+        n += 1;
+    }
+    table
+}
+
+// The free variables come first.
+pub fn free_count<'a>(
+    numbers: &'a [u16; tables::BY_NUMBER],
+    levels: &'a [u16; tables::BY_NUMBER],
+    kinds: &'a [u16; tables::BY_NUMBER],
+) -> usize
+    ensures { λ r. ⌜
+        ((D : Prefix) →
+        Numbers D (now (numbers .entry)) →
+        Quantified D (now (levels .entry)) (now (kinds .entry)) →
+        r ≡ freeVariables D)
+        ⌝ }
+{
+    let count = crate::cells::count(numbers);
+    let mut i: usize = 0;
+    while i < count {
+        if kind_at(levels, kinds, i + 1) != tables::FREE {
+            return i;
+        }
+        i += 1;
+    }
+    i
+}

@@ -1,0 +1,53 @@
+// The state by value, as anyone may hand it in: its check (refusal 22), and the tables that are derived from it.
+ghost use mathlib.Core.Path.{_≡_};
+ghost use Rattle.state.specs.Reading.{valid};
+
+mod cells;
+pub mod kinds;
+pub mod levels;
+pub mod numbers;
+pub mod prefix;
+pub mod rows;
+
+pub struct State {
+    // the count of the variables, then the number of each place's variable
+    pub numbers: [u16; tables::BY_NUMBER],
+    // from cell 1 on the level of each place
+    pub levels: [u16; tables::BY_NUMBER],
+    // the quantifier of each level
+    pub kinds: [u16; tables::BY_NUMBER],
+    pub clauses: [i16; tables::CLAUSE_CELLS],
+    pub clause_sizes: [u16; tables::CLAUSE_SIZES],
+    pub learned_clauses: [i16; tables::CONSTRAINT_CELLS],
+    pub learned_clause_sizes: [u16; tables::CONSTRAINT_SIZES],
+    pub learned_cubes: [i16; tables::CONSTRAINT_CELLS],
+    pub learned_cube_sizes: [u16; tables::CONSTRAINT_SIZES],
+}
+
+// "22 the state is malformed": it is not valid.
+pub fn check(x: State) -> bool
+    ensures { λ r. ⌜ r ≡ valid x ⌝ }
+{
+    let numbers = x.numbers;
+    let levels = x.levels;
+    let kinds = x.kinds;
+    let prefix = prefix::read_prefix(&numbers, &levels, &kinds);
+    if !prefix.ok {
+        return false;
+    }
+    let places = prefix.places;
+    let clauses = x.clauses;
+    let sizes = x.clause_sizes;
+    if !rows::clauses_ok(&places, &clauses, &sizes) {
+        return false;
+    }
+    let by_number = prefix.kinds;
+    let learned = x.learned_clauses;
+    let learned_sizes = x.learned_clause_sizes;
+    if !rows::constraints_ok(&places, &by_number, &learned, &learned_sizes, false) {
+        return false;
+    }
+    let cubes = x.learned_cubes;
+    let cube_sizes = x.learned_cube_sizes;
+    rows::constraints_ok(&places, &by_number, &cubes, &cube_sizes, true)
+}

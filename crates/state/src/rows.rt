@@ -1,0 +1,158 @@
+// The rows of a state's flat tables: clauses and learned constraints, each in place order, and a constraint reduced.
+ghost use mathlib.Core.Path.{_≡_};
+ghost use Prim.Native.Nat.{_≤_, _+_};
+ghost use mathlib.Core.Bool.{not, _&&_};
+ghost use lib.ListN.{length, take, drop};
+ghost use Rattle.qbf.specs.Formula.{Prefix, paper, all, quantifierAt};
+ghost use Rattle.qbf.specs.Learning.{dropped, lastPlace};
+ghost use Rattle.qbf.specs.Calls.{inOrder, clauseOk, constraintOk};
+ghost use Rattle.tables.specs.Views.{Places, Kinds, rowsOf};
+ghost use Rattle.state.specs.Reading.{rowsFit};
+
+// Each place is greater than the one before: so each variable is declared, and none stands twice.
+pub fn in_order<'a>(places: &'a [u16; tables::BY_NUMBER], lits: &'a [i16]) -> bool
+    ensures { λ r. ⌜ ((D : Prefix) → Places D (now (places .entry)) → r ≡ inOrder D 0 (now (lits .entry))) ⌝ }
+{
+    let mut last: usize = 0;
+    let mut i: usize = 0;
+    while i < lits.len() {
+        let place = literal::literal_place(places, lits[i]);
+        if place <= last {
+            return false;
+        }
+        last = place;
+        i += 1;
+    }
+    true
+}
+
+fn row<'a>(flat: &'a [i16], from: usize, len: usize) -> &'a [i16]
+    requires { ⌜ from + len ≤ length (now flat) ⌝ }
+    ensures { λ r. ⌜ now r ≡ take len (drop from (now (flat .entry))) ⌝ }
+{
+    let end = from + len;
+    &flat[from..end]
+}
+
+// "1 to 16 literals, no variable twice, .. in place order"
+fn clause_ok<'a>(places: &'a [u16; tables::BY_NUMBER], lits: &'a [i16]) -> bool
+    ensures { λ r. ⌜ ((D : Prefix) → Places D (now (places .entry)) → r ≡ clauseOk paper D (now (lits .entry))) ⌝ }
+{
+    if lits.len() < 1 {
+        return false;
+    }
+    if lits.len() > tables::LITERALS {
+        return false;
+    }
+    in_order(places, lits)
+}
+
+// What reduction drops: exists of a cube, forall of a clause.
+fn dropped_kind(cube: bool) -> u16
+    ensures { λ r. ⌜ r ≡ mathlib.Core.Bool.cond cube 1 2 ⌝ }
+{
+    if cube { tables::EXISTS } else { tables::FORALL }
+}
+
+// Reduction drops no literal from the end.
+fn reduced<'a>(kinds: &'a [u16; tables::BY_NUMBER], lits: &'a [i16], cube: bool) -> bool
+    ensures { λ r. ⌜
+        ((D : Prefix) →
+        Kinds D (now (kinds .entry)) →
+        r ≡ not (dropped cube (quantifierAt D (lastPlace D (now (lits .entry))))))
+        ⌝ }
+{
+    let n = lits.len();
+    if n == 0 {
+        return true;
+    }
+    let kind = literal::kind_of(kinds, literal::number_of(lits[n - 1]));
+    kind != dropped_kind(cube)
+}
+
+fn constraint_ok<'a>(
+    places: &'a [u16; tables::BY_NUMBER],
+    kinds: &'a [u16; tables::BY_NUMBER],
+    lits: &'a [i16],
+    cube: bool,
+) -> bool
+    ensures { λ r. ⌜
+        ((D : Prefix) →
+        Places D (now (places .entry)) →
+        Kinds D (now (kinds .entry)) →
+        r ≡ constraintOk D cube (now (lits .entry)))
+        ⌝ }
+{
+    if in_order(places, lits) {
+        reduced(kinds, lits, cube)
+    } else {
+        false
+    }
+}
+
+pub fn clauses_ok<'a>(
+    places: &'a [u16; tables::BY_NUMBER],
+    flat: &'a [i16; tables::CLAUSE_CELLS],
+    sizes: &'a [u16; tables::CLAUSE_SIZES],
+) -> bool
+    ensures { λ r. ⌜
+        ((D : Prefix) →
+        Places D (now (places .entry)) →
+        r
+        ≡ (rowsFit (paper .literals) (paper .clauses) (now (sizes .entry))
+        && all (clauseOk paper D) (rowsOf (paper .literals) (now (flat .entry)) (now (sizes .entry)))))
+        ⌝ }
+{
+    let count = crate::cells::count(sizes);
+    if count > tables::CLAUSES {
+        return false;
+    }
+    let mut k: usize = 0;
+    while k < count {
+        let len = crate::cells::entry(sizes, k);
+        if len > tables::LITERALS {
+            return false;
+        }
+        let lits = row(flat, k * tables::LITERALS, len);
+        if !clause_ok(places, lits) {
+            return false;
+        }
+        k += 1;
+    }
+    true
+}
+
+pub fn constraints_ok<'a>(
+    places: &'a [u16; tables::BY_NUMBER],
+    kinds: &'a [u16; tables::BY_NUMBER],
+    flat: &'a [i16; tables::CONSTRAINT_CELLS],
+    sizes: &'a [u16; tables::CONSTRAINT_SIZES],
+    cube: bool,
+) -> bool
+    ensures { λ r. ⌜
+        ((D : Prefix) →
+        Places D (now (places .entry)) →
+        Kinds D (now (kinds .entry)) →
+        r
+        ≡ (rowsFit (paper .numbers) (paper .constraints) (now (sizes .entry))
+        && all (constraintOk D cube) (rowsOf (paper .numbers) (now (flat .entry)) (now (sizes .entry)))))
+        ⌝ }
+{
+    let count = crate::cells::count(sizes);
+    if count > tables::CONSTRAINTS {
+        return false;
+    }
+    let mut k: usize = 0;
+    while k < count {
+        let len = crate::cells::entry(sizes, k);
+        if len > tables::NUMBERS {
+            return false;
+        }
+        let lits = row(flat, k * tables::NUMBERS, len);
+        if !constraint_ok(places, kinds, lits, cube) {
+            return false;
+        }
+        k += 1;
+    }
+    true
+}
