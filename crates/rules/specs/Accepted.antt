@@ -16,9 +16,9 @@ pub record Appended (cells : List ℤ) (sizes : List ℕ) (row cells′ : List �
 
 -- the state after a rule with these literals: its clause is the last, no cube stands; prefix and learned clauses are as they were
 pub record Accepted (x : State) (ls : List Literal) (places : List ℕ) (y : State) : Type 0 where
-  pub table : Table (paper .literals) (paper .clauses) (y .clauses) (y .«clause_sizes»)
   pub rows : (D : Prefix) → Places D places
       → rowsOf (paper .literals) (y .clauses) (y .«clause_sizes») ≡ rowsOf (paper .literals) (x .clauses) (x .«clause_sizes») ++ (clauseOf D ls ∷ [])
+  pub table : Table (paper .literals) (paper .clauses) (y .clauses) (y .«clause_sizes»)
   pub cleared : getD (y .«learned_cube_sizes») 0 0 ≡ 0
   pub numbers : y .numbers ≡ x .numbers
   pub levels : y .levels ≡ x .levels

@@ -1,0 +1,5 @@
+pub mod Lines
+pub mod Aside
+pub mod Sides
+pub mod Joins
+pub mod Steps

@@ -1,0 +1,177 @@
+-- Both sides of a node: what step 5 gives, by the verdicts of the two.
+use Prim.Native.Nat.{ℕ, suc, _≤_, zero-le}
+use native.Mathlib.Omega.{arith}
+use mathlib.Core.Path.{_≡_, refl, sym, ap, _∙_}
+use mathlib.Core.Bool.{Bool, true, false, cond}
+use mathlib.Core.List.{List, [], _∷_, _++_}
+use lib.IntN.{ℤ}
+use lib.ListN.{length, take}
+use Rattle.qbf.specs.Formula.{paper, Quantifier, Prefix, Clause, Node}
+use Rattle.qbf.specs.Truth.{Outcome, DecidedNode, decided, mixed}
+use Rattle.qbf.specs.Learning.{Polarity, Constraint, Store, constraints, push, learn, mentions, resolvent, resolve, LearningResult}
+use Rattle.node.specs.declared.Verdict.{Verdict}
+use Rattle.node.specs.declared.Verdict.the-variants.{Yes, No, Mixed}
+use Rattle.node.specs.declared.Answer.{Answer}
+use Rattle.node.specs.declared.both.Step.{Step}
+use Rattle.node.specs.declared.both.Step.the-variants as step
+use Rattle.node.specs.Node.{Reads, onwardOf, resolventOf, Finished, Joined}
+use Rattle.node.specs.Step.{alone, stepOf, joinedOf, storedOf, JoinedSides, OfSide}
+
+-- ---- the steps differ
+on-mixed : step.On ≡ step.Mixed → ⊥
+on-mixed e = let z : _≡_ {A = ℕ} 0 1 = cc in omega arith
+
+on-clauses : step.On ≡ step.Clauses → ⊥
+on-clauses e = let z : _≡_ {A = ℕ} 0 1 = cc in omega arith
+
+on-cubes : step.On ≡ step.Cubes → ⊥
+on-cubes e = let z : _≡_ {A = ℕ} 0 1 = cc in omega arith
+
+mixed-clauses : step.Mixed ≡ step.Clauses → ⊥
+mixed-clauses e = let z : _≡_ {A = ℕ} 0 1 = cc in omega arith
+
+mixed-cubes : step.Mixed ≡ step.Cubes → ⊥
+mixed-cubes e = let z : _≡_ {A = ℕ} 0 1 = cc in omega arith
+
+clauses-cubes : step.Clauses ≡ step.Cubes → ⊥
+clauses-cubes e = let z : _≡_ {A = ℕ} 0 1 = cc in omega arith
+
+-- ---- constraints of one polarity
+abbrev sideOf : Polarity → Verdict
+sideOf true = Yes
+sideOf false = No
+
+reads : (c : Polarity) (e : Constraint) (o : Outcome Constraint) → o ≡ decided c e → Reads (sideOf c) e o
+reads true e o h = h
+reads false e o h = h
+
+-- the store with other constraints of one polarity
+abbrev pub put : Polarity → List Constraint → Store → Store
+put true es st = record { clauses = st .clauses; cubes = es }
+put false es st = record { clauses = es; cubes = st .cubes }
+
+-- both sides of the polarity c, where the on side is not enough
+module _ (D : Prefix) (R : List Clause) (s : Node) (st : Store) (k : ℕ) (e₀ e₁ : Constraint) (c : Polarity) where
+  abbrev lone : LearningResult
+  lone = record { outcome = decided c e₁; store = st; visits = k }
+
+  abbrev same : LearningResult
+  same = cond (mentions D (suc (length s)) e₁) (resolve paper D R s c e₀ e₁ st k) lone
+
+  same-outcome : same .outcome ≡ decided c (joinedOf D (suc (length s)) c e₀ e₁)
+  same-outcome = by (mentions D (suc (length s)) e₁)
+    where
+      by : (m : Bool) → (cond m (resolve paper D R s c e₀ e₁ st k) lone) .outcome ≡ decided c (cond m (resolvent D (suc (length s)) c e₀ e₁) e₁)
+      by true = refl
+      by false = refl
+
+same-store : (D : Prefix) (R : List Clause) (s : Node) (st : Store) (k : ℕ) (e₀ e₁ : Constraint) (c : Polarity)
+    → same D R s st k e₀ e₁ c .store ≡ put c (storedOf D (suc (length s)) c e₀ e₁ (constraints c st)) st
+same-store D R s st k e₀ e₁ c = by c (mentions D (suc (length s)) e₁)
+  where
+    by : (v : Polarity) (m : Bool)
+        → (cond m (resolve paper D R s v e₀ e₁ st k) (lone D R s st k e₀ e₁ v)) .store
+        ≡ put v (cond m (push (paper .constraints) (resolvent D (suc (length s)) v e₀ e₁) (constraints v st)) (constraints v st)) st
+    by true true = refl
+    by true false = refl
+    by false true = refl
+    by false false = refl
+
+module _ (D : Prefix) (R : List Clause) (κ : Quantifier) (s : Node) (st : Store) (k : ℕ) (e₀ e₁ : Constraint) (a o : Outcome Constraint) where
+  abbrev result : LearningResult
+  result = onwardOf D R κ s a o st k
+
+  mixed-step : (v w : Verdict) {x : Bool} → x ≡ alone w κ → stepOf v w x ≡ step.Mixed → Reads v e₀ a → Reads w e₁ o
+      → (ds : List DecidedNode) × (result ≡ record { outcome = mixed ds; store = st; visits = k })
+  mixed-step Yes Yes {x = true} h e p q = absurd (on-mixed e)
+  mixed-step Yes Yes {x = false} h e p q = absurd (mixed-cubes (sym e))
+  mixed-step Yes No {x = true} h e p q = absurd (on-mixed e)
+  mixed-step Yes No {x = false} h e p q = rw (p, q, ← h) (_, refl)
+  mixed-step Yes Mixed h e p (ds, q) = rw (p, q) (_, refl)
+  mixed-step No Yes {x = true} h e p q = absurd (on-mixed e)
+  mixed-step No Yes {x = false} h e p q = rw (p, q, ← h) (_, refl)
+  mixed-step No No {x = true} h e p q = absurd (on-mixed e)
+  mixed-step No No {x = false} h e p q = absurd (mixed-clauses (sym e))
+  mixed-step No Mixed h e p (ds, q) = rw (p, q) (_, refl)
+  mixed-step Mixed w h e (ds, p) q = rw p (_, refl)
+
+  on-step : (v w : Verdict) {x : Bool} → x ≡ alone w κ → stepOf v w x ≡ step.On → Reads v e₀ a → Reads w e₁ o
+      → Reads w e₁ (result .outcome) × (st ≡ result .store)
+  on-step Yes Yes {x = true} h e p q = rw (p, q, ← h) (refl, refl)
+  on-step Yes Yes {x = false} h e p q = absurd (on-cubes (sym e))
+  on-step Yes No {x = true} h e p q = rw (p, q, ← h) (refl, refl)
+  on-step Yes No {x = false} h e p q = absurd (on-mixed (sym e))
+  on-step Yes Mixed h e p q = absurd (on-mixed (sym e))
+  on-step No Yes {x = true} h e p q = rw (p, q, ← h) (refl, refl)
+  on-step No Yes {x = false} h e p q = absurd (on-mixed (sym e))
+  on-step No No {x = true} h e p q = rw (p, q, ← h) (refl, refl)
+  on-step No No {x = false} h e p q = absurd (on-clauses (sym e))
+  on-step No Mixed h e p q = absurd (on-mixed (sym e))
+  on-step Mixed w h e p q = absurd (on-mixed (sym e))
+
+  -- both sides have the polarity c
+  pub record Same (c : Polarity) (w : Verdict) : Type 0 where
+    pub side : w ≡ sideOf c
+    pub off : a ≡ decided c e₀
+    pub on : o ≡ decided c e₁
+    pub gives : result ≡ same D R s st k e₀ e₁ c
+
+  pub cubes-step : (v w : Verdict) {x : Bool} → x ≡ alone w κ → stepOf v w x ≡ step.Cubes → Reads v e₀ a → Reads w e₁ o → Same true w
+  cubes-step Yes Yes {x = true} h e p q = absurd (on-cubes e)
+  cubes-step Yes Yes {x = false} h e p q = record { side = refl; off = p; on = q; gives = rw (p, q, ← h) }
+  cubes-step Yes No {x = true} h e p q = absurd (on-cubes e)
+  cubes-step Yes No {x = false} h e p q = absurd (mixed-cubes e)
+  cubes-step Yes Mixed h e p q = absurd (mixed-cubes e)
+  cubes-step No Yes {x = true} h e p q = absurd (on-cubes e)
+  cubes-step No Yes {x = false} h e p q = absurd (mixed-cubes e)
+  cubes-step No No {x = true} h e p q = absurd (on-cubes e)
+  cubes-step No No {x = false} h e p q = absurd (clauses-cubes e)
+  cubes-step No Mixed h e p q = absurd (mixed-cubes e)
+  cubes-step Mixed w h e p q = absurd (mixed-cubes e)
+
+  pub clauses-step : (v w : Verdict) {x : Bool} → x ≡ alone w κ → stepOf v w x ≡ step.Clauses → Reads v e₀ a → Reads w e₁ o → Same false w
+  clauses-step Yes Yes {x = true} h e p q = absurd (on-clauses e)
+  clauses-step Yes Yes {x = false} h e p q = absurd (clauses-cubes (sym e))
+  clauses-step Yes No {x = true} h e p q = absurd (on-clauses e)
+  clauses-step Yes No {x = false} h e p q = absurd (mixed-clauses e)
+  clauses-step Yes Mixed h e p q = absurd (mixed-clauses e)
+  clauses-step No Yes {x = true} h e p q = absurd (on-clauses e)
+  clauses-step No Yes {x = false} h e p q = absurd (mixed-clauses e)
+  clauses-step No No {x = true} h e p q = absurd (on-clauses e)
+  clauses-step No No {x = false} h e p q = record { side = refl; off = p; on = q; gives = rw (p, q, ← h) }
+  clauses-step No Mixed h e p q = absurd (mixed-clauses e)
+  clauses-step Mixed w h e p q = absurd (mixed-clauses e)
+
+  -- ---- the answer
+  module _ (v : Verdict) (on : Answer) {x : Bool} (enough : x ≡ alone (on .verdict) κ) (p : Reads v e₀ a) (q : Reads (on .verdict) e₁ o) where
+    pub joined-mixed : stepOf v (on .verdict) x ≡ step.Mixed → (up : List ℤ) → Joined result (record { verdict = Mixed; len = 0; visits = on .visits; lines = on .lines }) up st
+    joined-mixed e up =
+        let m = mixed-step v (on .verdict) enough e p q in
+        record { verdict = (m .0, ap (λ (r : LearningResult). r .outcome) (m .1)); stored = sym (ap (λ (r : LearningResult). r .store) (m .1)) }
+
+    pub joined-on : stepOf v (on .verdict) x ≡ step.On → (up : List ℤ) → e₁ ≡ take (on .len) up → Joined result on up st
+    joined-on e up z =
+        let m = on-step v (on .verdict) enough e p q in
+        record { verdict = rw (← z) (m .0); stored = m .1 }
+
+  -- the answer r, and the constraints of the polarity c then
+  module _ (c : Polarity) (on : Answer) (both : Same c (on .verdict)) (at : ℕ) (long : length s ≡ at) (short : length (resolventOf D (suc at) a o) ≤ paper .numbers) where
+    pub same-short : length (resolvent D (suc at) c e₀ e₁) ≤ paper .numbers
+    same-short = rw (both .off, both .on) at short
+
+    pub joined-same : (r : Answer) (up : List ℤ) (es : List Constraint) → r .verdict ≡ on .verdict → JoinedSides D (suc at) c e₀ e₁ (constraints c st) (take (r .len) up) es
+        → Joined result r up (put c es st)
+    joined-same r up es v j = record {
+      verdict = rw (v, both .side) (reads c (take (r .len) up) (result .outcome) (ap (λ (x : LearningResult). x .outcome) (both .gives) ∙ same-outcome D R s st k e₀ e₁ c ∙ ap (decided c) (rw long (sym (j .up)))));
+      stored = ap (λ (l : List Constraint). put c l st) (rw (← long) at (j .stored)) ∙ sym (ap (λ (x : LearningResult). x .store) (both .gives) ∙ same-store D R s st k e₀ e₁ c);
+    }
+
+-- the counts are the on side's
+pub finished-mixed : (on : Answer) → Finished on (record { verdict = Mixed; len = 0; visits = on .visits; lines = on .lines })
+finished-mixed on = record { short = zero-le; visits = refl; lines = refl }
+
+pub side-same : (on : Answer) → on .len ≤ paper .numbers → OfSide on on
+side-same on h = record { counts = record { short = h; visits = refl; lines = refl }; verdict = refl }
+
+pub side-len : (on : Answer) (m : ℕ) → m ≤ paper .numbers → OfSide on (record { verdict = on .verdict; len = m; visits = on .visits; lines = on .lines })
+side-len on m h = record { counts = record { short = h; visits = refl; lines = refl }; verdict = refl }

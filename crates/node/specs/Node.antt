@@ -1,0 +1,113 @@
+-- What the code's answers say: verdicts and the constraint that goes up, the tables of a node, step 5, and the lines of a card.
+use Prim.Native.Nat.{ℕ, zero, suc, _+_, _-_, _*_, _^_, _≤_, _<_}
+use mathlib.Core.Path.{_≡_}
+use mathlib.Core.Bool.{Bool, true, false, cond, not, _&&_, _||_, Bool·beq}
+use mathlib.Core.List.{List, [], _∷_, _++_}
+use mathlib.Core.Option.{Option, none, some}
+use lib.ListN.{length, getD, take, drop}
+use lib.IntN.{ℤ}
+use Rattle.qbf.specs.Formula.{Limits, paper, Quantifier, Prefix, Clause, Node, _▹_, quantifiers}
+use Rattle.qbf.specs.Truth.{Outcome, decided, mixed, decidedNodes, select, freeVariables}
+use Rattle.qbf.specs.Learning.{Constraint, Store, goesUp, afterBoth, resolvent, LearningResult}
+use Rattle.qbf.specs.Calls.{numbersOk, prefixOk, clausesOk, storeOk}
+use Rattle.tables.specs.Views.{Places, Kinds, Values, Numbers, Table, rowsOf, quantifierCode}
+use Rattle.cover.specs.Cover.{Covers}
+use Rattle.node.specs.declared.Verdict.{Verdict}
+use Rattle.node.specs.declared.Verdict.the-variants.{Yes, No, Mixed}
+use Rattle.node.specs.declared.Position.{Position}
+use Rattle.node.specs.declared.Answer.{Answer}
+
+-- ---- verdicts
+abbrev pub isYes : Verdict → Bool
+isYes Yes = true
+isYes No = false
+isYes Mixed = false
+
+abbrev pub isNo : Verdict → Bool
+isNo Yes = false
+isNo No = true
+isNo Mixed = false
+
+abbrev pub isMixed : Verdict → Bool
+isMixed Yes = false
+isMixed No = false
+isMixed Mixed = true
+
+-- the outcome o has the verdict, with the constraint e where it is Yes or No
+abbrev pub Reads : Verdict → List ℤ → Outcome Constraint → Type 0
+Reads Yes e o = o ≡ decided true e
+Reads No e o = o ≡ decided false e
+Reads Mixed e o = (ds : List _) × (o ≡ mixed ds)
+
+-- ---- the tables
+-- the tables show the prefix D and the node s of length k
+pub record Shown (D : Prefix) (s : Node) (numbers places kinds values : List ℕ) (k : ℕ) : Type 0 where
+  pub numbered : Numbers D numbers
+  pub placed : Places D places
+  pub kinded : Kinds D kinds
+  pub valued : Values D s values
+  pub wide : length values ≡ suc (paper .numbers)
+  pub long : length s ≡ k
+
+-- ---- step 5
+-- whether the off side's outcome goes up without a further visit
+abbrev pub goesUpOf : Prefix → Quantifier → ℕ → Outcome Constraint → Bool
+goesUpOf D κ p (decided b e) = goesUp D κ p b e
+goesUpOf D κ p (mixed ds) = false
+
+-- what both sides give where it does not
+abbrev pub onwardOf : Prefix → List Clause → Quantifier → Node → Outcome Constraint → Outcome Constraint → Store → ℕ → LearningResult
+onwardOf D R κ s (decided b e) o st n = afterBoth paper D R κ s b e o st n
+onwardOf D R κ s (mixed ds) o st n = record { outcome = mixed (ds ++ decidedNodes (s ▹ true) o); store = st; visits = n }
+
+-- ---- lines of a card
+-- the lines that an outcome adds before it goes up: those of its decided nodes, where it is Mixed
+abbrev pub newLines : Outcome Constraint → List Node
+newLines (decided v e) = []
+newLines (mixed ds) = select true ds
+
+-- ---- what the small functions of step 5 say
+-- the quantifier of the next place, by the tables; 3 where none is left
+pub record NextKind (numbers kinds : List ℕ) (at r : ℕ) : Type 0 where
+  pub more : at < getD numbers 0 0 → r ≡ getD kinds (getD numbers (suc at) 0) 0
+  pub none : getD numbers 0 0 ≤ at → r ≡ 3
+
+-- the resolvent of the two sides' constraints, where both are decided
+abbrev pub resolventOf : Prefix → ℕ → Outcome Constraint → Outcome Constraint → Constraint
+resolventOf D p (decided b e) (decided c f) = resolvent D p c e f
+resolventOf D p (decided b e) (mixed ds) = []
+resolventOf D p (mixed ds) o = []
+
+-- both sides done: the counts are the on side's
+pub record Finished (on r : Answer) : Type 0 where
+  pub short : r .len ≤ paper .numbers
+  pub visits : r .visits ≡ on .visits
+  pub lines : r .lines ≡ on .lines
+
+pub record Joined (o : LearningResult) (r : Answer) (up : List ℤ) (st : Store) : Type 0 where
+  pub verdict : Reads (r .verdict) (take (r .len) up) (o .outcome)
+  pub stored : st ≡ o .store
+
+-- the tables show what a line is written from
+pub record LineTask (D : Prefix) (s : Node) (ls : List Node) (numbers values table : List ℕ) (p : Position) (lines : ℕ) : Type 0 where
+  pub numbered : Numbers D numbers
+  pub valued : Values D s values
+  pub long : length s ≡ p .at
+  pub inside : p .at < p .free
+  pub frees : p .free ≤ length D
+  pub numbers-ok : numbersOk paper [] D ≡ true
+  pub covers : Covers (p .free) table ls
+  pub counted : lines ≡ length ls
+
+abbrev pub settledLines : Verdict → Verdict → ℕ → ℕ
+settledLines a Yes n = cond (isYes a) (n - 1) (n + 1)
+settledLines a No n = n
+settledLines a Mixed n = n
+
+-- the lines where both sides are done: two Yes take the off side's line back, else a Yes on side adds its own
+abbrev pub SettledTo : Verdict → Verdict → Node → List Node → ℕ → List ℕ → Type 0
+SettledTo Yes Yes s ls f table = (ms : List Node) (x : Node) → ls ≡ ms ++ (x ∷ []) → Covers f table ms
+SettledTo No Yes s ls f table = Covers f table (ls ++ ((s ▹ true) ∷ []))
+SettledTo Mixed Yes s ls f table = Covers f table (ls ++ ((s ▹ true) ∷ []))
+SettledTo a No s ls f table = Covers f table ls
+SettledTo a Mixed s ls f table = Covers f table ls

@@ -1,0 +1,304 @@
+// Step 5 of a visit: what a node's two sides give, without the sides themselves; and the lines of a card that they add or take back.
+ghost use mathlib.Core.Path.{_≡_};
+ghost use mathlib.Core.Bool.{Bool, true, false, cond};
+ghost use mathlib.Core.List.{List, [], _∷_, _++_};
+ghost use Prim.Native.Nat.{ℕ, suc, _+_, _-_, _^_, _≤_, _<_};
+ghost use lib.ListN.{length, getD, take};
+ghost use Rattle.qbf.specs.Formula.{paper, Quantifier, Prefix, Clause, Node, _▹_};
+ghost use Rattle.qbf.specs.Truth.{Outcome};
+ghost use Rattle.qbf.specs.Learning.{Constraint};
+ghost use Rattle.qbf.specs.Card.{byteOf};
+ghost use Rattle.tables.specs.Views.{Places, Kinds, quantifierCode};
+ghost use Rattle.tables.specs.Formed.{Stores, storeOf};
+ghost use Rattle.cover.specs.Cover.{Covers};
+ghost use Rattle.node.specs.Node.{isYes, Reads, goesUpOf, onwardOf, resolventOf, NextKind, Finished, Joined, LineTask, settledLines, SettledTo};
+
+mod cell; // a cell of a table by number or by place
+mod line; // one line more of the card
+mod side; // what the verdict and the constraint of one side say
+mod both; // what the verdicts of both sides ask for
+mod join; // the resolvent of both sides, made and stored
+
+// "two Yes give Yes, two No give No, anything else Mixed"
+pub enum Verdict {
+    Yes,
+    No,
+    Mixed,
+}
+
+// What a visit hands up: the verdict, the length of its constraint, which lies in the lent area, and the visits and lines so far.
+pub struct Answer {
+    pub verdict: Verdict,
+    pub len: usize,
+    pub visits: u64,
+    pub lines: usize,
+}
+
+// Where a visit stands: the node's length, the count of the free variables, the visits and lines so far, and whether it is the start.
+pub struct Position {
+    pub at: usize,
+    pub free: usize,
+    pub visits: u64,
+    pub lines: usize,
+    pub start: bool,
+}
+
+// The code of no quantifier.
+pub const END: u16 = 3;
+
+// The quantifier of the next place; END where none is left.
+pub fn next_kind<'a>(
+    numbers: &'a [u16; tables::BY_NUMBER],
+    kinds: &'a [u16; tables::BY_NUMBER],
+    at: usize,
+) -> u16
+    ensures { λ r. ⌜ NextKind (now (numbers .entry)) (now (kinds .entry)) at r ⌝ }
+{
+    let count = cell::cell_at(numbers, 0);
+    if at < count {
+        let number = cell::cell_at(numbers, at + 1);
+        return cell::kind_at(kinds, number);
+    }
+    END
+}
+
+// The number of the variable at a place; 0 where that is past a table by number.
+pub fn number_at<'a>(numbers: &'a [u16; tables::BY_NUMBER], p: usize) -> usize
+    ensures { λ r. ⌜ (r < suc (paper .numbers)) × (getD (now (numbers .entry)) p 0 < suc (paper .numbers) → r ≡ getD (now (numbers .entry)) p 0) ⌝ }
+{
+    let number = cell::cell_at(numbers, p);
+    if number < tables::BY_NUMBER {
+        return number;
+    }
+    0
+}
+
+// Whether the off side's outcome goes up without a further visit.
+pub fn goes_up<'a>(
+    v: Verdict,
+    kind: u16,
+    up: &'a [i16; tables::AREA],
+    n: usize,
+    places: &'a [u16; tables::BY_NUMBER],
+    at: usize,
+) -> bool
+    requires { ⌜ n ≤ paper .numbers ⌝ }
+    ensures { λ r. ⌜
+        ((D : Prefix) (κ : Quantifier) (o : Outcome Constraint)
+        → Places D (now (places .entry))
+        → quantifierCode κ ≡ kind
+        → Reads v (take n (now (up .entry))) o
+        → r ≡ goesUpOf D κ (suc at) o)
+        ⌝ }
+{
+    if side::is_mixed(v) {
+        return false;
+    }
+    if side::is_enough(v, kind) {
+        return true;
+    }
+    !side::mentions_next(up, n, places, at)
+}
+
+// Puts the off side's constraint aside, so that it survives what is stored while the on side is visited.
+pub fn put_aside<'a>(saved: &mut [i16], up: &'a [i16; tables::AREA], n: usize)
+    requires { ⌜ (n ≤ paper .numbers) × (paper .numbers ≤ length (now saved)) ⌝ }
+    ensures { λ _. ⌜
+        (length (now (saved .exit)) ≡ length (now (saved .entry)))
+        × (take n (now (saved .exit)) ≡ take n (now (up .entry)))
+        ⌝ }
+{
+    let cells: &[i16] = up;
+    learned::cells::write(saved, 0, &cells[..n]);
+}
+
+// Both sides done, where the off side did not go up: the on side's result, the resolvent of both, which is stored, or Mixed.
+pub fn finish<'a>(
+    first: Verdict,
+    n: usize,
+    on: Answer,
+    kind: u16,
+    saved: &'a [i16],
+    up: &mut [i16; tables::AREA],
+    learned: &mut [i16; tables::CONSTRAINT_CELLS],
+    learned_sizes: &mut [u16; tables::CONSTRAINT_SIZES],
+    cubes: &mut [i16; tables::CONSTRAINT_CELLS],
+    cube_sizes: &mut [u16; tables::CONSTRAINT_SIZES],
+    places: &'a [u16; tables::BY_NUMBER],
+    kinds: &'a [u16; tables::BY_NUMBER],
+    at: usize,
+) -> Answer
+    requires { ⌜
+        (n ≤ paper .numbers)
+        × (on .len ≤ paper .numbers)
+        × (paper .numbers ≤ length (now saved))
+        × (at < suc (paper .numbers))
+        × Stores (now learned) (now «learned_sizes») (now cubes) (now «cube_sizes»)
+        ⌝ }
+    ensures { λ r. ⌜
+        Finished on r
+        × Stores (now (learned .exit)) (now («learned_sizes» .exit)) (now (cubes .exit)) (now («cube_sizes» .exit))
+        ⌝ }
+    ensures { λ r. ⌜
+        ((D : Prefix) (R : List Clause) (s : Node) (κ : Quantifier) (a o : Outcome Constraint) (k : ℕ)
+        → Places D (now (places .entry))
+        → Kinds D (now (kinds .entry))
+        → length s ≡ at
+        → quantifierCode κ ≡ kind
+        → Reads first (take n (now (saved .entry))) a
+        → Reads (on .verdict) (take (on .len) (now (up .entry))) o
+        → length (resolventOf D (suc at) a o) ≤ paper .numbers
+        → Joined
+        (onwardOf D R κ s a o (storeOf (now (learned .entry)) (now («learned_sizes» .entry)) (now (cubes .entry)) (now («cube_sizes» .entry))) k)
+        r
+        (now (up .exit))
+        (storeOf (now (learned .exit)) (now («learned_sizes» .exit)) (now (cubes .exit)) (now («cube_sizes» .exit))))
+        ⌝ }
+{
+    let second = on.verdict;
+    let enough = side::is_enough(second, kind);
+    let step = both::step_of(first, second, enough);
+    match step {
+        both::Step::Mixed => both::mixed(on),
+        both::Step::On => on,
+        both::Step::Clauses => join::join(
+            on,
+            up,
+            saved,
+            n,
+            at,
+            places,
+            kinds,
+            false,
+            learned,
+            learned_sizes,
+        ),
+        both::Step::Cubes => join::join(
+            on,
+            up,
+            saved,
+            n,
+            at,
+            places,
+            kinds,
+            true,
+            cubes,
+            cube_sizes,
+        ),
+    }
+}
+
+// A line more where the side with that value is Yes.
+pub fn line_if<'a>(
+    v: Verdict,
+    value: u8,
+    table: &mut [u8],
+    lines: usize,
+    p: Position,
+    numbers: &'a [u16; tables::BY_NUMBER],
+    values: &'a [u8; tables::BY_NUMBER],
+) -> usize
+    requires { ⌜ (p .free ≤ paper .numbers) × (lines < 2 ^ 63) ⌝ }
+    ensures { λ r. ⌜ (length (now (table .exit)) ≡ length (now (table .entry))) × (r ≡ cond (isYes v) (lines + 1) lines) ⌝ }
+    ensures { λ _. ⌜
+        ((D : Prefix) (s : Node) (b : Bool) (ls : List Node)
+        → LineTask D s ls (now (numbers .entry)) (now (values .entry)) (now (table .entry)) p lines
+        → value ≡ byteOf b
+        → Covers (p .free) (now (table .exit)) (ls ++ cond (isYes v) ((s ▹ b) ∷ []) []))
+        ⌝ }
+{
+    match v {
+        Verdict::Yes => {
+            line::add_line(table, value, lines, p, numbers, values);
+            lines + 1
+        }
+        Verdict::No => lines,
+        Verdict::Mixed => lines,
+    }
+}
+
+// After both sides: two Yes are one line above, so the off side's line is taken back; else the on side's line is added where it is Yes.
+pub fn settle_lines<'a>(
+    first: Verdict,
+    second: Verdict,
+    table: &mut [u8],
+    lines: usize,
+    p: Position,
+    numbers: &'a [u16; tables::BY_NUMBER],
+    values: &'a [u8; tables::BY_NUMBER],
+) -> usize
+    requires { ⌜ (p .free ≤ paper .numbers) × (lines < 2 ^ 63) × (isYes first ≡ true → isYes second ≡ true → 1 ≤ lines) ⌝ }
+    ensures { λ r. ⌜ (length (now (table .exit)) ≡ length (now (table .entry))) × (r ≡ settledLines first second lines) ⌝ }
+    ensures { λ _. ⌜
+        ((D : Prefix) (s : Node) (ls : List Node)
+        → LineTask D s ls (now (numbers .entry)) (now (values .entry)) (now (table .entry)) p lines
+        → SettledTo first second s ls (p .free) (now (table .exit)))
+        ⌝ }
+{
+    match second {
+        Verdict::Yes => {}
+        Verdict::No => return lines,
+        Verdict::Mixed => return lines,
+    }
+    match first {
+        Verdict::Yes => {
+            let free = p.free;
+            cover::pop_line(table, lines, free);
+            lines - 1
+        }
+        Verdict::No => line_if(second, tables::ON, table, lines, p, numbers, values),
+        Verdict::Mixed => line_if(second, tables::ON, table, lines, p, numbers, values),
+    }
+}
+
+// The position of the off side, where this visit is counted, and of the on side.
+pub fn to_off(p: Position) -> Position
+    requires { ⌜ (p .at < suc (paper .numbers)) × (p .visits < 2 ^ 62) ⌝ }
+    ensures { λ r. ⌜ r ≡ record { at = p .at + 1; free = p .free; visits = p .visits + 1; lines = p .lines; start = false } ⌝ }
+{
+    Position {
+        at: p.at + 1,
+        free: p.free,
+        visits: p.visits + 1,
+        lines: p.lines,
+        start: false,
+    }
+}
+
+pub fn to_on(p: Position, visits: u64, lines: usize) -> Position
+    requires { ⌜ p .at < suc (paper .numbers) ⌝ }
+    ensures { λ r. ⌜ r ≡ record { at = p .at + 1; free = p .free; visits = visits; lines = lines; start = false } ⌝ }
+{
+    Position {
+        at: p.at + 1,
+        free: p.free,
+        visits: visits,
+        lines: lines,
+        start: false,
+    }
+}
+
+// The answer of a visit that does not branch.
+pub fn settled(v: Verdict, len: usize, p: Position) -> Answer
+    requires { ⌜ p .visits < 2 ^ 62 ⌝ }
+    ensures { λ r. ⌜ r ≡ record { verdict = v; len = len; visits = p .visits + 1; lines = p .lines } ⌝ }
+{
+    Answer {
+        verdict: v,
+        len: len,
+        visits: p.visits + 1,
+        lines: p.lines,
+    }
+}
+
+pub fn with_lines(a: Answer, lines: usize) -> Answer
+    ensures { λ r. ⌜ r ≡ record { verdict = a .verdict; len = a .len; visits = a .visits; lines = lines } ⌝ }
+{
+    let v = a.verdict;
+    Answer {
+        verdict: v,
+        len: a.len,
+        visits: a.visits,
+        lines: lines,
+    }
+}
