@@ -1,0 +1,3 @@
+pub mod Implicants
+pub mod Conflicts
+pub mod Verdicts

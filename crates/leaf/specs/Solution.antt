@@ -1,0 +1,14 @@
+-- Steps 3 and 4 of a visit, as `leaf` of qbf has them.
+use Prim.Native.Nat.{ℕ}
+use mathlib.Core.Bool.{Bool, true, cond}
+use mathlib.Core.List.{List, []}
+use mathlib.Core.Option.{Option, none, some}
+use Rattle.qbf.specs.Formula.{Prefix, Clause, Node, all, satisfied}
+use Rattle.qbf.specs.Truth.{Outcome}
+use Rattle.qbf.specs.Learning.{Constraint, concludeBy, reduce, implicant, eligibleMatch}
+
+abbrev pub matched : Prefix → (ℕ → ℕ → Bool) → Node → List Constraint → Option (Outcome Constraint)
+matched D eligible s cubes = concludeBy true (eligibleMatch D eligible true s cubes) none
+
+abbrev pub satisfiedOr : Prefix → List Clause → Node → Option (Outcome Constraint) → Option (Outcome Constraint)
+satisfiedOr D R s next = concludeBy true (cond (all (satisfied D s) R) (some (reduce D true (implicant D s R []))) none) next
