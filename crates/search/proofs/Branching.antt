@@ -1,0 +1,170 @@
+-- A branch of the search by what its sides gave: the off side's result goes up, or both are finished.
+use Prim.Native.Nat.{ℕ, zero, suc, _+_, _-_, _*_, _^_, _≤_, _<_, suc-le-suc, zero-le}
+use native.Mathlib.Omega.{arith}
+use native.Mathlib.Numerals.{add-one}
+use mathlib.Core.Path.{_≡_, refl, sym, ap, _∙_, subst}
+use mathlib.Core.Logic.{_⊎_, inl, inr}
+use mathlib.Core.Bool.{Bool, true, false, cond, true≢false, false≢true}
+use mathlib.Core.List.{List, [], _∷_, _++_}
+use lib.ListN.{length, getD, take, drop, length-map, length-append}
+use lib.IntN.{ℤ}
+use lib.Dec.{leb, eqb}
+use Rattle.qbf.specs.Formula.{paper, Limits, Quantifier, exists, forall, free, Prefix, Clause, Formula, Node, _▹_, quantifiers, quantifierAt}
+use Rattle.qbf.specs.Truth.{Outcome, decided, mixed, freeVariables, freeCount, DecidedNode, decidedNodes, select}
+use Rattle.qbf.specs.Learning.{Constraint, Store, LearningResult, visit, below, branch, goesUp, afterBoth, resolvent, union, without}
+use Rattle.qbf.specs.Calls.{numbersOk}
+use Rattle.qbf.specs.Card.{Mem, byteOf}
+use Rattle.theory.proofs.Laws.{branch-up, branch-on, branch-mixed, select-append}
+use Rattle.theory.proofs.Rest.{Rest, nil-cons, rest-up, drop-cons}
+use Rattle.theory.proofs.Game.{Rising, rising-above}
+use Rattle.theory.proofs.Stores.{ShapedStore}
+use Rattle.theory.proofs.WellFormed.{FormulaFacts, clauses-rising, free-before, store-shaped, shaped-store}
+use Rattle.theory.proofs.ShapedSearch.{ShapedOutcome, ShapedResult, shaped-visit, shaped-branch, raise-nothing}
+use Rattle.theory.proofs.Verdict.{NoFree}
+use Rattle.theory.proofs.Search.{Below, FreeFirst}
+use Rattle.theory.proofs.Unmixed.{Unmixed, unmixed-visit, unmixed-branch}
+use Rattle.theory.proofs.Constraints.{reduce-rising}
+use Rattle.theory.proofs.Sets.{without-rising, without-sub, union-rising}
+use Rattle.theory.proofs.Widths.{constraint-width}
+use Rattle.tables.specs.Views.{Places, Kinds, Values, Numbers, eligible, quantifierCode}
+use Rattle.cover.specs.Cover.{Covers}
+use Rattle.tables.specs.Formed.{storeOf, clausesOf, Formed}
+use Rattle.node.specs.Node.{isYes, Reads, Shown, goesUpOf, onwardOf, resolventOf, newLines, Finished, Joined, LineTask, settledLines, SettledTo}
+use Rattle.search.specs.Search.{Task, Result, visitOf, branchOf}
+use Rattle.node.specs.declared.Verdict.{Verdict}
+use Rattle.node.specs.declared.Verdict.the-variants.{Yes, No, Mixed}
+use Rattle.node.specs.declared.Position.{Position}
+use Rattle.node.specs.declared.Answer.{Answer}
+use Rattle.search.proofs.Counts as counts
+
+-- ---- a branch by its off side's outcome
+module _ (D : Prefix) (R : List Clause) (κ : Quantifier) (f : Node → Store → LearningResult) (s : Node) (st : Store) where
+  abbrev off : LearningResult
+  off = f (s ▹ false) st
+
+  abbrev on : LearningResult
+  on = f (s ▹ true) (off .store)
+
+  pub goes-up : goesUpOf D κ (suc (length s)) (off .outcome) ≡ true → branch paper D R κ f s st ≡ record { outcome = off .outcome; store = off .store; visits = suc (off .visits) }
+  goes-up g = by (off .outcome) refl g
+    where
+      by : (o : Outcome Constraint) → off .outcome ≡ o → goesUpOf D κ (suc (length s)) o ≡ true → branch paper D R κ f s st ≡ record { outcome = off .outcome; store = off .store; visits = suc (off .visits) }
+      by (decided b e) q h = branch-up paper D R κ f s st b e q h ∙ ap (λ (o : Outcome Constraint). record { outcome = o; store = off .store; visits = suc (off .visits) }) (sym q)
+      by (mixed ds) q h = absurd (false≢true h)
+
+  pub goes-on : goesUpOf D κ (suc (length s)) (off .outcome) ≡ false → branch paper D R κ f s st ≡ onwardOf D R κ s (off .outcome) (on .outcome) (on .store) (suc (off .visits + on .visits))
+  goes-on g = by (off .outcome) refl g
+    where
+      by : (o : Outcome Constraint) → off .outcome ≡ o → goesUpOf D κ (suc (length s)) o ≡ false → branch paper D R κ f s st ≡ onwardOf D R κ s (off .outcome) (on .outcome) (on .store) (suc (off .visits + on .visits))
+      by (decided b e) q h = branch-on paper D R κ f s st b e q h ∙ ap (λ (o : Outcome Constraint). onwardOf D R κ s o (on .outcome) (on .store) (suc (off .visits + on .visits))) (sym q)
+      by (mixed ds) q h = branch-mixed paper D R κ f s st ds q ∙ ap (λ (o : Outcome Constraint). onwardOf D R κ s o (on .outcome) (on .store) (suc (off .visits + on .visits))) (sym q)
+
+-- ---- a position below
+-- the result of a side at the position that the code made for it
+pub side-at : {ls : List Node} (D : Prefix) (R : List Clause) (s : Node) (st : Store) {st′ : Store} {r : Answer} {up : List ℤ} {table : List ℕ} {q q′ : Position} → q ≡ q′
+    → Result ls (visitOf D R q s st) q r up st′ table → Result ls (visitOf D R q′ s st) q′ r up st′ table
+side-at {ls} D R s st {st′} {r} {up} {table} e w = subst (λ (x : Position). Result ls (visitOf D R x s st) x r up st′ table) e w
+
+pub task-at : {D : Prefix} {s : Node} {ls : List Node} {R : List Clause} {st : Store} {ns ps ks vs tb : List ℕ} {k : ℕ} {q q′ : Position} → q ≡ q′
+    → Task D s ls R st ns ps ks vs tb k q → Task D s ls R st ns ps ks vs tb k q′
+task-at {D} {s} {ls} {R} {st} {ns} {ps} {ks} {vs} {tb} {k} e w = subst (Task D s ls R st ns ps ks vs tb k) e w
+
+-- ---- what is well formed
+abbrev formulaOf : Prefix → List Clause → Formula
+formulaOf D R = record { limits = paper; prefix = D; clauses = R }
+
+pub facts : (D : Prefix) (R : List Clause) (st : Store) → Formed D R st → FormulaFacts (formulaOf D R)
+facts D R st h = record { limits-ok = refl; prefix-ok = h .prefix-ok; clauses-ok = h .clauses-ok }
+
+pub rising : (D : Prefix) (R : List Clause) (st : Store) → Formed D R st → (r : Clause) → Mem r R → Rising D 0 r
+rising D R st h = clauses-rising (formulaOf D R) (facts D R st h)
+
+pub one : 1 ≤ paper .constraints
+one = omega arith
+
+pub shaped : (D : Prefix) (R : List Clause) (st : Store) → Formed D R st → ShapedStore paper D st
+shaped D R st h = store-shaped paper D st (h .store-ok)
+
+-- free variables come first: below an exists or forall place there is none
+below-at : (K : List Quantifier) (i : ℕ) (κ : Quantifier) (ks : List Quantifier) → FreeFirst K → drop i K ≡ κ ∷ ks → Below κ ks
+below-at [] zero κ ks f e = absurd (nil-cons κ ks e)
+below-at [] (suc i) κ ks f e = absurd (nil-cons κ ks e)
+below-at (x ∷ K) zero κ ks f e = subst BelowHead e (f .0)
+  where
+    BelowHead : List Quantifier → Type 0
+    BelowHead [] = ⊥
+    BelowHead (y ∷ ys) = Below y ys
+below-at (x ∷ K) (suc i) κ ks f e = below-at K i κ ks (f .1) e
+
+not-free : (κ : Quantifier) (K : List Quantifier) (i : ℕ) (ks : List Quantifier) → NoFree (κ ∷ K) → drop i (κ ∷ K) ≡ free ∷ ks → ⊥
+not-free κ K zero ks n e = subst NoFree e n
+not-free free K (suc i) ks n e = n
+not-free exists [] (suc zero) ks n e = nil-cons free ks e
+not-free exists [] (suc (suc i)) ks n e = nil-cons free ks e
+not-free exists (x ∷ K) (suc i) ks n e = not-free x K i ks n e
+not-free forall [] (suc zero) ks n e = nil-cons free ks e
+not-free forall [] (suc (suc i)) ks n e = nil-cons free ks e
+not-free forall (x ∷ K) (suc i) ks n e = not-free x K i ks n e
+
+-- and a free place is among them
+pub free-at : (K : List Quantifier) (i : ℕ) (ks : List Quantifier) → FreeFirst K → drop i K ≡ free ∷ ks → i < freeCount K
+free-at [] zero ks f e = absurd (nil-cons free ks e)
+free-at [] (suc i) ks f e = absurd (nil-cons free ks e)
+free-at (free ∷ K) zero ks f e = suc-le-suc zero-le
+free-at (free ∷ K) (suc i) ks f e = suc-le-suc (free-at K i ks (f .1) e)
+free-at (exists ∷ K) i ks f e = absurd (not-free exists K i ks (f .0) e)
+free-at (forall ∷ K) i ks f e = absurd (not-free forall K i ks (f .0) e)
+
+-- the resolvent of two constraints in place order is no longer than there are numbers
+resolvent-short : (D : Prefix) (p : ℕ) (v : Bool) (E F : Constraint) → numbersOk paper [] D ≡ true → Rising D 0 E → Rising D 0 F → length (resolvent D p v E F) ≤ paper .numbers
+resolvent-short D p v E F ok e f =
+    constraint-width paper D (resolvent D p v E F) ok
+    (reduce-rising D v 0 (union D (without D p E) (without D p F))
+    (union-rising D 0 (without D p E) (without D p F) (λ l m. rising-above D 0 E e l (without-sub D p E l m .0)) (without-rising D 0 p F f)))
+
+pub resolvent-fits : (D : Prefix) (p : ℕ) (s t : Node) (a o : Outcome Constraint) → numbersOk paper [] D ≡ true → ShapedOutcome D s a → ShapedOutcome D t o → length (resolventOf D p a o) ≤ paper .numbers
+resolvent-fits D p s t (decided b E) (decided c F) ok g h = resolvent-short D p c E F ok (g .formed .rising) (h .formed .rising)
+resolvent-fits D p s t (decided b E) (mixed ds) ok g h = zero-le
+resolvent-fits D p s t (mixed ds) o ok g h = zero-le
+
+module _ (D : Prefix) (R : List Clause) (κ : Quantifier) (s : Node) (k : ℕ) (long : length s ≡ k) (more : k < length D) (is : quantifierAt D (suc k) ≡ κ) where
+  pub rest : Rest D s (κ ∷ drop (k + 1) (quantifiers D))
+  rest =
+      ap (λ (i : ℕ). drop i (quantifiers D)) long
+      ∙ drop-cons (quantifiers D) k (omega (arith, more, length-map D (λ d. d .quantifier)))
+      ∙ ap {B = List Quantifier} (λ (q : Quantifier). q ∷ drop (suc k) (quantifiers D)) is
+      ∙ ap {B = List Quantifier} (λ (i : ℕ). κ ∷ drop i (quantifiers D)) (sym (add-one k))
+
+  pub rest-side : (b : Bool) → Rest D (s ▹ b) (drop (k + 1) (quantifiers D))
+  rest-side b = rest-up D s b κ (drop (k + 1) (quantifiers D)) rest
+
+  abbrev side : Node → Store → LearningResult
+  side = visit D R eqb (below paper D R (drop (k + 1) (quantifiers D)))
+
+  -- after the off side the store is well formed too
+  pub formed-on : (st : Store) → Formed D R st → Formed D R (side (s ▹ false) st .store)
+  formed-on st h =
+      record {
+        prefix-ok = h .prefix-ok;
+        clauses-ok = h .clauses-ok;
+        store-ok = shaped-store paper D (side (s ▹ false) st .store) (shaped-visit paper one D R (rising D R st h) eqb (drop (k + 1) (quantifiers D)) (s ▹ false) st (rest-side false) (shaped D R st h) .store-ok);
+      }
+
+  pub shaped-side : (b : Bool) (st : Store) → Formed D R st → ShapedOutcome D (s ▹ b) (side (s ▹ b) st .outcome)
+  shaped-side b st h = shaped-visit paper one D R (rising D R st h) eqb (drop (k + 1) (quantifiers D)) (s ▹ b) st (rest-side b) (shaped D R st h) .answer-ok
+
+  pub unmixed-side : (b : Bool) (st : Store) → Formed D R st → Unmixed (drop (k + 1) (quantifiers D)) (side (s ▹ b) st .outcome)
+  unmixed-side b st h = unmixed-visit paper one D R (rising D R st h) eqb (drop (k + 1) (quantifiers D)) (s ▹ b) st (rest-side b) (shaped D R st h)
+
+  -- the branch's outcome, and the resolvent if there is one, has no more literals than there are numbers
+  pub shaped-here : (st : Store) → Formed D R st → ShapedOutcome D s (branch paper D R κ side s st .outcome)
+  shaped-here st h =
+      shaped-branch paper one D R (rising D R st h) κ (drop (k + 1) (quantifiers D)) s rest side
+      (λ c st′ h′. shaped-visit paper one D R (rising D R st h) eqb (drop (k + 1) (quantifiers D)) (s ▹ c) st′ (rest-side c) h′) st (shaped D R st h) .answer-ok
+
+
+  pub quantified : (st : Store) → Formed D R st → Below κ (drop (k + 1) (quantifiers D))
+  quantified st h = below-at (quantifiers D) (length s) κ (drop (k + 1) (quantifiers D)) (free-before (formulaOf D R) (facts D R st h)) rest
+
+  pub unmixed-here : (st : Store) → Formed D R st → Unmixed (κ ∷ drop (k + 1) (quantifiers D)) (branch paper D R κ side s st .outcome)
+  unmixed-here st h = unmixed-branch paper one D R (rising D R st h) κ (drop (k + 1) (quantifiers D)) s st rest (shaped D R st h)

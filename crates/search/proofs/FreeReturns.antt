@@ -1,0 +1,202 @@
+-- What the visitor of a free variable returns: its lines are those of the two sides, and two Yes are one line above.
+use Prim.Native.Nat.{ℕ, zero, suc, _+_, _-_, _≤_, _<_, suc-le-suc, zero-le}
+use native.Mathlib.Omega.{arith}
+use mathlib.Core.Path.{_≡_, refl, sym, ap, _∙_, subst}
+use mathlib.Core.Bool.{Bool, true, false, cond}
+use mathlib.Core.List.{List, [], _∷_, _++_, append-nil, append-assoc}
+use lib.ListN.{length, getD, take, drop, length-append, length-map}
+use lib.IntN.{ℤ}
+use Rattle.qbf.specs.Formula.{paper, Quantifier, free, exists, forall, Prefix, Clause, Formula, Node, _▹_, quantifiers, quantifierAt}
+use Rattle.qbf.specs.Truth.{Outcome, decided, mixed, DecidedNode, decidedNodes, select, freeCount, freeVariables}
+use Rattle.qbf.specs.Learning.{Constraint, Store, LearningResult, mentions, resolve}
+use Rattle.qbf.specs.Card.{byteOf}
+use Rattle.theory.proofs.Laws.{select-append}
+use Rattle.theory.proofs.WellFormed.{numbers-ok, free-before}
+use Rattle.theory.proofs.Starting.{free-fit}
+use Rattle.tables.specs.Views.{Values, quantifierCode}
+use Rattle.cover.specs.Cover.{Covers}
+use Rattle.tables.specs.Formed.{Formed}
+use Rattle.node.specs.Node.{isYes, Reads, onwardOf, newLines, Joined, LineTask, settledLines, SettledTo}
+use Rattle.search.specs.Search.{Task, Result, branchOf}
+use Rattle.node.specs.declared.Verdict.{Verdict}
+use Rattle.node.specs.declared.Verdict.the-variants.{Yes, No, Mixed}
+use Rattle.node.specs.declared.Position.{Position}
+use Rattle.node.specs.declared.Answer.{Answer}
+use Rattle.search.proofs.Counts as counts
+use Rattle.search.proofs.Branching.{facts, rest, free-at}
+use Rattle.search.proofs.Returns.{SideSays, UpSays, FinishSays, inside, offR, onR, off-result, on-result, joined, onward-is, visits-both}
+
+-- ---- the lines of both sides
+abbrev pub offLines : Verdict → Node → List Node
+offLines v s = cond (isYes v) ((s ▹ false) ∷ []) []
+
+-- the lines before both sides are settled
+abbrev pub unsettled : List Node → Node → Verdict → Outcome Constraint → Outcome Constraint → List Node
+unsettled ls s v a o = ((ls ++ newLines a) ++ offLines v s) ++ newLines o
+
+module _ (D : Prefix) (R : List Clause) (s : Node) (st : Store) (k : ℕ) where
+  abbrev here : Outcome Constraint → Outcome Constraint → List Node
+  here a o = newLines (onwardOf D R free s a o st k .outcome)
+
+  -- two decided sides of one verdict give no line here
+  alike : (v : Bool) (e g : Constraint) → here (decided v e) (decided v g) ≡ []
+  alike true e g = by (mentions D (suc (length s)) g)
+    where
+      by : (x : Bool) → newLines (cond x (resolve paper D R s true e g st k) (record { outcome = decided true g; store = st; visits = k }) .outcome) ≡ []
+      by true = refl
+      by false = refl
+  alike false e g = by (mentions D (suc (length s)) g)
+    where
+      by : (x : Bool) → newLines (cond x (resolve paper D R s false e g st k) (record { outcome = decided false g; store = st; visits = k }) .outcome) ≡ []
+      by true = refl
+      by false = refl
+
+  -- a Mixed off side's lines, then the on side's
+  mixed-first : (ds : List DecidedNode) (o : Outcome Constraint) → here (mixed ds) o ≡ select true ds ++ select true (decidedNodes (s ▹ true) o)
+  mixed-first ds o = select-append true ds (decidedNodes (s ▹ true) o)
+
+  module _ (ls : List Node) where
+    -- by cases of the two verdicts: the list that is settled to is that of the branch, and so is its length
+    pub record Settles (v w : Verdict) (a o : Outcome Constraint) : Type 0 where
+      pub covers : (f : ℕ) (tb : List ℕ) → SettledTo v w s (unsettled ls s v a o) f tb → Covers f tb (ls ++ here a o)
+      pub counts : settledLines v w (length (unsettled ls s v a o)) ≡ length (ls ++ here a o)
+
+    same-list : (v : Verdict) (a o : Outcome Constraint) → unsettled ls s v a o ≡ ls ++ here a o → (w : Verdict)
+        → ((f : ℕ) (tb : List ℕ) → SettledTo v w s (unsettled ls s v a o) f tb → Covers f tb (unsettled ls s v a o)) → ((n : ℕ) → settledLines v w n ≡ n) → Settles v w a o
+    same-list v a o e w h c =
+        record { covers = λ f tb x. subst (Covers f tb) e (h f tb x); counts = c (length (unsettled ls s v a o)) ∙ ap length e }
+
+    more-list : (v : Verdict) (a o : Outcome Constraint) → unsettled ls s v a o ++ ((s ▹ true) ∷ []) ≡ ls ++ here a o
+        → ((f : ℕ) (tb : List ℕ) → SettledTo v Yes s (unsettled ls s v a o) f tb → Covers f tb (unsettled ls s v a o ++ ((s ▹ true) ∷ []))) → ((n : ℕ) → settledLines v Yes n ≡ n + 1) → Settles v Yes a o
+    more-list v a o e h c =
+        record {
+          covers = λ f tb x. subst (Covers f tb) e (h f tb x);
+          counts = c (length (unsettled ls s v a o)) ∙ sym (length-append (unsettled ls s v a o) ((s ▹ true) ∷ [])) ∙ ap length e;
+        }
+
+    yes-yes : (e g : Constraint) → Settles Yes Yes (decided true e) (decided true g)
+    yes-yes e g =
+        record {
+          covers = λ f tb x. subst (λ (ms : List Node). Covers f tb (ls ++ ms)) (sym (alike true e g)) (x (ls ++ []) (s ▹ false) (append-nil ((ls ++ []) ++ ((s ▹ false) ∷ []))));
+          counts =
+              omega (arith, ap length (append-nil ((ls ++ []) ++ ((s ▹ false) ∷ []))), length-append (ls ++ []) ((s ▹ false) ∷ []), ap (λ (ms : List Node). length (ls ++ ms)) (alike true e g));
+        }
+
+    -- an off side that is not Yes, with no lines of its own
+    no-lines : (ms : List Node) → ((ls ++ []) ++ []) ++ ms ≡ ls ++ ms
+    no-lines ms = ap (λ (x : List Node). x ++ ms) (append-nil (ls ++ []) ∙ append-nil ls)
+
+    yes-lines : (ms : List Node) → ((ls ++ []) ++ ((s ▹ false) ∷ [])) ++ ms ≡ ls ++ ((s ▹ false) ∷ ms)
+    yes-lines ms = ap (λ (x : List Node). (x ++ ((s ▹ false) ∷ [])) ++ ms) (append-nil ls) ∙ append-assoc ls ((s ▹ false) ∷ []) ms
+
+    mixed-lines : (xs ms : List Node) → ((ls ++ xs) ++ []) ++ ms ≡ ls ++ (xs ++ ms)
+    mixed-lines xs ms = ap (λ (x : List Node). x ++ ms) (append-nil (ls ++ xs)) ∙ append-assoc ls xs ms
+
+    both-at : {v w : Verdict} {a a′ o o′ : Outcome Constraint} → a ≡ a′ → o ≡ o′ → Settles v w a′ o′ → Settles v w a o
+    both-at {v} {w} {a} {a′} {o} {o′} p q h = subst (λ (x : Outcome Constraint). Settles v w x o) (sym p) (subst (λ (x : Outcome Constraint). Settles v w a′ x) (sym q) h)
+
+    pub settles : (v w : Verdict) (e g : List ℤ) (a o : Outcome Constraint) → Reads v e a → Reads w g o → Settles v w a o
+    settles Yes Yes e g a o p q = both-at p q (yes-yes e g)
+    settles Yes No e g a o p q = both-at p q (same-list Yes (decided true e) (decided false g) (yes-lines []) No (λ f tb x. x) (λ n. refl))
+    settles Yes Mixed e g a o p q = both-at p (q .1) (same-list Yes (decided true e) (mixed (q .0)) (yes-lines (select true (q .0))) Mixed (λ f tb x. x) (λ n. refl))
+    settles No Yes e g a o p q = both-at p q (more-list No (decided false e) (decided true g) (ap (λ (x : List Node). x ++ ((s ▹ true) ∷ [])) (no-lines [] ∙ append-nil ls)) (λ f tb x. x) (λ n. refl))
+    settles No No e g a o p q = both-at p q (same-list No (decided false e) (decided false g) (no-lines [] ∙ ap (λ (ms : List Node). ls ++ ms) (sym (alike false e g))) No (λ f tb x. x) (λ n. refl))
+    settles No Mixed e g a o p q = both-at p (q .1) (same-list No (decided false e) (mixed (q .0)) (no-lines (select true (q .0))) Mixed (λ f tb x. x) (λ n. refl))
+    settles Mixed Yes e g a o p q =
+        both-at (p .1) q
+        (more-list Mixed (mixed (p .0)) (decided true g)
+        (ap (λ (x : List Node). x ++ ((s ▹ true) ∷ [])) (mixed-lines (select true (p .0)) [] ∙ ap (λ (ms : List Node). ls ++ ms) (append-nil (select true (p .0)))) ∙ append-assoc ls (select true (p .0)) ((s ▹ true) ∷ []) ∙ ap (λ (ms : List Node). ls ++ ms) (sym (mixed-first (p .0) (decided true g))))
+        (λ f tb x. x) (λ n. refl))
+    settles Mixed No e g a o p q =
+        both-at (p .1) q
+        (same-list Mixed (mixed (p .0)) (decided false g) (mixed-lines (select true (p .0)) [] ∙ ap (λ (ms : List Node). ls ++ ms) (sym (mixed-first (p .0) (decided false g)))) No (λ f tb x. x) (λ n. refl))
+    settles Mixed Mixed e g a o p q =
+        both-at (p .1) (q .1)
+        (same-list Mixed (mixed (p .0)) (mixed (q .0)) (mixed-lines (select true (p .0)) (select true (q .0)) ∙ ap (λ (ms : List Node). ls ++ ms) (sym (mixed-first (p .0) (mixed (q .0))))) Mixed (λ f tb x. x) (λ n. refl))
+
+-- ---- the visitor
+module _ (R : List Clause) (ns ps ks : List ℕ) (p : Position) (more : p .at < getD ns 0 0) (vs tb : List ℕ) (st : Store) (q : Position)
+    (eq : q ≡ counts.below p (p .visits + 1) (p .lines)) (off : Answer) (up₁ : List ℤ) (st₁ : Store) (tb₁ : List ℕ) (offs : SideSays R ns ps ks q 1 vs tb st off up₁ st₁ tb₁) (t : Bool)
+    (ups : UpSays ps (off .verdict) 0 up₁ (off .len) (p .at) t) (vs₁ : List ℕ) (same : vs₁ ≡ vs) (tbₐ : List ℕ) (l : ℕ) (counted : l ≡ cond (isYes (off .verdict)) (off .lines + 1) (off .lines))
+    (lined : (D : Prefix) (s : Node) (b : Bool) (ls : List Node) → LineTask D s ls ns vs₁ tb₁ p (off .lines) → 1 ≡ byteOf b → Covers (p .free) tbₐ (ls ++ cond (isYes (off .verdict)) ((s ▹ b) ∷ []) []))
+    (q′ : Position) (eq′ : q′ ≡ counts.below p (off .visits) l) (on : Answer) (up₂ : List ℤ) (st₂ : Store) (tb₂ : List ℕ) (ons : SideSays R ns ps ks q′ 2 vs₁ tbₐ st₁ on up₂ st₂ tb₂)
+    (saved : List ℤ) (aside : take (off .len) saved ≡ take (off .len) up₁) (r : Answer) (up₃ : List ℤ) (st₃ : Store)
+    (fins : FinishSays ps ks (off .verdict) (off .len) on 0 saved up₂ (p .at) st₂ r up₃ st₃) (unup : t ≡ false) (visits : r .visits ≡ on .visits)
+    (vs₂ : List ℕ) (same₂ : vs₂ ≡ vs) (tb₃ : List ℕ) (n : ℕ) (settled : n ≡ settledLines (off .verdict) (on .verdict) (on .lines))
+    (settling : (D : Prefix) (s : Node) (ls : List Node) → LineTask D s ls ns vs₂ tb₂ p (on .lines) → SettledTo (off .verdict) (on .verdict) s ls (p .free) tb₃) where
+  pub free-result : (D : Prefix) (s : Node) (ls : List Node) → Task D s ls R st ns ps ks vs tb (p .at) p → quantifierAt D (suc (p .at)) ≡ free
+      → Result ls (branchOf D R free p s st) p (counts.answered (r .verdict) (r .len) (r .visits) n) up₃ st₃ tb₃
+  free-result D s ls task is =
+      record {
+        verdict = j .verdict;
+        stored = j .stored;
+        visited = visits-both R ns ps ks free 0 refl p more vs tb st q eq off up₁ st₁ tb₁ offs t ups D s ls task is tbₐ l vs₁ same q′ eq′ on up₂ st₂ tb₂ ons ls₁ cov cnt saved aside r up₃ st₃ fins unup visits;
+        covers = subst (λ (x : LearningResult). Covers (p .free) tb₃ (ls ++ newLines (x .outcome))) (sym whole) (s₂ .covers (p .free) tb₃ (settling D s ls₂ (line-task vs₂ same₂ tb₂ ls₂ (on .lines) (z .covers) (z .counted))));
+        counted = settled ∙ ap (settledLines (off .verdict) (on .verdict)) (z .counted) ∙ s₂ .counts ∙ ap (λ (x : LearningResult). length (ls ++ newLines (x .outcome))) (sym whole);
+      }
+    where
+      w : Result ls (offR R ns ps ks free 0 refl p more vs tb st q eq off up₁ st₁ tb₁ offs t ups D s ls task is) (counts.below p (p .visits + 1) (p .lines)) off up₁ st₁ tb₁
+      w = off-result R ns ps ks free 0 refl p more vs tb st q eq off up₁ st₁ tb₁ offs t ups D s ls task is
+
+      a : Outcome Constraint
+      a = offR R ns ps ks free 0 refl p more vs tb st q eq off up₁ st₁ tb₁ offs t ups D s ls task is .outcome
+
+      inD : p .at < length D
+      inD = inside R ns ps ks free 0 refl p more vs tb st q eq off up₁ st₁ tb₁ offs t ups D s ls task is
+
+      -- the place is a free one
+      among : p .at < p .free
+      among =
+          omega (arith, task .frees, task .shown .long,
+          free-at (quantifiers D) (length s) (drop (p .at + 1) (quantifiers D)) (free-before _ (facts D R st (task .formed))) (rest D R free s (p .at) (task .shown .long) inD is))
+
+      line-task : (xs : List ℕ) → xs ≡ vs → (ys : List ℕ) (ms : List Node) (i : ℕ) → Covers (p .free) ys ms → i ≡ length ms → LineTask D s ms ns xs ys p i
+      line-task xs e ys ms i c h =
+          record {
+            numbered = task .shown .numbered;
+            valued = subst (Values D s) (sym e) (task .shown .valued);
+            long = task .shown .long;
+            inside = among;
+            frees = omega (arith, task .frees, free-fit (quantifiers D), length-map D (λ d. d .quantifier));
+            numbers-ok = numbers-ok _ (facts D R st (task .formed));
+            covers = c;
+            counted = h;
+          }
+
+      ls₁ : List Node
+      ls₁ = (ls ++ newLines a) ++ offLines (off .verdict) s
+
+      cov : Covers (p .free) tbₐ ls₁
+      cov = lined D s false (ls ++ newLines a) (line-task vs₁ same tb₁ (ls ++ newLines a) (off .lines) (w .covers) (w .counted)) refl
+
+      cnt : l ≡ length ls₁
+      cnt = counted ∙ by (off .verdict) ∙ sym (length-append (ls ++ newLines a) (offLines (off .verdict) s))
+        where
+          by : (v : Verdict) → cond (isYes v) (off .lines + 1) (off .lines) ≡ length (ls ++ newLines a) + length (offLines v s)
+          by Yes = omega (arith, w .counted)
+          by No = omega (arith, w .counted)
+          by Mixed = omega (arith, w .counted)
+
+      z : Result ls₁ (onR R ns ps ks free 0 refl p more vs tb st q eq off up₁ st₁ tb₁ offs t ups D s ls task is tbₐ l vs₁ same q′ eq′ on up₂ st₂ tb₂ ons ls₁ cov cnt) (counts.below p (off .visits) l) on up₂ st₂ tb₂
+      z = on-result R ns ps ks free 0 refl p more vs tb st q eq off up₁ st₁ tb₁ offs t ups D s ls task is tbₐ l vs₁ same q′ eq′ on up₂ st₂ tb₂ ons ls₁ cov cnt
+
+      o : Outcome Constraint
+      o = onR R ns ps ks free 0 refl p more vs tb st q eq off up₁ st₁ tb₁ offs t ups D s ls task is tbₐ l vs₁ same q′ eq′ on up₂ st₂ tb₂ ons ls₁ cov cnt .outcome
+
+      j : Joined (branchOf D R free p s st) r up₃ st₃
+      j = joined R ns ps ks free 0 refl p more vs tb st q eq off up₁ st₁ tb₁ offs t ups D s ls task is tbₐ l vs₁ same q′ eq′ on up₂ st₂ tb₂ ons ls₁ cov cnt saved aside r up₃ st₃ fins unup
+
+      ls₂ : List Node
+      ls₂ = unsettled ls s (off .verdict) a o
+
+      st′ : Store
+      st′ = onR R ns ps ks free 0 refl p more vs tb st q eq off up₁ st₁ tb₁ offs t ups D s ls task is tbₐ l vs₁ same q′ eq′ on up₂ st₂ tb₂ ons ls₁ cov cnt .store
+
+      k : ℕ
+      k = suc (offR R ns ps ks free 0 refl p more vs tb st q eq off up₁ st₁ tb₁ offs t ups D s ls task is .visits + onR R ns ps ks free 0 refl p more vs tb st q eq off up₁ st₁ tb₁ offs t ups D s ls task is tbₐ l vs₁ same q′ eq′ on up₂ st₂ tb₂ ons ls₁ cov cnt .visits)
+
+      whole : branchOf D R free p s st ≡ onwardOf D R free s a o st′ k
+      whole = onward-is R ns ps ks free 0 refl p more vs tb st q eq off up₁ st₁ tb₁ offs t ups D s ls task is tbₐ l vs₁ same q′ eq′ on up₂ st₂ tb₂ ons ls₁ cov cnt saved aside r up₃ st₃ fins unup
+
+      s₂ : Settles D R s st′ k ls (off .verdict) (on .verdict) a o
+      s₂ = settles D R s st′ k ls (off .verdict) (on .verdict) (take (off .len) up₁) (take (on .len) up₂) a o (w .verdict) (z .verdict)

@@ -1,0 +1,5 @@
+pub mod Counts
+pub mod Branching
+pub mod Returns
+pub mod FreeReturns
+pub mod Visiting
