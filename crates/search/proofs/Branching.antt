@@ -162,7 +162,6 @@ module _ (D : Prefix) (R : List Clause) (κ : Quantifier) (s : Node) (k : ℕ) (
       shaped-branch paper one D R (rising D R st h) κ (drop (k + 1) (quantifiers D)) s rest side
       (λ c st′ h′. shaped-visit paper one D R (rising D R st h) eqb (drop (k + 1) (quantifiers D)) (s ▹ c) st′ (rest-side c) h′) st (shaped D R st h) .answer-ok
 
-
   pub quantified : (st : Store) → Formed D R st → Below κ (drop (k + 1) (quantifiers D))
   quantified st h = below-at (quantifiers D) (length s) κ (drop (k + 1) (quantifiers D)) (free-before (formulaOf D R) (facts D R st h)) rest
 

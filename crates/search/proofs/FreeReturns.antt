@@ -147,8 +147,12 @@ module _ (R : List Clause) (ns ps ks : List ℕ) (p : Position) (more : p .at < 
       -- the place is a free one
       among : p .at < p .free
       among =
-          omega (arith, task .frees, task .shown .long,
-          free-at (quantifiers D) (length s) (drop (p .at + 1) (quantifiers D)) (free-before _ (facts D R st (task .formed))) (rest D R free s (p .at) (task .shown .long) inD is))
+          omega (
+            arith,
+            task .frees,
+            task .shown .long,
+            free-at (quantifiers D) (length s) (drop (p .at + 1) (quantifiers D)) (free-before _ (facts D R st (task .formed))) (rest D R free s (p .at) (task .shown .long) inD is),
+          )
 
       line-task : (xs : List ℕ) → xs ≡ vs → (ys : List ℕ) (ms : List Node) (i : ℕ) → Covers (p .free) ys ms → i ≡ length ms → LineTask D s ms ns xs ys p i
       line-task xs e ys ms i c h =

@@ -189,10 +189,13 @@ exists-returns : (t : ℕ) → exists-lts.Need-returns (
   finish-reads.Asked,
   finish-reads.Learnt,
 ) (exists-at t) exists.Post
-exists-returns t c =
-    (counts-up (c .before .before .before .before .before .before .before .before .before .before .before .before .before .before .before .before .before .args .numbers .now) (c .before .before .before .before .before .before .before .before .before .before .before .before .before .before .before .before .before .args .p) (c .before .before .before .before .before .before .before .before .before .before .before .before .before .before .before .before .before .pre .1 .3) (c .before .before .before .before .before .before .before .to-off .result) (c .before .before .before .before .before .before .before .to-off .ensures) (c .before .before .before .before .before .before .side .result) (c .before .before .before .before .before .before .side .ensures .0),
-    (c .before .before .before .before .before .before .side .ensures .1 .0,
-    (λ D s ls task is. up-result _ _ _ _ exists 1 refl (c .before .before .before .before .before .before .before .before .before .before .before .before .before .before .before .before .before .args .p) (c .before .before .before .before .before .before .before .before .before .before .before .before .before .before .before .before .before .pre .1 .3) _ _ _ (c .before .before .before .before .before .before .before .to-off .result) (c .before .before .before .before .before .before .before .to-off .ensures) (c .before .before .before .before .before .before .side .result) _ _ _ (c .before .before .before .before .before .before .side .ensures .1 .1 .1) (c .before .goes-up .result) (c .before .goes-up .ensures) D s ls task is (c .if1 .taken))))
+exists-returns t c = (
+  counts-up (c .before .before .before .before .before .before .before .before .before .before .before .before .before .before .before .before .before .args .numbers .now) (c .before .before .before .before .before .before .before .before .before .before .before .before .before .before .before .before .before .args .p) (c .before .before .before .before .before .before .before .before .before .before .before .before .before .before .before .before .before .pre .1 .3) (c .before .before .before .before .before .before .before .to-off .result) (c .before .before .before .before .before .before .before .to-off .ensures) (c .before .before .before .before .before .before .side .result) (c .before .before .before .before .before .before .side .ensures .0),
+  (
+    c .before .before .before .before .before .before .side .ensures .1 .0,
+    (λ D s ls task is. up-result _ _ _ _ exists 1 refl (c .before .before .before .before .before .before .before .before .before .before .before .before .before .before .before .before .before .args .p) (c .before .before .before .before .before .before .before .before .before .before .before .before .before .before .before .before .before .pre .1 .3) _ _ _ (c .before .before .before .before .before .before .before .to-off .result) (c .before .before .before .before .before .before .before .to-off .ensures) (c .before .before .before .before .before .before .side .result) _ _ _ (c .before .before .before .before .before .before .side .ensures .1 .1 .1) (c .before .goes-up .result) (c .before .goes-up .ensures) D s ls task is (c .if1 .taken)),
+  ),
+)
 
 exists-put-aside-requires : (t : ℕ) → exists-lts.Need-put-aside-requires (
   to-off-reads.Asked,
@@ -307,12 +310,15 @@ exists-returns-2 : (t : ℕ) → exists-lts.Need-returns-2 (
   finish-reads.Asked,
   finish-reads.Learnt,
 ) (exists-at t) exists.Post
-exists-returns-2 t c =
-    (counts-quantified (c .before .before .before .before .before .before .before .before .before .before .before .before .before .before .before .before .before .before .before .before .before .before .before .before .before .before .before .before .before .before .before .before .before .before .before .before .before .before .before .before .before .args .numbers .now) (c .before .before .before .before .before .before .before .before .before .before .before .before .before .before .before .before .before .before .before .before .before .before .before .before .before .before .before .before .before .before .before .before .before .before .before .before .before .before .before .before .before .args .p) (c .before .before .before .before .before .before .before .before .before .before .before .before .before .before .before .before .before .before .before .before .before .before .before .before .before .before .before .before .before .before .before .before .before .before .before .before .before .before .before .before .before .pre .1 .3) (c .before .before .before .before .before .before .before .before .before .before .before .before .before .before .before .before .before .before .before .before .before .before .before .before .before .before .before .before .before .before .before .to-off .result) (c .before .before .before .before .before .before .before .before .before .before .before .before .before .before .before .before .before .before .before .before .before .before .before .before .before .before .before .before .before .before .before .to-off .ensures) (c .before .before .before .before .before .before .before .before .before .before .before .before .before .before .before .before .before .before .before .before .before .before .before .before .before .before .before .before .before .before .side .result) (c .before .before .before .before .before .before .before .before .before .before .before .before .before .before .before .before .before .before .before .before .before .before .before .before .before .before .before .before .before .before .side .ensures .0) (c .before .before .before .before .before .before .before .before .before .before .before .to-on .result) (c .before .before .before .before .before .before .before .before .before .before .before .to-on .ensures) (c .before .before .before .before .before .before .before .before .before .before .side2 .result) (c .finish .result) (c .before .before .before .before .before .before .before .before .before .before .side2 .ensures .0) (c .finish .ensures .0 .0),
-    ((record { restored = c .before .before .before .before .before .before .before .before .before .before .side2 .ensures .1 .0 .0 .restored ∙ c .before .before .before .before .before .before .before .before .before .before .before .before .before .before .before .before .before .before .before .before .before .before .before .before .before .before .before .before .before .before .side .ensures .1 .0 .0 .restored; size = c .before .before .before .before .before .before .before .before .before .before .side2 .ensures .1 .0 .0 .size ∙ c .before .before .before .before .before .before .before .before .before .before .before .before .before .before .before .before .before .before .before .before .before .before .before .before .before .before .before .before .before .before .side .ensures .1 .0 .0 .size }, c .finish .ensures .0 .1),
+exists-returns-2 t c = (
+  counts-quantified (c .before .before .before .before .before .before .before .before .before .before .before .before .before .before .before .before .before .before .before .before .before .before .before .before .before .before .before .before .before .before .before .before .before .before .before .before .before .before .before .before .before .args .numbers .now) (c .before .before .before .before .before .before .before .before .before .before .before .before .before .before .before .before .before .before .before .before .before .before .before .before .before .before .before .before .before .before .before .before .before .before .before .before .before .before .before .before .before .args .p) (c .before .before .before .before .before .before .before .before .before .before .before .before .before .before .before .before .before .before .before .before .before .before .before .before .before .before .before .before .before .before .before .before .before .before .before .before .before .before .before .before .before .pre .1 .3) (c .before .before .before .before .before .before .before .before .before .before .before .before .before .before .before .before .before .before .before .before .before .before .before .before .before .before .before .before .before .before .before .to-off .result) (c .before .before .before .before .before .before .before .before .before .before .before .before .before .before .before .before .before .before .before .before .before .before .before .before .before .before .before .before .before .before .before .to-off .ensures) (c .before .before .before .before .before .before .before .before .before .before .before .before .before .before .before .before .before .before .before .before .before .before .before .before .before .before .before .before .before .before .side .result) (c .before .before .before .before .before .before .before .before .before .before .before .before .before .before .before .before .before .before .before .before .before .before .before .before .before .before .before .before .before .before .side .ensures .0) (c .before .before .before .before .before .before .before .before .before .before .before .to-on .result) (c .before .before .before .before .before .before .before .before .before .before .before .to-on .ensures) (c .before .before .before .before .before .before .before .before .before .before .side2 .result) (c .finish .result) (c .before .before .before .before .before .before .before .before .before .before .side2 .ensures .0) (c .finish .ensures .0 .0),
+  (
+    (record { restored = c .before .before .before .before .before .before .before .before .before .before .side2 .ensures .1 .0 .0 .restored ∙ c .before .before .before .before .before .before .before .before .before .before .before .before .before .before .before .before .before .before .before .before .before .before .before .before .before .before .before .before .before .before .side .ensures .1 .0 .0 .restored; size = c .before .before .before .before .before .before .before .before .before .before .side2 .ensures .1 .0 .0 .size ∙ c .before .before .before .before .before .before .before .before .before .before .before .before .before .before .before .before .before .before .before .before .before .before .before .before .before .before .before .before .before .before .side .ensures .1 .0 .0 .size }, c .finish .ensures .0 .1),
     both-result _ _ _ _ exists 1 refl (c .before .before .before .before .before .before .before .before .before .before .before .before .before .before .before .before .before .before .before .before .before .before .before .before .before .before .before .before .before .before .before .before .before .before .before .before .before .before .before .before .before .args .p) (c .before .before .before .before .before .before .before .before .before .before .before .before .before .before .before .before .before .before .before .before .before .before .before .before .before .before .before .before .before .before .before .before .before .before .before .before .before .before .before .before .before .pre .1 .3) _ _ _ (c .before .before .before .before .before .before .before .before .before .before .before .before .before .before .before .before .before .before .before .before .before .before .before .before .before .before .before .before .before .before .before .to-off .result) (c .before .before .before .before .before .before .before .before .before .before .before .before .before .before .before .before .before .before .before .before .before .before .before .before .before .before .before .before .before .before .before .to-off .ensures) (c .before .before .before .before .before .before .before .before .before .before .before .before .before .before .before .before .before .before .before .before .before .before .before .before .before .before .before .before .before .before .side .result) _ _ _ (c .before .before .before .before .before .before .before .before .before .before .before .before .before .before .before .before .before .before .before .before .before .before .before .before .before .before .before .before .before .before .side .ensures .1 .1 .1) (c .before .before .before .before .before .before .before .before .before .before .before .before .before .before .before .before .before .before .before .before .before .before .before .before .before .goes-up .result) (c .before .before .before .before .before .before .before .before .before .before .before .before .before .before .before .before .before .before .before .before .before .before .before .before .before .goes-up .ensures) (λ qs h. h) (λ qs h. h)
-    _ (c .before .before .before .before .before .before .before .before .before .before .before .before .before .before .before .before .before .before .before .before .before .before .before .before .before .before .before .before .before .before .side .ensures .1 .0 .0 .restored) (c .before .before .before .before .before .before .before .before .before .before .before .to-on .result) (c .before .before .before .before .before .before .before .before .before .before .before .to-on .ensures) (c .before .before .before .before .before .before .before .before .before .before .side2 .result) _ _ _ (c .before .before .before .before .before .before .before .before .before .before .side2 .ensures .1 .1 .1) _ (still (c .before .before .before .before .before .before .before .before .before .before .before .before .before .before .before .before .before .before .before .before .before .before .before .before .before .before .before .before .before .before .side .result .len) _ _ _ (c .before .before .before .before .before .before .before .before .before .before .before .before .before .before .before .before .before .before .before .before .before .before .before .before .before .before .before .before .before .before .side .ensures .0 .short) (c .before .before .before .before .before .before .before .before .before .before .side2 .ensures .1 .1 .0 .1) (c .before .before .before .before .before .before .before .before .before .before .before .before .before .before .before .before .before .before .before .before .before .put-aside .ensures .1)) (c .finish .result) _ _
-    (c .finish .ensures .1) (c .before .before .before .before .before .before .before .before .before .before .before .before .before .before .before .before .before .before .before .before .before .before .before .before .if1 .left) (c .finish .ensures .0 .0 .visits) (c .finish .ensures .0 .0 .lines)))
+        _ (c .before .before .before .before .before .before .before .before .before .before .before .before .before .before .before .before .before .before .before .before .before .before .before .before .before .before .before .before .before .before .side .ensures .1 .0 .0 .restored) (c .before .before .before .before .before .before .before .before .before .before .before .to-on .result) (c .before .before .before .before .before .before .before .before .before .before .before .to-on .ensures) (c .before .before .before .before .before .before .before .before .before .before .side2 .result) _ _ _ (c .before .before .before .before .before .before .before .before .before .before .side2 .ensures .1 .1 .1) _ (still (c .before .before .before .before .before .before .before .before .before .before .before .before .before .before .before .before .before .before .before .before .before .before .before .before .before .before .before .before .before .before .side .result .len) _ _ _ (c .before .before .before .before .before .before .before .before .before .before .before .before .before .before .before .before .before .before .before .before .before .before .before .before .before .before .before .before .before .before .side .ensures .0 .short) (c .before .before .before .before .before .before .before .before .before .before .side2 .ensures .1 .1 .0 .1) (c .before .before .before .before .before .before .before .before .before .before .before .before .before .before .before .before .before .before .before .before .before .put-aside .ensures .1)) (c .finish .result) _ _
+        (c .finish .ensures .1) (c .before .before .before .before .before .before .before .before .before .before .before .before .before .before .before .before .before .before .before .before .before .before .before .before .if1 .left) (c .finish .ensures .0 .0 .visits) (c .finish .ensures .0 .0 .lines),
+  ),
+)
 
 forall-to-off-requires : (t : ℕ) → forall-lts.Need-to-off-requires (
   to-off-reads.Asked,
@@ -410,10 +416,13 @@ forall-returns : (t : ℕ) → forall-lts.Need-returns (
   finish-reads.Asked,
   finish-reads.Learnt,
 ) (forall-at t) forall.Post
-forall-returns t c =
-    (counts-up (c .before .before .before .before .before .before .before .before .before .before .before .before .before .before .before .before .before .args .numbers .now) (c .before .before .before .before .before .before .before .before .before .before .before .before .before .before .before .before .before .args .p) (c .before .before .before .before .before .before .before .before .before .before .before .before .before .before .before .before .before .pre .1 .3) (c .before .before .before .before .before .before .before .to-off .result) (c .before .before .before .before .before .before .before .to-off .ensures) (c .before .before .before .before .before .before .side .result) (c .before .before .before .before .before .before .side .ensures .0),
-    (c .before .before .before .before .before .before .side .ensures .1 .0,
-    (λ D s ls task is. up-result _ _ _ _ forall 2 refl (c .before .before .before .before .before .before .before .before .before .before .before .before .before .before .before .before .before .args .p) (c .before .before .before .before .before .before .before .before .before .before .before .before .before .before .before .before .before .pre .1 .3) _ _ _ (c .before .before .before .before .before .before .before .to-off .result) (c .before .before .before .before .before .before .before .to-off .ensures) (c .before .before .before .before .before .before .side .result) _ _ _ (c .before .before .before .before .before .before .side .ensures .1 .1 .1) (c .before .goes-up .result) (c .before .goes-up .ensures) D s ls task is (c .if1 .taken))))
+forall-returns t c = (
+  counts-up (c .before .before .before .before .before .before .before .before .before .before .before .before .before .before .before .before .before .args .numbers .now) (c .before .before .before .before .before .before .before .before .before .before .before .before .before .before .before .before .before .args .p) (c .before .before .before .before .before .before .before .before .before .before .before .before .before .before .before .before .before .pre .1 .3) (c .before .before .before .before .before .before .before .to-off .result) (c .before .before .before .before .before .before .before .to-off .ensures) (c .before .before .before .before .before .before .side .result) (c .before .before .before .before .before .before .side .ensures .0),
+  (
+    c .before .before .before .before .before .before .side .ensures .1 .0,
+    (λ D s ls task is. up-result _ _ _ _ forall 2 refl (c .before .before .before .before .before .before .before .before .before .before .before .before .before .before .before .before .before .args .p) (c .before .before .before .before .before .before .before .before .before .before .before .before .before .before .before .before .before .pre .1 .3) _ _ _ (c .before .before .before .before .before .before .before .to-off .result) (c .before .before .before .before .before .before .before .to-off .ensures) (c .before .before .before .before .before .before .side .result) _ _ _ (c .before .before .before .before .before .before .side .ensures .1 .1 .1) (c .before .goes-up .result) (c .before .goes-up .ensures) D s ls task is (c .if1 .taken)),
+  ),
+)
 
 forall-put-aside-requires : (t : ℕ) → forall-lts.Need-put-aside-requires (
   to-off-reads.Asked,
@@ -528,12 +537,15 @@ forall-returns-2 : (t : ℕ) → forall-lts.Need-returns-2 (
   finish-reads.Asked,
   finish-reads.Learnt,
 ) (forall-at t) forall.Post
-forall-returns-2 t c =
-    (counts-quantified (c .before .before .before .before .before .before .before .before .before .before .before .before .before .before .before .before .before .before .before .before .before .before .before .before .before .before .before .before .before .before .before .before .before .before .before .before .before .before .before .before .before .args .numbers .now) (c .before .before .before .before .before .before .before .before .before .before .before .before .before .before .before .before .before .before .before .before .before .before .before .before .before .before .before .before .before .before .before .before .before .before .before .before .before .before .before .before .before .args .p) (c .before .before .before .before .before .before .before .before .before .before .before .before .before .before .before .before .before .before .before .before .before .before .before .before .before .before .before .before .before .before .before .before .before .before .before .before .before .before .before .before .before .pre .1 .3) (c .before .before .before .before .before .before .before .before .before .before .before .before .before .before .before .before .before .before .before .before .before .before .before .before .before .before .before .before .before .before .before .to-off .result) (c .before .before .before .before .before .before .before .before .before .before .before .before .before .before .before .before .before .before .before .before .before .before .before .before .before .before .before .before .before .before .before .to-off .ensures) (c .before .before .before .before .before .before .before .before .before .before .before .before .before .before .before .before .before .before .before .before .before .before .before .before .before .before .before .before .before .before .side .result) (c .before .before .before .before .before .before .before .before .before .before .before .before .before .before .before .before .before .before .before .before .before .before .before .before .before .before .before .before .before .before .side .ensures .0) (c .before .before .before .before .before .before .before .before .before .before .before .to-on .result) (c .before .before .before .before .before .before .before .before .before .before .before .to-on .ensures) (c .before .before .before .before .before .before .before .before .before .before .side2 .result) (c .finish .result) (c .before .before .before .before .before .before .before .before .before .before .side2 .ensures .0) (c .finish .ensures .0 .0),
-    ((record { restored = c .before .before .before .before .before .before .before .before .before .before .side2 .ensures .1 .0 .0 .restored ∙ c .before .before .before .before .before .before .before .before .before .before .before .before .before .before .before .before .before .before .before .before .before .before .before .before .before .before .before .before .before .before .side .ensures .1 .0 .0 .restored; size = c .before .before .before .before .before .before .before .before .before .before .side2 .ensures .1 .0 .0 .size ∙ c .before .before .before .before .before .before .before .before .before .before .before .before .before .before .before .before .before .before .before .before .before .before .before .before .before .before .before .before .before .before .side .ensures .1 .0 .0 .size }, c .finish .ensures .0 .1),
+forall-returns-2 t c = (
+  counts-quantified (c .before .before .before .before .before .before .before .before .before .before .before .before .before .before .before .before .before .before .before .before .before .before .before .before .before .before .before .before .before .before .before .before .before .before .before .before .before .before .before .before .before .args .numbers .now) (c .before .before .before .before .before .before .before .before .before .before .before .before .before .before .before .before .before .before .before .before .before .before .before .before .before .before .before .before .before .before .before .before .before .before .before .before .before .before .before .before .before .args .p) (c .before .before .before .before .before .before .before .before .before .before .before .before .before .before .before .before .before .before .before .before .before .before .before .before .before .before .before .before .before .before .before .before .before .before .before .before .before .before .before .before .before .pre .1 .3) (c .before .before .before .before .before .before .before .before .before .before .before .before .before .before .before .before .before .before .before .before .before .before .before .before .before .before .before .before .before .before .before .to-off .result) (c .before .before .before .before .before .before .before .before .before .before .before .before .before .before .before .before .before .before .before .before .before .before .before .before .before .before .before .before .before .before .before .to-off .ensures) (c .before .before .before .before .before .before .before .before .before .before .before .before .before .before .before .before .before .before .before .before .before .before .before .before .before .before .before .before .before .before .side .result) (c .before .before .before .before .before .before .before .before .before .before .before .before .before .before .before .before .before .before .before .before .before .before .before .before .before .before .before .before .before .before .side .ensures .0) (c .before .before .before .before .before .before .before .before .before .before .before .to-on .result) (c .before .before .before .before .before .before .before .before .before .before .before .to-on .ensures) (c .before .before .before .before .before .before .before .before .before .before .side2 .result) (c .finish .result) (c .before .before .before .before .before .before .before .before .before .before .side2 .ensures .0) (c .finish .ensures .0 .0),
+  (
+    (record { restored = c .before .before .before .before .before .before .before .before .before .before .side2 .ensures .1 .0 .0 .restored ∙ c .before .before .before .before .before .before .before .before .before .before .before .before .before .before .before .before .before .before .before .before .before .before .before .before .before .before .before .before .before .before .side .ensures .1 .0 .0 .restored; size = c .before .before .before .before .before .before .before .before .before .before .side2 .ensures .1 .0 .0 .size ∙ c .before .before .before .before .before .before .before .before .before .before .before .before .before .before .before .before .before .before .before .before .before .before .before .before .before .before .before .before .before .before .side .ensures .1 .0 .0 .size }, c .finish .ensures .0 .1),
     both-result _ _ _ _ forall 2 refl (c .before .before .before .before .before .before .before .before .before .before .before .before .before .before .before .before .before .before .before .before .before .before .before .before .before .before .before .before .before .before .before .before .before .before .before .before .before .before .before .before .before .args .p) (c .before .before .before .before .before .before .before .before .before .before .before .before .before .before .before .before .before .before .before .before .before .before .before .before .before .before .before .before .before .before .before .before .before .before .before .before .before .before .before .before .before .pre .1 .3) _ _ _ (c .before .before .before .before .before .before .before .before .before .before .before .before .before .before .before .before .before .before .before .before .before .before .before .before .before .before .before .before .before .before .before .to-off .result) (c .before .before .before .before .before .before .before .before .before .before .before .before .before .before .before .before .before .before .before .before .before .before .before .before .before .before .before .before .before .before .before .to-off .ensures) (c .before .before .before .before .before .before .before .before .before .before .before .before .before .before .before .before .before .before .before .before .before .before .before .before .before .before .before .before .before .before .side .result) _ _ _ (c .before .before .before .before .before .before .before .before .before .before .before .before .before .before .before .before .before .before .before .before .before .before .before .before .before .before .before .before .before .before .side .ensures .1 .1 .1) (c .before .before .before .before .before .before .before .before .before .before .before .before .before .before .before .before .before .before .before .before .before .before .before .before .before .goes-up .result) (c .before .before .before .before .before .before .before .before .before .before .before .before .before .before .before .before .before .before .before .before .before .before .before .before .before .goes-up .ensures) (λ qs h. h) (λ qs h. h)
-    _ (c .before .before .before .before .before .before .before .before .before .before .before .before .before .before .before .before .before .before .before .before .before .before .before .before .before .before .before .before .before .before .side .ensures .1 .0 .0 .restored) (c .before .before .before .before .before .before .before .before .before .before .before .to-on .result) (c .before .before .before .before .before .before .before .before .before .before .before .to-on .ensures) (c .before .before .before .before .before .before .before .before .before .before .side2 .result) _ _ _ (c .before .before .before .before .before .before .before .before .before .before .side2 .ensures .1 .1 .1) _ (still (c .before .before .before .before .before .before .before .before .before .before .before .before .before .before .before .before .before .before .before .before .before .before .before .before .before .before .before .before .before .before .side .result .len) _ _ _ (c .before .before .before .before .before .before .before .before .before .before .before .before .before .before .before .before .before .before .before .before .before .before .before .before .before .before .before .before .before .before .side .ensures .0 .short) (c .before .before .before .before .before .before .before .before .before .before .side2 .ensures .1 .1 .0 .1) (c .before .before .before .before .before .before .before .before .before .before .before .before .before .before .before .before .before .before .before .before .before .put-aside .ensures .1)) (c .finish .result) _ _
-    (c .finish .ensures .1) (c .before .before .before .before .before .before .before .before .before .before .before .before .before .before .before .before .before .before .before .before .before .before .before .before .if1 .left) (c .finish .ensures .0 .0 .visits) (c .finish .ensures .0 .0 .lines)))
+        _ (c .before .before .before .before .before .before .before .before .before .before .before .before .before .before .before .before .before .before .before .before .before .before .before .before .before .before .before .before .before .before .side .ensures .1 .0 .0 .restored) (c .before .before .before .before .before .before .before .before .before .before .before .to-on .result) (c .before .before .before .before .before .before .before .before .before .before .before .to-on .ensures) (c .before .before .before .before .before .before .before .before .before .before .side2 .result) _ _ _ (c .before .before .before .before .before .before .before .before .before .before .side2 .ensures .1 .1 .1) _ (still (c .before .before .before .before .before .before .before .before .before .before .before .before .before .before .before .before .before .before .before .before .before .before .before .before .before .before .before .before .before .before .side .result .len) _ _ _ (c .before .before .before .before .before .before .before .before .before .before .before .before .before .before .before .before .before .before .before .before .before .before .before .before .before .before .before .before .before .before .side .ensures .0 .short) (c .before .before .before .before .before .before .before .before .before .before .side2 .ensures .1 .1 .0 .1) (c .before .before .before .before .before .before .before .before .before .before .before .before .before .before .before .before .before .before .before .before .before .put-aside .ensures .1)) (c .finish .result) _ _
+        (c .finish .ensures .1) (c .before .before .before .before .before .before .before .before .before .before .before .before .before .before .before .before .before .before .before .before .before .before .before .before .if1 .left) (c .finish .ensures .0 .0 .visits) (c .finish .ensures .0 .0 .lines),
+  ),
+)
 
 free-to-off-requires : (t : ℕ) → free-lts.Need-to-off-requires (
   to-off-reads.Asked,
@@ -667,10 +679,13 @@ free-returns : (t : ℕ) → free-lts.Need-returns (
   with-lines-reads.Asked,
   with-lines-reads.Learnt,
 ) (free-at t) free.Post
-free-returns t c =
-    (counts-up (c .before .before .before .before .before .before .before .before .before .before .before .before .before .before .before .before .before .args .numbers .now) (c .before .before .before .before .before .before .before .before .before .before .before .before .before .before .before .before .before .args .p) (c .before .before .before .before .before .before .before .before .before .before .before .before .before .before .before .before .before .pre .1 .3) (c .before .before .before .before .before .before .before .to-off .result) (c .before .before .before .before .before .before .before .to-off .ensures) (c .before .before .before .before .before .before .side .result) (c .before .before .before .before .before .before .side .ensures .0),
-    (c .before .before .before .before .before .before .side .ensures .1 .0,
-    (λ D s ls task is. up-result _ _ _ _ free 0 refl (c .before .before .before .before .before .before .before .before .before .before .before .before .before .before .before .before .before .args .p) (c .before .before .before .before .before .before .before .before .before .before .before .before .before .before .before .before .before .pre .1 .3) _ _ _ (c .before .before .before .before .before .before .before .to-off .result) (c .before .before .before .before .before .before .before .to-off .ensures) (c .before .before .before .before .before .before .side .result) _ _ _ (c .before .before .before .before .before .before .side .ensures .1 .1 .1) (c .before .goes-up .result) (c .before .goes-up .ensures) D s ls task is (c .if1 .taken))))
+free-returns t c = (
+  counts-up (c .before .before .before .before .before .before .before .before .before .before .before .before .before .before .before .before .before .args .numbers .now) (c .before .before .before .before .before .before .before .before .before .before .before .before .before .before .before .before .before .args .p) (c .before .before .before .before .before .before .before .before .before .before .before .before .before .before .before .before .before .pre .1 .3) (c .before .before .before .before .before .before .before .to-off .result) (c .before .before .before .before .before .before .before .to-off .ensures) (c .before .before .before .before .before .before .side .result) (c .before .before .before .before .before .before .side .ensures .0),
+  (
+    c .before .before .before .before .before .before .side .ensures .1 .0,
+    (λ D s ls task is. up-result _ _ _ _ free 0 refl (c .before .before .before .before .before .before .before .before .before .before .before .before .before .before .before .before .before .args .p) (c .before .before .before .before .before .before .before .before .before .before .before .before .before .before .before .before .before .pre .1 .3) _ _ _ (c .before .before .before .before .before .before .before .to-off .result) (c .before .before .before .before .before .before .before .to-off .ensures) (c .before .before .before .before .before .before .side .result) _ _ _ (c .before .before .before .before .before .before .side .ensures .1 .1 .1) (c .before .goes-up .result) (c .before .goes-up .ensures) D s ls task is (c .if1 .taken)),
+  ),
+)
 
 free-put-aside-requires : (t : ℕ) → free-lts.Need-put-aside-requires (
   to-off-reads.Asked,
@@ -805,9 +820,11 @@ free-settle-lines-requires : (t : ℕ) → free-lts.Need-settle-lines-requires (
   with-lines-reads.Asked,
   with-lines-reads.Learnt,
 ) (free-at t) free.Post
-free-settle-lines-requires t c κs =
-    (c .before .before .before .before .before .before .before .before .before .before .before .before .before .before .before .before .before .before .before .before .before .before .before .before .before .before .before .before .before .before .before .before .before .before .before .before .before .before .before .before .before .before .before .before .before .before .before .before .pre .1 .2 .free, on-lines-small (c .before .before .before .before .before .before .before .before .before .before .before .before .before .before .before .before .before .before .before .before .before .before .before .before .before .before .before .before .before .before .before .before .before .before .before .before .before .before .before .before .before .before .before .before .before .before .before .before .args .numbers .now) (c .before .before .before .before .before .before .before .before .before .before .before .before .before .before .before .before .before .before .before .before .before .before .before .before .before .before .before .before .before .before .before .before .before .before .before .before .before .before .before .before .before .before .before .before .before .before .before .before .args .p) (c .before .before .before .before .before .before .before .before .before .before .before .before .before .before .before .before .before .before .before .before .before .before .before .before .before .before .before .before .before .before .before .before .before .before .before .before .before .before .before .before .before .before .before .before .before .before .before .before .pre .1 .3) (c .before .before .before .before .before .before .before .before .before .before .before .before .before .before .before .before .before .before .before .before .before .before .before .before .before .before .before .before .before .before .before .before .before .before .before .before .before .before .to-off .result) (c .before .before .before .before .before .before .before .before .before .before .before .before .before .before .before .before .before .before .before .before .before .before .before .before .before .before .before .before .before .before .before .before .before .before .before .before .before .before .to-off .ensures) (c .before .before .before .before .before .before .before .before .before .before .before .before .before .before .before .before .before .before .before .before .before .before .before .before .before .before .before .before .before .before .before .before .before .before .before .before .before .side .result) (c .before .before .before .before .before .before .before .before .before .before .before .before .before .before .before .before .before .before .before .before .before .before .before .before .before .before .before .before .before .before .before .before .before .before .before .before .before .side .ensures .0) (c .before .before .before .before .before .before .before .before .before .before .before .before .before .before .before .before .before .before .before .before .before .before .before .before .line-if .result) (c .before .before .before .before .before .before .before .before .before .before .before .before .before .before .before .before .before .before .before .before .before .before .before .before .line-if .ensures .0 .1) (c .before .before .before .before .before .before .before .before .before .before .before .before .before .to-on .result) (c .before .before .before .before .before .before .before .before .before .before .before .before .before .to-on .ensures) (c .before .before .before .before .before .before .before .before .before .before .before .before .side2 .result) (c .before .before .before .before .before .before .before .before .before .before .before .before .side2 .ensures .0) (length (c .before .before .before .before .before .before .before .before .before .before .before .before .before .before .before .before .before .before .before .before .before .before .before .before .before .before .before .before .before .before .before .before .before .before .before .before .before .before .before .before .before .before .before .before .before .before .before .before .args .saved .now)) (c .before .before .before .before .before .before .before .before .before .before .before .before .before .before .before .before .before .before .before .before .before .before .before .before .before .before .before .before .before .before .before .before .before .before .before .before .before .before .before .before .before .before .before .before .before .before .before .before .pre .1 .2),
-    on-lines-one (c .before .before .before .before .before .before .before .before .before .before .before .before .before .before .before .before .before .before .before .before .before .before .before .before .before .before .before .before .before .before .before .before .before .before .before .before .before .before .before .before .before .before .before .before .before .before .before .before .args .numbers .now) (c .before .before .before .before .before .before .before .before .before .before .before .before .before .before .before .before .before .before .before .before .before .before .before .before .before .before .before .before .before .before .before .before .before .before .before .before .before .before .before .before .before .before .before .before .before .before .before .before .args .p) (c .before .before .before .before .before .before .before .before .before .before .before .before .before .before .before .before .before .before .before .before .before .before .before .before .before .before .before .before .before .before .before .before .before .before .before .before .before .before .before .before .before .before .before .before .before .before .before .before .pre .1 .3) (c .before .before .before .before .before .before .before .before .before .before .before .before .before .before .before .before .before .before .before .before .before .before .before .before .before .before .before .before .before .before .before .before .before .before .before .before .before .before .to-off .result) (c .before .before .before .before .before .before .before .before .before .before .before .before .before .before .before .before .before .before .before .before .before .before .before .before .before .before .before .before .before .before .before .before .before .before .before .before .before .before .to-off .ensures) (c .before .before .before .before .before .before .before .before .before .before .before .before .before .before .before .before .before .before .before .before .before .before .before .before .before .before .before .before .before .before .before .before .before .before .before .before .before .side .result) (c .before .before .before .before .before .before .before .before .before .before .before .before .before .before .before .before .before .before .before .before .before .before .before .before .before .before .before .before .before .before .before .before .before .before .before .before .before .side .ensures .0) (c .before .before .before .before .before .before .before .before .before .before .before .before .before .before .before .before .before .before .before .before .before .before .before .before .line-if .result) (c .before .before .before .before .before .before .before .before .before .before .before .before .before .before .before .before .before .before .before .before .before .before .before .before .line-if .ensures .0 .1) (c .before .before .before .before .before .before .before .before .before .before .before .before .before .to-on .result) (c .before .before .before .before .before .before .before .before .before .before .before .before .before .to-on .ensures) (c .before .before .before .before .before .before .before .before .before .before .before .before .side2 .result) (c .before .before .before .before .before .before .before .before .before .before .before .before .side2 .ensures .0))
+free-settle-lines-requires t c κs = (
+  c .before .before .before .before .before .before .before .before .before .before .before .before .before .before .before .before .before .before .before .before .before .before .before .before .before .before .before .before .before .before .before .before .before .before .before .before .before .before .before .before .before .before .before .before .before .before .before .before .pre .1 .2 .free,
+  on-lines-small (c .before .before .before .before .before .before .before .before .before .before .before .before .before .before .before .before .before .before .before .before .before .before .before .before .before .before .before .before .before .before .before .before .before .before .before .before .before .before .before .before .before .before .before .before .before .before .before .before .args .numbers .now) (c .before .before .before .before .before .before .before .before .before .before .before .before .before .before .before .before .before .before .before .before .before .before .before .before .before .before .before .before .before .before .before .before .before .before .before .before .before .before .before .before .before .before .before .before .before .before .before .before .args .p) (c .before .before .before .before .before .before .before .before .before .before .before .before .before .before .before .before .before .before .before .before .before .before .before .before .before .before .before .before .before .before .before .before .before .before .before .before .before .before .before .before .before .before .before .before .before .before .before .before .pre .1 .3) (c .before .before .before .before .before .before .before .before .before .before .before .before .before .before .before .before .before .before .before .before .before .before .before .before .before .before .before .before .before .before .before .before .before .before .before .before .before .before .to-off .result) (c .before .before .before .before .before .before .before .before .before .before .before .before .before .before .before .before .before .before .before .before .before .before .before .before .before .before .before .before .before .before .before .before .before .before .before .before .before .before .to-off .ensures) (c .before .before .before .before .before .before .before .before .before .before .before .before .before .before .before .before .before .before .before .before .before .before .before .before .before .before .before .before .before .before .before .before .before .before .before .before .before .side .result) (c .before .before .before .before .before .before .before .before .before .before .before .before .before .before .before .before .before .before .before .before .before .before .before .before .before .before .before .before .before .before .before .before .before .before .before .before .before .side .ensures .0) (c .before .before .before .before .before .before .before .before .before .before .before .before .before .before .before .before .before .before .before .before .before .before .before .before .line-if .result) (c .before .before .before .before .before .before .before .before .before .before .before .before .before .before .before .before .before .before .before .before .before .before .before .before .line-if .ensures .0 .1) (c .before .before .before .before .before .before .before .before .before .before .before .before .before .to-on .result) (c .before .before .before .before .before .before .before .before .before .before .before .before .before .to-on .ensures) (c .before .before .before .before .before .before .before .before .before .before .before .before .side2 .result) (c .before .before .before .before .before .before .before .before .before .before .before .before .side2 .ensures .0) (length (c .before .before .before .before .before .before .before .before .before .before .before .before .before .before .before .before .before .before .before .before .before .before .before .before .before .before .before .before .before .before .before .before .before .before .before .before .before .before .before .before .before .before .before .before .before .before .before .before .args .saved .now)) (c .before .before .before .before .before .before .before .before .before .before .before .before .before .before .before .before .before .before .before .before .before .before .before .before .before .before .before .before .before .before .before .before .before .before .before .before .before .before .before .before .before .before .before .before .before .before .before .before .pre .1 .2),
+  on-lines-one (c .before .before .before .before .before .before .before .before .before .before .before .before .before .before .before .before .before .before .before .before .before .before .before .before .before .before .before .before .before .before .before .before .before .before .before .before .before .before .before .before .before .before .before .before .before .before .before .before .args .numbers .now) (c .before .before .before .before .before .before .before .before .before .before .before .before .before .before .before .before .before .before .before .before .before .before .before .before .before .before .before .before .before .before .before .before .before .before .before .before .before .before .before .before .before .before .before .before .before .before .before .before .args .p) (c .before .before .before .before .before .before .before .before .before .before .before .before .before .before .before .before .before .before .before .before .before .before .before .before .before .before .before .before .before .before .before .before .before .before .before .before .before .before .before .before .before .before .before .before .before .before .before .before .pre .1 .3) (c .before .before .before .before .before .before .before .before .before .before .before .before .before .before .before .before .before .before .before .before .before .before .before .before .before .before .before .before .before .before .before .before .before .before .before .before .before .before .to-off .result) (c .before .before .before .before .before .before .before .before .before .before .before .before .before .before .before .before .before .before .before .before .before .before .before .before .before .before .before .before .before .before .before .before .before .before .before .before .before .before .to-off .ensures) (c .before .before .before .before .before .before .before .before .before .before .before .before .before .before .before .before .before .before .before .before .before .before .before .before .before .before .before .before .before .before .before .before .before .before .before .before .before .side .result) (c .before .before .before .before .before .before .before .before .before .before .before .before .before .before .before .before .before .before .before .before .before .before .before .before .before .before .before .before .before .before .before .before .before .before .before .before .before .side .ensures .0) (c .before .before .before .before .before .before .before .before .before .before .before .before .before .before .before .before .before .before .before .before .before .before .before .before .line-if .result) (c .before .before .before .before .before .before .before .before .before .before .before .before .before .before .before .before .before .before .before .before .before .before .before .before .line-if .ensures .0 .1) (c .before .before .before .before .before .before .before .before .before .before .before .before .before .to-on .result) (c .before .before .before .before .before .before .before .before .before .before .before .before .before .to-on .ensures) (c .before .before .before .before .before .before .before .before .before .before .before .before .side2 .result) (c .before .before .before .before .before .before .before .before .before .before .before .before .side2 .ensures .0),
+)
 
 free-with-lines-requires : (t : ℕ) → free-lts.Need-with-lines-requires (
   to-off-reads.Asked,
@@ -895,13 +912,16 @@ free-returns-2 : (t : ℕ) → free-lts.Need-returns-2 (
   with-lines-reads.Asked,
   with-lines-reads.Learnt,
 ) (free-at t) free.Post
-free-returns-2 t c =
-    (counts-free (c .before .before .before .before .before .before .before .before .before .before .before .before .before .before .before .before .before .before .before .before .before .before .before .before .before .before .before .before .before .before .before .before .before .before .before .before .before .before .before .before .before .before .before .before .before .before .before .before .before .before .before .before .args .numbers .now) (c .before .before .before .before .before .before .before .before .before .before .before .before .before .before .before .before .before .before .before .before .before .before .before .before .before .before .before .before .before .before .before .before .before .before .before .before .before .before .before .before .before .before .before .before .before .before .before .before .before .before .before .before .args .p) (c .before .before .before .before .before .before .before .before .before .before .before .before .before .before .before .before .before .before .before .before .before .before .before .before .before .before .before .before .before .before .before .before .before .before .before .before .before .before .before .before .before .before .before .before .before .before .before .before .before .before .before .before .pre .1 .3) (c .before .before .before .before .before .before .before .before .before .before .before .before .before .before .before .before .before .before .before .before .before .before .before .before .before .before .before .before .before .before .before .before .before .before .before .before .before .before .before .before .before .before .to-off .result) (c .before .before .before .before .before .before .before .before .before .before .before .before .before .before .before .before .before .before .before .before .before .before .before .before .before .before .before .before .before .before .before .before .before .before .before .before .before .before .before .before .before .before .to-off .ensures) (c .before .before .before .before .before .before .before .before .before .before .before .before .before .before .before .before .before .before .before .before .before .before .before .before .before .before .before .before .before .before .before .before .before .before .before .before .before .before .before .before .before .side .result) (c .before .before .before .before .before .before .before .before .before .before .before .before .before .before .before .before .before .before .before .before .before .before .before .before .before .before .before .before .before .before .before .before .before .before .before .before .before .before .before .before .before .side .ensures .0) (c .before .before .before .before .before .before .before .before .before .before .before .before .before .before .before .before .before .before .before .before .before .before .before .before .before .before .before .before .line-if .result) (c .before .before .before .before .before .before .before .before .before .before .before .before .before .before .before .before .before .before .before .before .before .before .before .before .before .before .before .before .line-if .ensures .0 .1) (c .before .before .before .before .before .before .before .before .before .before .before .before .before .before .before .before .before .to-on .result) (c .before .before .before .before .before .before .before .before .before .before .before .before .before .before .before .before .before .to-on .ensures) (c .before .before .before .before .before .before .before .before .before .before .before .before .before .before .before .before .side2 .result) (c .before .before .before .before .before .before .before .before .before .before .before .before .before .before .before .before .side2 .ensures .0) (c .before .before .before .before .before .before .finish .result) (c .before .before .before .before .before .before .finish .ensures .0 .0) (c .before .before .before .settle-lines .result) (c .before .before .before .settle-lines .ensures .0 .1) (c .with-lines .result) (c .with-lines .ensures),
-    ((record { restored = c .before .before .before .before .before .before .before .before .before .before .before .before .before .before .before .before .side2 .ensures .1 .0 .0 .restored ∙ c .before .before .before .before .before .before .before .before .before .before .before .before .before .before .before .before .before .before .before .before .before .before .before .before .before .before .before .before .before .before .before .before .before .before .before .before .before .before .before .before .before .side .ensures .1 .0 .0 .restored; size = c .before .before .before .settle-lines .ensures .0 .0 ∙ c .before .before .before .before .before .before .before .before .before .before .before .before .before .before .before .before .side2 .ensures .1 .0 .0 .size ∙ c .before .before .before .before .before .before .before .before .before .before .before .before .before .before .before .before .before .before .before .before .before .before .before .before .before .before .before .before .line-if .ensures .0 .0 ∙ c .before .before .before .before .before .before .before .before .before .before .before .before .before .before .before .before .before .before .before .before .before .before .before .before .before .before .before .before .before .before .before .before .before .before .before .before .before .before .before .before .before .side .ensures .1 .0 .0 .size }, c .before .before .before .before .before .before .finish .ensures .0 .1),
+free-returns-2 t c = (
+  counts-free (c .before .before .before .before .before .before .before .before .before .before .before .before .before .before .before .before .before .before .before .before .before .before .before .before .before .before .before .before .before .before .before .before .before .before .before .before .before .before .before .before .before .before .before .before .before .before .before .before .before .before .before .before .args .numbers .now) (c .before .before .before .before .before .before .before .before .before .before .before .before .before .before .before .before .before .before .before .before .before .before .before .before .before .before .before .before .before .before .before .before .before .before .before .before .before .before .before .before .before .before .before .before .before .before .before .before .before .before .before .before .args .p) (c .before .before .before .before .before .before .before .before .before .before .before .before .before .before .before .before .before .before .before .before .before .before .before .before .before .before .before .before .before .before .before .before .before .before .before .before .before .before .before .before .before .before .before .before .before .before .before .before .before .before .before .before .pre .1 .3) (c .before .before .before .before .before .before .before .before .before .before .before .before .before .before .before .before .before .before .before .before .before .before .before .before .before .before .before .before .before .before .before .before .before .before .before .before .before .before .before .before .before .before .to-off .result) (c .before .before .before .before .before .before .before .before .before .before .before .before .before .before .before .before .before .before .before .before .before .before .before .before .before .before .before .before .before .before .before .before .before .before .before .before .before .before .before .before .before .before .to-off .ensures) (c .before .before .before .before .before .before .before .before .before .before .before .before .before .before .before .before .before .before .before .before .before .before .before .before .before .before .before .before .before .before .before .before .before .before .before .before .before .before .before .before .before .side .result) (c .before .before .before .before .before .before .before .before .before .before .before .before .before .before .before .before .before .before .before .before .before .before .before .before .before .before .before .before .before .before .before .before .before .before .before .before .before .before .before .before .before .side .ensures .0) (c .before .before .before .before .before .before .before .before .before .before .before .before .before .before .before .before .before .before .before .before .before .before .before .before .before .before .before .before .line-if .result) (c .before .before .before .before .before .before .before .before .before .before .before .before .before .before .before .before .before .before .before .before .before .before .before .before .before .before .before .before .line-if .ensures .0 .1) (c .before .before .before .before .before .before .before .before .before .before .before .before .before .before .before .before .before .to-on .result) (c .before .before .before .before .before .before .before .before .before .before .before .before .before .before .before .before .before .to-on .ensures) (c .before .before .before .before .before .before .before .before .before .before .before .before .before .before .before .before .side2 .result) (c .before .before .before .before .before .before .before .before .before .before .before .before .before .before .before .before .side2 .ensures .0) (c .before .before .before .before .before .before .finish .result) (c .before .before .before .before .before .before .finish .ensures .0 .0) (c .before .before .before .settle-lines .result) (c .before .before .before .settle-lines .ensures .0 .1) (c .with-lines .result) (c .with-lines .ensures),
+  (
+    (record { restored = c .before .before .before .before .before .before .before .before .before .before .before .before .before .before .before .before .side2 .ensures .1 .0 .0 .restored ∙ c .before .before .before .before .before .before .before .before .before .before .before .before .before .before .before .before .before .before .before .before .before .before .before .before .before .before .before .before .before .before .before .before .before .before .before .before .before .before .before .before .before .side .ensures .1 .0 .0 .restored; size = c .before .before .before .settle-lines .ensures .0 .0 ∙ c .before .before .before .before .before .before .before .before .before .before .before .before .before .before .before .before .side2 .ensures .1 .0 .0 .size ∙ c .before .before .before .before .before .before .before .before .before .before .before .before .before .before .before .before .before .before .before .before .before .before .before .before .before .before .before .before .line-if .ensures .0 .0 ∙ c .before .before .before .before .before .before .before .before .before .before .before .before .before .before .before .before .before .before .before .before .before .before .before .before .before .before .before .before .before .before .before .before .before .before .before .before .before .before .before .before .before .side .ensures .1 .0 .0 .size }, c .before .before .before .before .before .before .finish .ensures .0 .1),
     (λ D s ls task is. result-as (sym (c .with-lines .ensures))
-    (free-result _ _ _ _ (c .before .before .before .before .before .before .before .before .before .before .before .before .before .before .before .before .before .before .before .before .before .before .before .before .before .before .before .before .before .before .before .before .before .before .before .before .before .before .before .before .before .before .before .before .before .before .before .before .before .before .before .before .args .p) (c .before .before .before .before .before .before .before .before .before .before .before .before .before .before .before .before .before .before .before .before .before .before .before .before .before .before .before .before .before .before .before .before .before .before .before .before .before .before .before .before .before .before .before .before .before .before .before .before .before .before .before .before .pre .1 .3) _ _ _ (c .before .before .before .before .before .before .before .before .before .before .before .before .before .before .before .before .before .before .before .before .before .before .before .before .before .before .before .before .before .before .before .before .before .before .before .before .before .before .before .before .before .before .to-off .result) (c .before .before .before .before .before .before .before .before .before .before .before .before .before .before .before .before .before .before .before .before .before .before .before .before .before .before .before .before .before .before .before .before .before .before .before .before .before .before .before .before .before .before .to-off .ensures) (c .before .before .before .before .before .before .before .before .before .before .before .before .before .before .before .before .before .before .before .before .before .before .before .before .before .before .before .before .before .before .before .before .before .before .before .before .before .before .before .before .before .side .result) _ _ _ (c .before .before .before .before .before .before .before .before .before .before .before .before .before .before .before .before .before .before .before .before .before .before .before .before .before .before .before .before .before .before .before .before .before .before .before .before .before .before .before .before .before .side .ensures .1 .1 .1) (c .before .before .before .before .before .before .before .before .before .before .before .before .before .before .before .before .before .before .before .before .before .before .before .before .before .before .before .before .before .before .before .before .before .before .before .before .goes-up .result) (c .before .before .before .before .before .before .before .before .before .before .before .before .before .before .before .before .before .before .before .before .before .before .before .before .before .before .before .before .before .before .before .before .before .before .before .before .goes-up .ensures)
-    _ (c .before .before .before .before .before .before .before .before .before .before .before .before .before .before .before .before .before .before .before .before .before .before .before .before .before .before .before .before .before .before .before .before .before .before .before .before .before .before .before .before .before .side .ensures .1 .0 .0 .restored) _ (c .before .before .before .before .before .before .before .before .before .before .before .before .before .before .before .before .before .before .before .before .before .before .before .before .before .before .before .before .line-if .result) (c .before .before .before .before .before .before .before .before .before .before .before .before .before .before .before .before .before .before .before .before .before .before .before .before .before .before .before .before .line-if .ensures .0 .1) (c .before .before .before .before .before .before .before .before .before .before .before .before .before .before .before .before .before .before .before .before .before .before .before .before .before .before .before .before .line-if .ensures .1) (c .before .before .before .before .before .before .before .before .before .before .before .before .before .before .before .before .before .to-on .result) (c .before .before .before .before .before .before .before .before .before .before .before .before .before .before .before .before .before .to-on .ensures) (c .before .before .before .before .before .before .before .before .before .before .before .before .before .before .before .before .side2 .result) _ _ _ (c .before .before .before .before .before .before .before .before .before .before .before .before .before .before .before .before .side2 .ensures .1 .1 .1) _ (still (c .before .before .before .before .before .before .before .before .before .before .before .before .before .before .before .before .before .before .before .before .before .before .before .before .before .before .before .before .before .before .before .before .before .before .before .before .before .before .before .before .before .side .result .len) _ _ _ (c .before .before .before .before .before .before .before .before .before .before .before .before .before .before .before .before .before .before .before .before .before .before .before .before .before .before .before .before .before .before .before .before .before .before .before .before .before .before .before .before .before .side .ensures .0 .short) (c .before .before .before .before .before .before .before .before .before .before .before .before .before .before .before .before .side2 .ensures .1 .1 .0 .1) (c .before .before .before .before .before .before .before .before .before .before .before .before .before .before .before .before .before .before .before .before .before .before .before .before .before .before .before .before .before .before .before .before .put-aside .ensures .1)) (c .before .before .before .before .before .before .finish .result) _ _
-    (c .before .before .before .before .before .before .finish .ensures .1) (c .before .before .before .before .before .before .before .before .before .before .before .before .before .before .before .before .before .before .before .before .before .before .before .before .before .before .before .before .before .before .before .before .before .before .before .if1 .left) (c .before .before .before .before .before .before .finish .ensures .0 .0 .visits) _ (c .before .before .before .before .before .before .before .before .before .before .before .before .before .before .before .before .side2 .ensures .1 .0 .0 .restored ∙ c .before .before .before .before .before .before .before .before .before .before .before .before .before .before .before .before .before .before .before .before .before .before .before .before .before .before .before .before .before .before .before .before .before .before .before .before .before .before .before .before .before .side .ensures .1 .0 .0 .restored) _ (c .before .before .before .settle-lines .result) (c .before .before .before .settle-lines .ensures .0 .1) (c .before .before .before .settle-lines .ensures .1) D s ls task is))))
+        (free-result _ _ _ _ (c .before .before .before .before .before .before .before .before .before .before .before .before .before .before .before .before .before .before .before .before .before .before .before .before .before .before .before .before .before .before .before .before .before .before .before .before .before .before .before .before .before .before .before .before .before .before .before .before .before .before .before .before .args .p) (c .before .before .before .before .before .before .before .before .before .before .before .before .before .before .before .before .before .before .before .before .before .before .before .before .before .before .before .before .before .before .before .before .before .before .before .before .before .before .before .before .before .before .before .before .before .before .before .before .before .before .before .before .pre .1 .3) _ _ _ (c .before .before .before .before .before .before .before .before .before .before .before .before .before .before .before .before .before .before .before .before .before .before .before .before .before .before .before .before .before .before .before .before .before .before .before .before .before .before .before .before .before .before .to-off .result) (c .before .before .before .before .before .before .before .before .before .before .before .before .before .before .before .before .before .before .before .before .before .before .before .before .before .before .before .before .before .before .before .before .before .before .before .before .before .before .before .before .before .before .to-off .ensures) (c .before .before .before .before .before .before .before .before .before .before .before .before .before .before .before .before .before .before .before .before .before .before .before .before .before .before .before .before .before .before .before .before .before .before .before .before .before .before .before .before .before .side .result) _ _ _ (c .before .before .before .before .before .before .before .before .before .before .before .before .before .before .before .before .before .before .before .before .before .before .before .before .before .before .before .before .before .before .before .before .before .before .before .before .before .before .before .before .before .side .ensures .1 .1 .1) (c .before .before .before .before .before .before .before .before .before .before .before .before .before .before .before .before .before .before .before .before .before .before .before .before .before .before .before .before .before .before .before .before .before .before .before .before .goes-up .result) (c .before .before .before .before .before .before .before .before .before .before .before .before .before .before .before .before .before .before .before .before .before .before .before .before .before .before .before .before .before .before .before .before .before .before .before .before .goes-up .ensures)
+        _ (c .before .before .before .before .before .before .before .before .before .before .before .before .before .before .before .before .before .before .before .before .before .before .before .before .before .before .before .before .before .before .before .before .before .before .before .before .before .before .before .before .before .side .ensures .1 .0 .0 .restored) _ (c .before .before .before .before .before .before .before .before .before .before .before .before .before .before .before .before .before .before .before .before .before .before .before .before .before .before .before .before .line-if .result) (c .before .before .before .before .before .before .before .before .before .before .before .before .before .before .before .before .before .before .before .before .before .before .before .before .before .before .before .before .line-if .ensures .0 .1) (c .before .before .before .before .before .before .before .before .before .before .before .before .before .before .before .before .before .before .before .before .before .before .before .before .before .before .before .before .line-if .ensures .1) (c .before .before .before .before .before .before .before .before .before .before .before .before .before .before .before .before .before .to-on .result) (c .before .before .before .before .before .before .before .before .before .before .before .before .before .before .before .before .before .to-on .ensures) (c .before .before .before .before .before .before .before .before .before .before .before .before .before .before .before .before .side2 .result) _ _ _ (c .before .before .before .before .before .before .before .before .before .before .before .before .before .before .before .before .side2 .ensures .1 .1 .1) _ (still (c .before .before .before .before .before .before .before .before .before .before .before .before .before .before .before .before .before .before .before .before .before .before .before .before .before .before .before .before .before .before .before .before .before .before .before .before .before .before .before .before .before .side .result .len) _ _ _ (c .before .before .before .before .before .before .before .before .before .before .before .before .before .before .before .before .before .before .before .before .before .before .before .before .before .before .before .before .before .before .before .before .before .before .before .before .before .before .before .before .before .side .ensures .0 .short) (c .before .before .before .before .before .before .before .before .before .before .before .before .before .before .before .before .side2 .ensures .1 .1 .0 .1) (c .before .before .before .before .before .before .before .before .before .before .before .before .before .before .before .before .before .before .before .before .before .before .before .before .before .before .before .before .before .before .before .before .put-aside .ensures .1)) (c .before .before .before .before .before .before .finish .result) _ _
+        (c .before .before .before .before .before .before .finish .ensures .1) (c .before .before .before .before .before .before .before .before .before .before .before .before .before .before .before .before .before .before .before .before .before .before .before .before .before .before .before .before .before .before .before .before .before .before .before .if1 .left) (c .before .before .before .before .before .before .finish .ensures .0 .0 .visits) _ (c .before .before .before .before .before .before .before .before .before .before .before .before .before .before .before .before .side2 .ensures .1 .0 .0 .restored ∙ c .before .before .before .before .before .before .before .before .before .before .before .before .before .before .before .before .before .before .before .before .before .before .before .before .before .before .before .before .before .before .before .before .before .before .before .before .before .before .before .before .before .side .ensures .1 .0 .0 .restored) _ (c .before .before .before .settle-lines .result) (c .before .before .before .settle-lines .ensures .0 .1) (c .before .before .before .settle-lines .ensures .1) D s ls task is)),
+  ),
+)
 
 side-number-at-requires : (t : ℕ) → side-lts.Need-number-at-requires (
   number-at-reads.Asked,
@@ -990,11 +1010,16 @@ side-returns : (t : ℕ) → side-lts.Need-returns (
   visit-below t,
   visit.Post,
 ) (side-at t) side.Post
-side-returns t c =
-    (c .before .before .before .visit .ensures .0,
-    ((record { restored = set-back (c .before .before .before .before .before .before .before .before .before .before .before .before .before .before .before .args .values .now) _ (c .before .before .before .before .before .before .before .before .before .before .before .before .before .number-at .result) (c .before .before .before .before .before .before .before .before .before .before .before .before .before .before .before .args .value) (c .before .before .before .visit .ensures .1 .0 .0 .restored); size = c .before .before .before .visit .ensures .1 .0 .0 .size }, c .before .before .before .visit .ensures .1 .0 .1),
-    ((search needs, take-put 40 (length (c .before .before .before .before .before .before .before .before .before .before .before .before .before .before .before .args .saved .now) - 40) (c .before .before .before .before .before .before .before .before .before .before .before .before .before .before .before .args .saved .now) (c .before .before .before .visit .last .1 .1 .1 .1 .1 .1 .1 .1 .1 .1 .1 .0) (omega (arith, c .before .before .before .before .before .before .before .before .before .before .before .before .before .before .before .pre .1 .4))),
-    (λ D s b ls k task e v. side-result D s b ls k (c .before .before .before .before .before .before .before .before .before .before .before .before .before .before .before .args .p) task (c .before .before .before .before .before .before .before .before .before .before .before .before .before .before .before .args .value) (c .before .before .before .before .before .before .before .before .before .before .before .before .before .number-at .result) (length (c .before .before .before .before .before .before .before .before .before .before .before .before .before .before .before .args .saved .now)) (c .before .before .before .before .before .before .before .before .before .before .before .before .before .number-at .ensures .1) e v (c .before .before .before .before .before .before .before .before .before .before .before .before .before .before .before .pre .1 .2) (c .before .before .before .visit .ensures .1 .1 D _ ls) ))))
+side-returns t c = (
+  c .before .before .before .visit .ensures .0,
+  (
+    (record { restored = set-back (c .before .before .before .before .before .before .before .before .before .before .before .before .before .before .before .args .values .now) _ (c .before .before .before .before .before .before .before .before .before .before .before .before .before .number-at .result) (c .before .before .before .before .before .before .before .before .before .before .before .before .before .before .before .args .value) (c .before .before .before .visit .ensures .1 .0 .0 .restored); size = c .before .before .before .visit .ensures .1 .0 .0 .size }, c .before .before .before .visit .ensures .1 .0 .1),
+    (
+      (search needs, take-put 40 (length (c .before .before .before .before .before .before .before .before .before .before .before .before .before .before .before .args .saved .now) - 40) (c .before .before .before .before .before .before .before .before .before .before .before .before .before .before .before .args .saved .now) (c .before .before .before .visit .last .1 .1 .1 .1 .1 .1 .1 .1 .1 .1 .1 .0) (omega (arith, c .before .before .before .before .before .before .before .before .before .before .before .before .before .before .before .pre .1 .4))),
+      (λ D s b ls k task e v. side-result D s b ls k (c .before .before .before .before .before .before .before .before .before .before .before .before .before .before .before .args .p) task (c .before .before .before .before .before .before .before .before .before .before .before .before .before .before .before .args .value) (c .before .before .before .before .before .before .before .before .before .before .before .before .before .number-at .result) (length (c .before .before .before .before .before .before .before .before .before .before .before .before .before .before .before .args .saved .now)) (c .before .before .before .before .before .before .before .before .before .before .before .before .before .number-at .ensures .1) e v (c .before .before .before .before .before .before .before .before .before .before .before .before .before .before .before .pre .1 .2) (c .before .before .before .visit .ensures .1 .1 D _ ls)),
+    ),
+  ),
+)
 
 visit-conclude-requires : (t : ℕ) → visit-lts.Need-conclude-requires (
   conclude-reads.Asked,
@@ -1186,10 +1211,13 @@ visit-returns : (t : ℕ) → visit-lts.Need-returns (
   free-below t,
   free.Post,
 ) (visit-at t) visit.Post
-visit-returns t c =
-    (counts-settled (c .before .before .before .before .before .before .before .before .before .before .before .before .args .numbers .now) (c .before .before .before .before .before .before .before .before .before .before .before .before .args .p) (c .settled .result) No _ (c .settled .ensures) (rw (c .before .before .leaf .given .1) at (c .before .before .before .before .conclude .ensures .0)),
-    ((record { restored = refl; size = refl }, c .before .before .before .before .before .before .before .before .before .before .before .before .pre .1 .1),
-    (λ D s ls task. leaf-result D s ls _ _ _ _ _ _ _ (c .before .before .before .before .before .before .before .before .before .before .before .before .args .p) task No false _ (c .before .before .before .before .conclude .last .1 .1 .1 .1 .1 .1 .1 .1 .1 .0) (ap (λ l. leafRead l (c .before .before .before .before .conclude .last .1 .1 .1 .1 .1 .1 .1 .1 .1 .0)) (sym (c .before .before .leaf .given .1)) ∙ (c .before .before .before .before .conclude .ensures .1 D s (task .shown .placed) (task .shown .kinded) (task .shown .valued) (task .shown .long) (task .formed))) refl (c .settled .result) (c .settled .ensures))))
+visit-returns t c = (
+  counts-settled (c .before .before .before .before .before .before .before .before .before .before .before .before .args .numbers .now) (c .before .before .before .before .before .before .before .before .before .before .before .before .args .p) (c .settled .result) No _ (c .settled .ensures) (rw (c .before .before .leaf .given .1) at (c .before .before .before .before .conclude .ensures .0)),
+  (
+    (record { restored = refl; size = refl }, c .before .before .before .before .before .before .before .before .before .before .before .before .pre .1 .1),
+    (λ D s ls task. leaf-result D s ls _ _ _ _ _ _ _ (c .before .before .before .before .before .before .before .before .before .before .before .before .args .p) task No false _ (c .before .before .before .before .conclude .last .1 .1 .1 .1 .1 .1 .1 .1 .1 .0) (ap (λ l. leafRead l (c .before .before .before .before .conclude .last .1 .1 .1 .1 .1 .1 .1 .1 .1 .0)) (sym (c .before .before .leaf .given .1)) ∙ (c .before .before .before .before .conclude .ensures .1 D s (task .shown .placed) (task .shown .kinded) (task .shown .valued) (task .shown .long) (task .formed))) refl (c .settled .result) (c .settled .ensures)),
+  ),
+)
 
 visit-returns-2 : (t : ℕ) → visit-lts.Need-returns-2 (
   conclude-reads.Asked,
@@ -1205,10 +1233,13 @@ visit-returns-2 : (t : ℕ) → visit-lts.Need-returns-2 (
   free-below t,
   free.Post,
 ) (visit-at t) visit.Post
-visit-returns-2 t c =
-    (counts-settled (c .before .before .before .before .before .before .before .before .before .before .before .before .args .numbers .now) (c .before .before .before .before .before .before .before .before .before .before .before .before .args .p) (c .settled2 .result) Yes _ (c .settled2 .ensures) (rw (c .before .before .leaf2 .given .1) at (c .before .before .before .before .conclude .ensures .0)),
-    ((record { restored = refl; size = refl }, c .before .before .before .before .before .before .before .before .before .before .before .before .pre .1 .1),
-    (λ D s ls task. leaf-result D s ls _ _ _ _ _ _ _ (c .before .before .before .before .before .before .before .before .before .before .before .before .args .p) task Yes true _ (c .before .before .before .before .conclude .last .1 .1 .1 .1 .1 .1 .1 .1 .1 .0) (ap (λ l. leafRead l (c .before .before .before .before .conclude .last .1 .1 .1 .1 .1 .1 .1 .1 .1 .0)) (sym (c .before .before .leaf2 .given .1)) ∙ (c .before .before .before .before .conclude .ensures .1 D s (task .shown .placed) (task .shown .kinded) (task .shown .valued) (task .shown .long) (task .formed))) refl (c .settled2 .result) (c .settled2 .ensures))))
+visit-returns-2 t c = (
+  counts-settled (c .before .before .before .before .before .before .before .before .before .before .before .before .args .numbers .now) (c .before .before .before .before .before .before .before .before .before .before .before .before .args .p) (c .settled2 .result) Yes _ (c .settled2 .ensures) (rw (c .before .before .leaf2 .given .1) at (c .before .before .before .before .conclude .ensures .0)),
+  (
+    (record { restored = refl; size = refl }, c .before .before .before .before .before .before .before .before .before .before .before .before .pre .1 .1),
+    (λ D s ls task. leaf-result D s ls _ _ _ _ _ _ _ (c .before .before .before .before .before .before .before .before .before .before .before .before .args .p) task Yes true _ (c .before .before .before .before .conclude .last .1 .1 .1 .1 .1 .1 .1 .1 .1 .0) (ap (λ l. leafRead l (c .before .before .before .before .conclude .last .1 .1 .1 .1 .1 .1 .1 .1 .1 .0)) (sym (c .before .before .leaf2 .given .1)) ∙ (c .before .before .before .before .conclude .ensures .1 D s (task .shown .placed) (task .shown .kinded) (task .shown .valued) (task .shown .long) (task .formed))) refl (c .settled2 .result) (c .settled2 .ensures)),
+  ),
+)
 
 visit-same-length : (t : ℕ) → visit-lts.Need-same-length (
   conclude-reads.Asked,
@@ -1256,10 +1287,13 @@ visit-returns-3 : (t : ℕ) → visit-lts.Need-returns-3 (
   free-below t,
   free.Post,
 ) (visit-at t) visit.Post
-visit-returns-3 t c =
-    (c .before .before .before .exists .ensures .0,
-    (c .before .before .before .exists .ensures .1 .0,
-    (λ D s ls task. exists-result D s ls _ _ _ _ _ _ _ (c .before .before .before .before .before .before .before .before .before .before .before .before .before .before .before .before .before .before .before .before .before .before .before .before .args .p) task _ _ _ (c .before .before .before .exists .result) (c .before .before .before .before .before .before .before .before .before .before .before .before .before .next-kind .result) (c .before .before .before .before .before .before .before .before .before .before .before .before .before .next-kind .ensures) (ap (λ l. leafRead l (c .before .before .before .before .before .before .before .before .before .before .before .before .before .before .before .before .conclude .last .1 .1 .1 .1 .1 .1 .1 .1 .1 .0)) (sym (c .before .before .before .before .before .before .before .before .before .before .before .before .before .before .enum-told .given .1)) ∙ (c .before .before .before .before .before .before .before .before .before .before .before .before .before .before .before .before .conclude .ensures .1 D s (task .shown .placed) (task .shown .kinded) (task .shown .valued) (task .shown .long) (task .formed))) (c .before .before .before .before .before .before .before .before .before .before .before .before .if1 .taken) (c .before .before .before .exists .ensures .1 .1 D s ls task))))
+visit-returns-3 t c = (
+  c .before .before .before .exists .ensures .0,
+  (
+    c .before .before .before .exists .ensures .1 .0,
+    (λ D s ls task. exists-result D s ls _ _ _ _ _ _ _ (c .before .before .before .before .before .before .before .before .before .before .before .before .before .before .before .before .before .before .before .before .before .before .before .before .args .p) task _ _ _ (c .before .before .before .exists .result) (c .before .before .before .before .before .before .before .before .before .before .before .before .before .next-kind .result) (c .before .before .before .before .before .before .before .before .before .before .before .before .before .next-kind .ensures) (ap (λ l. leafRead l (c .before .before .before .before .before .before .before .before .before .before .before .before .before .before .before .before .conclude .last .1 .1 .1 .1 .1 .1 .1 .1 .1 .0)) (sym (c .before .before .before .before .before .before .before .before .before .before .before .before .before .before .enum-told .given .1)) ∙ (c .before .before .before .before .before .before .before .before .before .before .before .before .before .before .before .before .conclude .ensures .1 D s (task .shown .placed) (task .shown .kinded) (task .shown .valued) (task .shown .long) (task .formed))) (c .before .before .before .before .before .before .before .before .before .before .before .before .if1 .taken) (c .before .before .before .exists .ensures .1 .1 D s ls task)),
+  ),
+)
 
 visit-same-length-3 : (t : ℕ) → visit-lts.Need-same-length-3 (
   conclude-reads.Asked,
@@ -1307,10 +1341,13 @@ visit-returns-4 : (t : ℕ) → visit-lts.Need-returns-4 (
   free-below t,
   free.Post,
 ) (visit-at t) visit.Post
-visit-returns-4 t c =
-    (c .before .before .before .forall .ensures .0,
-    (c .before .before .before .forall .ensures .1 .0,
-    (λ D s ls task. forall-result D s ls _ _ _ _ _ _ _ (c .before .before .before .before .before .before .before .before .before .before .before .before .before .before .before .before .before .before .before .before .before .before .before .before .before .args .p) task _ _ _ (c .before .before .before .forall .result) (c .before .before .before .before .before .before .before .before .before .before .before .before .before .before .next-kind .result) (c .before .before .before .before .before .before .before .before .before .before .before .before .before .before .next-kind .ensures) (ap (λ l. leafRead l (c .before .before .before .before .before .before .before .before .before .before .before .before .before .before .before .before .before .conclude .last .1 .1 .1 .1 .1 .1 .1 .1 .1 .0)) (sym (c .before .before .before .before .before .before .before .before .before .before .before .before .before .before .before .enum-told .given .1)) ∙ (c .before .before .before .before .before .before .before .before .before .before .before .before .before .before .before .before .before .conclude .ensures .1 D s (task .shown .placed) (task .shown .kinded) (task .shown .valued) (task .shown .long) (task .formed))) (c .before .before .before .before .before .before .before .before .before .before .before .before .if2 .taken) (c .before .before .before .forall .ensures .1 .1 D s ls task))))
+visit-returns-4 t c = (
+  c .before .before .before .forall .ensures .0,
+  (
+    c .before .before .before .forall .ensures .1 .0,
+    (λ D s ls task. forall-result D s ls _ _ _ _ _ _ _ (c .before .before .before .before .before .before .before .before .before .before .before .before .before .before .before .before .before .before .before .before .before .before .before .before .before .args .p) task _ _ _ (c .before .before .before .forall .result) (c .before .before .before .before .before .before .before .before .before .before .before .before .before .before .next-kind .result) (c .before .before .before .before .before .before .before .before .before .before .before .before .before .before .next-kind .ensures) (ap (λ l. leafRead l (c .before .before .before .before .before .before .before .before .before .before .before .before .before .before .before .before .before .conclude .last .1 .1 .1 .1 .1 .1 .1 .1 .1 .0)) (sym (c .before .before .before .before .before .before .before .before .before .before .before .before .before .before .before .enum-told .given .1)) ∙ (c .before .before .before .before .before .before .before .before .before .before .before .before .before .before .before .before .before .conclude .ensures .1 D s (task .shown .placed) (task .shown .kinded) (task .shown .valued) (task .shown .long) (task .formed))) (c .before .before .before .before .before .before .before .before .before .before .before .before .if2 .taken) (c .before .before .before .forall .ensures .1 .1 D s ls task)),
+  ),
+)
 
 visit-same-length-5 : (t : ℕ) → visit-lts.Need-same-length-5 (
   conclude-reads.Asked,
@@ -1358,10 +1395,13 @@ visit-returns-5 : (t : ℕ) → visit-lts.Need-returns-5 (
   free-below t,
   free.Post,
 ) (visit-at t) visit.Post
-visit-returns-5 t c =
-    (c .before .before .before .free .ensures .0,
-    (c .before .before .before .free .ensures .1 .0,
-    (λ D s ls task. free-visit-result D s ls _ _ _ _ _ _ _ (c .before .before .before .before .before .before .before .before .before .before .before .before .before .before .before .before .before .before .before .before .before .before .before .before .before .before .args .p) task _ _ _ (c .before .before .before .free .result) (c .before .before .before .before .before .before .before .before .before .before .before .before .before .before .before .next-kind .result) (c .before .before .before .before .before .before .before .before .before .before .before .before .before .before .before .next-kind .ensures) (ap (λ l. leafRead l (c .before .before .before .before .before .before .before .before .before .before .before .before .before .before .before .before .before .before .conclude .last .1 .1 .1 .1 .1 .1 .1 .1 .1 .0)) (sym (c .before .before .before .before .before .before .before .before .before .before .before .before .before .before .before .before .enum-told .given .1)) ∙ (c .before .before .before .before .before .before .before .before .before .before .before .before .before .before .before .before .before .before .conclude .ensures .1 D s (task .shown .placed) (task .shown .kinded) (task .shown .valued) (task .shown .long) (task .formed))) (c .before .before .before .before .before .before .before .before .before .before .before .before .if3 .taken) (c .before .before .before .free .ensures .1 .1 D s ls task))))
+visit-returns-5 t c = (
+  c .before .before .before .free .ensures .0,
+  (
+    c .before .before .before .free .ensures .1 .0,
+    (λ D s ls task. free-visit-result D s ls _ _ _ _ _ _ _ (c .before .before .before .before .before .before .before .before .before .before .before .before .before .before .before .before .before .before .before .before .before .before .before .before .before .before .args .p) task _ _ _ (c .before .before .before .free .result) (c .before .before .before .before .before .before .before .before .before .before .before .before .before .before .before .next-kind .result) (c .before .before .before .before .before .before .before .before .before .before .before .before .before .before .before .next-kind .ensures) (ap (λ l. leafRead l (c .before .before .before .before .before .before .before .before .before .before .before .before .before .before .before .before .before .before .conclude .last .1 .1 .1 .1 .1 .1 .1 .1 .1 .0)) (sym (c .before .before .before .before .before .before .before .before .before .before .before .before .before .before .before .before .enum-told .given .1)) ∙ (c .before .before .before .before .before .before .before .before .before .before .before .before .before .before .before .before .before .before .conclude .ensures .1 D s (task .shown .placed) (task .shown .kinded) (task .shown .valued) (task .shown .long) (task .formed))) (c .before .before .before .before .before .before .before .before .before .before .before .before .if3 .taken) (c .before .before .before .free .ensures .1 .1 D s ls task)),
+  ),
+)
 
 visit-returns-6 : (t : ℕ) → visit-lts.Need-returns-6 (
   conclude-reads.Asked,
@@ -1377,10 +1417,13 @@ visit-returns-6 : (t : ℕ) → visit-lts.Need-returns-6 (
   free-below t,
   free.Post,
 ) (visit-at t) visit.Post
-visit-returns-6 t c =
-    (counts-settled (c .before .before .before .before .before .before .before .before .before .before .before .before .before .before .before .args .numbers .now) (c .before .before .before .before .before .before .before .before .before .before .before .before .before .before .before .args .p) (c .settled3 .result) No 0 (c .settled3 .ensures) (omega arith),
-    ((record { restored = refl; size = refl }, c .before .before .before .before .before .before .before .before .before .before .before .before .before .before .before .pre .1 .1),
-    (λ D s ls task. end-result D s ls _ _ _ _ _ _ _ (c .before .before .before .before .before .before .before .before .before .before .before .before .before .before .before .args .p) task _ (c .settled3 .result) (c .before .before .before .before .next-kind .result) (c .before .before .before .before .next-kind .ensures) (ap (λ l. leafRead l (c .before .before .before .before .before .before .before .conclude .last .1 .1 .1 .1 .1 .1 .1 .1 .1 .0)) (sym (c .before .before .before .before .before .enum-told .given .1)) ∙ (c .before .before .before .before .before .before .before .conclude .ensures .1 D s (task .shown .placed) (task .shown .kinded) (task .shown .valued) (task .shown .long) (task .formed))) (c .before .before .before .if1 .left) (c .before .before .if2 .left) (c .before .if3 .left) (c .settled3 .ensures))))
+visit-returns-6 t c = (
+  counts-settled (c .before .before .before .before .before .before .before .before .before .before .before .before .before .before .before .args .numbers .now) (c .before .before .before .before .before .before .before .before .before .before .before .before .before .before .before .args .p) (c .settled3 .result) No 0 (c .settled3 .ensures) (omega arith),
+  (
+    (record { restored = refl; size = refl }, c .before .before .before .before .before .before .before .before .before .before .before .before .before .before .before .pre .1 .1),
+    (λ D s ls task. end-result D s ls _ _ _ _ _ _ _ (c .before .before .before .before .before .before .before .before .before .before .before .before .before .before .before .args .p) task _ (c .settled3 .result) (c .before .before .before .before .next-kind .result) (c .before .before .before .before .next-kind .ensures) (ap (λ l. leafRead l (c .before .before .before .before .before .before .before .conclude .last .1 .1 .1 .1 .1 .1 .1 .1 .1 .0)) (sym (c .before .before .before .before .before .enum-told .given .1)) ∙ (c .before .before .before .before .before .before .before .conclude .ensures .1 D s (task .shown .placed) (task .shown .kinded) (task .shown .valued) (task .shown .long) (task .formed))) (c .before .before .before .if1 .left) (c .before .before .if2 .left) (c .before .if3 .left) (c .settled3 .ensures)),
+  ),
+)
 
 pub +exists+forall+free+side+visit-spec : {M : Type 1} → statement M
 +exists+forall+free+side+visit-spec =

@@ -1,0 +1,159 @@
+-- The answers of query and card, from what the search on the state found.
+use Prim.Native.Nat.{ℕ, zero, suc, _+_, _*_}
+use native.Mathlib.Omega.{arith}
+use mathlib.Core.Path.{_≡_, refl, sym, ap, _∙_, subst}
+use mathlib.Core.Bool.{Bool, true, false, cond}
+use mathlib.Core.List.{List, [], _∷_, _++_}
+use mathlib.Core.Option.{Option, none, some}
+use lib.ListN.{length, drop, length-append, length-replicate}
+use lib.Dec.{leb}
+use Rattle.qbf.specs.Formula.{paper, Formula, Literal, Node, quantifiers}
+use Rattle.qbf.specs.Truth.{Outcome, decided, mixed, decidedNodes, select, outline, bound, freeVariables, DecidedNode}
+use Rattle.qbf.specs.Learning.{Constraint, LearningResult, Store, learningSearch}
+use Rattle.qbf.specs.Card.{tableOf, zeroTable}
+use Rattle.qbf.specs.Calls.{Call, query, card, Reply, swap, keep, lines, cardRefused, Answer, answer, queryFault, startNode, queryReply, learningQuery, cardReply, cardReplyOf, guarded}
+use Rattle.qbf.specs.Demands.{refusalOf}
+use Rattle.theory.proofs.Starting.{free-rest, start-length}
+use Rattle.cover.specs.Cover.{Covers}
+use Rattle.cover.proofs.Laws.{covers-none, covers-open, covers-fits}
+use Rattle.node.specs.Node.{newLines}
+use Rattle.node.specs.declared.Verdict.{Verdict}
+use Rattle.node.specs.declared.Verdict.the-variants.{Yes, No, Mixed}
+use Rattle.state.specs.declared.State.{State}
+use Rattle.state.specs.Reading.{readState, valid, prefixIn, formulaIn, storeIn, stateIn}
+use Rattle.serving.specs.Serves.{Said, said, saidReply, saidOf, Serves}
+use Rattle.serving.proofs.Calls.{Passes, malformed, moved-on, unchanged}
+use Rattle.answers.specs.Answers.{rulingSaid, cardSaid, rulingFor, total}
+use Rattle.answers.specs.declared.Printed.the-variants as shown
+use Rattle.answers.specs.declared.Ruling.{Ruling}
+use Rattle.answers.specs.Run.{Ends, FoundBy}
+use Rattle.answers.specs.declared.run.Found.{Found}
+
+-- ---- query
+-- swap or keep, by the verdict
+ruling-is : (w : Verdict) (o : Outcome Constraint) (k : ℕ) → Ends w o → rulingSaid (rulingFor w) k ≡ saidReply (queryReply (outline o)) k
+ruling-is Yes o k (e, p) = ap (λ (x : Outcome Constraint). saidReply (queryReply (outline x)) k) (sym p)
+ruling-is No o k (e, p) = ap (λ (x : Outcome Constraint). saidReply (queryReply (outline x)) k) (sym p)
+ruling-is Mixed o k (ds, p) = ap (λ (x : Outcome Constraint). saidReply (queryReply (outline x)) k) (sym p)
+
+query-passes : (o : Outcome (Unit {0})) → Passes (refusalOf (queryReply o))
+query-passes (decided true e) = tt
+query-passes (decided false e) = tt
+query-passes (mixed ds) = tt
+
+-- a cleared table has the size of the lent one
+pub cleared-length : (size : ℕ) {zeros : List ℕ} → zeros ≡ zeroTable size → length zeros ≡ size
+cleared-length size e = ap length e ∙ length-replicate size 0
+
+-- a malformed state: 22, and the table is zero
+pub malformed-card : (x : State) (size : ℕ) (zeros : List ℕ) → zeros ≡ zeroTable size → valid x ≡ false → Serves x (card size) (said 22 0 0 0 zeros) x
+malformed-card x size zeros z e = subst (λ (tb : List ℕ). Serves x (card size) (said 22 0 0 0 tb) x) (sym z) (malformed x (card size) e)
+
+module _ (x : State) (v : valid x ≡ true) where
+  abbrev b : Formula
+  b = formulaIn x
+
+  abbrev searchFrom : ℕ → Node → LearningResult
+  searchFrom at s = learningSearch paper (prefixIn x) (b .clauses) (drop at (quantifiers (prefixIn x))) s (storeIn x)
+
+  pub asked : (ls : List Literal) (free : ℕ) (r : Found) (table : List ℕ) → free ≡ freeVariables (prefixIn x) → queryFault b [] ls ≡ none
+      → FoundBy x (searchFrom free (startNode ls (prefixIn x))) free r table → Serves x (query ls) (rulingSaid (rulingFor (r .verdict)) (r .visits)) (r .state)
+  asked ls free r table frees fine f =
+      subst (λ (a : Said). Serves x (query ls) a (r .state)) whole (moved-on x (query ls) v (r .state) (f .state ∙ ap some state-is) passes)
+    where
+      w : LearningResult
+      w = learningSearch paper (prefixIn x) (b .clauses) (bound (quantifiers (prefixIn x))) (startNode ls (prefixIn x)) (storeIn x)
+
+      same : searchFrom free (startNode ls (prefixIn x)) ≡ w
+      same =
+          ap (λ qs. learningSearch paper (prefixIn x) (b .clauses) qs (startNode ls (prefixIn x)) (storeIn x))
+          (ap (λ (i : ℕ). drop i (quantifiers (prefixIn x))) frees ∙ free-rest (quantifiers (prefixIn x)))
+
+      state-is : record { formula = b; store = searchFrom free (startNode ls (prefixIn x)) .store } ≡ guarded true (stateIn x) (query ls) .state
+      state-is = ap (λ (z : LearningResult). record { formula = b; store = z .store }) same ∙ sym (ap (λ (o : Option ℕ). record { formula = b; store = learningQuery o b (storeIn x) ls .store }) fine)
+
+      out-is : guarded true (stateIn x) (query ls) .out ≡ answer (queryReply (outline (w .outcome))) (w .visits)
+      out-is = ap (λ (o : Option ℕ). learningQuery o b (storeIn x) ls .out) fine
+
+      passes : Passes (refusalOf (guarded true (stateIn x) (query ls) .out .reply))
+      passes = subst (λ (a : Answer). Passes (refusalOf (a .reply))) (sym out-is) (query-passes (outline (w .outcome)))
+
+      whole : saidOf (guarded true (stateIn x) (query ls) .out) ≡ rulingSaid (rulingFor (r .verdict)) (r .visits)
+      whole =
+          ap saidOf out-is
+          ∙ ap (λ (z : LearningResult). saidReply (queryReply (outline (z .outcome))) (z .visits)) (sym same)
+          ∙ sym (ruling-is (r .verdict) (searchFrom free (startNode ls (prefixIn x)) .outcome) (searchFrom free (startNode ls (prefixIn x)) .visits) (f .verdict))
+          ∙ ap (rulingSaid (rulingFor (r .verdict))) (sym (f .visits))
+
+  -- the same from what the code has at hand: the ruling, and the search where the start node is long enough and no line stands
+  pub asked-by : (ls : List Literal) (free : ℕ) (r : Found) (table : List ℕ) → free ≡ freeVariables (prefixIn x) → queryFault b [] ls ≡ none → (q : Ruling) → q ≡ rulingFor (r .verdict)
+      → (length (startNode ls (prefixIn x)) ≡ free → Covers free (0 ∷ []) [] → FoundBy x (searchFrom free (startNode ls (prefixIn x))) free r table)
+      → Serves x (query ls) (rulingSaid q (r .visits)) (r .state)
+  asked-by ls free r table frees fine q is f =
+      subst (λ (z : Ruling). Serves x (query ls) (rulingSaid z (r .visits)) (r .state)) (sym is)
+      (asked ls free r table frees fine (f (start-length ls (prefixIn x) ∙ sym frees) (covers-none free 1 (0 ∷ []) refl)))
+
+  -- refused with 8: the state is as given
+  pub not-asked : (ls : List Literal) → queryFault b [] ls ≡ some 8 → Serves x (query ls) (said 8 0 0 0 []) x
+  not-asked ls e =
+      subst (λ (a : Said). Serves x (query ls) a x) (ap (λ (o : Option ℕ). saidOf (learningQuery o b (storeIn x) ls .out)) e)
+      (unchanged x (query ls) v (ap (λ (o : Option ℕ). record { formula = b; store = learningQuery o b (storeIn x) ls .store }) e))
+
+  -- ---- card
+  -- all lines: those below the empty node, and its own where it is Yes
+  abbrev allLines : Outcome Constraint → List Node
+  allLines o = select true (decidedNodes [] (outline o))
+
+  all-lines : (w : Verdict) (o : Outcome Constraint) (f : ℕ) (tb : List ℕ) (n : ℕ) → Ends w o → Covers f tb (newLines o) → n ≡ length (newLines o) → Covers f tb (allLines o) × (total w n ≡ length (allLines o))
+  all-lines Yes o f tb n (e, p) c h = (
+    subst (λ (z : Outcome Constraint). Covers f tb (allLines z)) (sym p) (covers-open f tb [] (subst (λ (z : Outcome Constraint). Covers f tb (newLines z)) p c)),
+    omega (arith, h, ap (λ (z : Outcome Constraint). length (newLines z)) p, ap (λ (z : Outcome Constraint). length (allLines z)) p),
+  )
+  all-lines No o f tb n (e, p) c h = (
+    subst (λ (z : Outcome Constraint). Covers f tb (allLines z)) (sym p) (subst (λ (z : Outcome Constraint). Covers f tb (newLines z)) p c),
+    omega (arith, h, ap (λ (z : Outcome Constraint). length (newLines z)) p, ap (λ (z : Outcome Constraint). length (allLines z)) p),
+  )
+  all-lines Mixed o f tb n (ds, p) c h = (
+    subst (λ (z : Outcome Constraint). Covers f tb (allLines z)) (sym p) (subst (λ (z : Outcome Constraint). Covers f tb (newLines z)) p c),
+    omega (arith, h, ap (λ (z : Outcome Constraint). length (newLines z)) p, ap (λ (z : Outcome Constraint). length (allLines z)) p),
+  )
+
+  module _ (size free : ℕ) (r : Found) (table : List ℕ) (frees : free ≡ freeVariables (prefixIn x)) (sized : length table ≡ size) (f : FoundBy x (searchFrom 0 []) free r table) (n : ℕ) (counted : n ≡ total (r .verdict) (r .lines)) where
+    abbrev w : LearningResult
+    w = searchFrom 0 []
+
+    abbrev ls : List Node
+    ls = allLines (w .outcome)
+
+    both : Covers free table ls × (total (r .verdict) (r .lines) ≡ length ls)
+    both = all-lines (r .verdict) (w .outcome) free table (r .lines) (f .verdict) (f .covers) (f .lines)
+
+    test : leb (n * free) size ≡ leb (length ls * freeVariables (prefixIn x)) size
+    test = (λ i. leb ((counted ∙ both .1) i * frees i) size)
+
+    out-by : (t : Bool) → leb (n * free) size ≡ t
+        → guarded true (stateIn x) (card size) .out ≡ answer (cond t (lines ls (tableOf (freeVariables (prefixIn x)) size ls)) (cardRefused 21 (zeroTable size))) (w .visits)
+    out-by t e = ap (λ (z : Bool). answer (cond z (lines ls (tableOf (freeVariables (prefixIn x)) size ls)) (cardRefused 21 (zeroTable size))) (w .visits)) (sym test ∙ e)
+
+    -- the lines fit
+    pub shown-card : leb (n * free) size ≡ true → Serves x (card size) (cardSaid (shown.Lines n) (r .visits) table) (r .state)
+    shown-card e =
+        subst (λ (a : Said). Serves x (card size) a (r .state)) whole
+        (moved-on x (card size) v (r .state) (f .state) (subst (λ (a : Answer). Passes (refusalOf (a .reply))) (sym (out-by true e)) tt))
+      where
+        table-is : table ≡ tableOf (freeVariables (prefixIn x)) size ls
+        table-is =
+            covers-fits free table ls (both .0) ((λ i. leb (sym (both .1) i * free) (sized i)) ∙ ap (λ (k : ℕ). leb (k * free) size) (sym counted) ∙ e)
+            ∙ (λ i. tableOf (frees i) (sized i) ls)
+
+        whole : saidOf (guarded true (stateIn x) (card size) .out) ≡ cardSaid (shown.Lines n) (r .visits) table
+        whole = ap saidOf (out-by true e) ∙ sym (λ i. said 0 0 ((counted ∙ both .1) i) (f .visits i) (table-is i))
+
+    -- they do not: 21, with the visits and the store of the search
+    pub full-card : (zeros : List ℕ) → zeros ≡ zeroTable size → leb (n * free) size ≡ false → Serves x (card size) (cardSaid (shown.Refused 21) (r .visits) zeros) (r .state)
+    full-card zeros z e =
+        subst (λ (a : Said). Serves x (card size) a (r .state)) whole
+        (moved-on x (card size) v (r .state) (f .state) (subst (λ (a : Answer). Passes (refusalOf (a .reply))) (sym (out-by false e)) refl))
+      where
+        whole : saidOf (guarded true (stateIn x) (card size) .out) ≡ cardSaid (shown.Refused 21) (r .visits) zeros
+        whole = ap saidOf (out-by false e) ∙ sym (λ i. said 21 0 0 (f .visits i) (z i))
