@@ -1,0 +1,279 @@
+// Paper 01's table of bench cases, and its other cases, on the compiled code: the answer of every call, one to a line.
+use answers::Printed;
+use answers::Ruling;
+use rules::Change;
+use state::State;
+
+mod print;
+
+use print::number;
+use print::text;
+
+fn empty() -> State {
+    State {
+        numbers: [0; tables::BY_NUMBER],
+        levels: [0; tables::BY_NUMBER],
+        kinds: [0; tables::BY_NUMBER],
+        clauses: [0; tables::CLAUSE_CELLS],
+        clause_sizes: [0; tables::CLAUSE_SIZES],
+        learned_clauses: [0; tables::CONSTRAINT_CELLS],
+        learned_clause_sizes: [0; tables::CONSTRAINT_SIZES],
+        learned_cubes: [0; tables::CONSTRAINT_CELLS],
+        learned_cube_sizes: [0; tables::CONSTRAINT_SIZES],
+    }
+}
+
+// One variable more. The calls check the state, so nothing is asked here.
+fn with(x: State, variable: u16, level: u16, kind: u16) -> State {
+    let mut next = x;
+    let n = x.numbers[0] as usize;
+    let l = level as usize;
+    if n < tables::NUMBERS {
+        next.numbers[n + 1] = variable;
+        next.levels[n + 1] = level;
+        next.numbers[0] = (n + 1) as u16;
+    }
+    if l < tables::BY_NUMBER {
+        next.kinds[l] = kind;
+    }
+    next
+}
+
+fn change(c: Change) {
+    match c {
+        Change::Done => text(b"done"),
+        Change::Refused(n) => {
+            text(b"refused ");
+            number(n as u64);
+        }
+    }
+    text(b"\n");
+}
+
+fn rule(x: State, lits: &[i16]) -> State {
+    text(b"rule: ");
+    let r = rules::rule(x, lits);
+    let c = r.change;
+    change(c);
+    r.state
+}
+
+// A clause of the formula as it is opened: the call without a line of output.
+fn clause(x: State, lits: &[i16]) -> State {
+    let r = rules::rule(x, lits);
+    r.state
+}
+
+fn forget(x: State) -> State {
+    text(b"forget: ");
+    let r = rules::forget(x);
+    let c = r.change;
+    change(c);
+    r.state
+}
+
+fn visits(n: u64) {
+    text(b", visits ");
+    number(n);
+    text(b"\n");
+}
+
+fn query(x: State, on: &[i16]) -> State {
+    text(b"query: ");
+    let r = answers::query(x, on);
+    let q = r.ruling;
+    match q {
+        Ruling::Swap => text(b"swap"),
+        Ruling::Keep => text(b"keep"),
+        Ruling::Refused(n) => {
+            text(b"refused ");
+            number(n as u64);
+        }
+    }
+    visits(r.visits);
+    r.state
+}
+
+fn cells(t: &[u8]) {
+    let mut i: usize = 0;
+    while i < t.len() {
+        text(b" ");
+        print::byte(t[i]);
+        i += 1;
+    }
+}
+
+fn card(x: State, table: &mut [u8]) -> State {
+    text(b"card: ");
+    let r = answers::card(x, table);
+    let c = r.printed;
+    match c {
+        Printed::Lines(k) => {
+            text(b"lines ");
+            number(k as u64);
+        }
+        Printed::Refused(k) => {
+            text(b"refused ");
+            number(k as u64);
+        }
+    }
+    text(b", table");
+    cells(table);
+    visits(r.visits);
+    r.state
+}
+
+// A table is lent with a byte that is none of the card's in each cell.
+fn card_0(x: State) -> State {
+    let mut table = [9u8; 0];
+    card(x, &mut table)
+}
+
+fn card_2(x: State) -> State {
+    let mut table = [9u8; 2];
+    card(x, &mut table)
+}
+
+fn card_3(x: State) -> State {
+    let mut table = [9u8; 3];
+    card(x, &mut table)
+}
+
+fn card_4(x: State) -> State {
+    let mut table = [9u8; 4];
+    card(x, &mut table)
+}
+
+fn title(t: &[u8]) {
+    text(t);
+    text(b"\n");
+}
+
+fn a_clauses(x: State) -> State {
+    let y = clause(x, &[3, 4, -1]);
+    let z = clause(y, &[-3, -4, 2]);
+    clause(z, &[1, 2])
+}
+
+fn book_a() -> State {
+    let x = with(empty(), 1, 0, tables::FREE);
+    let y = with(x, 2, 0, tables::FREE);
+    let z = with(y, 3, 1, tables::EXISTS);
+    a_clauses(with(z, 4, 2, tables::FORALL))
+}
+
+fn book_a_exchanged() -> State {
+    let x = with(empty(), 2, 0, tables::FREE);
+    let y = with(x, 1, 0, tables::FREE);
+    let z = with(y, 3, 1, tables::EXISTS);
+    a_clauses(with(z, 4, 2, tables::FORALL))
+}
+
+fn book_b() -> State {
+    let x = with(empty(), 1, 0, tables::FREE);
+    let y = with(x, 2, 1, tables::EXISTS);
+    clause(clause(y, &[2]), &[-2])
+}
+
+fn book_c() -> State {
+    let x = with(empty(), 1, 0, tables::FREE);
+    let y = with(x, 2, 0, tables::FREE);
+    let z = with(y, 3, 1, tables::EXISTS);
+    let w = with(z, 4, 2, tables::FORALL);
+    clause(clause(w, &[3, 4, 1]), &[-3, -4, 2])
+}
+
+fn d_clauses(x: State) -> State {
+    clause(clause(x, &[1, 2]), &[-1, -2])
+}
+
+fn bench() {
+    title(b"A");
+    card_4(book_a());
+    title(b"A with (flags 2 1)");
+    card_4(book_a_exchanged());
+    title(b"A, query 1 on; again");
+    let a = query(book_a(), &[1]);
+    query(a, &[1]);
+    title(b"A, query 2 on");
+    query(book_a(), &[2]);
+    title(b"B, card twice, then no flag on");
+    let b = card_0(card_0(book_b()));
+    query(b, &[0; 0]);
+    title(b"C");
+    card_4(book_c());
+    title(b"flags 1 2, no rule");
+    let x = with(empty(), 1, 0, tables::FREE);
+    card_2(with(x, 2, 0, tables::FREE));
+    title(b"forall 1, rule 1");
+    card_0(clause(with(empty(), 1, 1, tables::FORALL), &[1]));
+}
+
+fn bench_d() {
+    title(b"D, then rule 2 added");
+    let x = with(empty(), 1, 1, tables::FORALL);
+    let d = card_0(d_clauses(with(x, 2, 2, tables::EXISTS)));
+    card_0(rule(d, &[2]));
+    title(b"exists 1, forall 2, D's rules");
+    let y = with(empty(), 1, 1, tables::EXISTS);
+    card_0(d_clauses(with(y, 2, 2, tables::FORALL)));
+}
+
+fn forty() -> State {
+    let mut x = empty();
+    let mut n: usize = 0;
+    while n < tables::NUMBERS {
+        n += 1;
+        x = with(x, n as u16, 1, tables::EXISTS);
+    }
+    x
+}
+
+fn almost_full() -> State {
+    let mut x = with(empty(), 1, 1, tables::EXISTS);
+    let mut n: usize = 1;
+    while n < tables::CLAUSES {
+        x = clause(x, &[1]);
+        n += 1;
+    }
+    x
+}
+
+fn limits() {
+    title(b"16 and 17 literals");
+    let x = rule(
+        forty(),
+        &[1, 2, 3, 4, 5, 6, 7, 8, 9, 10, 11, 12, 13, 14, 15, 16],
+    );
+    let y = rule(
+        x,
+        &[1, 2, 3, 4, 5, 6, 7, 8, 9, 10, 11, 12, 13, 14, 15, 16, 17],
+    );
+    title(b"number 40 and 41, 0 and -32768, not declared, twice, none");
+    let z = rule(rule(y, &[-40]), &[41]);
+    let w = rule(rule(z, &[0]), &[-32768]);
+    let v = rule(with(empty(), 1, 0, tables::FREE), &[2]);
+    rule(rule(v, &[1, -1]), &[0; 0]);
+    rule(w, &[1, 1]);
+    title(b"rule 255 and 256");
+    rule(rule(almost_full(), &[1]), &[1]);
+}
+
+fn others() {
+    title(b"A's card in 4 bytes, forgotten, in 3, in 4 again");
+    let a = forget(card_4(book_a()));
+    card_4(card_3(a));
+    title(b"queries that are refused");
+    let x = query(query(book_a(), &[3]), &[1, 1]);
+    query(query(x, &[-1]), &[-32768]);
+    title(b"a malformed state");
+    let m = with(with(empty(), 1, 0, tables::FREE), 1, 0, tables::FREE);
+    forget(card_3(query(rule(m, &[1]), &[1])));
+}
+
+fn main() {
+    bench();
+    bench_d();
+    limits();
+    others();
+}
