@@ -235,20 +235,15 @@ pub fn settle_lines<'a>(
         → SettledTo first second s ls (p .free) (now (table .exit)))
         ⌝ }
 {
-    match second {
-        Verdict::Yes => {}
-        Verdict::No => return lines,
-        Verdict::Mixed => return lines,
+    if !side::is_yes(second) {
+        return lines;
     }
-    match first {
-        Verdict::Yes => {
-            let free = p.free;
-            cover::pop_line(table, lines, free);
-            lines - 1
-        }
-        Verdict::No => line_if(second, tables::ON, table, lines, p, numbers, values),
-        Verdict::Mixed => line_if(second, tables::ON, table, lines, p, numbers, values),
+    if side::is_yes(first) {
+        let free = p.free;
+        cover::pop_line(table, lines, free);
+        return lines - 1;
     }
+    line_if(second, tables::ON, table, lines, p, numbers, values)
 }
 
 // The position of the off side, where this visit is counted, and of the on side.

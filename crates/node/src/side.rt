@@ -8,8 +8,18 @@ ghost use lib.Dec.{eqb};
 ghost use Rattle.qbf.specs.Formula.{Prefix, Quantifier};
 ghost use Rattle.qbf.specs.Learning.{mentions};
 ghost use Rattle.tables.specs.Views.{Places, quantifierCode};
-ghost use Rattle.node.specs.Node.{isMixed};
+ghost use Rattle.node.specs.Node.{isYes, isMixed};
 ghost use Rattle.node.specs.Step.{alone};
+
+pub fn is_yes(v: Verdict) -> bool
+    ensures { λ r. ⌜ r ≡ isYes v ⌝ }
+{
+    match v {
+        Verdict::Yes => true,
+        Verdict::No => false,
+        Verdict::Mixed => false,
+    }
+}
 
 pub fn is_mixed(v: Verdict) -> bool
     ensures { λ r. ⌜ r ≡ isMixed v ⌝ }

@@ -2,7 +2,7 @@
 use borrow.Author.Needs.{needs}
 use Rattle.node.proofs.finish.Statement.{statement}
 use Rattle.node.proofs.finish.Tie as tie
-use mathlib.Core.Path.{_≡_, refl, sym, _∙_}
+use mathlib.Core.Path.{refl, sym, _∙_}
 use mathlib.Core.Bool.{true, false}
 use denote.Ref.{now}
 use lib.ListN.{take}

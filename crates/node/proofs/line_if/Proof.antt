@@ -2,7 +2,7 @@
 use borrow.Author.Needs.{needs}
 use Rattle.node.proofs.line_if.Statement.{statement}
 use Rattle.node.proofs.line_if.Tie as tie
-use mathlib.Core.Path.{_≡_, refl, sym}
+use mathlib.Core.Path.{refl}
 use denote.Ref.{now}
 use Rattle.node.proofs.Lines.{covers-same}
 

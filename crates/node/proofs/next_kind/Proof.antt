@@ -2,11 +2,8 @@
 use borrow.Author.Needs.{needs}
 use Rattle.node.proofs.next_kind.Statement.{statement}
 use Rattle.node.proofs.next_kind.Tie as tie
-use mathlib.Core.Path.{_≡_, refl, sym, ap, _∙_}
 use native.Mathlib.Omega.{arith}
 use native.Mathlib.Numerals.{add-one}
-use denote.Ref.{now}
-use lib.ListN.{getD}
 
 cell-at-requires : tie.Need-cell-at-requires
 cell-at-requires c κs = search needs

@@ -2,23 +2,26 @@
 use borrow.Author.Needs.{needs}
 use Rattle.node.proofs.put_aside.Statement.{statement}
 use Rattle.node.proofs.put_aside.Tie as tie
-use mathlib.Core.Path.{sym}
 use native.Mathlib.Omega.{arith}
 use denote.Ref.{now}
-use lib.Seq.{length-take-le}
+use lib.ListN.{length-take}
 use Rattle.node.proofs.Aside.{aside-length, aside-first}
 
 slice-aggregate-write : tie.Need-slice-aggregate-write
-slice-aggregate-write c = sym (length-take-le (c .before .before .before .args .n) (now (c .before .before .before .args .up)) (omega (arith, c .before .before .cells .given .0)))
+slice-aggregate-write c = simp length-take (omega (arith, c .before .before .cells .given .0))
 
 write-requires : tie.Need-write-requires
-write-requires c κs = omega (arith, length-take-le (c .before .before .before .args .n) (now (c .before .before .before .args .up)) (omega (arith, c .before .before .cells .given .0)))
+write-requires c κs = simp length-take (omega (arith, c .before .before .cells .given .0))
 
 same-length : tie.Need-same-length
 same-length c = search needs
 
 returns : tie.Need-returns
-returns c = (aside-length (now (c .before .before .before .before .before .args .saved)) (now (c .before .before .before .before .before .args .up)) (c .before .before .before .before .before .args .n) (omega (arith, c .before .before .before .before .cells .given .0)) (omega arith) (c .before .write .ensures), aside-first (now (c .before .before .before .before .before .args .saved)) (now (c .before .before .before .before .before .args .up)) (c .before .before .before .before .before .args .n) (omega (arith, c .before .before .before .before .cells .given .0)) (omega arith) (c .before .write .ensures))
+returns c =
+    let t = c .before .before .before .before .before .args in (
+      aside-length (now (t .saved)) (now (t .up)) (t .n) (omega (arith, c .before .before .before .before .cells .given .0)) (omega arith) (c .before .write .ensures),
+      aside-first (now (t .saved)) (now (t .up)) (t .n) (omega (arith, c .before .before .before .before .cells .given .0)) (omega arith) (c .before .write .ensures),
+    )
 
 pub put-aside-spec : {M : Type 1} → statement M
 put-aside-spec = tie.close (tie.spec slice-aggregate-write write-requires same-length returns)

@@ -2,7 +2,7 @@
 use borrow.Author.Needs.{needs}
 use Rattle.node.proofs.both.after_no.Statement.{statement}
 use Rattle.node.proofs.both.after_no.Tie as tie
-use mathlib.Core.Path.{_≡_, _∙_}
+use mathlib.Core.Path.{_∙_}
 
 enum-told : tie.Need-enum-told
 enum-told c = search needs

@@ -2,7 +2,7 @@
 use borrow.Author.Needs.{needs}
 use Rattle.node.proofs.cell.cell_at.Statement.{statement}
 use Rattle.node.proofs.cell.cell_at.Tie as tie
-use mathlib.Core.Path.{_≡_, sym}
+use mathlib.Core.Path.{sym}
 use denote.Ref.{now}
 use lib.ListN.{List·getD-eq-default}
 

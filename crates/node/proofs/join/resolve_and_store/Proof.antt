@@ -3,27 +3,25 @@ use borrow.Author.Needs.{needs}
 use Rattle.node.proofs.join.resolve_and_store.Statement.{statement}
 use Rattle.node.proofs.join.resolve_and_store.Tie as tie
 use Prim.Native.Nat.{_≤_}
-use mathlib.Core.Path.{sym}
 use native.Mathlib.Omega.{arith}
 use denote.Ref.{now}
-use lib.ListN.{length, take}
-use lib.Seq.{length-take-le}
+use lib.ListN.{length, take, length-take}
 use Rattle.node.proofs.Joins.{resolved-short, resolved-stored}
 
 -- the resolvent lies within the area
 within : (c : tie.After-store-first-arg4) → c .before .before .before .before .resolve .result ≤ length (c .before .before .before .before .resolve .last .0)
 within c =
     let s = c .before .before .before .before .before .before .before in
-    omega (arith, c .store-first-arg4 .given .0, c .before .before .before .before .resolve .ensures .0, s .pre, length-take-le (s .args .n) (now (s .args .saved)) (omega arith))
+    omega (arith, c .store-first-arg4 .given .0, simp length-take at (c .before .before .before .before .resolve .ensures .0), s .pre)
 
 add-place : tie.Need-add-place
 add-place c = search needs
 
 slice-aggregate-resolve : tie.Need-slice-aggregate-resolve
-slice-aggregate-resolve c = sym (length-take-le (c .before .before .args .n) (now (c .before .before .args .saved)) (omega arith))
+slice-aggregate-resolve c = simp length-take (omega arith)
 
 resolve-requires : tie.Need-resolve-requires
-resolve-requires c κs = omega (arith, length-take-le (c .before .before .args .n) (now (c .before .before .args .saved)) (omega arith))
+resolve-requires c κs = simp length-take (omega arith)
 
 store-first-requires : tie.Need-store-first-requires
 store-first-requires c κs = (c .before .before .before .before .before .before .before .pre .4, within c)

@@ -2,19 +2,17 @@
 use borrow.Author.Needs.{needs}
 use Rattle.node.proofs.join.store_first.Statement.{statement}
 use Rattle.node.proofs.join.store_first.Tie as tie
-use mathlib.Core.Path.{refl, sym}
 use native.Mathlib.Omega.{arith}
-use denote.Ref.{now}
-use lib.Seq.{length-take-le}
+use lib.ListN.{length-take}
 
 returns : tie.Need-returns
 returns c = (omega arith, c .before .pre .0, λ h. absurd (omega (arith, h, c .if1 .taken)))
 
 slice-aggregate-push : tie.Need-slice-aggregate-push
-slice-aggregate-push c = sym (length-take-le (c .before .before .before .before .args .n) (now (c .before .before .before .before .args .lits)) (omega arith))
+slice-aggregate-push c = simp length-take (omega arith)
 
 push-requires : tie.Need-push-requires
-push-requires c κs = (c .before .before .before .before .pre .0, omega (arith, c .before .before .before .if1 .left, length-take-le (c .before .before .before .before .args .n) (now (c .before .before .before .before .args .lits)) (omega arith)))
+push-requires c κs = (c .before .before .before .before .pre .0, simp length-take (omega arith))
 
 returns-2 : tie.Need-returns-2
 returns-2 c = search needs

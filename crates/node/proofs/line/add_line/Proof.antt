@@ -2,9 +2,8 @@
 use borrow.Author.Needs.{needs}
 use Rattle.node.proofs.line.add_line.Statement.{statement}
 use Rattle.node.proofs.line.add_line.Tie as tie
-use mathlib.Core.Path.{_≡_, refl, sym}
+use mathlib.Core.Path.{refl, sym}
 use native.Mathlib.Omega.{arith}
-use denote.Ref.{now}
 
 returns : tie.Need-returns
 returns c = (refl, λ D s b ls task e. absurd (omega (arith, task .inside, c .if1 .taken)))
