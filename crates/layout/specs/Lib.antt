@@ -1,0 +1,5 @@
+pub mod Words
+pub mod Forms
+pub mod Opening
+pub mod Output
+pub mod Program

@@ -1,0 +1,73 @@
+-- The text of a card and of a refusal. Paper 01, "Text and program". Every line ends with byte 10.
+use Prim.Native.Nat.{ℕ, zero, suc, _+_, _/_, _%_}
+use mathlib.Core.Bool.{Bool, true, false, cond}
+use mathlib.Core.List.{List, [], _∷_, _++_}
+use lib.IntN.{pos, negsuc}
+use lib.Dec.{ltb}
+use Rattle.qbf.specs.Formula.{Prefix, Literal, Node}
+use Rattle.layout.specs.Words.{Bytes, ascii, space}
+use Rattle.layout.specs.Forms.{off}
+
+-- ---- numbers
+-- at most k digits of n, the last ones
+unfoldable pub lastDigits : ℕ → ℕ → Bytes
+lastDigits zero n = []
+lastDigits (suc k) n = cond (ltb n 10) ((48 + n) ∷ []) (lastDigits k (n / 10) ++ ((48 + n % 10) ∷ []))
+
+-- "with as many digits as they need"
+unfoldable pub decimal : ℕ → Bytes
+decimal n = lastDigits (suc n) n
+
+-- ---- a card
+-- `1` is on, `(no 1)` off
+unfoldable pub literalText : Literal → Bytes
+literalText (pos n) = decimal n
+literalText (negsuc n) = ascii "(no " ++ decimal (suc n) ++ ascii ")"
+
+-- the literals that a node sets, in place order
+abbrev pub setLiterals : Prefix → Node → List Literal
+setLiterals [] s = []
+setLiterals (d ∷ D) [] = []
+setLiterals (d ∷ D) (v ∷ s) = cond v (pos (d .number)) (off (d .number)) ∷ setLiterals D s
+
+unfoldable pub itemsText : List Literal → Bytes
+itemsText [] = []
+itemsText (l ∷ ls) = space ∷ literalText l ++ itemsText ls
+
+-- "each line's set flags in place order"
+unfoldable pub lineText : Prefix → Node → Bytes
+lineText D s = ascii "(line" ++ itemsText (setLiterals D s) ++ ascii ")\n"
+
+unfoldable pub linesText : Prefix → List Node → Bytes
+linesText D [] = []
+linesText D (s ∷ ss) = lineText D s ++ linesText D ss
+
+unfoldable pub visitsText : ℕ → Bytes
+visitsText n = ascii "(visits " ++ decimal n ++ ascii ")\n"
+
+-- "The card's own edition, always 1", then the lines, "then visits"
+unfoldable pub cardText : Prefix → List Node → ℕ → Bytes
+cardText D ls n = ascii "(card 1)\n" ++ linesText D ls ++ visitsText n ++ ascii "(end)\n"
+
+-- ---- refusals
+-- "A refused text prints only `(refused N L)`"
+unfoldable pub refusalText : ℕ → ℕ → Bytes
+refusalText n line = ascii "(refused " ++ decimal n ++ ascii " " ++ decimal line ++ ascii ")\n"
+
+-- a card too large, in a session: its visits are told
+unfoldable pub overflowText : ℕ → ℕ → ℕ → Bytes
+overflowText n line visits = ascii "(refused " ++ decimal n ++ ascii " " ++ decimal line ++ ascii " (visits " ++ decimal visits ++ ascii "))\n"
+
+-- ---- other answers of a session
+abbrev pub replyText : Bool → Bytes
+replyText true = ascii "(swap (visits "
+replyText false = ascii "(keep (visits "
+
+unfoldable pub queryText : Bool → ℕ → Bytes
+queryText swap n = replyText swap ++ decimal n ++ ascii "))\n"
+
+abbrev pub acceptedText : Bytes
+acceptedText = ascii "(accepted)\n"
+
+abbrev pub forgottenText : Bytes
+forgottenText = ascii "(forgotten)\n"

@@ -1,0 +1,9 @@
+pub mod Digits
+pub mod Words
+pub mod Pieces
+pub mod Narrowed
+pub mod Literals
+pub mod Keywords
+pub mod Lines
+pub mod Judged
+pub mod Texts

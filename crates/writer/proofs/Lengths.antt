@@ -1,0 +1,40 @@
+-- How long the texts are, by the lengths of their numbers and rows.
+use Prim.Native.Nat.{ℕ, _+_}
+use mathlib.Core.Path.{_≡_, refl}
+use mathlib.Core.Bool.{Bool, true, false}
+use mathlib.Core.List.{List, _++_}
+use native.Mathlib.Omega.{arith}
+use lib.ListN.{length, length-append}
+use Rattle.layout.specs.Words.{ascii}
+use Rattle.layout.specs.Output.{decimal, visitsText, refusalText, overflowText, replyText, queryText}
+use Rattle.writer.specs.Rows.{rowsText, cardRows}
+
+-- ---- numbers in words
+pub visits-length : (n : ℕ) → length (visitsText n) ≡ length (decimal n) + 10
+unfolding visitsText
+visits-length n = simp length-append (omega arith)
+
+pub refusal-length : (n line : ℕ) → length (refusalText n line) ≡ length (decimal n) + length (decimal line) + 12
+unfolding refusalText
+refusal-length n line = simp length-append (omega arith)
+
+pub overflow-length : (n line visits : ℕ) → length (overflowText n line visits) ≡ length (decimal n) + length (decimal line) + length (decimal visits) + 22
+unfolding overflowText
+overflow-length n line visits = simp length-append (omega arith)
+
+pub reply-length : (swap : Bool) → length (replyText swap) ≡ 14
+reply-length true = refl
+reply-length false = refl
+
+pub query-length : (swap : Bool) (n : ℕ) → length (queryText swap n) ≡ length (decimal n) + 17
+unfolding queryText
+query-length true n = simp length-append (omega arith)
+query-length false n = simp length-append (omega arith)
+
+pub off-length : (n : ℕ) → length (ascii " (no " ++ decimal n ++ ascii ")") ≡ length (decimal n) + 6
+off-length n = simp length-append (omega arith)
+
+-- ---- a card
+pub card-length : (f : ℕ) (numbers table : List ℕ) (n visits : ℕ) → length (cardRows f numbers table n visits) ≡ length (rowsText f numbers table n) + length (visitsText visits) + 15
+unfolding cardRows
+card-length f numbers table n visits = simp length-append (omega arith)

@@ -1,0 +1,6 @@
+pub mod Appending
+pub mod Decimals
+pub mod Lengths
+pub mod Written
+pub mod Listed
+pub mod Shown
