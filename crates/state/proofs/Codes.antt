@@ -3,19 +3,18 @@ use Prim.Native.Nat.{ℕ, zero, suc, _+_, _-_, _≤_, _<_}
 use native.Mathlib.Numerals.{add-one}
 use native.Mathlib.Nat.{not-suc-le-zero}
 use native.Mathlib.Omega.{arith}
-use mathlib.Core.Path.{_≡_, refl, sym, ap, _∙_, subst}
+use mathlib.Core.Path.{_≡_, refl, sym, ap, _∙_}
 use mathlib.Core.Logic.{_⊎_, inl, inr}
-use mathlib.Core.List.{List, [], _∷_}
+use mathlib.Core.List.{List, _∷_}
 use lib.ListN.{length, getD, set, drop, replicate, length-set, length-map, List·getD-eq-default, drop-of-length-le}
 use lib.Seq.{drop-cons, getD-set-same, getD-set-other}
 use lib.IntN.{pos}
 use borrow.Author.Count.{below-more}
-use Rattle.qbf.specs.Formula.{Quantifier, free, exists, forall, Variable, Prefix, quantifiers, quantifierAt, placeOf}
+use Rattle.qbf.specs.Formula.{Quantifier, free, exists, forall, Prefix, quantifiers, quantifierAt, placeOf}
 use Rattle.qbf.specs.Truth.{freeCount, freeVariables}
 use Rattle.theory.proofs.Basics.{le-or-lt}
 use Rattle.theory.proofs.WellFormed.{inside}
 use Rattle.tables.specs.Views.{quantifierCode, Numbers, Places, Kinds}
-use Rattle.state.specs.Reading.{codeAt}
 use Rattle.state.specs.Derived.{Quantified, codeFor}
 
 pub code-at : (ls ks : List ℕ) (p : ℕ) → (p ≡ 0 → ⊥) → getD ks (getD ls p 0) 0 ≡ codeFor ls ks p
@@ -66,50 +65,49 @@ module _ (ls ks places : List ℕ) where
         by (suc i) b = kinds .at i b
 
 -- ---- the free variables at the front
-module _ (ns ls ks : List ℕ) where
-  pub record Freed (i : ℕ) : Type 0 where
-    pub low : i ≤ getD ns 0 0
-    pub judged : (D : Prefix) → Numbers D ns → Quantified D ls ks → freeVariables D ≡ i + freeCount (drop i (quantifiers D))
+pub record Freed (ns ls ks : List ℕ) (count i : ℕ) : Type 0 where
+  pub whole : count ≡ getD ns 0 0
+  pub judged : (D : Prefix) → Numbers D ns → Quantified D ls ks → freeVariables D ≡ i + freeCount (drop i (quantifiers D))
 
-  pub freed-none : Freed 0
-  freed-none = record { low = omega arith; judged = λ D shown kinds. omega arith }
+pub freed-none : (ns ls ks : List ℕ) {count : ℕ} → count ≡ getD ns 0 0 → Freed ns ls ks count 0
+freed-none ns ls ks w = record { whole = w; judged = λ D shown kinds. omega arith }
 
-  module _ {i : ℕ} (w : Freed i) where
-    pub freed-end : getD ns 0 0 ≤ i → (D : Prefix) → Numbers D ns → Quantified D ls ks → i ≡ freeVariables D
-    freed-end h D shown kinds =
-        let e : freeCount (drop i (quantifiers D)) ≡ 0 = ap freeCount (drop-of-length-le (quantifiers D) {i = i} (omega (arith, h, shown .count, kinds-long D))) in
+module _ {ns ls ks : List ℕ} {count i : ℕ} (w : Freed ns ls ks count i) where
+  pub freed-end : count ≤ i → (D : Prefix) → Numbers D ns → Quantified D ls ks → i ≡ freeVariables D
+  freed-end h D shown kinds =
+      let e : freeCount (drop i (quantifiers D)) ≡ 0 = ap freeCount (drop-of-length-le (quantifiers D) {i = i} (omega (arith, h, w .whole, shown .count, kinds-long D))) in
+      omega (arith, w .judged D shown kinds, e)
+
+  -- k is the code of the next place
+  module _ (more : i < count) {k : ℕ} (is : k ≡ codeFor ls ks (i + 1)) where
+    next : (D : Prefix) → Numbers D ns → drop i (quantifiers D) ≡ quantifierAt D (suc i) ∷ drop (suc i) (quantifiers D)
+    next D shown = drop-cons (quantifiers D) i free (omega (arith, more, w .whole, shown .count, kinds-long D))
+
+    code : (D : Prefix) → Numbers D ns → Quantified D ls ks → k ≡ quantifierCode (quantifierAt D (suc i))
+    code D shown kinds = is ∙ ap (codeFor ls ks) (add-one i) ∙ kinds .at i (omega (arith, more, w .whole, shown .count))
+
+    bound-stops : (κ : Quantifier) (rest : List Quantifier) → (quantifierCode κ ≡ 0 → ⊥) → freeCount (κ ∷ rest) ≡ 0
+    bound-stops free rest n = absurd (n refl)
+    bound-stops exists rest n = refl
+    bound-stops forall rest n = refl
+
+    free-counts : (κ : Quantifier) (rest : List Quantifier) → quantifierCode κ ≡ 0 → freeCount (κ ∷ rest) ≡ suc (freeCount rest)
+    free-counts free rest e = refl
+    free-counts exists rest e = absurd (not-suc-le-zero {n = 0} (omega (arith, e)))
+    free-counts forall rest e = absurd (not-suc-le-zero {n = 0} (omega (arith, e)))
+
+    pub freed-stop : (k ≡ 0 → ⊥) → (D : Prefix) → Numbers D ns → Quantified D ls ks → i ≡ freeVariables D
+    freed-stop n D shown kinds =
+        let e : freeCount (drop i (quantifiers D)) ≡ 0 = ap freeCount (next D shown) ∙ bound-stops (quantifierAt D (suc i)) (drop (suc i) (quantifiers D)) (λ z. n (code D shown kinds ∙ z)) in
         omega (arith, w .judged D shown kinds, e)
 
-    -- k is the code of the next place
-    module _ (more : i < getD ns 0 0) {k : ℕ} (is : k ≡ codeFor ls ks (i + 1)) where
-      next : (D : Prefix) → Numbers D ns → drop i (quantifiers D) ≡ quantifierAt D (suc i) ∷ drop (suc i) (quantifiers D)
-      next D shown = drop-cons (quantifiers D) i free (omega (arith, more, shown .count, kinds-long D))
-
-      code : (D : Prefix) → Numbers D ns → Quantified D ls ks → k ≡ quantifierCode (quantifierAt D (suc i))
-      code D shown kinds = is ∙ ap (codeFor ls ks) (add-one i) ∙ kinds .at i (omega (arith, more, shown .count))
-
-      bound-stops : (κ : Quantifier) (rest : List Quantifier) → (quantifierCode κ ≡ 0 → ⊥) → freeCount (κ ∷ rest) ≡ 0
-      bound-stops free rest n = absurd (n refl)
-      bound-stops exists rest n = refl
-      bound-stops forall rest n = refl
-
-      free-counts : (κ : Quantifier) (rest : List Quantifier) → quantifierCode κ ≡ 0 → freeCount (κ ∷ rest) ≡ suc (freeCount rest)
-      free-counts free rest e = refl
-      free-counts exists rest e = absurd (not-suc-le-zero {n = 0} (omega (arith, e)))
-      free-counts forall rest e = absurd (not-suc-le-zero {n = 0} (omega (arith, e)))
-
-      pub freed-stop : (k ≡ 0 → ⊥) → (D : Prefix) → Numbers D ns → Quantified D ls ks → i ≡ freeVariables D
-      freed-stop n D shown kinds =
-          let e : freeCount (drop i (quantifiers D)) ≡ 0 = ap freeCount (next D shown) ∙ bound-stops (quantifierAt D (suc i)) (drop (suc i) (quantifiers D)) (λ z. n (code D shown kinds ∙ z)) in
-          omega (arith, w .judged D shown kinds, e)
-
-      pub freed-more : k ≡ 0 → Freed (i + 1)
-      freed-more z =
-          rw add-one
-          (record {
-            low = more;
-            judged = λ D shown kinds.
-                let e : freeCount (drop i (quantifiers D)) ≡ suc (freeCount (drop (suc i) (quantifiers D))) =
-                ap freeCount (next D shown) ∙ free-counts (quantifierAt D (suc i)) (drop (suc i) (quantifiers D)) (sym (code D shown kinds) ∙ z) in
-                omega (arith, w .judged D shown kinds, e);
-          })
+    pub freed-more : k ≡ 0 → Freed ns ls ks count (i + 1)
+    freed-more z =
+        rw add-one
+        (record {
+          whole = w .whole;
+          judged = λ D shown kinds.
+              let e : freeCount (drop i (quantifiers D)) ≡ suc (freeCount (drop (suc i) (quantifiers D))) =
+              ap freeCount (next D shown) ∙ free-counts (quantifierAt D (suc i)) (drop (suc i) (quantifiers D)) (sym (code D shown kinds) ∙ z) in
+              omega (arith, w .judged D shown kinds, e);
+        })

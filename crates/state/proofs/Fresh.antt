@@ -1,23 +1,22 @@
 -- The numbers of a prefix, each 1 to the limit and none twice, and the table of their places as it is filled from the first on.
 use Prim.Native.Nat.{ℕ, zero, suc, _+_, _-_, _≤_, _<_}
 use native.Mathlib.Numerals.{add-one}
-use native.Mathlib.Nat.{le-of-suc-le-suc, not-suc-le-zero}
 use native.Mathlib.Omega.{arith}
 use mathlib.Core.Path.{_≡_, refl, sym, ap, _∙_, subst}
 use mathlib.Core.Logic.{_⊎_, inl, inr}
 use mathlib.Core.Bool.{Bool, true, false, cond, not, _&&_, _||_, false≢true}
 use mathlib.Core.List.{List, [], _∷_, map}
-use lib.ListN.{length, getD, set, replicate, length-set, length-map, getD-replicate, length-replicate, List·getD-eq-default}
+use lib.ListN.{length, getD, set, replicate, length-set, length-map}
 use lib.Seq.{ext-getD, getD-set-same, getD-set-other}
 use lib.Dec.{leb, eqb}
-use borrow.Author.Tests.{eqb-true, eqb-false, eq-eqb, ne-eqb, leb-true, le-leb, lt-leb}
+use borrow.Author.Tests.{eqb-true, eqb-false, ne-eqb, leb-true, le-leb, lt-leb, not-true, not-false}
 use Rattle.qbf.specs.Formula.{paper, Prefix, any, placeFrom, placeOf}
 use Rattle.qbf.specs.Calls.{numbersOk}
 use Rattle.theory.proofs.Basics.{dichotomy, and-left, and-right}
 use Rattle.theory.proofs.Widths.{prefix-width}
-use Rattle.tables.specs.Views.{Numbers, Places}
+use Rattle.tables.specs.Views.{Numbers}
 use Rattle.state.specs.Reading.{listing, entryAt, entries}
-use Rattle.state.specs.Derived.{numbered, Placing}
+use Rattle.state.specs.Derived.{numbered, isFresh, Placing}
 use Rattle.state.proofs.Listing.{listing-length, listing-at, listing-next, listing-end}
 
 -- ---- the same of the numbers alone
@@ -71,9 +70,6 @@ pick (suc p) q = suc p
 abbrev rest : List ℕ → ℕ → List ℕ
 rest ns i = listing (entryAt ns) i (getD ns 0 0 - i)
 
-abbrev pub isFresh : List ℕ → ℕ → Bool
-isFresh places n = leb 1 n && leb n 40 && eqb (getD places n 0) 0
-
 pub record Filled (ns places : List ℕ) (i : ℕ) : Type 0 where
   pub low : i ≤ getD ns 0 0
   pub room : length places ≡ 41
@@ -86,7 +82,7 @@ zero-cell zero m = refl
 zero-cell (suc n) zero = refl
 zero-cell (suc n) (suc m) = zero-cell n m
 
-pub filled-none : (ns : List ℕ) → Filled ns (replicate 41 0) 0
+filled-none : (ns : List ℕ) → Filled ns (replicate 41 0) 0
 filled-none ns =
     let e : getD ns 0 0 - 0 ≡ getD ns 0 0 = omega arith in
     record {
@@ -180,20 +176,6 @@ module _ (ns places : List ℕ) (i : ℕ) (f : Filled ns places i) (more : i < g
         by true true false d e = absurd (false≢true e)
         by true true true d e = refl
 
--- n is the next number as it was read, and r the answer of its test
-module _ (ns places : List ℕ) (i : ℕ) (f : Filled ns places i) (more : i < getD ns 0 0) {n : ℕ} (is : n ≡ entryAt ns i) {r : Bool} (said : r ≡ isFresh places n) where
-  test : {b : Bool} → r ≡ b → isFresh places (entryAt ns i) ≡ b
-  test e = ap (isFresh places) (sym is) ∙ sym said ∙ e
-
-  pub filled-bad : r ≡ false → fresh 40 [] (entries ns) ≡ false
-  filled-bad e = bad ns places i f more (test e)
-
-  pub filled-within : r ≡ true → n ≤ 40
-  filled-within e = subst (λ (m : ℕ). m ≤ 40) (sym is) (within ns places i f more (test e))
-
-  pub filled-more : r ≡ true → Filled ns (set places n (i + 1)) (i + 1)
-  filled-more e = subst (λ (m : ℕ). Filled ns (set places m (i + 1)) (i + 1)) (sym is) (grown ns places i f more (test e))
-
 -- ---- what is said of a prefix with these numbers
 module _ (ns : List ℕ) where
   numbered-by : (D : Prefix) → Numbers D ns → numbered D ≡ (leb (getD ns 0 0) 40 && fresh 40 [] (entries ns))
@@ -201,8 +183,8 @@ module _ (ns : List ℕ) where
       ap (λ (n : ℕ). leb n 40 && numbersOk paper [] D) (sym (shown .count))
       ∙ ap (λ (b : Bool). leb (getD ns 0 0) 40 && b) (numbers-fresh [] D ∙ ap (fresh 40 []) (numbers-listed D ns shown))
 
-  pub placing-many : (places : List ℕ) → 40 < getD ns 0 0 → Placing ns false places
-  placing-many places h =
+  many : (places : List ℕ) → 40 < getD ns 0 0 → Placing ns false places
+  many places h =
       record {
         said = λ D shown. sym (numbered-by D shown ∙ ap (λ (b : Bool). b && fresh 40 [] (entries ns)) (lt-leb (getD ns 0 0) 40 h));
         shown = λ e. absurd (false≢true e);
@@ -212,13 +194,13 @@ module _ (ns : List ℕ) where
     judged-by : (D : Prefix) → Numbers D ns → numbered D ≡ fresh 40 [] (entries ns)
     judged-by D shown = numbered-by D shown ∙ ap (λ (b : Bool). b && fresh 40 [] (entries ns)) (le-leb (getD ns 0 0) 40 few)
 
-    pub placing-bad : (places : List ℕ) → fresh 40 [] (entries ns) ≡ false → Placing ns false places
-    placing-bad places e =
+    failed : (places : List ℕ) → fresh 40 [] (entries ns) ≡ false → Placing ns false places
+    failed places e =
         record { said = λ D shown. sym (judged-by D shown ∙ e); shown = λ q. absurd (false≢true q) }
 
-    pub placing-end : (places : List ℕ) (i : ℕ) → Filled ns places i → getD ns 0 0 ≤ i → Placing ns true places
+    ended : (places : List ℕ) (i : ℕ) → Filled ns places i → getD ns 0 0 ≤ i → Placing ns true places
     unfolding placeOf
-    placing-end places i f end = record { said = λ D shown. sym (judged-by D shown ∙ f .judged ∙ ap (fresh 40 (seenTo ns i)) done); shown = λ e D shown. record { at = at D shown } }
+    ended places i f end = record { said = λ D shown. sym (judged-by D shown ∙ f .judged ∙ ap (fresh 40 (seenTo ns i)) done); shown = λ e D shown. record { at = at D shown } }
       where
         done : rest ns i ≡ []
         done = listing-end (entryAt ns) i (getD ns 0 0) end
@@ -235,6 +217,50 @@ module _ (ns : List ℕ) where
             ∙ f .found n
             ∙ ap (λ (l : List ℕ). pick (getD places n 0) (position (suc i) n l)) done
             ∙ whole (getD places n 0))
+
+-- ---- the loop that fills the table
+pub record Filling (ns : List ℕ) (count : ℕ) (places : List ℕ) (i : ℕ) : Type 0 where
+  pub whole : count ≡ getD ns 0 0
+  pub few : count ≤ 40
+  pub filled : Filled ns places i
+
+pub filling-many : {ns : List ℕ} {count : ℕ} (places : List ℕ) → count ≡ getD ns 0 0 → 40 < count → Placing ns false places
+filling-many {ns} places w h = many ns places (omega (arith, w, h))
+
+pub filling-none : {ns : List ℕ} {count : ℕ} → count ≡ getD ns 0 0 → count ≤ 40 → Filling ns count (replicate 41 0) 0
+filling-none {ns} w h = record { whole = w; few = h; filled = filled-none ns }
+
+pub filling-end : {ns : List ℕ} {count : ℕ} {places : List ℕ} {i : ℕ} → Filling ns count places i → count ≤ i → Placing ns true places
+filling-end {ns} {count} {places} {i} f h = ended ns (omega (arith, f .few, f .whole)) places i (f .filled) (omega (arith, f .whole, h))
+
+-- the next number, read as n, was tested with the answer r
+pub record Tested (ns : List ℕ) (count : ℕ) (places : List ℕ) (i n : ℕ) (r : Bool) : Type 0 where
+  pub filling : Filling ns count places i
+  pub more : i < count
+  pub is : n ≡ entryAt ns i
+  pub said : r ≡ isFresh places n
+
+module _ {ns : List ℕ} {count : ℕ} {places : List ℕ} {i n : ℕ} {r : Bool} (t : Tested ns count places i n r) where
+  further : i < getD ns 0 0
+  further = omega (arith, t .more, t .filling .whole)
+
+  test : {b : Bool} → r ≡ b → isFresh places (entryAt ns i) ≡ b
+  test e = ap (isFresh places) (sym (t .is)) ∙ sym (t .said) ∙ e
+
+  pub tested-bad : not r ≡ true → Placing ns false places
+  tested-bad e =
+      failed ns (omega (arith, t .filling .few, t .filling .whole)) places (bad ns places i (t .filling .filled) further (test (not-true r e)))
+
+  pub tested-within : not r ≡ false → n ≤ 40
+  tested-within e = subst (λ (m : ℕ). m ≤ 40) (sym (t .is)) (within ns places i (t .filling .filled) further (test (not-false r e)))
+
+  pub tested-more : not r ≡ false → Filling ns count (set places n (i + 1)) (i + 1)
+  tested-more e =
+      record {
+        whole = t .filling .whole;
+        few = t .filling .few;
+        filled = subst (λ (m : ℕ). Filled ns (set places m (i + 1)) (i + 1)) (sym (t .is)) (grown ns places i (t .filling .filled) further (test (not-false r e)));
+      }
 
 -- distinct numbers from 1 to 40 are at most 40
 pub numbers-numbered : (D : Prefix) → numbersOk paper [] D ≡ true → numbered D ≡ true

@@ -5,3 +5,7 @@ pub mod Order
 pub mod Scan
 pub mod Codes
 pub mod Valid
+pub mod Behind
+pub mod Growth
+pub mod Cases
+pub mod SoundPrefix

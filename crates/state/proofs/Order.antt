@@ -1,7 +1,7 @@
 -- Literals in place order, literal by literal; the last literal, which says whether a constraint is reduced.
-use Prim.Native.Nat.{ℕ, zero, suc, _+_, _-_, _≤_, _<_}
+use Prim.Native.Nat.{ℕ, suc, _+_, _-_, _≤_, _<_}
 use native.Mathlib.Numerals.{add-one}
-use native.Mathlib.Nat.{le-of-suc-le-suc, not-suc-le-zero}
+use native.Mathlib.Nat.{not-suc-le-zero}
 use native.Mathlib.Omega.{arith}
 use mathlib.Core.Path.{_≡_, refl, sym, ap, _∙_}
 use mathlib.Core.Bool.{Bool, true, false, cond, not, _&&_}
@@ -12,9 +12,9 @@ use lib.ListN.{drop-of-length-le}
 use lib.IntN.{ℤ, pos}
 use lib.Dec.{leb, ltb, eqb}
 use borrow.Author.Tests.{lt-ltb, le-ltb, le-leb, lt-leb}
-use Rattle.qbf.specs.Formula.{paper, Prefix, Literal, numberOf, place, quantifierAt, free}
+use Rattle.qbf.specs.Formula.{paper, Prefix, numberOf, place, quantifierAt, free}
 use Rattle.qbf.specs.Learning.{Polarity, Constraint, dropped, lastPlace, lastPlaceFrom}
-use Rattle.qbf.specs.Calls.{inOrder, clauseOk, constraintOk}
+use Rattle.qbf.specs.Calls.{inOrder, clauseOk}
 use Rattle.tables.specs.Views.{Places, Kinds}
 use Rattle.tables.proofs.Laws.{kinds-dropped}
 

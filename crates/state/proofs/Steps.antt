@@ -1,19 +1,18 @@
 -- The levels of a prefix place by place: each level is the one that its quantifier gives beside the place before.
 use Prim.Native.Nat.{ℕ, zero, suc, _+_, _-_, _≤_, _<_}
 use native.Mathlib.Numerals.{add-one}
-use native.Mathlib.Nat.{le-of-suc-le-suc, not-suc-le-zero}
 use native.Mathlib.Omega.{arith}
-use mathlib.Core.Path.{_≡_, refl, sym, ap, _∙_, subst}
+use mathlib.Core.Path.{_≡_, refl, sym, ap, _∙_}
 use mathlib.Core.Logic.{_⊎_, inl, inr}
-use mathlib.Core.Bool.{Bool, true, false, cond, not, _&&_, false≢true}
+use mathlib.Core.Bool.{Bool, true, false, cond, not, _&&_}
 use mathlib.Core.List.{List, [], _∷_}
-use lib.ListN.{length, getD}
+use lib.ListN.{getD}
 use lib.Dec.{leb, eqb}
-use borrow.Author.Tests.{eqb-true, eq-eqb, ne-eqb, leb-true, le-leb, lt-leb}
+use borrow.Author.Tests.{eqb-true, eq-eqb, ne-eqb, leb-true, le-leb, lt-leb, not-true, not-false}
 use Rattle.qbf.specs.Formula.{paper, Quantifier, free, exists, forall, isFree, sameQuantifier, quantifiers, levelBeside, levelsFrom, levels}
 use Rattle.qbf.specs.Calls.{freeFirst, noFree}
 use Rattle.theory.proofs.Basics.{dichotomy, and-left}
-use Rattle.state.specs.Reading.{listing, atMost, same, quantifierOf, entryAt, codeAt, variableAt, prefixOf, levelsFit, prefixFits}
+use Rattle.state.specs.Reading.{listing, atMost, same, quantifierOf, entryAt, codeAt, variableAt, prefixOf, levelsFit}
 use Rattle.state.specs.Derived.{ordered, stepOk, levelsOk}
 
 -- ---- one place
@@ -97,12 +96,12 @@ module _ (m b l k : ℕ) where
       step-after n = free-code k ∙ sym (step-order ∙ ordered-after b k n)
 
 -- ---- all places
-abbrev orderFrom : Quantifier → List Quantifier → Bool
+abbrev pub orderFrom : Quantifier → List Quantifier → Bool
 orderFrom free ks = freeFirst ks
 orderFrom exists ks = noFree ks
 orderFrom forall ks = noFree ks
 
-order-step : (c κ : Quantifier) (ks : List Quantifier) → orderFrom c (κ ∷ ks) ≡ (ordered c κ && orderFrom κ ks)
+pub order-step : (c κ : Quantifier) (ks : List Quantifier) → orderFrom c (κ ∷ ks) ≡ (ordered c κ && orderFrom κ ks)
 order-step free free ks = refl
 order-step free exists ks = refl
 order-step free forall ks = refl
@@ -126,12 +125,13 @@ shuffle true true true false true true false O = refl
 shuffle true true true false true true true O = refl
 shuffle true true true true A B S O = refl
 
-module _ (ns ls ks : List ℕ) where
-  -- k places from i on, after one of level m and of code c
-  abbrev pub stepsFrom : ℕ → ℕ → ℕ → ℕ → Bool
-  stepsFrom m c i zero = true
-  stepsFrom m c i (suc k) = leb (entryAt ls i) 40 && (stepOk m c (entryAt ls i) (codeAt ls ks i) && stepsFrom (entryAt ls i) (codeAt ls ks i) (suc i) k)
+-- k places from i on, after one of level m and of code c
+abbrev pub stepsFrom : List ℕ → List ℕ → ℕ → ℕ → ℕ → ℕ → Bool
+stepsFrom ls ks m c i zero = true
+stepsFrom ls ks m c i (suc k) =
+    leb (entryAt ls i) 40 && (stepOk m c (entryAt ls i) (codeAt ls ks i) && stepsFrom ls ks (entryAt ls i) (codeAt ls ks i) (suc i) k)
 
+module _ (ns ls ks : List ℕ) where
   abbrev kindsFrom : ℕ → ℕ → List Quantifier
   kindsFrom i k = quantifiers (listing (variableAt ns ls ks) i k)
 
@@ -140,7 +140,7 @@ module _ (ns ls ks : List ℕ) where
       (atMost 40 (listing (entryAt ls) i k) && atMost 2 (listing (codeAt ls ks) i k) && same (levelsFrom m κ (kindsFrom i k)) (listing (entryAt ls) i k))
       && orderFrom κ (kindsFrom i k)
 
-  steps-rest : (m c i k : ℕ) → stepsFrom m c i k ≡ restOk m (quantifierOf c) i k
+  steps-rest : (m c i k : ℕ) → stepsFrom ls ks m c i k ≡ restOk m (quantifierOf c) i k
   steps-rest m c i zero = by (quantifierOf c)
     where
       by : (κ : Quantifier) → true ≡ orderFrom κ []
@@ -172,64 +172,76 @@ module _ (ns ls ks : List ℕ) where
       by (inl e) = ap (λ (n : ℕ). eqb g l && rest n) (sym (eqb-true g l e))
       by (inr e) = ap (λ (x : Bool). x && rest l) e ∙ sym (ap (λ (x : Bool). x && rest g) e)
 
-  pub steps-ok : getD ns 0 0 ≤ 40 → levelsOk ns ls ks ≡ stepsFrom 0 0 0 (getD ns 0 0)
+  pub steps-ok : getD ns 0 0 ≤ 40 → levelsOk ns ls ks ≡ stepsFrom ls ks 0 0 0 (getD ns 0 0)
   unfolding levels
   steps-ok few =
       ap (λ (x : Bool). x && levelsFit paper ns ls ks && freeFirst (quantifiers (prefixOf ns ls ks))) (le-leb (getD ns 0 0) 40 few)
       ∙ sym (steps-rest 0 0 0 (getD ns 0 0))
 
-  pub levels-many : 40 < getD ns 0 0 → false ≡ levelsOk ns ls ks
-  levels-many h =
-      sym (ap (λ (x : Bool). x && levelsFit paper ns ls ks && freeFirst (quantifiers (prefixOf ns ls ks))) (lt-leb (getD ns 0 0) 40 h))
+  pub levels-many : {count : ℕ} → count ≡ getD ns 0 0 → 40 < count → false ≡ levelsOk ns ls ks
+  levels-many w h =
+      sym (ap (λ (x : Bool). x && levelsFit paper ns ls ks && freeFirst (quantifiers (prefixOf ns ls ks))) (lt-leb (getD ns 0 0) 40 (omega (arith, w, h))))
 
-  -- ---- the walk along the places
-  pub record Stepping (m c i : ℕ) : Type 0 where
-    pub few : getD ns 0 0 ≤ 40
-    pub low : i ≤ getD ns 0 0
-    pub level : m ≤ 40
-    pub code : c ≤ 2
-    pub judged : levelsOk ns ls ks ≡ stepsFrom m c i (getD ns 0 0 - i)
+-- ---- the loop along the places; the last one has the level m and the code c
+pub record Stepping (ns ls ks : List ℕ) (count m c i : ℕ) : Type 0 where
+  pub whole : count ≡ getD ns 0 0
+  pub few : count ≤ 40
+  pub level : m ≤ 40
+  pub code : c ≤ 2
+  pub judged : levelsOk ns ls ks ≡ stepsFrom ls ks m c i (count - i)
 
-  pub stepping-none : getD ns 0 0 ≤ 40 → Stepping 0 0 0
-  stepping-none h =
-      let e : getD ns 0 0 ≡ getD ns 0 0 - 0 = omega arith in
-      record { few = h; low = omega arith; level = omega arith; code = omega arith; judged = steps-ok h ∙ ap (stepsFrom 0 0 0) e }
+pub stepping-none : (ns ls ks : List ℕ) {count : ℕ} → count ≡ getD ns 0 0 → count ≤ 40 → Stepping ns ls ks count 0 0 0
+stepping-none ns ls ks {count} w h =
+    let e : getD ns 0 0 ≡ count - 0 = omega (arith, w) in
+    record { whole = w; few = h; level = omega arith; code = omega arith; judged = steps-ok ns ls ks (omega (arith, w, h)) ∙ ap (stepsFrom ls ks 0 0 0) e }
 
-  module _ {m c i : ℕ} (w : Stepping m c i) where
-    pub stepping-end : getD ns 0 0 ≤ i → true ≡ levelsOk ns ls ks
-    stepping-end h = let e : getD ns 0 0 - i ≡ 0 = omega arith in sym (w .judged ∙ ap (stepsFrom m c i) e)
+pub stepping-end : {ns ls ks : List ℕ} {count m c i : ℕ} → Stepping ns ls ks count m c i → count ≤ i → true ≡ levelsOk ns ls ks
+stepping-end {ls = ls} {ks = ks} {count = count} {m = m} {c = c} {i = i} w h =
+    let e : count - i ≡ 0 = omega arith in sym (w .judged ∙ ap (stepsFrom ls ks m c i) e)
 
-    -- l and d are the level and the code as they were read
-    module _ (more : i < getD ns 0 0) {l : ℕ} (is : l ≡ entryAt ls i) where
-      abbrev onward : ℕ → ℕ → Bool
-      onward n d = leb n 40 && (stepOk m c n d && stepsFrom n d (suc i) (getD ns 0 0 - suc i))
+-- the next level, read as l
+pub record LevelRead (ns ls ks : List ℕ) (count m c i l : ℕ) : Type 0 where
+  pub stepping : Stepping ns ls ks count m c i
+  pub more : i < count
+  pub is : l ≡ entryAt ls i
 
-      next : levelsOk ns ls ks ≡ onward l (getD ks l 0)
-      next =
-          let e : getD ns 0 0 - i ≡ suc (getD ns 0 0 - suc i) = omega (arith, more) in
-          w .judged ∙ ap (stepsFrom m c i) e ∙ ap (λ (n : ℕ). onward n (getD ks n 0)) (sym is)
+module _ {ns ls ks : List ℕ} {count m c i l : ℕ} (t : LevelRead ns ls ks count m c i l) where
+  abbrev onward : ℕ → ℕ → Bool
+  onward n d = leb n 40 && (stepOk m c n d && stepsFrom ls ks n d (suc i) (count - suc i))
 
-      pub stepping-high : 40 < l → false ≡ levelsOk ns ls ks
-      stepping-high h = sym (next ∙ ap (λ (x : Bool). x && (stepOk m c l (getD ks l 0) && stepsFrom l (getD ks l 0) (suc i) (getD ns 0 0 - suc i))) (lt-leb l 40 h))
+  next : levelsOk ns ls ks ≡ onward l (getD ks l 0)
+  next =
+      let e : count - i ≡ suc (count - suc i) = omega (arith, t .more) in
+      t .stepping .judged ∙ ap (stepsFrom ls ks m c i) e ∙ ap (λ (n : ℕ). onward n (getD ks n 0)) (sym (t .is))
 
-      module _ (h : l ≤ 40) {d : ℕ} (reads : d ≡ getD ks l 0) {r : Bool} (said : r ≡ stepOk m c l d) where
-        tested : levelsOk ns ls ks ≡ (r && stepsFrom l d (suc i) (getD ns 0 0 - suc i))
-        tested =
-            next
-            ∙ ap (onward l) (sym reads)
-            ∙ ap (λ (x : Bool). x && (stepOk m c l d && stepsFrom l d (suc i) (getD ns 0 0 - suc i))) (le-leb l 40 h)
-            ∙ ap (λ (x : Bool). x && stepsFrom l d (suc i) (getD ns 0 0 - suc i)) (sym said)
+  pub level-high : 40 < l → false ≡ levelsOk ns ls ks
+  level-high h = sym (next ∙ ap (λ (x : Bool). x && (stepOk m c l (getD ks l 0) && stepsFrom ls ks l (getD ks l 0) (suc i) (count - suc i))) (lt-leb l 40 h))
 
-        pub stepping-bad : r ≡ false → false ≡ levelsOk ns ls ks
-        stepping-bad e = sym (tested ∙ ap (λ (x : Bool). x && stepsFrom l d (suc i) (getD ns 0 0 - suc i)) e)
+-- its code, read as d, was tested with the answer r
+pub record StepTested (ns ls ks : List ℕ) (count m c i l d : ℕ) (r : Bool) : Type 0 where
+  pub level-read : LevelRead ns ls ks count m c i l
+  pub small : l ≤ 40
+  pub is : d ≡ getD ks l 0
+  pub said : r ≡ stepOk m c l d
 
-        pub stepping-more : r ≡ true → Stepping l d (i + 1)
-        stepping-more e =
-            rw add-one
-            (record {
-              few = w .few;
-              low = more;
-              level = h;
-              code = leb-true d 2 (and-left (leb d 2) (eqb (levelBeside m (quantifierOf c) (quantifierOf d)) l && ordered (quantifierOf c) (quantifierOf d)) (sym said ∙ e));
-              judged = tested ∙ ap (λ (x : Bool). x && stepsFrom l d (suc i) (getD ns 0 0 - suc i)) e;
-            })
+module _ {ns ls ks : List ℕ} {count m c i l d : ℕ} {r : Bool} (t : StepTested ns ls ks count m c i l d r) where
+  tested : levelsOk ns ls ks ≡ (r && stepsFrom ls ks l d (suc i) (count - suc i))
+  tested =
+      next (t .level-read)
+      ∙ ap (onward (t .level-read) l) (sym (t .is))
+      ∙ ap (λ (x : Bool). x && (stepOk m c l d && stepsFrom ls ks l d (suc i) (count - suc i))) (le-leb l 40 (t .small))
+      ∙ ap (λ (x : Bool). x && stepsFrom ls ks l d (suc i) (count - suc i)) (sym (t .said))
+
+  pub step-bad : not r ≡ true → false ≡ levelsOk ns ls ks
+  step-bad e = sym (tested ∙ ap (λ (x : Bool). x && stepsFrom ls ks l d (suc i) (count - suc i)) (not-true r e))
+
+  pub step-more : not r ≡ false → Stepping ns ls ks count l d (i + 1)
+  step-more e =
+      rw add-one
+      (record {
+        whole = t .level-read .stepping .whole;
+        few = t .level-read .stepping .few;
+        level = t .small;
+        code = leb-true d 2 (and-left (leb d 2) (eqb (levelBeside m (quantifierOf c) (quantifierOf d)) l && ordered (quantifierOf c) (quantifierOf d)) (sym (t .said) ∙ not-false r e));
+        judged = tested ∙ ap (λ (x : Bool). x && stepsFrom ls ks l d (suc i) (count - suc i)) (not-false r e);
+      })

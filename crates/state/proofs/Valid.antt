@@ -1,17 +1,17 @@
 -- A valid state: what its check tests part by part, and what its tables show of the state that is read.
 use Prim.Native.Nat.{ℕ, zero, suc, _+_, _*_, _≤_, _<_}
 use native.Mathlib.Omega.{arith}
-use mathlib.Core.Path.{_≡_, refl, sym, ap, _∙_, subst}
+use mathlib.Core.Path.{_≡_, refl, sym, ap, _∙_}
 use mathlib.Core.Bool.{Bool, true, false, cond, not, _&&_, false≢true}
-use mathlib.Core.List.{List, [], _∷_, map}
-use mathlib.Core.Option.{Option, none, some}
-use lib.ListN.{length, getD, length-map}
+use mathlib.Core.List.{List, []}
+use mathlib.Core.Option.{none, some}
+use lib.ListN.{length, getD}
 use lib.Dec.{leb}
 use lib.IntN.{ℤ}
-use borrow.Author.Tests.{leb-true}
-use Rattle.qbf.specs.Formula.{paper, Quantifier, free, exists, forall, Variable, Prefix, Clause, quantifiers, quantifierAt, all}
+use borrow.Author.Tests.{leb-true, not-false}
+use Rattle.qbf.specs.Formula.{paper, free, Prefix, Clause, quantifiers, quantifierAt, all}
 use Rattle.qbf.specs.Learning.{Constraint}
-use Rattle.qbf.specs.Calls.{State as Read, wellFormed, formulaOk, prefixOk, numbersOk, freeFirst, clauseOk, clausesOk, constraintOk, storeOk}
+use Rattle.qbf.specs.Calls.{wellFormed, formulaOk, prefixOk, numbersOk, freeFirst, clauseOk, clausesOk, constraintOk, storeOk}
 use Rattle.theory.proofs.Basics.{and-left, and-right, and-both}
 use Rattle.tables.specs.Views.{quantifierCode, Numbers, Places, Kinds, Table, rowsOf}
 use Rattle.tables.proofs.Laws.{rows-length}
@@ -19,7 +19,6 @@ use Rattle.state.specs.declared.State.{State}
 use Rattle.state.specs.Reading.{listing, atMost, quantifierOf, entryAt, entries, codeAt, variableAt, prefixOf, levelsFit, prefixFits, rowsFit, fits, prefixIn, stateIn, readState, wellFormedRead, valid}
 use Rattle.state.specs.Derived.{numbered, Placing, Quantified, levelsOk, Shown, Sized}
 use Rattle.state.proofs.Listing.{listing-length, listing-at, listing-map, listing-all}
-use Rattle.state.proofs.Scan.{tableOk}
 
 -- ---- the prefix of three tables
 module _ (ns ls ks : List ℕ) where
@@ -96,6 +95,10 @@ rows-table w most flat sizes e room counted =
     }
 
 -- ---- a state
+-- a part whose test, answered r, did not fail
+pub passed : {r part : Bool} → r ≡ part → not r ≡ false → part ≡ true
+passed {r} s e = sym s ∙ not-false r e
+
 -- what a test that passes says of a state
 pub record ValidFacts (x : State) : Type 0 where
   pub read : readState x ≡ some (stateIn x)

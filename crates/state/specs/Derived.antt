@@ -1,9 +1,9 @@
 -- What the tables of a state say of its prefix, and what is ensured of the tables that are derived from them.
 use Prim.Native.Nat.{ℕ, zero, suc, _*_, _<_}
 use mathlib.Core.Path.{_≡_}
-use mathlib.Core.Bool.{Bool, true, false, not, _&&_}
-use mathlib.Core.List.{List, [], _∷_}
-use lib.ListN.{length}
+use mathlib.Core.Bool.{Bool, true, not, _&&_}
+use mathlib.Core.List.{List, []}
+use lib.ListN.{length, getD}
 use lib.Dec.{leb, eqb}
 use Rattle.qbf.specs.Formula.{paper, Quantifier, free, exists, forall, isFree, Prefix, quantifiers, quantifierAt, levelBeside}
 use Rattle.qbf.specs.Calls.{numbersOk, freeFirst}
@@ -14,6 +14,10 @@ use Rattle.state.specs.Reading.{quantifierOf, codeAt, prefixOf, prefixFi
 -- no more variables than there are numbers, each of its own number
 abbrev pub numbered : Prefix → Bool
 numbered D = leb (length D) (paper .numbers) && numbersOk paper [] D
+
+-- a number that may be declared, where a table has the places of those that are
+abbrev pub isFresh : List ℕ → ℕ → Bool
+isFresh places n = leb 1 n && leb n (paper .numbers) && eqb (getD places n 0) 0
 
 pub record Placing (ns : List ℕ) (ok : Bool) (places : List ℕ) : Type 0 where
   pub said : (D : Prefix) → Numbers D ns → ok ≡ numbered D

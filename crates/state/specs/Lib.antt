@@ -1,2 +1,3 @@
 pub mod Reading
 pub mod Derived
+pub mod Declare

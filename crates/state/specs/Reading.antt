@@ -4,10 +4,10 @@ use Prim.Native.Nat.{ℕ, zero, suc}
 use mathlib.Core.Bool.{Bool, true, false, cond, _&&_}
 use mathlib.Core.List.{List, [], _∷_}
 use mathlib.Core.Option.{Option, none, some}
-use lib.ListN.{length, getD}
+use lib.ListN.{getD}
 use lib.Dec.{leb, eqb}
 use Rattle.qbf.specs.Formula.{Limits, paper, Quantifier, free, exists, forall, Variable, Prefix, Formula, levels, all}
-use Rattle.qbf.specs.Learning.{Store}
+use Rattle.qbf.specs.Learning.{Store, emptyStore}
 use Rattle.qbf.specs.Calls.{State as Read, wellFormed}
 use Rattle.tables.specs.Views.{quantifierCode, rowsOf}
 use Rattle.state.specs.declared.State.{State}
@@ -94,3 +94,7 @@ wellFormedRead (some y) = wellFormed y
 
 unfoldable pub valid : State → Bool
 valid x = wellFormedRead (readState x)
+
+-- no variable, no clause, and an empty store
+abbrev pub emptyState : Read
+emptyState = record { formula = record { limits = paper; prefix = []; clauses = [] }; store = emptyStore }

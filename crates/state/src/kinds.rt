@@ -4,19 +4,17 @@ ghost use Rattle.qbf.specs.Formula.{Prefix};
 ghost use Rattle.qbf.specs.Truth.{freeVariables};
 ghost use Rattle.tables.specs.Views.{Numbers, Places, Kinds};
 ghost use Rattle.state.specs.Derived.{Quantified, codeFor};
+use literal::Place;
 
 // A place that is not declared counts as free.
-pub fn kind_at<'a>(
-    levels: &'a [u16; tables::BY_NUMBER],
-    kinds: &'a [u16; tables::BY_NUMBER],
-    place: usize,
-) -> u16
-    ensures { λ r. ⌜ r ≡ codeFor (now (levels .entry)) (now (kinds .entry)) place ⌝ }
+pub fn kind_at<'a>(levels: &'a [u16], kinds: &'a [u16], place: Place) -> u16
+    ensures { λ r. ⌜ r ≡ codeFor (now (levels .entry)) (now (kinds .entry)) (place .0) ⌝ }
 {
-    if place == 0 {
+    let p = place.0;
+    if p == 0 {
         return tables::FREE;
     }
-    let level = crate::cells::cell(levels, place) as usize;
+    let level = crate::cells::cell(levels, p) as usize;
     crate::cells::cell(kinds, level)
 }
 
@@ -36,7 +34,7 @@ pub fn kinds_of<'a>(
     let mut n: usize = 0;
     while n < tables::BY_NUMBER {
         let place = crate::cells::cell(places, n) as usize;
-        table[n] = kind_at(levels, kinds, place);
+        table[n] = kind_at(levels, kinds, Place(place));
         n += 1;
     }
     table
@@ -58,7 +56,7 @@ pub fn free_count<'a>(
     let count = crate::cells::count(numbers);
     let mut i: usize = 0;
     while i < count {
-        if kind_at(levels, kinds, i + 1) != tables::FREE {
+        if kind_at(levels, kinds, Place(i + 1)) != tables::FREE {
             return i;
         }
         i += 1;

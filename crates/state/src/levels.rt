@@ -2,30 +2,36 @@
 // that its quantifiers give, and its free variables come first.
 ghost use mathlib.Core.Path.{_≡_};
 ghost use Prim.Native.Nat.{_≤_};
-ghost use Rattle.qbf.specs.Formula.{levelBeside};
+ghost use Rattle.qbf.specs.Formula.{paper, forall, levelBeside};
+ghost use Rattle.tables.specs.Views.{quantifierCode};
 ghost use Rattle.state.specs.Reading.{quantifierOf};
 ghost use Rattle.state.specs.Derived.{stepOk, levelsOk};
+use literal::Level;
 
 // The level of a place, next to one of the level and the quantifier given first.
-pub fn level_beside(level: usize, beside: u16, kind: u16) -> usize
-    requires { ⌜ (level ≤ 40) × (beside ≤ 2) × (kind ≤ 2) ⌝ }
-    ensures { λ r. ⌜ r ≡ levelBeside level (quantifierOf beside) (quantifierOf kind) ⌝ }
+pub fn level_beside(level: Level, beside: u16, kind: u16) -> Level
+    requires { ⌜ (level .0 ≤ paper .numbers) × (beside ≤ quantifierCode forall) × (kind ≤ quantifierCode forall) ⌝ }
+    ensures { λ r. ⌜ r .0 ≡ levelBeside (level .0) (quantifierOf beside) (quantifierOf kind) ⌝ }
 {
     if kind == tables::FREE {
-        return 0;
+        return Level(0);
     }
-    if kind == beside { level } else { level + 1 }
+    if kind == beside {
+        level
+    } else {
+        Level(level.0 + 1)
+    }
 }
 
-fn step_ok(level: usize, beside: u16, next: usize, kind: u16) -> bool
-    requires { ⌜ (level ≤ 40) × (beside ≤ 2) ⌝ }
-    ensures { λ r. ⌜ r ≡ stepOk level beside next kind ⌝ }
+fn step_ok(level: Level, beside: u16, next: Level, kind: u16) -> bool
+    requires { ⌜ (level .0 ≤ paper .numbers) × (beside ≤ quantifierCode forall) ⌝ }
+    ensures { λ r. ⌜ r ≡ stepOk (level .0) beside (next .0) kind ⌝ }
 {
     if kind > tables::FORALL {
         return false;
     }
     let given = level_beside(level, beside, kind);
-    if given != next {
+    if given.0 != next.0 {
         return false;
     }
     if beside == tables::FREE {
@@ -54,7 +60,7 @@ pub fn levels_ok<'a>(
             return false;
         }
         let kind = crate::cells::cell(kinds, next);
-        if !step_ok(level, beside, next, kind) {
+        if !step_ok(Level(level), beside, Level(next), kind) {
             return false;
         }
         level = next;

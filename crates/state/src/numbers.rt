@@ -1,22 +1,22 @@
 // The numbers of the variables: each is 1 to 40 and stands once. The place of each number.
 ghost use mathlib.Core.Path.{_≡_};
-ghost use mathlib.Core.Bool.{true, _&&_};
-ghost use lib.Dec.{leb, eqb};
-ghost use lib.ListN.{getD};
+ghost use mathlib.Core.Bool.{true};
 ghost use mathlib.Core.List.{[]};
 ghost use Rattle.qbf.specs.Formula.{Prefix, paper};
 ghost use Rattle.qbf.specs.Calls.{numbersOk};
 ghost use Rattle.tables.specs.Views.{Numbers, Places};
-ghost use Rattle.state.specs.Derived.{Placing};
+ghost use Rattle.state.specs.Derived.{isFresh, Placing};
+use literal::Number;
 
 pub struct Placed {
     pub ok: bool,
     pub places: [u16; tables::BY_NUMBER],
 }
 
-fn is_fresh<'a>(places: &'a [u16; tables::BY_NUMBER], n: usize) -> bool
-    ensures { λ r. ⌜ r ≡ (leb 1 n && leb n 40 && eqb (getD (now (places .entry)) n 0) 0) ⌝ }
+fn is_fresh<'a>(places: &'a [u16; tables::BY_NUMBER], number: Number) -> bool
+    ensures { λ r. ⌜ r ≡ isFresh (now (places .entry)) (number .0) ⌝ }
 {
+    let n = number.0;
     if n < 1 {
         return false;
     }
@@ -41,7 +41,7 @@ pub fn place_numbers<'a>(numbers: &'a [u16; tables::BY_NUMBER]) -> Placed
     let mut i: usize = 0;
     while i < count {
         let n = crate::cells::entry(numbers, i);
-        if !is_fresh(&places, n) {
+        if !is_fresh(&places, Number(n)) {
             return Placed {
                 ok: false,
                 places: places,

@@ -1,12 +1,12 @@
 // The rows of a state's flat tables: clauses and learned constraints, each in place order, and a constraint reduced.
 ghost use mathlib.Core.Path.{_≡_};
 ghost use Prim.Native.Nat.{_≤_, _+_};
-ghost use mathlib.Core.Bool.{not, _&&_};
+ghost use mathlib.Core.Bool.{cond, not, _&&_};
 ghost use lib.ListN.{length, take, drop};
-ghost use Rattle.qbf.specs.Formula.{Prefix, paper, all, quantifierAt};
+ghost use Rattle.qbf.specs.Formula.{Prefix, paper, exists, forall, all, quantifierAt};
 ghost use Rattle.qbf.specs.Learning.{dropped, lastPlace};
 ghost use Rattle.qbf.specs.Calls.{inOrder, clauseOk, constraintOk};
-ghost use Rattle.tables.specs.Views.{Places, Kinds, rowsOf};
+ghost use Rattle.tables.specs.Views.{quantifierCode, Places, Kinds, rowsOf};
 ghost use Rattle.state.specs.Reading.{rowsFit};
 
 // Each place is greater than the one before: so each variable is declared, and none stands twice.
@@ -49,7 +49,7 @@ fn clause_ok<'a>(places: &'a [u16; tables::BY_NUMBER], lits: &'a [i16]) -> bool
 
 // What reduction drops: exists of a cube, forall of a clause.
 fn dropped_kind(cube: bool) -> u16
-    ensures { λ r. ⌜ r ≡ mathlib.Core.Bool.cond cube 1 2 ⌝ }
+    ensures { λ r. ⌜ r ≡ cond cube (quantifierCode exists) (quantifierCode forall) ⌝ }
 {
     if cube { tables::EXISTS } else { tables::FORALL }
 }

@@ -3,7 +3,7 @@ use Rattle.state.proofs.cells.cell.Statement.{statement}
 use Rattle.state.proofs.cells.cell.Tie as tie
 use Rattle.state.proofs.cells.cell.Reads as reads
 use Rattle.state.proofs.cells.cell.Lts as lts
-use mathlib.Core.Path.{_≡_, sym}
+use mathlib.Core.Path.{sym}
 use denote.Ref.{now}
 use lib.ListN.{List·getD-eq-default}
 

@@ -4,8 +4,8 @@ use Rattle.state.proofs.cells.entry.Tie as tie
 use Rattle.state.proofs.cells.entry.Reads as reads
 use Rattle.state.proofs.cells.entry.Lts as lts
 use Rattle.state.proofs.cells.cell.Reads as cell-reads
-use mathlib.Core.Path.{_≡_, sym, ap, _∙_}
-use Prim.Native.Nat.{ℕ, suc}
+use mathlib.Core.Path.{sym, ap, _∙_}
+use Prim.Native.Nat.{ℕ}
 use native.Mathlib.Omega.{arith}
 use native.Mathlib.Numerals.{add-one}
 use denote.Ref.{now}

@@ -6,7 +6,6 @@ use Rattle.state.proofs.cells.cell.Reads as cell-reads
 use Rattle.state.proofs.kinds.kind_at.Reads as kind-at-reads
 use borrow.Author.Needs.{needs}
 use Prim.Native.Nat.{_-_}
-use native.Mathlib.Omega.{arith}
 use denote.Ref.{now}
 use Rattle.state.proofs.Codes.{Coded, coded-none, coded-more, coded-end}
 
@@ -41,7 +40,7 @@ loop-less : tie.Need-loop-less Inv-loop μ-loop
 loop-less c = search needs
 
 loop-again : tie.Need-loop-again Inv-loop μ-loop
-loop-again c = coded-more (now (c .before .before .before .before .before .args .levels)) (now (c .before .before .before .before .before .args .kinds)) (now (c .before .before .before .before .before .args .places)) (c .before .before .before .before .loop .inv) (c .before .before .before .loop-test .taken) (c .before .before .cell-arg .given .0) (c .before .cell .ensures) (c .kind-at .ensures)
+loop-again c = coded-more (now (c .before .before .before .before .before .before .before .args .levels)) (now (c .before .before .before .before .before .before .before .args .kinds)) (now (c .before .before .before .before .before .before .before .args .places)) (c .before .before .before .before .before .before .loop .inv) (c .before .before .before .before .before .loop-test .taken) (c .before .before .before .before .cell-arg .given .0) (c .before .before .before .cell .ensures) (c .kind-at .ensures)
 
 returns : tie.Need-returns Inv-loop μ-loop
 returns c = coded-end (now (c .before .before .args .levels)) (now (c .before .before .args .kinds)) (now (c .before .before .args .places)) (c .before .loop .inv) (c .loop-test .left)

@@ -8,33 +8,35 @@ use Rattle.state.proofs.cells.entry.Reads as entry-reads
 use Rattle.state.proofs.levels.step_ok.Reads as step-ok-reads
 use borrow.Author.Needs.{needs}
 use Prim.Native.Nat.{_-_}
-use mathlib.Core.Path.{_≡_, refl, sym, _∙_}
-use native.Mathlib.Omega.{arith}
-use lib.ListN.{length, getD}
-use borrow.Author.Tests.{not-true, not-false}
 use denote.Ref.{now}
-use Rattle.state.proofs.Steps.{Stepping, stepping-none, stepping-end, stepping-high, stepping-bad, stepping-more, levels-many}
+use Rattle.state.proofs.Steps.{Stepping, stepping-none, stepping-end, levels-many, LevelRead, level-high, StepTested, step-bad, step-more}
 
 abbrev Inv-loop : tie.InvT-loop
-Inv-loop numbers levels kinds count level₀ beside₀ i₀ level beside i = Stepping numbers levels kinds level beside i
+Inv-loop numbers levels kinds count level₀ beside₀ i₀ level beside i = Stepping numbers levels kinds count level beside i
 
 abbrev μ-loop : tie.MeasureT-loop
 μ-loop numbers levels kinds count level₀ beside₀ i₀ level beside i = count - i
+
+level-read : (c : tie.After-entry Inv-loop μ-loop) → let a = c .before .before .before .before .before .before .before .args in LevelRead (now (a .numbers)) (now (a .levels)) (now (a .kinds)) (c .before .before .before .before .before .count .result) (c .before .before .before .loop .level) (c .before .before .before .loop .beside) (c .before .before .before .loop .i) (c .entry .result)
+level-read c = record { stepping = c .before .before .before .loop .inv; more = c .before .before .loop-test .taken; is = c .entry .ensures }
+
+tested : (c : tie.After-step-ok Inv-loop μ-loop) → let a = c .before .before .before .before .before .before .before .before .before .before .before .args in StepTested (now (a .numbers)) (now (a .levels)) (now (a .kinds)) (c .before .before .before .before .before .before .before .before .before .count .result) (c .before .before .before .before .before .before .before .loop .level) (c .before .before .before .before .before .before .before .loop .beside) (c .before .before .before .before .before .before .before .loop .i) (c .before .before .before .before .entry .result) (c .before .cell .result) (c .step-ok .result)
+tested c = record { level-read = level-read (c .before .before .before .before); small = c .before .before .before .if2 .left; is = c .before .cell .ensures; said = c .step-ok .ensures }
 
 count-requires : tie.Need-count-requires Inv-loop μ-loop
 count-requires c κs = search needs
 
 returns : tie.Need-returns Inv-loop μ-loop
-returns c = levels-many (now (c .before .before .before .args .numbers)) (now (c .before .before .before .args .levels)) (now (c .before .before .before .args .kinds)) (omega (arith, c .if1 .taken, c .before .count .ensures))
+returns c = levels-many (now (c .before .before .before .args .numbers)) (now (c .before .before .before .args .levels)) (now (c .before .before .before .args .kinds)) (c .before .count .ensures) (c .if1 .taken)
 
 loop-holds : tie.Need-loop-holds Inv-loop μ-loop
-loop-holds c = stepping-none (now (c .before .before .before .args .numbers)) (now (c .before .before .before .args .levels)) (now (c .before .before .before .args .kinds)) (omega (arith, c .if1 .left, c .before .count .ensures))
+loop-holds c = stepping-none (now (c .before .before .before .args .numbers)) (now (c .before .before .before .args .levels)) (now (c .before .before .before .args .kinds)) (c .before .count .ensures) (c .if1 .left)
 
 entry-requires : tie.Need-entry-requires Inv-loop μ-loop
 entry-requires c κs = search needs
 
 returns-2 : tie.Need-returns-2 Inv-loop μ-loop
-returns-2 c = stepping-high (now (c .before .before .before .before .before .before .before .before .args .numbers)) (now (c .before .before .before .before .before .before .before .before .args .levels)) (now (c .before .before .before .before .before .before .before .before .args .kinds)) (c .before .before .before .before .loop .inv) (omega (arith, c .before .before .before .loop-test .taken, c .before .before .before .before .before .before .count .ensures)) (c .before .entry .ensures) (c .if2 .taken)
+returns-2 c = level-high (level-read (c .before)) (c .if2 .taken)
 
 cell-requires : tie.Need-cell-requires Inv-loop μ-loop
 cell-requires c κs = search needs
@@ -43,7 +45,7 @@ step-ok-requires : tie.Need-step-ok-requires Inv-loop μ-loop
 step-ok-requires c κs = (c .before .before .before .before .before .before .loop .inv .level, c .before .before .before .before .before .before .loop .inv .code)
 
 returns-3 : tie.Need-returns-3 Inv-loop μ-loop
-returns-3 c = stepping-bad (now (c .before .before .before .before .before .before .before .before .before .before .before .before .args .numbers)) (now (c .before .before .before .before .before .before .before .before .before .before .before .before .args .levels)) (now (c .before .before .before .before .before .before .before .before .before .before .before .before .args .kinds)) (c .before .before .before .before .before .before .before .before .loop .inv) (omega (arith, c .before .before .before .before .before .before .before .loop-test .taken, c .before .before .before .before .before .before .before .before .before .before .count .ensures)) (c .before .before .before .before .before .entry .ensures) (c .before .before .before .before .if2 .left) (c .before .before .cell .ensures) (c .before .step-ok .ensures) (not-true _ (c .if3 .taken))
+returns-3 c = step-bad (tested (c .before)) (c .if3 .taken)
 
 add-i : tie.Need-add-i Inv-loop μ-loop
 add-i c = search needs
@@ -52,10 +54,10 @@ loop-less : tie.Need-loop-less Inv-loop μ-loop
 loop-less c = search needs
 
 loop-again : tie.Need-loop-again Inv-loop μ-loop
-loop-again c = stepping-more (now (c .before .before .before .before .before .before .before .before .before .before .before .before .args .numbers)) (now (c .before .before .before .before .before .before .before .before .before .before .before .before .args .levels)) (now (c .before .before .before .before .before .before .before .before .before .before .before .before .args .kinds)) (c .before .before .before .before .before .before .before .before .loop .inv) (omega (arith, c .before .before .before .before .before .before .before .loop-test .taken, c .before .before .before .before .before .before .before .before .before .before .count .ensures)) (c .before .before .before .before .before .entry .ensures) (c .before .before .before .before .if2 .left) (c .before .before .cell .ensures) (c .before .step-ok .ensures) (not-false _ (c .if3 .left))
+loop-again c = step-more (tested (c .before)) (c .if3 .left)
 
 returns-4 : tie.Need-returns-4 Inv-loop μ-loop
-returns-4 c = stepping-end (now (c .before .before .before .before .before .args .numbers)) (now (c .before .before .before .before .before .args .levels)) (now (c .before .before .before .before .before .args .kinds)) (c .before .loop .inv) (omega (arith, c .loop-test .left, c .before .before .before .count .ensures))
+returns-4 c = stepping-end (c .before .loop .inv) (c .loop-test .left)
 
 pub levels-ok-spec : {M : Type 1} → statement M
 levels-ok-spec =

@@ -4,7 +4,7 @@ use Rattle.state.proofs.rows.clause_ok.Tie as tie
 use Rattle.state.proofs.rows.clause_ok.Reads as reads
 use Rattle.state.proofs.rows.clause_ok.Lts as lts
 use Rattle.state.proofs.rows.in_order.Reads as in-order-reads
-use mathlib.Core.Path.{_≡_, _∙_}
+use mathlib.Core.Path.{_∙_}
 use denote.Ref.{now}
 use Rattle.state.proofs.Order.{clause-empty, clause-long, clause-order}
 

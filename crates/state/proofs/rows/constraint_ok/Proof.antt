@@ -5,7 +5,7 @@ use Rattle.state.proofs.rows.constraint_ok.Reads as reads
 use Rattle.state.proofs.rows.constraint_ok.Lts as lts
 use Rattle.state.proofs.rows.in_order.Reads as in-order-reads
 use Rattle.state.proofs.rows.reduced.Reads as reduced-reads
-use mathlib.Core.Path.{_≡_, sym, ap, _∙_}
+use mathlib.Core.Path.{sym, ap, _∙_}
 use mathlib.Core.Bool.{Bool, not, _&&_}
 use denote.Ref.{now}
 use Rattle.qbf.specs.Formula.{quantifierAt}

@@ -3,7 +3,7 @@ use Rattle.state.proofs.rows.row.Statement.{statement}
 use Rattle.state.proofs.rows.row.Tie as tie
 use Rattle.state.proofs.rows.row.Reads as reads
 use Rattle.state.proofs.rows.row.Lts as lts
-use mathlib.Core.Path.{_≡_, refl, sym, ap, _∙_}
+use mathlib.Core.Path.{_≡_, ap}
 use Prim.Native.Nat.{ℕ, _-_, _+_}
 use native.Mathlib.Omega.{arith}
 use lib.ListN.{take, drop}
