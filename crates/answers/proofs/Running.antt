@@ -1,7 +1,7 @@
 -- The search on a state by value: what it needs of the state, and what its result says of the next one.
 use Prim.Native.Nat.{ℕ, zero, suc, _+_, _*_, _-_, _^_, _≤_, _<_, zero-le}
 use native.Mathlib.Omega.{arith}
-use native.Mathlib.Nat.{pow-le-pow-right, not-suc-le-zero}
+use native.Mathlib.Nat.{pow-le-pow-right}
 use mathlib.Core.Path.{_≡_, refl, sym, ap, _∙_, subst}
 use mathlib.Core.Bool.{Bool, true, false, cond, _&&_}
 use mathlib.Core.List.{List, [], _∷_, _++_}
@@ -9,13 +9,14 @@ use mathlib.Core.Option.{Option, none, some}
 use lib.ListN.{length, getD, take, drop, replicate, length-map}
 use lib.IntN.{ℤ}
 use lib.Dec.{leb}
+use borrow.Author.Tests.{leb-true}
 use Rattle.qbf.specs.Formula.{paper, Prefix, Clause, Node, quantifiers, all, placeOf, valueAt}
 use Rattle.qbf.specs.Truth.{Outcome, decided, mixed, freeVariables}
 use Rattle.qbf.specs.Learning.{Constraint, LearningResult, Store, learningSearch}
 use Rattle.theory.proofs.Basics.{and-both, and-left, and-right}
 use Rattle.theory.proofs.Starting.{free-fit}
-use Rattle.theory.proofs.WellFormed.{leb-true, true-leb, state-facts, shaped-store}
-use Rattle.tables.specs.Views.{Places, Kinds, Values, Table, valueCode}
+use Rattle.theory.proofs.WellFormed.{state-facts, shaped-store}
+use Rattle.tables.specs.Views.{Places, Kinds, Values, valueCode}
 use Rattle.tables.specs.Formed.{Clauses, Constraints, Stores, Formed, clausesOf, storeOf}
 use Rattle.cover.specs.Cover.{Covers}
 use Rattle.node.specs.Node.{Reads, newLines}
@@ -25,9 +26,8 @@ use Rattle.node.specs.declared.Position.{Position}
 use Rattle.node.specs.declared.Answer.{Answer}
 use Rattle.search.specs.Search.{Room, Counts, Task, Result, visitOf}
 use Rattle.state.specs.declared.State.{State}
-use Rattle.state.specs.Reading.{listing, entryAt, atMost, rowsFit, prefixFits, fits, readState, valid, prefixIn, formulaIn, storeIn, stateIn}
-use Rattle.state.specs.Derived.{Sized}
-use Rattle.state.proofs.Valid.{ValidFacts, valid-facts, ValidTables, valid-tables, valid-numbers}
+use Rattle.state.specs.Reading.{rowsFit, prefixFits, fits, readState, valid, prefixIn, formulaIn, storeIn, stateIn}
+use Rattle.state.proofs.Valid.{ValidFacts, valid-facts, table-rows, valid-numbers}
 use Rattle.answers.specs.Run.{Ends, FoundBy}
 use Rattle.answers.specs.declared.run.Found.{Found}
 
@@ -51,18 +51,6 @@ few-lines numbers at free r few c =
     omega (arith, c .fewer, c .lines-fewer, pow-le-pow-right {n = 2} (omega arith) {i = suc (getD numbers 0 0 - at)} {j = 41} (omega arith))
 
 -- ---- the next state
-listing-most : (f : ℕ → ℕ) (n i k : ℕ) → ((j : ℕ) → i ≤ j → j < i + k → f j ≤ n) → atMost n (listing f i k) ≡ true
-listing-most f n i zero h = refl
-listing-most f n i (suc k) h =
-    and-both (leb (f i) n) (atMost n (listing f (suc i) k)) (leb-true (f i) n (h i (omega arith) (omega arith)))
-    (listing-most f n (suc i) k (λ j a b. h j (omega arith) (omega arith)))
-
--- rows that lie within their table fit it
-rows-fit : (w cap : ℕ) (cells : List ℤ) (sizes : List ℕ) → Table w cap cells sizes → rowsFit w cap sizes ≡ true
-rows-fit w cap cells sizes t =
-    and-both (leb (getD sizes 0 0) cap) (atMost w (listing (entryAt sizes) 0 (getD sizes 0 0))) (leb-true (getD sizes 0 0) cap (t .few))
-    (listing-most (entryAt sizes) w 0 (getD sizes 0 0) (λ j a b. t .short j (omega arith)))
-
 abbrev pub withStore : State → List ℤ → List ℕ → List ℤ → List ℕ → State
 withStore x cs css qs qss =
     record {
@@ -87,7 +75,7 @@ module _ (x : State) (v : valid x ≡ true) where
       record { prefix-ok = w .formula-ok .prefix-ok; clauses-ok = w .formula-ok .clauses-ok; store-ok = shaped-store paper (prefixIn x) (storeIn x) (w .store-ok) }
 
   pub few-variables : getD (x .numbers) 0 0 ≤ paper .numbers
-  few-variables = true-leb (getD (x .numbers) 0 0) (paper .numbers) (and-left (leb (getD (x .numbers) 0 0) (paper .numbers)) _ (f .prefix-fits))
+  few-variables = leb-true (getD (x .numbers) 0 0) (paper .numbers) (and-left (leb (getD (x .numbers) 0 0) (paper .numbers)) _ (f .prefix-fits))
 
   pub next-reads : (cs : List ℤ) (css : List ℕ) (qs : List ℤ) (qss : List ℕ) → Stores cs css qs qss
       → readState (withStore x cs css qs qss) ≡ some (record { formula = formulaIn x; store = storeOf cs css qs qss })
@@ -99,8 +87,8 @@ module _ (x : State) (v : valid x ≡ true) where
       (rowsFit (paper .numbers) (paper .constraints) qss)
       (and-both (prefixFits paper (x .numbers) (x .levels) (x .kinds) && rowsFit (paper .literals) (paper .clauses) (x .«clause_sizes»)) (rowsFit (paper .numbers) (paper .constraints) css)
       (and-both (prefixFits paper (x .numbers) (x .levels) (x .kinds)) (rowsFit (paper .literals) (paper .clauses) (x .«clause_sizes»)) (f .prefix-fits) (f .clauses-fit))
-      (rows-fit (paper .numbers) (paper .constraints) cs css (s .clauses)))
-      (rows-fit (paper .numbers) (paper .constraints) qs qss (s .cubes)))
+      (table-rows (paper .numbers) (paper .constraints) cs css (s .clauses)))
+      (table-rows (paper .numbers) (paper .constraints) qs qss (s .cubes)))
 
   ends : (w : Verdict) (e : List ℤ) (o : Outcome Constraint) → Reads w e o → Ends w o
   ends Yes e o h = (e, h)

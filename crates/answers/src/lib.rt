@@ -8,7 +8,7 @@ ghost use Rattle.answers.specs.Answers.{rulingSaid, cardSaid, rulingFor,
 use node::Verdict;
 use state::State;
 
-pub mod run;
+mod run; // the search on a state by value
 
 // "22 the state is malformed", "8 a query names a non-flag, or a flag twice", "21 the card has more lines than the table holds"
 pub const MALFORMED: u16 = 22;

@@ -9,20 +9,6 @@ mod print;
 use print::number;
 use print::text;
 
-fn empty() -> State {
-    State {
-        numbers: [0; tables::BY_NUMBER],
-        levels: [0; tables::BY_NUMBER],
-        kinds: [0; tables::BY_NUMBER],
-        clauses: [0; tables::CLAUSE_CELLS],
-        clause_sizes: [0; tables::CLAUSE_SIZES],
-        learned_clauses: [0; tables::CONSTRAINT_CELLS],
-        learned_clause_sizes: [0; tables::CONSTRAINT_SIZES],
-        learned_cubes: [0; tables::CONSTRAINT_CELLS],
-        learned_cube_sizes: [0; tables::CONSTRAINT_SIZES],
-    }
-}
-
 // One variable more. The calls check the state, so nothing is asked here.
 fn with(x: State, variable: u16, level: u16, kind: u16) -> State {
     let mut next = x;
@@ -156,27 +142,27 @@ fn a_clauses(x: State) -> State {
 }
 
 fn book_a() -> State {
-    let x = with(empty(), 1, 0, tables::FREE);
+    let x = with(state::empty(), 1, 0, tables::FREE);
     let y = with(x, 2, 0, tables::FREE);
     let z = with(y, 3, 1, tables::EXISTS);
     a_clauses(with(z, 4, 2, tables::FORALL))
 }
 
 fn book_a_exchanged() -> State {
-    let x = with(empty(), 2, 0, tables::FREE);
+    let x = with(state::empty(), 2, 0, tables::FREE);
     let y = with(x, 1, 0, tables::FREE);
     let z = with(y, 3, 1, tables::EXISTS);
     a_clauses(with(z, 4, 2, tables::FORALL))
 }
 
 fn book_b() -> State {
-    let x = with(empty(), 1, 0, tables::FREE);
+    let x = with(state::empty(), 1, 0, tables::FREE);
     let y = with(x, 2, 1, tables::EXISTS);
     clause(clause(y, &[2]), &[-2])
 }
 
 fn book_c() -> State {
-    let x = with(empty(), 1, 0, tables::FREE);
+    let x = with(state::empty(), 1, 0, tables::FREE);
     let y = with(x, 2, 0, tables::FREE);
     let z = with(y, 3, 1, tables::EXISTS);
     let w = with(z, 4, 2, tables::FORALL);
@@ -203,24 +189,24 @@ fn bench() {
     title(b"C");
     card_4(book_c());
     title(b"flags 1 2, no rule");
-    let x = with(empty(), 1, 0, tables::FREE);
+    let x = with(state::empty(), 1, 0, tables::FREE);
     card_2(with(x, 2, 0, tables::FREE));
     title(b"forall 1, rule 1");
-    card_0(clause(with(empty(), 1, 1, tables::FORALL), &[1]));
+    card_0(clause(with(state::empty(), 1, 1, tables::FORALL), &[1]));
 }
 
 fn bench_d() {
     title(b"D, then rule 2 added");
-    let x = with(empty(), 1, 1, tables::FORALL);
+    let x = with(state::empty(), 1, 1, tables::FORALL);
     let d = card_0(d_clauses(with(x, 2, 2, tables::EXISTS)));
     card_0(rule(d, &[2]));
     title(b"exists 1, forall 2, D's rules");
-    let y = with(empty(), 1, 1, tables::EXISTS);
+    let y = with(state::empty(), 1, 1, tables::EXISTS);
     card_0(d_clauses(with(y, 2, 2, tables::FORALL)));
 }
 
 fn forty() -> State {
-    let mut x = empty();
+    let mut x = state::empty();
     let mut n: usize = 0;
     while n < tables::NUMBERS {
         n += 1;
@@ -230,7 +216,7 @@ fn forty() -> State {
 }
 
 fn almost_full() -> State {
-    let mut x = with(empty(), 1, 1, tables::EXISTS);
+    let mut x = with(state::empty(), 1, 1, tables::EXISTS);
     let mut n: usize = 1;
     while n < tables::CLAUSES {
         x = clause(x, &[1]);
@@ -252,7 +238,7 @@ fn limits() {
     title(b"number 40 and 41, 0 and -32768, not declared, twice, none");
     let z = rule(rule(y, &[-40]), &[41]);
     let w = rule(rule(z, &[0]), &[-32768]);
-    let v = rule(with(empty(), 1, 0, tables::FREE), &[2]);
+    let v = rule(with(state::empty(), 1, 0, tables::FREE), &[2]);
     rule(rule(v, &[1, -1]), &[0; 0]);
     rule(w, &[1, 1]);
     title(b"rule 255 and 256");
@@ -267,7 +253,7 @@ fn others() {
     let x = query(query(book_a(), &[3]), &[1, 1]);
     query(query(x, &[-1]), &[-32768]);
     title(b"a malformed state");
-    let m = with(with(empty(), 1, 0, tables::FREE), 1, 0, tables::FREE);
+    let m = with(with(state::empty(), 1, 0, tables::FREE), 1, 0, tables::FREE);
     forget(card_3(query(rule(m, &[1]), &[1])));
 }
 

@@ -1,26 +1,14 @@
 // "The oldest eligible bar with all literals false", "The oldest eligible pass with all literals true". The rows are tried in the
 // order of their age; a row's last place is tried before its literals, since most rows fail there.
-use literal::literal_place;
+use constraint::mention::last_place;
 use literal::status_of;
 ghost use mathlib.Core.Path.{_≡_};
 ghost use mathlib.Core.Bool.{true, false, cond};
 ghost use Prim.Native.Nat.{_+_, _*_, _<_};
 ghost use lib.ListN.{length, getD};
 ghost use Rattle.qbf.specs.Formula.{paper, Prefix, Node, all, has};
-ghost use Rattle.qbf.specs.Learning.{lastPlace};
 ghost use Rattle.tables.specs.Views.{Places, Values, Table, row, eligible};
 ghost use Rattle.learned.specs.Lookup.{matching, Found};
-
-// "Its last place is then that of its last literal, 0 if empty."
-fn last_place<'a>(places: &'a [u16; tables::BY_NUMBER], lits: &'a [i16]) -> usize
-    ensures { λ r. ⌜ ((D : Prefix) → Places D (now (places .entry)) → r ≡ lastPlace D (now (lits .entry))) ⌝ }
-{
-    let n = lits.len();
-    if n == 0 {
-        return 0;
-    }
-    literal_place(places, lits[n - 1])
-}
 
 // "eligible at a node of length k if its last place is k; at the start node, if it is at most k"
 fn is_eligible(start: bool, last: usize, k: usize) -> bool
@@ -75,7 +63,7 @@ fn is_match<'a>(
         → r ≡ matching D cube start s (now (lits .entry)))
         ⌝ }
 {
-    let last = last_place(places, lits);
+    let last = last_place(lits, places);
     if is_eligible(start, last, k) {
         return all_have(values, cube, lits);
     }

@@ -1,8 +1,8 @@
 // Reading a line of a text: words, numbers, literals and the form that they make. Each function is equal to its definition in
 // layout, for every byte string.
-pub mod item;
-pub mod items;
-pub mod keyword;
+mod item;
+mod items;
+mod keyword;
 pub mod line;
-pub mod number;
-pub mod word;
+mod number;
+mod word;

@@ -10,7 +10,6 @@ use lib.IntN.{ℤ, pos}
 use lib.Dec.{leb, ltb, eqb}
 use lib.ListN.{length, getD, drop, set}
 use lib.Seq.{paste}
-use borrow.Author.Tests.{le-leb}
 use Rattle.qbf.specs.Formula.{paper, Prefix, Literal, Clause}
 use Rattle.qbf.specs.Learning.{insert, union}
 use Rattle.qbf.specs.Calls.{State as Read, numbersOk, rule, answer, ruleReply, _orElse_, given, literalFault, ruleFault, withRule, storeAfterRule}
@@ -21,9 +20,9 @@ use Rattle.tables.proofs.Laws.{rows-length}
 use Rattle.constraint.proofs.Lists.{drop-more, drop-end}
 use Rattle.learned.proofs.Rows.{appended-rows, appended-table}
 use Rattle.state.specs.declared.State.{State}
-use Rattle.state.specs.Reading.{listing, atMost, entryAt, entries, rowsFit, prefixOf, prefixFits, prefixIn, formulaIn, storeIn, stateIn, fits, valid}
+use Rattle.state.specs.Reading.{rowsFit, prefixOf, prefixFits, prefixIn, formulaIn, storeIn, stateIn, fits, valid}
 use Rattle.state.specs.Derived.{Sized}
-use Rattle.state.proofs.Valid.{valid-facts, valid-tables, valid-numbers, valid-numbered}
+use Rattle.state.proofs.Valid.{valid-facts, table-rows, valid-tables, valid-numbers, valid-numbered}
 use Rattle.serving.specs.Serves.{Said, said, saidOf, Serves}
 use Rattle.rules.specs.Faults.{faultOf, faultAfter, Judged}
 use Rattle.rules.specs.Accepted.{Appended, Accepted}
@@ -48,17 +47,6 @@ appending f l t e f₁ n z h k p =
     let fits : length e ≤ paper .literals = omega (arith, z, k) in
     subst (λ (m : ℕ). Appended f l e f₁ (set (set l (getD l 0 0 + 1) m) 0 (getD l 0 0 + 1))) z
     (rw p (record { table = appended-table _ _ f l e t h fits; rows = appended-rows _ _ f l e t h fits }))
-
-at-most : (w : ℕ) (g : ℕ → ℕ) (i k : ℕ) → ((j : ℕ) → j < k → g (i + j) ≤ w) → atMost w (listing g i k) ≡ true
-at-most w g i zero h = refl
-at-most w g i (suc k) h =
-    and-both (leb (g i) w) (atMost w (listing g (suc i) k)) (le-leb (g i) w (subst (λ (n : ℕ). g n ≤ w) (let e : i + 0 ≡ i = omega arith in e) (h 0 (omega arith))))
-    (at-most w g (suc i) k (λ j b. subst (λ (n : ℕ). g n ≤ w) (let e : i + suc j ≡ suc i + j = omega arith in e) (h (suc j) (omega (arith, b)))))
-
-table-fits : (w cap : ℕ) (f : List ℤ) (l : List ℕ) → Table w cap f l → rowsFit w cap l ≡ true
-table-fits w cap f l t =
-    and-both (leb (getD l 0 0) cap) (atMost w (entries l)) (le-leb (getD l 0 0) cap (t .few))
-    (at-most w (entryAt l) 0 (getD l 0 0) (λ j b. let e : j ≡ 0 + j = omega arith in subst (λ (n : ℕ). entryAt l n ≤ w) e (t .short j b)))
 
 -- ---- the call
 module _ (x : State) (ls : List Literal) where
@@ -110,7 +98,7 @@ module _ (x : State) (ls : List Literal) where
         still-fits : fits y ≡ true
         still-fits =
             and-both (p && c && b) (rowsFit 40 64 (y .«learned_cube_sizes»))
-            (and-both (p && c) b (and-both p c (old-prefix ∙ valid-facts x v .prefix-fits) (table-fits 16 255 (y .clauses) (y .«clause_sizes») (a .table))) (old-bars ∙ valid-facts x v .learned-clauses-fit))
+            (and-both (p && c) b (and-both p c (old-prefix ∙ valid-facts x v .prefix-fits) (table-rows 16 255 (y .clauses) (y .«clause_sizes») (a .table))) (old-bars ∙ valid-facts x v .learned-clauses-fit))
             (none-fit 40 64 (y .«learned_cube_sizes») (a .cleared))
           where
             p : Bool

@@ -8,7 +8,7 @@ use mathlib.Core.Option.{none, some}
 use lib.ListN.{length, getD}
 use lib.Dec.{leb}
 use lib.IntN.{ℤ}
-use borrow.Author.Tests.{leb-true, not-false}
+use borrow.Author.Tests.{le-leb, leb-true, not-false}
 use Rattle.qbf.specs.Formula.{paper, free, Prefix, Clause, quantifiers, quantifierAt, all}
 use Rattle.qbf.specs.Learning.{Constraint}
 use Rattle.qbf.specs.Calls.{wellFormed, formulaOk, prefixOk, numbersOk, freeFirst, clauseOk, clausesOk, constraintOk, storeOk}
@@ -93,6 +93,18 @@ rows-table w most flat sizes e room counted =
           leb-true (entryAt sizes k) w
           (ap (λ n. leb (entryAt sizes n) w) (sym q) ∙ listing-all (λ m. leb m w) (entryAt sizes) 0 (getD sizes 0 0) (and-right (leb (getD sizes 0 0) most) (atMost w (entries sizes)) e) k h);
     }
+
+-- and back: rows that lie within their table fit it
+listing-most : (n : ℕ) (f : ℕ → ℕ) (i k : ℕ) → ((j : ℕ) → i ≤ j → j < i + k → f j ≤ n) → atMost n (listing f i k) ≡ true
+listing-most n f i zero h = refl
+listing-most n f i (suc k) h =
+    and-both (leb (f i) n) (atMost n (listing f (suc i) k)) (le-leb (f i) n (h i (omega arith) (omega arith)))
+    (listing-most n f (suc i) k (λ j a b. h j (omega arith) (omega arith)))
+
+pub table-rows : (stride capacity : ℕ) (flat : List ℤ) (sizes : List ℕ) → Table stride capacity flat sizes → rowsFit stride capacity sizes ≡ true
+table-rows w most flat sizes t =
+    and-both (leb (getD sizes 0 0) most) (atMost w (entries sizes)) (le-leb (getD sizes 0 0) most (t .few))
+    (listing-most w (entryAt sizes) 0 (getD sizes 0 0) (λ j a b. t .short j (omega arith)))
 
 -- ---- a state
 -- a part whose test, answered r, did not fail

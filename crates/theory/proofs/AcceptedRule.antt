@@ -9,6 +9,7 @@ use mathlib.Core.List.{List, [], _∷_, _++_}
 use mathlib.Core.Option.{Option, none, some}
 use lib.ListN.{length, length-append}
 use lib.Dec.{eqb, leb, ltb, nleb→lt, nltb→le}
+use borrow.Author.Tests.{le-leb}
 use Rattle.qbf.specs.Formula.{Clause, Formula, Limits, Literal, Prefix, all, any, numberOf, place}
 use Rattle.qbf.specs.Learning.{Constraint, insert, union}
 use Rattle.qbf.specs.Card.{Mem}
@@ -16,7 +17,7 @@ use Rattle.qbf.specs.Calls.{Call, _orElse_, card, clauseOf, clauseOk, forget, g
 use Rattle.theory.proofs.Basics.{≡→T, false-eqb, and-both, or-false-right, all→, →all}
 use Rattle.theory.proofs.Sets.{union-rising}
 use Rattle.theory.proofs.Stores.{mem-append}
-use Rattle.theory.proofs.WellFormed.{FormulaFacts, each-clause, leb-true, →rising}
+use Rattle.theory.proofs.WellFormed.{FormulaFacts, each-clause, →rising}
 
 -- ---- a rule without a fault
 some-none : (n : ℕ) → _≡_ {A = Option ℕ} (some n) none → ⊥
@@ -81,7 +82,7 @@ rule-formula b ls h none e =
       prefix-ok = h .prefix-ok;
       clauses-ok =
           and-both (leb (length R′) (L .clauses)) (all (clauseOk L D) R′)
-          (leb-true (length R′) (L .clauses)
+          (le-leb (length R′) (L .clauses)
           (omega (arith, nleb→lt (b .limits .clauses) (length (b .clauses)) (≡→T (not (leb (b .limits .clauses) (length (b .clauses)))) (ap not (twenty .0))), length-append (b .clauses) (clauseOf D ls ∷ []))))
           (→all (clauseOk L D) R′ (λ r m. each r (mem-append (b .clauses) (clauseOf D ls ∷ []) r m)));
     }
@@ -108,7 +109,7 @@ rule-formula b ls h none e =
     new =
         let u = clause-length D (b .limits .literals) ls (seven .0) in
         and-both (leb 1 (length (clauseOf D ls)) && leb (length (clauseOf D ls)) (b .limits .literals)) (inOrder D 0 (clauseOf D ls))
-        (and-both (leb 1 (length (clauseOf D ls))) (leb (length (clauseOf D ls)) (b .limits .literals)) (leb-true 1 (length (clauseOf D ls)) (u .0)) (leb-true (length (clauseOf D ls)) (b .limits .literals) (u .1)))
+        (and-both (leb 1 (length (clauseOf D ls))) (leb (length (clauseOf D ls)) (b .limits .literals)) (le-leb 1 (length (clauseOf D ls)) (u .0)) (le-leb (length (clauseOf D ls)) (b .limits .literals) (u .1)))
         (→rising D 0 (clauseOf D ls) (union-rising D 0 ls [] (fault-free L D [] ls (seven .1)) tt))
 
     each : (r : Clause) → Mem r (b .clauses) ⊎ Mem r (clauseOf D ls ∷ []) → clauseOk L D r ≡ true

@@ -5,7 +5,8 @@ use mathlib.Core.Path.{_≡_, refl, ap}
 use mathlib.Core.Bool.{Bool, true, false, cond, not, _&&_, false≢true}
 use mathlib.Core.List.{List, [], _∷_}
 use lib.ListN.{length}
-use lib.Dec.{eqb, leb, ltb, leb→le, le→leb, ltb→lt, lt→ltb}
+use lib.Dec.{eqb, leb, ltb, ltb→lt, lt→ltb}
+use borrow.Author.Tests.{le-leb, leb-true}
 use Rattle.qbf.specs.Formula.{Clause, Formula, Limits, Literal, Prefix, Quantifier, all, exists, forall, free, numberOf, place, placeFrom, placeOf, quantifierAt, quantifiers}
 use Rattle.qbf.specs.Learning.{Constraint, Store, constraints, dropped, lastPlace}
 use Rattle.qbf.specs.Card.{Mem}
@@ -16,12 +17,6 @@ use Rattle.theory.proofs.Verdict.{NoFree}
 use Rattle.theory.proofs.Stores.{ShapedStore}
 use Rattle.theory.proofs.Shape.{Formed}
 use Rattle.theory.proofs.Search.{FreeFirst}
-
-pub leb-true : (m n : ℕ) → m ≤ n → leb m n ≡ true
-leb-true m n h = T→≡ (leb m n) (le→leb m n h)
-
-pub true-leb : (m n : ℕ) → leb m n ≡ true → m ≤ n
-true-leb m n e = leb→le m n (≡→T (leb m n) e)
 
 pub rising→ : (D : Prefix) (d : ℕ) (ls : List Literal) → inOrder D d ls ≡ true → Rising D d ls
 rising→ D d [] e = tt
@@ -91,7 +86,7 @@ module _ (b : Formula) where
 
   module _ (h : FormulaFacts b) where
     pub capacity : 1 ≤ b .limits .constraints
-    capacity = true-leb 1 (b .limits .constraints) (h .limits-ok)
+    capacity = leb-true 1 (b .limits .constraints) (h .limits-ok)
 
     pub numbers-ok : numbersOk (b .limits) [] (b .prefix) ≡ true
     numbers-ok = and-left (numbersOk (b .limits) [] (b .prefix)) (freeFirst (quantifiers (b .prefix))) (h .prefix-ok)
@@ -101,7 +96,7 @@ module _ (b : Formula) where
 
     pub clause-count : length (b .clauses) ≤ b .limits .clauses
     clause-count =
-        true-leb (length (b .clauses)) (b .limits .clauses) (and-left (leb (length (b .clauses)) (b .limits .clauses)) (all (clauseOk (b .limits) (b .prefix)) (b .clauses)) (h .clauses-ok))
+        leb-true (length (b .clauses)) (b .limits .clauses) (and-left (leb (length (b .clauses)) (b .limits .clauses)) (all (clauseOk (b .limits) (b .prefix)) (b .clauses)) (h .clauses-ok))
 
     pub each-clause : all (clauseOk (b .limits) (b .prefix)) (b .clauses) ≡ true
     each-clause = and-right (leb (length (b .clauses)) (b .limits .clauses)) (all (clauseOk (b .limits) (b .prefix)) (b .clauses)) (h .clauses-ok)
@@ -147,7 +142,7 @@ module _ (L : Limits) (D : Prefix) (st : Store) where
   store-shaped e =
       record {
         each = λ v E m. constraint-formed D v E (all→ (constraintOk D v) (constraints v st) (tests e v .1) E m);
-        bounded = λ v. true-leb (length (constraints v st)) (L .constraints) (tests e v .0);
+        bounded = λ v. leb-true (length (constraints v st)) (L .constraints) (tests e v .0);
       }
 
   pub shaped-store : ShapedStore L D st → storeOk L D st ≡ true
@@ -156,7 +151,7 @@ module _ (L : Limits) (D : Prefix) (st : Store) where
       (and-both (fits false && fits true) (each-ok false) (and-both (fits false) (fits true) (room false) (room true)) (each-formed false)) (each-formed true)
     where
       room : (v : Bool) → fits v ≡ true
-      room v = leb-true (length (constraints v st)) (L .constraints) (h .bounded v)
+      room v = le-leb (length (constraints v st)) (L .constraints) (h .bounded v)
 
       each-formed : (v : Bool) → each-ok v ≡ true
       each-formed v = →all (constraintOk D v) (constraints v st) (λ E m. formed-constraint D v E (h .each v E m))
