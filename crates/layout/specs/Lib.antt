@@ -3,3 +3,4 @@ pub mod Forms
 pub mod Opening
 pub mod Output
 pub mod Program
+pub mod Session

@@ -1,0 +1,122 @@
+-- A session: a book, then one call to a line, and the answer to each. Paper 01, "Text and program".
+use Prim.Native.Nat.{ℕ, suc}
+use mathlib.Core.Bool.{true, false, cond}
+use mathlib.Core.List.{List, [], _∷_, _++_}
+use mathlib.Core.Option.{Option, none, some}
+use lib.ListN.{length}
+use lib.Dec.{leb, ltb, eqb}
+use Rattle.qbf.specs.Formula.{Limits, Prefix, Literal, numberOf}
+use Rattle.qbf.specs.Calls.{Call, rule, query, card, forget, Reply, done, refused, swap, keep, lines, cardRefused, Answer, State, step}
+use Rattle.qbf.specs.Runs.{fresh}
+use Rattle.layout.specs.Words.{Bytes, ascii, newline, space, split, same, inside}
+use Rattle.layout.specs.Forms.{then, items, ruleWord}
+use Rattle.layout.specs.Output.{cardText, refusalText, overflowText, queryText, acceptedText, forgottenText}
+use Rattle.layout.specs.Program.{tableBytes}
+use Rattle.layout.specs.Opening as opening
+
+-- ---- the call of a line
+abbrev pub queryWord : Bytes
+queryWord = ascii "query"
+
+abbrev pub cardWord : Bytes
+cardWord = ascii "card"
+
+abbrev pub forgetWord : Bytes
+forgetWord = ascii "forget"
+
+abbrev pub ruleCall : List Literal → Option Call
+ruleCall ls = some (rule ls)
+
+abbrev pub queryCall : List Literal → Option Call
+queryCall ls = some (query ls)
+
+-- `(card)` with the whole table, `(card 4)` with a table of so many bytes
+abbrev pub cardCall : List Literal → Option Call
+cardCall [] = some (card tableBytes)
+cardCall (l ∷ []) = cond (leb (numberOf l) tableBytes) (some (card (numberOf l))) none
+cardCall (l ∷ m ∷ ls) = none
+
+abbrev pub forgetCall : List Literal → Option Call
+forgetCall [] = some forget
+forgetCall (l ∷ ls) = none
+
+-- the call of a line's words; only a rule has signed items
+unfoldable pub callFrom : List Bytes → Option Call
+callFrom [] = none
+callFrom (w ∷ ws) =
+    cond (same w ruleWord) (then (items true ws) ruleCall)
+    (cond (same w queryWord) (then (items false ws) queryCall)
+    (cond (same w cardWord) (then (items false ws) cardCall)
+    (cond (same w forgetWord) (then (items false ws) forgetCall)
+    none)))
+
+-- the call of a line without its byte 10; a line longer than a text may be is none
+unfoldable pub callOf : Bytes → Option Call
+callOf l = cond (ltb opening.textBytes (length l)) none (then (inside l) (λ s. callFrom (split space s)))
+
+-- ---- the answer of a call
+-- an accepted rule, a store emptied; the other calls are not answered so
+abbrev pub doneText : Call → Bytes
+doneText (rule ls) = acceptedText
+doneText forget = forgottenText
+doneText (query ls) = []
+doneText (card size) = []
+
+-- a card too large tells its visits
+abbrev pub cardRefusalText : ℕ → ℕ → ℕ → Bytes
+cardRefusalText n line visits = cond (eqb n 21) (overflowText n line visits) (refusalText n line)
+
+-- the reply to a call on some line
+abbrev pub replyPrinted : Prefix → Call → ℕ → Reply → ℕ → Bytes
+replyPrinted D c line done visits = doneText c
+replyPrinted D c line (refused n) visits = refusalText n line
+replyPrinted D c line swap visits = queryText true visits
+replyPrinted D c line keep visits = queryText false visits
+replyPrinted D c line (lines ls table) visits = cardText D ls visits
+replyPrinted D c line (cardRefused n table) visits = cardRefusalText n line visits
+
+unfoldable pub answerText : Prefix → Call → ℕ → Answer → Bytes
+answerText D c line a = replyPrinted D c line (a .reply) (a .visits)
+
+-- ---- the session
+-- line n on a state: what is printed, and the next state; a line that is no call is 1 and leaves the state
+pub record Turn : Type 0 where
+  pub text : Bytes
+  pub state : State
+
+abbrev pub turnOf : State → ℕ → Option Call → Turn
+turnOf x n none = record { text = refusalText 1 n; state = x }
+turnOf x n (some c) = record { text = answerText (x .formula .prefix) c n (step x c .out); state = step x c .state }
+
+-- The lines from number n on. What follows the last byte 10 is no line: nothing, or a last line that is not ended.
+unfoldable pub serveLines : ℕ → State → List Bytes → Bytes
+serveLines n x [] = []
+serveLines n x ([] ∷ []) = []
+serveLines n x ((b ∷ l) ∷ []) = refusalText 1 n
+serveLines n x (l ∷ m ∷ ls) = turnOf x n (callOf l) .text ++ serveLines (suc n) (turnOf x n (callOf l) .state) (m ∷ ls)
+
+abbrev pub endLine : Bytes
+endLine = ascii "(end)"
+
+-- "The book is the input up to and with its first line `(end)`": its bytes, its count of lines, and what follows
+pub record Parted : Type 0 where
+  pub book : Bytes
+  pub count : ℕ
+  pub rest : List Bytes
+
+abbrev pub onto : Bytes → Parted → Parted
+onto l p = record { book = l ++ (newline ∷ p .book); count = suc (p .count); rest = p .rest }
+
+unfoldable pub parted : List Bytes → Parted
+parted [] = record { book = []; count = 0; rest = [] }
+parted (l ∷ []) = record { book = l; count = 0; rest = [] }
+parted (l ∷ m ∷ ls) = cond (same l endLine) (record { book = l ++ (newline ∷ []); count = 1; rest = m ∷ ls }) (onto l (parted (m ∷ ls)))
+
+-- a refused book prints its refusal and ends
+abbrev pub openedSession : Parted → opening.Opened → Bytes
+openedSession p (opening.refused n line) = refusalText n line
+openedSession p (opening.opened b) = serveLines (suc (p .count)) (fresh b) (p .rest)
+
+-- the output for a whole input
+unfoldable pub sessionProgram : Limits → Bytes → Bytes
+sessionProgram L s = let p = parted (split newline s) in openedSession p (opening.openText L (p .book))
