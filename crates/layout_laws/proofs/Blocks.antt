@@ -69,7 +69,7 @@ Before free ks = all isFree ks ≡ true
 Before exists ks = Unit {0}
 Before forall ks = Unit {0}
 
-before-more : (κ : Quantifier) (ks : List Quantifier) → Before κ ks → freeFirst ks ≡ true → (freeFirst (ks ++ (κ ∷ [])) ≡ true) × Before κ (ks ++ (κ ∷ []))
+pub before-more : (κ : Quantifier) (ks : List Quantifier) → Before κ ks → freeFirst ks ≡ true → (freeFirst (ks ++ (κ ∷ [])) ≡ true) × Before κ (ks ++ (κ ∷ []))
 unfolding Before
 before-more free ks h f = all-free ks h
 before-more exists ks h f = (first-more ks exists refl f, tt)

@@ -22,10 +22,10 @@ use Rattle.layout_laws.proofs.Blocks.{given-none, Before, block-prefix}
 
 -- ---- lines
 -- what is known at a stage: before the flags' line no variable, before the first rule no clause
-record Reached (stage : ℕ) (b : Formula) : Type 0 where
-  facts : FormulaFacts b
-  no-variables : stage ≤ 1 → b .prefix ≡ []
-  no-clauses : stage ≤ 2 → b .clauses ≡ []
+pub record Reached (stage : ℕ) (b : Formula) : Type 0 where
+  pub facts : FormulaFacts b
+  pub no-variables : stage ≤ 1 → b .prefix ≡ []
+  pub no-clauses : stage ≤ 2 → b .clauses ≡ []
 
 none-ok : (L : Limits) (D : Prefix) (R : List Clause) → R ≡ [] → clausesOk L D R ≡ true
 none-ok L D R e = subst (λ (R : List Clause). clausesOk L D R ≡ true) (sym e) (and-both (leb 0 (L .clauses)) true (le-leb 0 (L .clauses) zero-le) refl)
@@ -34,7 +34,7 @@ block-facts : (b : Formula) (κ : Quantifier) (ns : List ℕ) → FormulaFacts b
     → FormulaFacts (withBlock κ b ns)
 block-facts b κ ns h r g e = record { limits-ok = h .limits-ok; prefix-ok = block-prefix (b .limits) κ (b .prefix) ns (h .prefix-ok) g e; clauses-ok = none-ok (b .limits) (b .prefix ++ map (variable κ) ns) (b .clauses) r }
 
-allowed-is : (stage r : ℕ) → allowed stage r ≡ true → (stage ≤ r) × (r < 2 → stage ≡ r)
+pub allowed-is : (stage r : ℕ) → allowed stage r ≡ true → (stage ≤ r) × (r < 2 → stage ≡ r)
 allowed-is stage r e = by (ltb stage 2) refl e
   where
     by : (t : Bool) → ltb stage 2 ≡ t → cond t (eqb r stage) (leb stage r) ≡ true → (stage ≤ r) × (r < 2 → stage ≡ r)
@@ -59,10 +59,21 @@ form-reached stage b (clause ls) i a q =
     record { facts = rule-formula b ls (i .facts) none q; no-variables = λ h. absurd (omega arith); no-clauses = λ h. absurd (omega arith) }
 form-reached stage b end i a q = record { facts = i .facts; no-variables = λ h. absurd (omega arith); no-clauses = λ h. absurd (omega arith) }
 
-line-reached : (stage : ℕ) (b : Formula) (f : Form) → Reached stage b → lineFault stage b f ≡ none → Reached (stageAfter (rank f)) (withForm b f)
+pub line-reached : (stage : ℕ) (b : Formula) (f : Form) → Reached stage b → lineFault stage b f ≡ none → Reached (stageAfter (rank f)) (withForm b f)
 line-reached stage b f i e =
     let q = given-none (not (allowed stage (rank f))) 1 (formFault b f) e in
     form-reached stage b f i (allowed-is stage (rank f) (not-false (allowed stage (rank f)) (q .0))) (q .1)
+
+-- before the first line
+pub reached-none : (L : Limits) → limitsOk L ≡ true → Reached 0 (emptyFormula L)
+reached-none L room = record { facts = record { limits-ok = room; prefix-ok = refl; clauses-ok = none-ok L [] [] refl }; no-variables = λ h. refl; no-clauses = λ h. refl }
+
+-- a well-formed formula with an empty store is a well-formed state
+pub fresh-formed : (b : Formula) → FormulaFacts b → wellFormed (fresh b) ≡ true
+fresh-formed b h = and-both (formulaOk b) (storeOk (b .limits) (b .prefix) emptyStore) (facts-formula b h) none-stored
+  where
+    none-stored : storeOk (b .limits) (b .prefix) emptyStore ≡ true
+    none-stored = rw (le-leb 0 (b .limits .constraints) zero-le)
 
 -- ---- the text
 never-opened : (k n : ℕ) (b : Formula) → refused k n ≡ opened b → ⊥
@@ -113,8 +124,7 @@ module _ (L : Limits) (room : limitsOk L ≡ true) (s : Bytes) (b : Formula) (e 
       by : (t : Bool) → cond t (refused 9 0) (readLines 1 0 (emptyFormula L) (split newline s)) ≡ opened b → FormulaFacts b × (b .limits ≡ L)
       by true z = absurd (never-opened 9 0 b z)
       by false z =
-          lines-facts 1 0 (emptyFormula L) (split newline s) b
-          (record { facts = record { limits-ok = room; prefix-ok = refl; clauses-ok = none-ok L [] [] refl }; no-variables = λ h. refl; no-clauses = λ h. refl }) z
+          lines-facts 1 0 (emptyFormula L) (split newline s) b (reached-none L room) z
 
   -- a text that opens gives a well-formed formula
   pub opened-formula : formulaOk b ≡ true
@@ -125,7 +135,4 @@ module _ (L : Limits) (room : limitsOk L ≡ true) (s : Bytes) (b : Formula) (e 
 
   -- and, with an empty store, a well-formed state
   pub opened-state : wellFormed (fresh b) ≡ true
-  opened-state = and-both (formulaOk b) (storeOk (b .limits) (b .prefix) emptyStore) opened-formula none-stored
-    where
-      none-stored : storeOk (b .limits) (b .prefix) emptyStore ≡ true
-      none-stored = rw (le-leb 0 (b .limits .constraints) zero-le)
+  opened-state = fresh-formed b (facts .0)

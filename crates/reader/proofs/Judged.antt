@@ -9,7 +9,7 @@ use native.Mathlib.Decide.{decLt}
 use borrow.Author.Tests.{lt-ltb, ltb-false}
 use lib.Dec.{eqb, leb, ltb}
 use lib.IntN.{ℤ, pos, negsuc}
-use lib.ListN.{length, take, length-map}
+use lib.ListN.{length, take, length-map, length-take}
 use lib.Seq.{take-all}
 use Rattle.qbf.specs.Formula.{Limits, paper, Quantifier, Prefix, Literal, Formula, numberOf, any, placeOf}
 use Rattle.qbf.specs.Calls.{given, literalFault, ruleFault, numbersOk, _orElse_}
@@ -103,6 +103,42 @@ rule-long b ls h = rw (lt-ltb (b .limits .literals) (length ls) h) (by (leb (b .
     by true y = refl
     by false true = refl
     by false false = refl
+
+-- where the count of items is cut to the table's length, the same ones stand
+pub cut-same : (n m : ℕ) (out : List ℤ) → length out ≡ m → take (min n m) out ≡ take n out
+cut-same n m out room = by (decLt m n)
+  where
+    by : Dec (m < n) → take (min n m) out ≡ take n out
+    by (no h) = ap (λ (k : ℕ). take k out) (let e : min n m ≡ n = omega (arith, h) in e)
+    by (yes h) = take-all (min n m) out (omega (arith, h, room)) ∙ sym (take-all n out (omega (arith, h, room)))
+
+pub cut-count : (n m : ℕ) (out : List ℤ) → length out ≡ m → min n m ≡ length (take (min n m) out)
+cut-count n m out room = omega (arith, room, length-take (min n m) out)
+
+-- A rule is judged by the items that stand in a table with one cell more than there are numbers, and so more than a rule may have.
+module _ (b : Formula) (is-paper : b .limits ≡ paper) (n : ℕ) (out : List ℤ) (ls : List Literal) (room : length out ≡ suc (paper .numbers)) (k : Kept n out ls) where
+  more-than : {m : ℕ} → paper .literals < m → b .limits .literals < m
+  more-than {m} q = subst (λ (L : Limits). L .literals < m) (sym is-paper) q
+
+  pub rule-cut : ruleFault b (take (min n (suc (paper .numbers))) out) ≡ ruleFault b ls
+  rule-cut = by (decLt (suc (paper .numbers)) n)
+    where
+      by : Dec (suc (paper .numbers) < n) → ruleFault b (take (min n (suc (paper .numbers))) out) ≡ ruleFault b ls
+      by (no h) = ap (ruleFault b) (cut-same n (suc (paper .numbers)) out room) ∙ rule-judged b n out ls is-paper k (omega (arith, h, room))
+      by (yes h) =
+          rule-long b (take (min n (suc (paper .numbers))) out) (more-than (omega (arith, h, room, length-take (min n (suc (paper .numbers))) out)))
+          ∙ sym (rule-long b ls (more-than (omega (arith, h, k .count))))
+
+  pub rule-cut-same : ruleFault b ls ≡ none → take (min n (suc (paper .numbers))) out ≡ ls
+  rule-cut-same e = by (decLt (suc (paper .numbers)) n)
+    where
+      by : Dec (suc (paper .numbers) < n) → take (min n (suc (paper .numbers))) out ≡ ls
+      by (no h) = cut-same n (suc (paper .numbers)) out room ∙ rule-same b n out ls is-paper k (omega (arith, h, room)) e
+      by (yes h) = absurd (never (leb (b .limits .clauses) (length (b .clauses))) (sym (rule-long b ls (more-than (omega (arith, h, k .count)))) ∙ e))
+        where
+          never : (x : Bool) → (given x 20 orElse some 7) ≡ none → ⊥
+          never true q = let z : _≡_ {A = ℕ} 0 1 = cc in omega (arith, z)
+          never false q = let z : _≡_ {A = ℕ} 0 1 = cc in omega (arith, z)
 
 -- ---- numbers of a block
 numbers-judged : (κ : Quantifier) (D : Prefix) (ns : List ℕ) → declareFault paper κ D (map narrow ns) ≡ declareFault paper κ D ns

@@ -2,7 +2,8 @@
 // layout, for every byte string.
 mod item;
 mod items;
-mod keyword;
+pub mod keyword;
 pub mod line;
 mod number;
+pub mod text;
 mod word;

@@ -1,14 +1,14 @@
--- For whoever builds a state: tables by place that show a well-formed prefix, what may be declared next, and the state that they give.
+-- For whoever builds a state: tables by place that show a well-formed prefix, and the state that they give.
 use Prim.Native.Nat.{ℕ}
 use native.Mathlib.Omega.{arith}
 use mathlib.Core.Path.{_≡_, refl, ap, _∙_}
-use mathlib.Core.Bool.{true, false, not, false≢true}
-use mathlib.Core.List.{List, [], _∷_, _++_}
+use mathlib.Core.Bool.{true}
+use mathlib.Core.List.{List, []}
 use lib.ListN.{length, getD}
 use lib.Dec.{leb}
-use Rattle.qbf.specs.Formula.{paper, Quantifier, free, exists, forall, isFree, Prefix, quantifiers, levels, all}
-use Rattle.qbf.specs.Calls.{freeFirst, noFree, numbersOk}
-use Rattle.theory.proofs.Basics.{and-left, and-right, and-both}
+use Rattle.qbf.specs.Formula.{paper, Prefix, quantifiers}
+use Rattle.qbf.specs.Calls.{freeFirst, numbersOk}
+use Rattle.theory.proofs.Basics.{and-left, and-right}
 use Rattle.state.specs.declared.State.{State}
 use Rattle.state.specs.Reading.{listing, variableAt, prefixOf, prefixFits, prefixIn, valid}
 use Rattle.state.specs.Derived.{numbered, Quantified}
@@ -16,25 +16,6 @@ use Rattle.state.specs.Declare.{Sound}
 use Rattle.state.proofs.Fresh.{numbers-numbered}
 use Rattle.state.proofs.Steps.{steps-ok, stepsFrom}
 use Rattle.state.proofs.Valid.{prefix-quantified, clausesPart, learnedClausesPart, learnedCubesPart, parts-valid, valid-parts}
-
--- ---- what may be declared next: a bound variable always, a free one after free ones
-bound-last : (ks : List Quantifier) (κ : Quantifier) → isFree κ ≡ false → noFree ks ≡ true → noFree (ks ++ (κ ∷ [])) ≡ true
-bound-last [] κ n e = and-both (not (isFree κ)) true (ap not n) refl
-bound-last (k ∷ ks) κ n e = and-both (not (isFree k)) (noFree (ks ++ (κ ∷ []))) (and-left (not (isFree k)) (noFree ks) e) (bound-last ks κ n (and-right (not (isFree k)) (noFree ks) e))
-
-pub bound-next : (ks : List Quantifier) (κ : Quantifier) → isFree κ ≡ false → freeFirst ks ≡ true → freeFirst (ks ++ (κ ∷ [])) ≡ true
-bound-next [] free n e = refl
-bound-next [] exists n e = refl
-bound-next [] forall n e = refl
-bound-next (free ∷ ks) κ n e = bound-next ks κ n e
-bound-next (exists ∷ ks) κ n e = bound-last ks κ n e
-bound-next (forall ∷ ks) κ n e = bound-last ks κ n e
-
-pub free-next : (ks : List Quantifier) → all isFree ks ≡ true → freeFirst (ks ++ (free ∷ [])) ≡ true
-free-next [] e = refl
-free-next (free ∷ ks) e = free-next ks e
-free-next (exists ∷ ks) e = absurd (false≢true e)
-free-next (forall ∷ ks) e = absurd (false≢true e)
 
 -- ---- tables
 module _ (ns ls ks : List ℕ) where

@@ -1,0 +1,5 @@
+pub mod Standing
+pub mod Growing
+pub mod Taking
+pub mod Lines
+pub mod Turns

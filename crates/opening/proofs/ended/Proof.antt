@@ -1,0 +1,23 @@
+-- `opening::ended`: nothing follows the end's line, or it is refused.
+use borrow.Author.Needs.{needs}
+use Rattle.opening.proofs.ended.Statement.{statement}
+use Rattle.opening.proofs.ended.Tie as tie
+use Prim.Native.Nat.{ℕ}
+use mathlib.Core.Path.{_≡_, refl, sym, ap, subst}
+use mathlib.Core.Bool.{Bool, cond}
+use borrow.Author.Tests.{ne-eqb}
+use lib.Dec.{eqb}
+use Rattle.layout.specs.Opening.{refused, opened}
+use Rattle.opening.specs.Opened.{OpenedAs}
+
+refuse-requires : tie.Need-refuse-requires
+refuse-requires c κs = search needs
+
+returns : tie.Need-returns
+returns c = λ b e. subst (λ (t : Bool). OpenedAs (cond t (opened b) (refused 1 (c .before .before .args .number))) (c .refuse .result)) (sym (ne-eqb (c .before .before .args .left) 0 (c .before .if1 .taken))) (c .refuse .ensures)
+
+returns-2 : tie.Need-returns-2
+returns-2 c = λ b e. subst (λ (n : ℕ). OpenedAs (cond (eqb n 0) (opened b) (refused 1 (c .before .args .number))) (record { refusal = 0; line = 0; state = c .before .args .x })) (sym (c .if1 .left)) (refl, e)
+
+pub ended-spec : {M : Type 1} → statement M
+ended-spec = tie.close (tie.spec refuse-requires returns returns-2)

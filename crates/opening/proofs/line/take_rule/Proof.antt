@@ -1,0 +1,32 @@
+-- `line::take_rule`: the order, then the call rule.
+use borrow.Author.Needs.{needs}
+use Rattle.opening.proofs.line.take_rule.Statement.{statement}
+use Rattle.opening.proofs.line.take_rule.Tie as tie
+use mathlib.Core.Path.{subst}
+use denote.Ref.{now}
+use Rattle.qbf.specs.Calls.{rule}
+use Rattle.serving.specs.Serves.{Said, Serves}
+use Rattle.opening.proofs.Taking.{rule-misplaced, rule-taken}
+
+may-stand-requires : tie.Need-may-stand-requires
+may-stand-requires c κs = search needs
+
+refuse-requires : tie.Need-refuse-requires
+refuse-requires c κs = search needs
+
+returns : tie.Need-returns
+returns c = rule-misplaced (c .before .before .before .pre) (c .before .before .may-stand .ensures) (now (c .before .before .before .args .lits)) (c .before .if1 .taken) (c .refuse .ensures)
+
+rule-requires : tie.Need-rule-requires
+rule-requires c κs = search needs
+
+fault-of-requires : tie.Need-fault-of-requires
+fault-of-requires c κs = search needs
+
+returns-2 : tie.Need-returns-2
+returns-2 c = rule-taken (c .before .before .before .before .before .pre) (c .before .before .before .before .may-stand .ensures) (now (c .before .before .before .before .before .args .lits)) (c .before .before .before .if1 .left) (subst (λ (a : Said). Serves (c .before .before .before .before .before .args .x) (rule (now (c .before .before .before .before .before .args .lits))) a (c .before .before .rule .result .state)) (c .fault-of .ensures) (c .before .before .rule .ensures))
+
+pub take-rule-spec : {M : Type 1} → statement M
+take-rule-spec =
+    tie.close
+    (tie.spec may-stand-requires refuse-requires returns rule-requires fault-of-requires returns-2)

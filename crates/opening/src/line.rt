@@ -1,0 +1,154 @@
+// One line of a text on the state that the lines before it have built. "line by line 1, 2, then as the calls"
+ghost use Prim.Native.Nat.{ℕ, _≤_, min};
+ghost use mathlib.Core.Path.{_≡_};
+ghost use mathlib.Core.List.{[]};
+ghost use Rattle.qbf.specs.Formula.{forall};
+ghost use Rattle.tables.specs.Views.{quantifierCode};
+ghost use Rattle.state.specs.Reading.{formulaIn};
+ghost use Rattle.serving.specs.Serves.{said};
+ghost use Rattle.rules.specs.Rules.{changeSaid};
+ghost use Rattle.layout.specs.Forms.{book, end, formOf};
+ghost use Rattle.reader.specs.Items.{narrow};
+ghost use Rattle.opening.specs.Opened.{Standing, TookForm, BlockTook, RuleTook, Took};
+use crate::block::declare_all;
+use crate::stage;
+use literal::Number;
+use literal::number_of;
+use reader::keyword::Line;
+use reader::line::read_line;
+use rules::Change;
+use state::State;
+
+// Nothing is refused; "1 not in the layout"; "2 edition not 1"
+pub const NONE: u16 = 0;
+
+const NOT_IN_LAYOUT: u16 = 1;
+
+const NOT_EDITION: u16 = 2;
+
+const EDITION: usize = 1;
+
+// A refusal, or the next state and stage.
+pub struct Taken {
+    pub refusal: u16,
+    pub stage: usize,
+    pub state: State,
+}
+
+fn refuse(x: State, number: u16) -> Taken
+    ensures { λ r. ⌜ r .refusal ≡ number ⌝ }
+{
+    Taken {
+        refusal: number,
+        stage: stage::BOOK,
+        state: x,
+    }
+}
+
+fn least(a: usize, b: usize) -> usize
+    ensures { λ r. ⌜ r ≡ min a b ⌝ }
+{
+    if a < b { a } else { b }
+}
+
+fn take_book(x: State, stage: usize, edition: Number) -> Taken
+    requires { ⌜ Standing stage x ⌝ }
+    ensures { λ r. ⌜ ((e : ℕ) → edition .0 ≡ narrow e → TookForm stage (formulaIn x) (book e) r) ⌝ }
+{
+    if !stage::may_stand(stage, stage::BOOK) {
+        return refuse(x, NOT_IN_LAYOUT);
+    }
+    let number = edition.0;
+    if number != EDITION {
+        return refuse(x, NOT_EDITION);
+    }
+    Taken {
+        refusal: NONE,
+        stage: stage::FLAGS,
+        state: x,
+    }
+}
+
+fn take_block(x: State, stage: usize, kind: u16, lits: &[i16]) -> Taken
+    requires { ⌜ Standing stage x × (kind ≤ quantifierCode forall) ⌝ }
+    ensures { λ r. ⌜ BlockTook stage x kind (now (lits .entry)) r ⌝ }
+{
+    if !stage::may_stand(stage, stage::block_rank(kind)) {
+        return refuse(x, NOT_IN_LAYOUT);
+    }
+    let mut numbers = x.numbers;
+    let mut levels = x.levels;
+    let mut kinds = x.kinds;
+    let fault = declare_all(&mut numbers, &mut levels, &mut kinds, lits, kind);
+    let mut y = x;
+    y.numbers = numbers;
+    y.levels = levels;
+    y.kinds = kinds;
+    Taken {
+        refusal: fault,
+        stage: stage::BLOCK,
+        state: y,
+    }
+}
+
+// The number of a refusal, or NONE.
+fn fault_of(change: Change) -> u16
+    ensures { λ r. ⌜ changeSaid change ≡ said r 0 0 0 [] ⌝ }
+{
+    match change {
+        Change::Done => NONE,
+        Change::Refused(number) => number,
+    }
+}
+
+fn take_rule(x: State, stage: usize, lits: &[i16]) -> Taken
+    requires { ⌜ Standing stage x ⌝ }
+    ensures { λ r. ⌜ RuleTook stage x (now (lits .entry)) r ⌝ }
+{
+    if !stage::may_stand(stage, stage::RULE) {
+        return refuse(x, NOT_IN_LAYOUT);
+    }
+    let changed = rules::rule(x, lits);
+    let change = changed.change;
+    let next = changed.state;
+    Taken {
+        refusal: fault_of(change),
+        stage: stage::RULE,
+        state: next,
+    }
+}
+
+fn take_end(x: State, stage: usize) -> Taken
+    requires { ⌜ Standing stage x ⌝ }
+    ensures { λ r. ⌜ TookForm stage (formulaIn x) end r ⌝ }
+{
+    if !stage::may_stand(stage, stage::END) {
+        return refuse(x, NOT_IN_LAYOUT);
+    }
+    Taken {
+        refusal: NONE,
+        stage: stage::END,
+        state: x,
+    }
+}
+
+// Of the items as many are kept as decide: one more than there are variables.
+pub fn take_line(x: State, stage: usize, line: &[u8]) -> Taken
+    requires { ⌜ Standing stage x ⌝ }
+    ensures { λ r. ⌜ Took stage (formulaIn x) (formOf (now (line .entry))) r ⌝ }
+{
+    let mut items = [0i16; tables::BY_NUMBER];
+    match read_line(line, &mut items) {
+        Line::NotLine => refuse(x, NOT_IN_LAYOUT),
+        Line::Book => take_book(x, stage, number_of(items[0])),
+        Line::Block(kind, n) => {
+            let count = least(n, tables::BY_NUMBER);
+            take_block(x, stage, kind, &items[..count])
+        }
+        Line::Rule(n) => {
+            let count = least(n, tables::BY_NUMBER);
+            take_rule(x, stage, &items[..count])
+        }
+        Line::End => take_end(x, stage),
+    }
+}
