@@ -18,6 +18,7 @@ pub mod plain;
 pub mod plain_run;
 pub mod random;
 pub mod refusal;
+pub mod session;
 pub mod slip;
 pub mod solver;
 pub mod store;
