@@ -40,6 +40,11 @@ pub fn examples() -> io::Result<Vec<StoredCase>> {
     read_all(&folder("examples"), Program::Card, "book", "card")
 }
 
+/// Sessions on formulas of the source documents; expected are verdicts without visits.
+pub fn vectors() -> io::Result<Vec<StoredCase>> {
+    read_all(&folder("tests/cases/vectors"), Program::Session, "in", "verdicts")
+}
+
 fn read_all(
     folder: &Path,
     program: Program,

@@ -1,4 +1,4 @@
-//! The stored cases and the examples, on this implementation.
+//! The stored cases, the examples and the vectors of the source documents, on this implementation.
 
 use compare::cases::{self, Program, StoredCase};
 use compare::slip::{Slip, ALL};
@@ -34,6 +34,21 @@ fn sessions() {
 #[test]
 fn examples() {
     hold(cases::examples().expect("examples can be read"), 4, as_printed);
+}
+
+/// "(swap (visits 3))" as "swap": a document gives a verdict and no visits.
+fn verdicts(case: &StoredCase) -> Vec<u8> {
+    let printed = String::from_utf8(as_printed(case)).expect("answers are ASCII");
+    let verdict = |line: &str| {
+        let word = line.strip_prefix('(').and_then(|rest| rest.split_once(" (visits "));
+        word.map_or(line, |(word, _)| word).to_owned() + "\n"
+    };
+    printed.lines().map(verdict).collect::<String>().into_bytes()
+}
+
+#[test]
+fn vectors() {
+    hold(cases::vectors().expect("vectors can be read"), 36, verdicts);
 }
 
 /// Slips that no text and no session can show: calls on an opened formula meet neither a
