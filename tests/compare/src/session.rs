@@ -1,6 +1,7 @@
 //! The program `session`: a book, then one call to a line, each answered when its line is read.
 
-use crate::answer::{Call, Said, Subject};
+use crate::answer::{Answer, Call, Said, Subject};
+use crate::formula::Formula;
 use crate::layout::{self, Item};
 use crate::options::Options;
 use crate::solver::Solver;
@@ -11,7 +12,17 @@ use std::io::{self, BufRead, Read, Write};
 pub const LARGEST_LINE: usize = 65_536;
 
 /// Answers the whole of an input.
-pub fn run(mut input: impl BufRead, mut output: impl Write, options: &Options) -> io::Result<()> {
+pub fn run(input: impl BufRead, output: impl Write, options: &Options) -> io::Result<()> {
+    run_on(input, output, options, |formula| Solver::opened(formula, *options))
+}
+
+/// Answers the whole of an input by what `start` makes of the opened formula.
+pub fn run_on<S: Subject>(
+    mut input: impl BufRead,
+    mut output: impl Write,
+    options: &Options,
+    start: impl FnOnce(Formula) -> S,
+) -> io::Result<()> {
     let book = read_book(&mut input)?;
     let formula = match text::open(&book, options) {
         Ok(formula) => formula,
@@ -20,11 +31,15 @@ pub fn run(mut input: impl BufRead, mut output: impl Write, options: &Options) -
             return output.flush();
         }
     };
-    let mut solver = Solver::opened(formula, *options);
+    let mut subject = start(formula.clone());
     let mut line = book.iter().filter(|&&byte| byte == b'\n').count();
     while let Some(call) = read_call(&mut input)? {
         line += 1;
-        output.write_all(answer(&mut solver, call, line).as_bytes())?;
+        let printed = match call {
+            Some(call) => print(&formula, &subject.call(&call), line),
+            None => format!("(refused 1 {line})\n"),
+        };
+        output.write_all(printed.as_bytes())?;
         output.flush()?;
     }
     Ok(())
@@ -85,10 +100,8 @@ fn narrow(number: i32) -> i16 {
     number.clamp(-i32::from(i16::MAX), i32::from(i16::MAX)) as i16
 }
 
-/// What is printed for a line.
-fn answer(solver: &mut Solver, call: Option<Call>, line: usize) -> String {
-    let Some(call) = call else { return format!("(refused 1 {line})\n") };
-    let answer = solver.call(&call);
+/// What is printed for an answer. The formula is the opened one: calls change no declaration.
+fn print(formula: &Formula, answer: &Answer, line: usize) -> String {
     let visits = answer.visits;
     match answer.said {
         Said::Added => "(accepted)\n".into(),
@@ -97,7 +110,7 @@ fn answer(solver: &mut Solver, call: Option<Call>, line: usize) -> String {
         Said::Keep => format!("(keep (visits {visits}))\n"),
         Said::Refused(21) => format!("(refused 21 {line} (visits {visits}))\n"),
         Said::Refused(number) => format!("(refused {number} {line})\n"),
-        Said::Lines(count) => text::print_card(&solver.state.formula, count, &answer.table, visits),
+        Said::Lines(count) => text::print_card(formula, count, &answer.table, visits),
     }
 }
 

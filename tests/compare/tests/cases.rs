@@ -2,7 +2,7 @@
 
 use compare::cases::{self, Program, StoredCase};
 use compare::slip::{Slip, ALL};
-use compare::Options;
+use compare::{session, text, truth, Call, Options, PlainRun, Said, Solver, Subject};
 
 fn hold(cases: Vec<StoredCase>, least: usize, printed: impl Fn(&StoredCase) -> Vec<u8>) {
     assert!(cases.len() >= least, "only {} cases", cases.len());
@@ -36,6 +36,32 @@ fn examples() {
     hold(cases::examples().expect("examples can be read"), 4, as_printed);
 }
 
+/// Demand 2 on the examples: a reading lies on a line, and on one only, exactly when it is true.
+/// The largest book has too many assignments to evaluate them all.
+#[test]
+fn lines_of_the_examples_are_true() {
+    let options = Options::paper();
+    for case in cases::examples().expect("examples can be read") {
+        let formula = text::open(&case.input, &options).expect("an example opens");
+        if formula.prefix.len() > 30 {
+            continue;
+        }
+        let free_count = formula.free_count();
+        let answer = Solver::opened(formula.clone(), options).call(&Call::Card(1 << 16));
+        let Said::Lines(count) = answer.said else { panic!("{}: {answer}", case.name) };
+        for reading in 0..1usize << free_count {
+            let mut values: Vec<bool> =
+                (0..free_count).map(|bit| reading >> bit & 1 == 1).collect();
+            let agrees = |line: &&[u8]| {
+                line.iter().zip(&values).all(|(byte, on)| [0, 1 + u8::from(*on)].contains(byte))
+            };
+            let on_lines = answer.table.chunks(free_count).take(count).filter(agrees).count();
+            let is_true = truth::holds(&formula, &mut values);
+            assert_eq!(on_lines, usize::from(is_true), "{}: {values:?}", case.name);
+        }
+    }
+}
+
 /// "(swap (visits 3))" as "swap": a document gives a verdict and no visits.
 fn verdicts(case: &StoredCase) -> Vec<u8> {
     let printed = String::from_utf8(as_printed(case)).expect("answers are ASCII");
@@ -49,6 +75,27 @@ fn verdicts(case: &StoredCase) -> Vec<u8> {
 #[test]
 fn vectors() {
     hold(cases::vectors().expect("vectors can be read"), 36, verdicts);
+}
+
+/// An output with every count of visits taken out.
+fn without_visits(output: &[u8]) -> String {
+    let output = String::from_utf8_lossy(output);
+    let mut parts = output.split("(visits ");
+    let first = parts.next().unwrap_or_default().to_owned();
+    let rest = parts.map(|part| part.trim_start_matches(|c: char| c.is_ascii_digit()));
+    first + &rest.collect::<String>()
+}
+
+/// Demand 3 on the stored sessions: the plain run answers them alike, but for its visits.
+#[test]
+fn sessions_of_the_plain_run() {
+    let options = Options::paper();
+    for case in cases::stored(Program::Session).expect("cases can be read") {
+        let mut output = vec![];
+        let start = |formula| PlainRun::new(formula, options.limits);
+        session::run_on(&case.input[..], &mut output, &options, start).expect("bytes in and out");
+        assert_eq!(without_visits(&output), without_visits(&case.expected), "{}", case.name);
+    }
 }
 
 /// Slips that no text and no session can show: calls on an opened formula meet neither a
