@@ -14,13 +14,19 @@ pub enum Form {
 
 /// An item: a number, or one under `(no ..)`.
 #[derive(Clone, Copy)]
-struct Item {
-    number: i32,
-    negated: bool,
+pub(crate) struct Item {
+    pub number: i32,
+    pub negated: bool,
 }
 
-/// Reads a line, without its byte 10. None: not in the layout.
+/// Reads a line of a text, without its byte 10. None: not in the layout.
 pub fn read(line: &[u8]) -> Option<Form> {
+    let (keyword, items) = items(line)?;
+    form(keyword, &items)
+}
+
+/// A line as its keyword and its items, whatever the keyword.
+pub(crate) fn items(line: &[u8]) -> Option<(&[u8], Vec<Item>)> {
     let mut cursor = Cursor { rest: line };
     cursor.expect(b"(")?;
     let keyword = cursor.letters();
@@ -29,10 +35,7 @@ pub fn read(line: &[u8]) -> Option<Form> {
         items.push(cursor.item()?);
     }
     cursor.expect(b")")?;
-    if !cursor.rest.is_empty() {
-        return None;
-    }
-    form(keyword, &items)
+    cursor.rest.is_empty().then_some((keyword, items))
 }
 
 fn form(keyword: &[u8], items: &[Item]) -> Option<Form> {
@@ -43,17 +46,19 @@ fn form(keyword: &[u8], items: &[Item]) -> Option<Form> {
         b"flags" if plain => Some(Form::Flags(numbers())),
         b"exists" if plain && !items.is_empty() => Some(Form::Exists(numbers())),
         b"forall" if plain && !items.is_empty() => Some(Form::Forall(numbers())),
-        b"rule" => Some(Form::Rule(items.iter().map(literal).collect())),
+        b"rule" => Some(Form::Rule(items.iter().map(Item::literal).collect())),
         b"end" if items.is_empty() => Some(Form::End),
         _ => None,
     }
 }
 
-fn literal(item: &Item) -> i32 {
-    if item.negated {
-        -item.number
-    } else {
-        item.number
+impl Item {
+    pub fn literal(&self) -> i32 {
+        if self.negated {
+            -self.number
+        } else {
+            self.number
+        }
     }
 }
 

@@ -6,6 +6,7 @@
 //! that shows each of them.
 
 pub mod answer;
+pub mod cases;
 pub mod check;
 pub mod constraint;
 mod decide;
@@ -18,6 +19,7 @@ pub mod plain;
 pub mod plain_run;
 pub mod random;
 pub mod refusal;
+pub mod session;
 pub mod slip;
 pub mod solver;
 pub mod store;

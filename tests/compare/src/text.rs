@@ -120,7 +120,7 @@ pub fn print_card(formula: &Formula, count: usize, table: &[u8], visits: u64) ->
     let mut text = String::from("(card 1)\n");
     for line in 0..count {
         text.push_str("(line");
-        let bytes = &table[line * free_count..(line + 1) * free_count];
+        let bytes = table.iter().skip(line * free_count).take(free_count);
         for (variable, byte) in formula.prefix.iter().zip(bytes) {
             match byte {
                 1 => text.push_str(&format!(" (no {})", variable.number)),

@@ -1,0 +1,4 @@
+# the book ends at byte 65,537
+awk 'function repeat(text, times,  i) { for (i = 0; i < times; i++) printf "%s", text }
+BEGIN { printf "(book 1)\n(flags 1)\n(rule 10"; repeat(" 1", 32751); printf ")\n(end)\n" }'
+printf "(forget)\n(query)\n"

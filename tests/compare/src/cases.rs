@@ -1,0 +1,92 @@
+//! The stored cases of `tests/cases` and the books of `examples`, with what each is expected to
+//! print.
+
+use crate::options::Options;
+use crate::{session, text};
+use std::path::{Path, PathBuf};
+use std::process::Command;
+use std::{fs, io};
+
+#[derive(Clone, Copy, Debug, PartialEq, Eq)]
+pub enum Program {
+    Card,
+    Session,
+}
+
+#[derive(Clone, Debug)]
+pub struct StoredCase {
+    pub name: String,
+    pub program: Program,
+    pub input: Vec<u8>,
+    pub expected: Vec<u8>,
+}
+
+/// A folder of the repository.
+fn folder(path: &str) -> PathBuf {
+    Path::new(env!("CARGO_MANIFEST_DIR")).join("../..").join(path)
+}
+
+/// Every case of a program, by name.
+pub fn stored(program: Program) -> io::Result<Vec<StoredCase>> {
+    let folder = folder(match program {
+        Program::Card => "tests/cases/card",
+        Program::Session => "tests/cases/session",
+    });
+    read_all(&folder, program, "in", "out")
+}
+
+/// The books of `examples` with their cards.
+pub fn examples() -> io::Result<Vec<StoredCase>> {
+    read_all(&folder("examples"), Program::Card, "book", "card")
+}
+
+/// Sessions on formulas of the source documents; expected are verdicts without visits.
+pub fn vectors() -> io::Result<Vec<StoredCase>> {
+    read_all(&folder("tests/cases/vectors"), Program::Session, "in", "verdicts")
+}
+
+fn read_all(
+    folder: &Path,
+    program: Program,
+    input: &str,
+    expected: &str,
+) -> io::Result<Vec<StoredCase>> {
+    let mut names = vec![];
+    for entry in fs::read_dir(folder)? {
+        let name = entry?.file_name().into_string().expect("names of cases are ASCII");
+        let stem = name.strip_suffix(".sh").unwrap_or(&name);
+        names.extend(stem.strip_suffix(&format!(".{input}")).map(str::to_owned));
+    }
+    names.sort();
+    let case = |name: String| {
+        let input = contents(folder, &format!("{name}.{input}"))?;
+        let expected = contents(folder, &format!("{name}.{expected}"))?;
+        Ok(StoredCase { name, program, input, expected })
+    };
+    names.into_iter().map(case).collect()
+}
+
+/// A stored file, or what the script in its place prints.
+fn contents(folder: &Path, name: &str) -> io::Result<Vec<u8>> {
+    let script = folder.join(format!("{name}.sh"));
+    if !script.exists() {
+        return fs::read(folder.join(name));
+    }
+    let output = Command::new("sh").arg(&script).output()?;
+    assert!(output.status.success(), "{} ends with {}", script.display(), output.status);
+    Ok(output.stdout)
+}
+
+impl StoredCase {
+    /// What this implementation prints.
+    pub fn printed(&self, options: &Options) -> Vec<u8> {
+        match self.program {
+            Program::Card => text::card_program(&self.input, options).into_bytes(),
+            Program::Session => {
+                let mut output = vec![];
+                session::run(&self.input[..], &mut output, options).expect("bytes in, bytes out");
+                output
+            }
+        }
+    }
+}

@@ -1,0 +1,256 @@
+//! The program `session`: a book, then one call to a line, each answered when its line is read.
+
+use crate::answer::{Answer, Call, Said, Subject};
+use crate::formula::Formula;
+use crate::layout::{self, Item};
+use crate::options::Options;
+use crate::solver::Solver;
+use crate::text::{self, LARGEST_TEXT, PROGRAM_TABLE};
+use std::io::{self, BufRead, Read, Write};
+
+/// The longest line of a call, counted without its byte 10.
+pub const LARGEST_LINE: usize = 65_536;
+
+/// Answers the whole of an input.
+pub fn run(input: impl BufRead, output: impl Write, options: &Options) -> io::Result<()> {
+    run_on(input, output, options, |formula| Solver::opened(formula, *options))
+}
+
+/// Answers the whole of an input by what `start` makes of the opened formula.
+pub fn run_on<S: Subject>(
+    mut input: impl BufRead,
+    mut output: impl Write,
+    options: &Options,
+    start: impl FnOnce(Formula) -> S,
+) -> io::Result<()> {
+    let book = read_book(&mut input)?;
+    let formula = match text::open(&book, options) {
+        Ok(formula) => formula,
+        Err(refused) => {
+            writeln!(output, "(refused {} {})", refused.number, refused.line)?;
+            return output.flush();
+        }
+    };
+    let mut subject = start(formula.clone());
+    let mut line = book.iter().filter(|&&byte| byte == b'\n').count();
+    while let Some(call) = read_call(&mut input)? {
+        line += 1;
+        let printed = match call {
+            Some(call) => print(&formula, &subject.call(&call), line),
+            None => format!("(refused 1 {line})\n"),
+        };
+        output.write_all(printed.as_bytes())?;
+        output.flush()?;
+    }
+    Ok(())
+}
+
+/// The input up to and with its first line `(end)`. Where there is none, all of the input, or as
+/// much of it as makes the text too long.
+fn read_book(input: &mut impl BufRead) -> io::Result<Vec<u8>> {
+    let mut text = vec![];
+    while text.len() <= LARGEST_TEXT {
+        let start = text.len();
+        let room = LARGEST_TEXT + 1 - start;
+        let read = input.take(room as u64).read_until(b'\n', &mut text)?;
+        if read == 0 || &text[start..] == b"(end)\n" {
+            break;
+        }
+    }
+    Ok(text)
+}
+
+/// The next line: none at the end of the input; within it the call, where the line holds one.
+fn read_call(input: &mut impl BufRead) -> io::Result<Option<Option<Call>>> {
+    let mut line = vec![];
+    let room = LARGEST_LINE + 1;
+    if input.take(room as u64).read_until(b'\n', &mut line)? == 0 {
+        return Ok(None);
+    }
+    let ended = line.pop() == Some(b'\n');
+    if !ended && line.len() == LARGEST_LINE {
+        input.skip_until(b'\n')?;
+    }
+    Ok(Some(if ended { call(&line) } else { None }))
+}
+
+/// The call on a line, without its byte 10. None: no call stands there.
+fn call(line: &[u8]) -> Option<Call> {
+    let (keyword, items) = layout::items(line)?;
+    let literals = || items.iter().map(|item| narrow(item.literal())).collect();
+    let plain = !items.iter().any(|item| item.negated);
+    match (keyword, &items[..]) {
+        (b"rule", _) => Some(Call::Rule(literals())),
+        (b"query", _) if plain => Some(Call::Query(literals())),
+        (b"card", []) => Some(Call::Card(PROGRAM_TABLE)),
+        (b"card", [length]) if plain => table(length),
+        (b"forget", []) => Some(Call::Forget),
+        _ => None,
+    }
+}
+
+fn table(length: &Item) -> Option<Call> {
+    let length = usize::try_from(length.number).ok()?;
+    (length <= PROGRAM_TABLE).then_some(Call::Card(length))
+}
+
+/// A number of up to five digits as a literal: one that 16 bits do not hold stays a number that
+/// no variable has.
+fn narrow(number: i32) -> i16 {
+    number.clamp(-i32::from(i16::MAX), i32::from(i16::MAX)) as i16
+}
+
+/// What is printed for an answer. The formula is the opened one: calls change no declaration.
+fn print(formula: &Formula, answer: &Answer, line: usize) -> String {
+    let visits = answer.visits;
+    match answer.said {
+        Said::Added => "(accepted)\n".into(),
+        Said::Forgotten => "(forgotten)\n".into(),
+        Said::Swap => format!("(swap (visits {visits}))\n"),
+        Said::Keep => format!("(keep (visits {visits}))\n"),
+        Said::Refused(21) => format!("(refused 21 {line} (visits {visits}))\n"),
+        Said::Refused(number) => format!("(refused {number} {line})\n"),
+        Said::Lines(count) => text::print_card(formula, count, &answer.table, visits),
+    }
+}
+
+#[cfg(test)]
+mod tests {
+    use super::*;
+
+    const A: &str = "(book 1)\n(flags 1 2)\n(exists 3)\n(forall 4)\n(rule 3 4 (no 1))\n\
+                     (rule (no 3) (no 4) 2)\n(rule 1 2)\n(end)\n";
+    const A_CARD: &str = "(card 1)\n(line (no 1) 2)\n(line 1 2)\n";
+
+    fn answers(input: impl AsRef<[u8]>) -> String {
+        let mut output = vec![];
+        run(input.as_ref(), &mut output, &Options::paper()).expect("bytes can be read and written");
+        String::from_utf8(output).expect("answers are ASCII")
+    }
+
+    /// The answers to calls on book A.
+    fn on_a(calls: &str) -> String {
+        answers(A.to_owned() + calls)
+    }
+
+    #[test]
+    fn every_call_has_its_answer() {
+        assert_eq!(on_a(""), "");
+        assert_eq!(on_a("(query 1)\n(query 1)\n"), "(keep (visits 3))\n(keep (visits 1))\n");
+        assert_eq!(on_a("(query 2)\n"), "(swap (visits 1))\n");
+        assert_eq!(on_a("(rule 3 (no 4))\n"), "(accepted)\n");
+        assert_eq!(on_a("(forget)\n"), "(forgotten)\n");
+        assert_eq!(on_a("(card)\n"), format!("{A_CARD}(visits 11)\n(end)\n"));
+        assert_eq!(on_a("(card 4)\n"), on_a("(card)\n"));
+        assert_eq!(on_a("(card 3)\n"), "(refused 21 9 (visits 11))\n");
+    }
+
+    /// What was stored before 21 is kept; a refused call changes nothing.
+    #[test]
+    fn state_goes_from_line_to_line() {
+        let calls = "(card 3)\n(rule 5)\n\n(card 4)\n(forget)\n(card 4)\n";
+        let expected = format!(
+            "(refused 21 9 (visits 11))\n(refused 5 10)\n(refused 1 11)\n\
+             {A_CARD}(visits 9)\n(end)\n(forgotten)\n{A_CARD}(visits 11)\n(end)\n"
+        );
+        assert_eq!(on_a(calls), expected);
+    }
+
+    #[test]
+    fn refused_calls() {
+        let refused = |number| format!("(refused {number} 9)\n");
+        let other = [
+            "",
+            "(query (no 1))",
+            "(query 01)",
+            "(query 100000)",
+            "(query )",
+            "(query\r",
+            "(query)\r",
+            "(QUERY)",
+            "(card 65537)",
+            "(card 99999)",
+            "(card 007)",
+            "(card 00)",
+            "(card (no 4))",
+            "(card 4 4)",
+            "(card 1",
+            "(forget 1)",
+            "(end)",
+            "(book 1)",
+            "(flags)",
+            "(exists 1)",
+            "(swap)",
+            "()",
+            "rule 1",
+        ];
+        for line in other {
+            assert_eq!(on_a(&format!("{line}\n")), refused(1), "{line}");
+        }
+        for line in ["(query 0)", "(query 3)", "(query 41)", "(query 99999)", "(query 1 1)"] {
+            assert_eq!(on_a(&format!("{line}\n")), refused(8), "{line}");
+        }
+        let rules = [
+            ("(rule)", 7),
+            ("(rule 0)", 3),
+            ("(rule 41)", 3),
+            ("(rule 32768)", 3),
+            ("(rule (no 32768))", 3),
+            ("(rule 65537)", 3),
+            ("(rule (no 99999))", 3),
+            ("(rule 5)", 5),
+            ("(rule 1 1)", 6),
+        ];
+        for (line, number) in rules {
+            assert_eq!(on_a(&format!("{line}\n")), refused(number), "{line}");
+        }
+    }
+
+    #[test]
+    fn last_line_without_its_byte_10() {
+        assert_eq!(on_a("(forget)\n(forget)"), "(forgotten)\n(refused 1 10)\n");
+        assert_eq!(on_a(&"x".repeat(LARGEST_LINE)), "(refused 1 9)\n");
+        assert_eq!(on_a(&"x".repeat(LARGEST_LINE + 1)), "(refused 1 9)\n");
+    }
+
+    /// A line of a call: 65,536 bytes are read, one more is no call. Either way the next line is
+    /// the next call.
+    #[test]
+    fn long_lines() {
+        let query = |length: usize| {
+            let items = " 1".repeat((length - 7) / 2);
+            let line = format!("(query{items})\n(forget)\n");
+            on_a(&line)
+        };
+        assert_eq!(query(LARGEST_LINE - 1), "(refused 8 9)\n(forgotten)\n");
+        assert_eq!(query(LARGEST_LINE + 1), "(refused 1 9)\n(forgotten)\n");
+        let items = " 1".repeat((LARGEST_LINE - 10) / 2) + " 10";
+        let line = format!("(query{items})");
+        assert_eq!(line.len(), LARGEST_LINE);
+        assert_eq!(on_a(&format!("{line}\n(forget)\n")), "(refused 8 9)\n(forgotten)\n");
+        assert_eq!(on_a(&format!("{line}x\n(forget)\n")), "(refused 1 9)\n(forgotten)\n");
+        let longest = "x".repeat(3 * LARGEST_LINE);
+        assert_eq!(on_a(&format!("{longest}\n(forget)\n")), "(refused 1 9)\n(forgotten)\n");
+    }
+
+    #[test]
+    fn refused_books_end_the_session() {
+        assert_eq!(answers(""), "(refused 1 1)\n");
+        assert_eq!(answers("(book 2)\n(end)\n(forget)\n"), "(refused 2 1)\n");
+        assert_eq!(answers("(book 1)\n(flags)\n(end)"), "(refused 1 3)\n");
+        assert_eq!(answers("(book 1)\n(flags)\n(end)\r\n(forget)\n"), "(refused 1 3)\n");
+        assert_eq!(answers("(end)\n(forget)\n"), "(refused 1 1)\n");
+    }
+
+    /// Only the book is bounded: calls may go far beyond 65,536 bytes.
+    #[test]
+    fn long_books() {
+        let filled = |length: usize| "x".repeat(length - 7) + "\n(end)\n";
+        assert_eq!(answers(filled(LARGEST_TEXT)), "(refused 1 1)\n");
+        assert_eq!(answers(filled(LARGEST_TEXT + 1)), "(refused 9 0)\n");
+        assert_eq!(answers("x".repeat(LARGEST_TEXT)), "(refused 1 1)\n");
+        assert_eq!(answers("x".repeat(LARGEST_TEXT + 1)), "(refused 9 0)\n");
+        let calls = "(forget)\n".repeat(10_000);
+        assert_eq!(on_a(&calls), "(forgotten)\n".repeat(10_000));
+    }
+}

@@ -1,0 +1,121 @@
+//! The stored cases, the examples and the vectors of the source documents, on this implementation.
+
+use compare::cases::{self, Program, StoredCase};
+use compare::slip::{Slip, ALL};
+use compare::{session, text, truth, Call, Options, PlainRun, Said, Solver, Subject};
+
+fn hold(cases: Vec<StoredCase>, least: usize, printed: impl Fn(&StoredCase) -> Vec<u8>) {
+    assert!(cases.len() >= least, "only {} cases", cases.len());
+    for case in &cases {
+        let (printed, expected) = (printed(case), &case.expected);
+        let words = || format!("{:?} case {}", case.program, case.name);
+        let texts = || {
+            let text = |bytes| String::from_utf8_lossy(bytes).into_owned();
+            (text(&printed), text(expected))
+        };
+        assert!(printed == *expected, "{}: printed, expected {:#?}", words(), texts());
+    }
+}
+
+fn as_printed(case: &StoredCase) -> Vec<u8> {
+    case.printed(&Options::paper())
+}
+
+#[test]
+fn cards() {
+    hold(cases::stored(Program::Card).expect("cases can be read"), 190, as_printed);
+}
+
+#[test]
+fn sessions() {
+    hold(cases::stored(Program::Session).expect("cases can be read"), 80, as_printed);
+}
+
+#[test]
+fn examples() {
+    hold(cases::examples().expect("examples can be read"), 4, as_printed);
+}
+
+/// Demand 2 on the examples: a reading lies on a line, and on one only, exactly when it is true.
+/// The largest book has too many assignments to evaluate them all.
+#[test]
+fn lines_of_the_examples_are_true() {
+    let options = Options::paper();
+    for case in cases::examples().expect("examples can be read") {
+        let formula = text::open(&case.input, &options).expect("an example opens");
+        if formula.prefix.len() > 30 {
+            continue;
+        }
+        let free_count = formula.free_count();
+        let answer = Solver::opened(formula.clone(), options).call(&Call::Card(1 << 16));
+        let Said::Lines(count) = answer.said else { panic!("{}: {answer}", case.name) };
+        for reading in 0..1usize << free_count {
+            let mut values: Vec<bool> =
+                (0..free_count).map(|bit| reading >> bit & 1 == 1).collect();
+            let agrees = |line: &&[u8]| {
+                line.iter().zip(&values).all(|(byte, on)| [0, 1 + u8::from(*on)].contains(byte))
+            };
+            let on_lines = answer.table.chunks(free_count).take(count).filter(agrees).count();
+            let is_true = truth::holds(&formula, &mut values);
+            assert_eq!(on_lines, usize::from(is_true), "{}: {values:?}", case.name);
+        }
+    }
+}
+
+/// "(swap (visits 3))" as "swap": a document gives a verdict and no visits.
+fn verdicts(case: &StoredCase) -> Vec<u8> {
+    let printed = String::from_utf8(as_printed(case)).expect("answers are ASCII");
+    let verdict = |line: &str| {
+        let word = line.strip_prefix('(').and_then(|rest| rest.split_once(" (visits "));
+        word.map_or(line, |(word, _)| word).to_owned() + "\n"
+    };
+    printed.lines().map(verdict).collect::<String>().into_bytes()
+}
+
+#[test]
+fn vectors() {
+    hold(cases::vectors().expect("vectors can be read"), 36, verdicts);
+}
+
+/// An output with every count of visits taken out.
+fn without_visits(output: &[u8]) -> String {
+    let output = String::from_utf8_lossy(output);
+    let mut parts = output.split("(visits ");
+    let first = parts.next().unwrap_or_default().to_owned();
+    let rest = parts.map(|part| part.trim_start_matches(|c: char| c.is_ascii_digit()));
+    first + &rest.collect::<String>()
+}
+
+/// Demand 3 on the stored sessions: the plain run answers them alike, but for its visits.
+#[test]
+fn sessions_of_the_plain_run() {
+    let options = Options::paper();
+    for case in cases::stored(Program::Session).expect("cases can be read") {
+        let mut output = vec![];
+        let start = |formula| PlainRun::new(formula, options.limits);
+        session::run_on(&case.input[..], &mut output, &options, start).expect("bytes in and out");
+        assert_eq!(without_visits(&output), without_visits(&case.expected), "{}", case.name);
+    }
+}
+
+/// Slips that no text and no session can show: calls on an opened formula meet neither a
+/// malformed state nor an entry that a sound search does not store, and print no table.
+fn hidden(slip: Slip) -> bool {
+    use Slip::*;
+    let given_store = [InnerTestsAtMost, SatisfiedBeforeStoredClause, EqualNotStoredAgain];
+    let table = [TableTailKept, TableKeptAfter21];
+    slip.is_of_check() || given_store.contains(&slip) || table.contains(&slip)
+}
+
+/// The stored cases are strong enough: every other slip changes what some case prints.
+#[test]
+fn every_slip_changes_a_case() {
+    let programs = [Program::Card, Program::Session].map(|p| cases::stored(p).expect("cases"));
+    let mut cases = programs.concat();
+    cases.sort_by_key(|case| case.input.len() + case.expected.len());
+    for (slip, words) in ALL.iter().filter(|(slip, _)| !hidden(*slip)) {
+        let options = Options { slip: Some(*slip), judges_state: false, ..Options::paper() };
+        let shown = cases.iter().any(|case| case.printed(&options) != case.expected);
+        assert!(shown, "{slip:?}: {words}");
+    }
+}
