@@ -1,5 +1,5 @@
 -- Keywords: the tests in the order of the code, and the form of a line by its keyword.
-use Prim.Native.Nat.{ℕ, zero, suc, _+_, _-_}
+use Prim.Native.Nat.{ℕ, zero, suc, _+_}
 use mathlib.Core.Path.{_≡_, refl, sym, ap, subst, _∙_}
 use mathlib.Core.Bool.{Bool, true, false, cond}
 use mathlib.Core.List.{List, [], _∷_, map}
@@ -7,7 +7,6 @@ use mathlib.Core.Option.{Option, none, some}
 use native.Mathlib.Omega.{arith}
 use borrow.Author.Tests.{ne-eqb}
 use lib.IntN.{ℤ, pos}
-use lib.Dec.{leb·zero}
 use lib.ListN.{length, take}
 use Rattle.qbf.specs.Formula.{Literal, free, exists, forall, numberOf}
 use Rattle.layout.specs.Words.{Bytes, same, split, space, number}
@@ -19,6 +18,7 @@ use Rattle.reader.specs.declared.keyword.Word.{Word}
 use Rattle.reader.specs.declared.keyword.Line.{Line}
 use Rattle.reader.specs.declared.keyword.Word.the-variants as word
 use Rattle.reader.specs.declared.keyword.Line.the-variants as line
+use Rattle.reader.proofs.Lines.{by-first}
 
 -- ---- keywords
 module _ (w : Bytes) where
@@ -61,13 +61,13 @@ unsigned-more (some n) (some ms) ls ih e =
     let q : pos n ∷ ms ≡ ls = cc in
     subst (λ (xs : List Literal). xs ≡ map pos (map numberOf xs)) q (ap (λ (xs : List Literal). pos n ∷ xs) (ih ms refl))
 
-unsigned : (ws : List Bytes) (ls : List Literal) → items false ws ≡ some ls → ls ≡ map pos (map numberOf ls)
+pub unsigned : (ws : List Bytes) (ls : List Literal) → items false ws ≡ some ls → ls ≡ map pos (map numberOf ls)
 unfolding items
 unsigned [] ls e = let q : [] ≡ ls = cc in subst (λ (xs : List Literal). xs ≡ map pos (map numberOf xs)) q refl
 unsigned (w ∷ []) ls e = unsigned-more (number w) (some []) ls (λ ms z. let q : [] ≡ ms = cc in subst (λ (xs : List Literal). xs ≡ map pos (map numberOf xs)) q refl) e
 unsigned (w ∷ v ∷ ws) ls e = unsigned-more (number w) (items false (v ∷ ws)) ls (unsigned (v ∷ ws)) e
 
-then-none : (o : Option (List Literal)) → _≡_ {A = Option Form} none (then o (λ ls. none))
+pub then-none : {A : Type 0} (o : Option (List Literal)) → _≡_ {A = Option A} none (then o (λ ls. none))
 then-none none = refl
 then-none (some ls) = refl
 
@@ -120,20 +120,8 @@ line-form w ls n out u k =
     subst (λ (m : ℕ). LineRead (formWith w ls) (lineOf w m) out) (sym (k .count)) (by-count w ls out u (subst (λ (m : ℕ). Kept m out ls) (k .count) k))
 
 module _ {s : Bytes} {e : ℕ} (p : Piece space s 0 e) (w : Word) (g : Bool) (is-w : w ≡ wordOf (take e s)) (is-g : g ≡ signs w) where
-  first-piece : split space s ≡ take e s ∷ piecesFrom space s (e + 1)
-  unfolding piecesFrom
-  first-piece = sym start ∙ p .is ∙ ap (λ (k : ℕ). take k s ∷ piecesFrom space s (e + 1)) zero-off
-    where
-      start : piecesFrom space s 0 ≡ split space s
-      start = rw leb·zero
-
-      zero-off : e - 0 ≡ e
-      zero-off = omega arith
-
   form-is : formFrom (split space s) ≡ then (items g (piecesFrom space s (e + 1))) (formWith w)
-  form-is = ap formFrom first-piece ∙ by-word (take e s) (piecesFrom space s (e + 1))
-      ∙ ap (λ (v : Word). then (items (signs v) (piecesFrom space s (e + 1))) (formWith v)) (sym is-w)
-      ∙ ap (λ (x : Bool). then (items x (piecesFrom space s (e + 1))) (formWith w)) (sym is-g)
+  form-is = by-first formFrom wordOf signs formWith by-word p is-w is-g
 
   pub form-none : items g (piecesFrom space s (e + 1)) ≡ none → formFrom (split space s) ≡ none
   form-none q = form-is ∙ ap (λ (o : Option (List Literal)). then o (formWith w)) q

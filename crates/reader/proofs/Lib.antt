@@ -3,7 +3,8 @@ pub mod Words
 pub mod Pieces
 pub mod Narrowed
 pub mod Literals
-pub mod Keywords
 pub mod Lines
+pub mod Keywords
+pub mod Calls
 pub mod Judged
 pub mod Texts

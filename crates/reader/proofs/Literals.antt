@@ -29,7 +29,7 @@ no-number : number noWord ≡ none
 unfolding number digits
 no-number = refl
 
-items-on : (g : Bool) (w : Bytes) (ws : List Bytes) → (g && same w noWord) ≡ false → items g (w ∷ ws) ≡ consed pos (number w) (items g ws)
+pub items-on : (g : Bool) (w : Bytes) (ws : List Bytes) → (g && same w noWord) ≡ false → items g (w ∷ ws) ≡ consed pos (number w) (items g ws)
 unfolding items
 items-on g w [] e = refl
 items-on g w (v ∷ ws) e = rw e

@@ -2,3 +2,4 @@ pub mod Pieces
 pub mod Numbers
 pub mod Items
 pub mod Lines
+pub mod Calls

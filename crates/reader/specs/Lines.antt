@@ -1,14 +1,15 @@
--- A line's keyword, and what the answer of a line says of its form.
-use Prim.Native.Nat.{ℕ, zero, suc}
+-- A line's brackets, its keyword, and what the answer of a line says of its form.
+use Prim.Native.Nat.{ℕ, zero, suc, _≤_, _-_}
 use mathlib.Core.Path.{_≡_}
 use mathlib.Core.Bool.{Bool, true, false}
 use mathlib.Core.List.{List, [], _∷_, map}
 use mathlib.Core.Option.{Option, none, some}
 use lib.IntN.{ℤ, pos}
+use lib.ListN.{length, take, drop}
 use lib.Dec.{eqb}
 use Rattle.qbf.specs.Formula.{Literal, Quantifier, free, exists, forall}
 use Rattle.tables.specs.Views.{quantifierCode}
-use Rattle.layout.specs.Words.{Bytes, same}
+use Rattle.layout.specs.Words.{Bytes, same, inside}
 use Rattle.layout.specs.Forms.{bookWord, flagsWord, existsWord, forallWord, ruleWord, endWord, Form, bookForm, flagsForm, blockForm, ruleForm, endForm}
 use Rattle.layout.specs.Forms as form
 use Rattle.reader.specs.Items.{Kept}
@@ -16,6 +17,12 @@ use Rattle.reader.specs.declared.keyword.Word.{Word}
 use Rattle.reader.specs.declared.keyword.Line.{Line}
 use Rattle.reader.specs.declared.keyword.Word.the-variants as word
 use Rattle.reader.specs.declared.keyword.Line.the-variants as line
+
+-- ---- brackets
+-- whether something stands between a line's brackets; then it is all but the first and the last byte
+abbrev pub Bracketed : Bytes → Bool → Type 0
+Bracketed l true = (2 ≤ length l) × (inside l ≡ some (take (length l - 1 - 1) (drop 1 l)))
+Bracketed l false = inside l ≡ none
 
 -- ---- keywords
 abbrev pub pick : Bool → Word → Word → Word

@@ -2,10 +2,11 @@
 use crate::item::Cursor;
 use crate::item::Item;
 use crate::item::read_item;
-use crate::word::SPACE;
 ghost use mathlib.Core.Path.{_≡_};
-ghost use lib.ListN.{set};
+ghost use Prim.Native.Nat.{_+_, _≤_};
+ghost use lib.ListN.{length, set};
 ghost use Rattle.layout.specs.Words.{space, split};
+ghost use Rattle.reader.specs.Pieces.{piecesFrom};
 ghost use Rattle.reader.specs.Items.{Filled};
 
 // How many items there are.
@@ -23,7 +24,7 @@ fn put_literal(out: &mut [i16], n: usize, l: i16)
     }
 }
 
-pub fn read_items(s: &[u8], signed: bool, out: &mut [i16]) -> Count
+fn read_items(s: &[u8], signed: bool, out: &mut [i16]) -> Count
     ensures { λ r. ⌜ Filled signed (split space (now (s .entry))) r (now (out .exit)) ⌝ }
 {
     let mut at: usize = 0;
@@ -37,4 +38,15 @@ pub fn read_items(s: &[u8], signed: bool, out: &mut [i16]) -> Count
         at = next.at;
     }
     Count::Items(n)
+}
+
+// The items after the word that ends at e.
+pub fn rest(s: &[u8], e: usize, signed: bool, out: &mut [i16]) -> Count
+    requires { ⌜ e ≤ length (now s) ⌝ }
+    ensures { λ r. ⌜ Filled signed (piecesFrom space (now (s .entry)) (e + 1)) r (now (out .exit)) ⌝ }
+{
+    if s.len() <= e {
+        return Count::Items(0);
+    }
+    read_items(&s[e + 1..], signed, out)
 }

@@ -1,5 +1,7 @@
-// Reading a line of a text: words, numbers, literals and the form that they make. Each function is equal to its definition in
-// layout, for every byte string.
+// Reading a line of a text: words, numbers, literals and the form or the call that they make. Each function is equal to its
+// definition in layout, for every byte string.
+mod brackets;
+pub mod call;
 mod item;
 mod items;
 pub mod keyword;

@@ -1,8 +1,8 @@
 -- `rest` meets its contract: no words, or those after the space.
 use borrow.Author.Needs.{needs}
-use Rattle.reader.proofs.line.rest.Statement.{statement}
+use Rattle.reader.proofs.items.rest.Statement.{statement}
 use Rattle.reader.proofs.Lines.{rest-none, rest-part}
-use Rattle.reader.proofs.line.rest.Tie as tie
+use Rattle.reader.proofs.items.rest.Tie as tie
 
 returns : tie.Need-returns
 returns c =

@@ -1,0 +1,66 @@
+-- A call's word, the size of a card's table, and what the answer of a line says of its call.
+use Prim.Native.Nat.{ℕ}
+use mathlib.Core.Path.{_≡_}
+use mathlib.Core.Bool.{Bool, true, false, cond}
+use mathlib.Core.List.{List, [], _∷_, map}
+use mathlib.Core.Option.{Option, none, some}
+use lib.IntN.{ℤ, pos}
+use lib.Dec.{leb}
+use Rattle.qbf.specs.Formula.{Literal}
+use Rattle.qbf.specs.Calls.{Call}
+use Rattle.qbf.specs.Calls as call
+use Rattle.layout.specs.Words.{Bytes, same, number}
+use Rattle.layout.specs.Forms.{ruleWord}
+use Rattle.layout.specs.Program.{tableBytes}
+use Rattle.layout.specs.Session.{queryWord, cardWord, forgetWord, ruleCall, queryCall, cardCall, forgetCall}
+use Rattle.reader.specs.Items.{Kept}
+use Rattle.reader.specs.declared.number.Num.{Num}
+use Rattle.reader.specs.declared.number.Num.the-variants.{Value, NotNumber}
+use Rattle.reader.specs.declared.call.CallWord.{CallWord}
+use Rattle.reader.specs.declared.call.CallLine.{CallLine}
+use Rattle.reader.specs.declared.call.CallWord.the-variants as word
+use Rattle.reader.specs.declared.call.CallLine.the-variants as line
+
+-- ---- words
+unfoldable pub callWordOf : Bytes → CallWord
+callWordOf w =
+    cond (same w ruleWord) word.Rule
+    (cond (same w queryWord) word.Query
+    (cond (same w cardWord) word.Card
+    (cond (same w forgetWord) word.Forget
+    word.NotWord)))
+
+abbrev pub callSigns : CallWord → Bool
+callSigns word.Rule = true
+callSigns word.Query = false
+callSigns word.Card = false
+callSigns word.Forget = false
+callSigns word.NotWord = false
+
+-- the call that a word and its items make
+abbrev pub callWith : CallWord → List Literal → Option Call
+callWith word.Rule ls = ruleCall ls
+callWith word.Query ls = queryCall ls
+callWith word.Card ls = cardCall ls
+callWith word.Forget ls = forgetCall ls
+callWith word.NotWord ls = none
+
+-- ---- cards
+-- the size that the words after `card` give
+abbrev pub cardSize : List Bytes → Option ℕ
+cardSize [] = some tableBytes
+cardSize (w ∷ []) = number w
+cardSize (w ∷ v ∷ ws) = none
+
+abbrev pub cardLine : Num → CallLine
+cardLine (Value n) = cond (leb n tableBytes) (line.Card n) line.NotCall
+cardLine NotNumber = line.NotCall
+
+-- ---- calls
+-- What an answer says of a line's call. The literals of a rule and the numbers of a query stand in the table.
+abbrev pub CallRead : Option Call → CallLine → List ℤ → Type 0
+CallRead o line.NotCall out = o ≡ none
+CallRead o (line.Rule n) out = (ls : List Literal) × (o ≡ some (call.rule ls)) × Kept n out ls
+CallRead o (line.Query n) out = (ns : List ℕ) × (o ≡ some (call.query (map pos ns))) × Kept n out (map pos ns)
+CallRead o (line.Card size) out = o ≡ some (call.card size)
+CallRead o line.Forget out = o ≡ some call.forget

@@ -1,0 +1,131 @@
+// A call of a session on one line, without its byte 10: `(rule ..)`, `(query ..)`, `(card)`, `(card 4)` or `(forget)`.
+use crate::brackets::has_brackets;
+use crate::items::Count;
+use crate::items::rest;
+use crate::number::Num;
+use crate::number::read_number;
+use crate::text::TEXT;
+use crate::word::SPACE;
+use crate::word::find;
+use crate::word::same_word;
+ghost use mathlib.Core.Path.{_≡_};
+ghost use Prim.Native.Nat.{_+_, _≤_};
+ghost use lib.ListN.{length};
+ghost use Rattle.layout.specs.Words.{space, split};
+ghost use Rattle.layout.specs.Session.{callFrom, callOf};
+ghost use Rattle.reader.specs.Numbers.{numOf};
+ghost use Rattle.reader.specs.Pieces.{piecesFrom};
+ghost use Rattle.reader.specs.Calls.{callWordOf, callSigns, cardSize, cardLine, CallRead};
+
+// "The program's card table has 65,536 bytes"
+pub const TABLE: usize = 65536;
+
+// The call of a line. The literals of a rule and the numbers of a query are counted here and lie in the lent table, as many as it
+// holds; a card has the size of its table.
+pub enum CallLine {
+    Rule(usize),
+    Query(usize),
+    Card(usize),
+    Forget,
+    NotCall,
+}
+
+enum CallWord {
+    Rule,
+    Query,
+    Card,
+    Forget,
+    NotWord,
+}
+
+fn call_word(w: &[u8]) -> CallWord
+    ensures { λ r. ⌜ r ≡ callWordOf (now (w .entry)) ⌝ }
+{
+    if same_word(w, b"rule") {
+        return CallWord::Rule;
+    }
+    if same_word(w, b"query") {
+        return CallWord::Query;
+    }
+    if same_word(w, b"card") {
+        return CallWord::Card;
+    }
+    if same_word(w, b"forget") {
+        return CallWord::Forget;
+    }
+    CallWord::NotWord
+}
+
+// Only a rule has signed items.
+fn call_signs(w: CallWord) -> bool
+    ensures { λ r. ⌜ r ≡ callSigns w ⌝ }
+{
+    match w {
+        CallWord::Rule => true,
+        CallWord::Query => false,
+        CallWord::Card => false,
+        CallWord::Forget => false,
+        CallWord::NotWord => false,
+    }
+}
+
+// The size that a card whose word ends at e gives for its table: the whole table, or a number. It is read from the bytes, since
+// the items are narrowed.
+fn card_size(s: &[u8], e: usize) -> Num
+    requires { ⌜ e ≤ length (now s) ⌝ }
+    ensures { λ r. ⌜ numOf r ≡ cardSize (piecesFrom space (now (s .entry)) (e + 1)) ⌝ }
+{
+    if s.len() <= e {
+        return Num::Value(TABLE as u32);
+    }
+    read_number(&s[e + 1..])
+}
+
+fn card_of(size: Num) -> CallLine
+    ensures { λ r. ⌜ r ≡ cardLine size ⌝ }
+{
+    match size {
+        Num::Value(n) => if n <= TABLE as u32 {
+            CallLine::Card(n as usize)
+        } else {
+            CallLine::NotCall
+        },
+        Num::NotNumber => CallLine::NotCall,
+    }
+}
+
+// The call between a line's brackets.
+fn read_words(s: &[u8], out: &mut [i16]) -> CallLine
+    ensures { λ r. ⌜ CallRead (callFrom (split space (now (s .entry)))) r (now (out .exit)) ⌝ }
+{
+    let e = find(s, 0, SPACE);
+    let w = call_word(&s[..e]);
+    let signed = call_signs(w);
+    let Count::Items(n) = rest(s, e, signed, out) else {
+        return CallLine::NotCall;
+    };
+    match w {
+        CallWord::Rule => CallLine::Rule(n),
+        CallWord::Query => CallLine::Query(n),
+        CallWord::Card => card_of(card_size(s, e)),
+        CallWord::Forget => if n == 0 {
+            CallLine::Forget
+        } else {
+            CallLine::NotCall
+        },
+        CallWord::NotWord => CallLine::NotCall,
+    }
+}
+
+// A line longer than a text may be is no call.
+pub fn read_call(l: &[u8], out: &mut [i16]) -> CallLine
+    ensures { λ r. ⌜ CallRead (callOf (now (l .entry))) r (now (out .exit)) ⌝ }
+{
+    if TEXT < l.len() {
+        return CallLine::NotCall;
+    }
+    if !has_brackets(l) {
+        return CallLine::NotCall;
+    }
+    read_words(&l[1..l.len() - 1], out)
+}
