@@ -12,6 +12,7 @@ pub mod numbers;
 pub mod prefix;
 pub mod rows;
 
+#[repr(C)]
 pub struct State {
     // the count of the variables, then the number of each place's variable
     pub numbers: [u16; tables::BY_NUMBER],

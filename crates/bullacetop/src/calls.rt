@@ -1,0 +1,138 @@
+// The four calls. A refusal of 0 is none; a verdict is 1 for keep and 2 for swap, 0 where the call is no query.
+use answers::Printed;
+use answers::Ruling;
+use rules::Change;
+use rules::Changed;
+use state::State;
+ghost use mathlib.Core.Path.{_≡_};
+ghost use mathlib.Core.List.{[]};
+ghost use lib.ListN.{length};
+ghost use Rattle.qbf.specs.Calls.{rule, query, card, forget};
+ghost use Rattle.serving.specs.Serves.{said, Serves};
+ghost use Rattle.rules.specs.Rules.{changeSaid};
+ghost use Rattle.answers.specs.Answers.{rulingSaid, cardSaid};
+ghost use Rattle.bullacetop.specs.Answers.{answerSaid};
+
+#[repr(C)]
+pub struct Answer {
+    pub refusal: u16,
+    pub verdict: u16,
+    pub lines: usize,
+    pub visits: u64,
+    pub state: State,
+}
+
+const NONE: u16 = 0;
+
+const KEEP: u16 = 1;
+
+const SWAP: u16 = 2;
+
+fn change_refusal(c: Change) -> u16
+    ensures { λ r. ⌜ changeSaid c ≡ said r 0 0 0 [] ⌝ }
+{
+    match c {
+        Change::Done => NONE,
+        Change::Refused(n) => n,
+    }
+}
+
+fn ruling_refusal(r: Ruling) -> u16
+    ensures { λ n. ⌜ n ≡ rulingSaid r 0 .refusal ⌝ }
+{
+    match r {
+        Ruling::Swap => NONE,
+        Ruling::Keep => NONE,
+        Ruling::Refused(n) => n,
+    }
+}
+
+fn verdict_of(r: Ruling) -> u16
+    ensures { λ n. ⌜ n ≡ rulingSaid r 0 .verdict ⌝ }
+{
+    match r {
+        Ruling::Swap => SWAP,
+        Ruling::Keep => KEEP,
+        Ruling::Refused(n) => NONE,
+    }
+}
+
+fn card_refusal(p: Printed) -> u16
+    ensures { λ n. ⌜ n ≡ cardSaid p 0 [] .refusal ⌝ }
+{
+    match p {
+        Printed::Lines(n) => NONE,
+        Printed::Refused(n) => n,
+    }
+}
+
+fn lines_of(p: Printed) -> usize
+    ensures { λ n. ⌜ n ≡ cardSaid p 0 [] .lines ⌝ }
+{
+    match p {
+        Printed::Lines(n) => n,
+        Printed::Refused(n) => 0,
+    }
+}
+
+fn changed(c: Changed) -> Answer
+    ensures { λ r. ⌜ (answerSaid r [] ≡ changeSaid (c .change)) × (r .state ≡ c .state) ⌝ }
+{
+    let change = c.change;
+    let next = c.state;
+    Answer {
+        refusal: change_refusal(change),
+        verdict: NONE,
+        lines: 0,
+        visits: 0,
+        state: next,
+    }
+}
+
+#[no_mangle]
+pub extern "C" fn bullacetop_rule(x: State, lits: &[i16]) -> Answer
+    ensures { λ r. ⌜ Serves x (rule (now (lits .entry))) (answerSaid r []) (r .state) ⌝ }
+{
+    changed(rules::rule(x, lits))
+}
+
+#[no_mangle]
+pub extern "C" fn bullacetop_forget(x: State) -> Answer
+    ensures { λ r. ⌜ Serves x forget (answerSaid r []) (r .state) ⌝ }
+{
+    changed(rules::forget(x))
+}
+
+#[no_mangle]
+pub extern "C" fn bullacetop_query(x: State, on: &[i16]) -> Answer
+    ensures { λ r. ⌜ Serves x (query (now (on .entry))) (answerSaid r []) (r .state) ⌝ }
+{
+    let asked = answers::query(x, on);
+    let ruling = asked.ruling;
+    let visits = asked.visits;
+    let next = asked.state;
+    Answer {
+        refusal: ruling_refusal(ruling),
+        verdict: verdict_of(ruling),
+        lines: 0,
+        visits: visits,
+        state: next,
+    }
+}
+
+#[no_mangle]
+pub extern "C" fn bullacetop_card(x: State, table: &mut [u8]) -> Answer
+    ensures { λ r. ⌜ Serves x (card (length (now (table .entry)))) (answerSaid r (now (table .exit))) (r .state) ⌝ }
+{
+    let shown = answers::card(x, table);
+    let printed = shown.printed;
+    let visits = shown.visits;
+    let next = shown.state;
+    Answer {
+        refusal: card_refusal(printed),
+        verdict: NONE,
+        lines: lines_of(printed),
+        visits: visits,
+        state: next,
+    }
+}
