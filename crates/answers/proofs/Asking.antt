@@ -29,6 +29,10 @@ use Rattle.answers.specs.declared.Ruling.{Ruling}
 use Rattle.answers.specs.Run.{Ends, FoundBy}
 use Rattle.answers.specs.declared.run.Found.{Found}
 
+-- a call served with an answer and a state that are equal to those
+pub served-as : (x : State) (c : Call) {a q : Said} {y z : State} → a ≡ q → y ≡ z → Serves x c q z → Serves x c a y
+served-as x c {a} {q} {y} {z} p e s = subst (λ (u : Said). Serves x c u y) (sym p) (subst (λ (u : State). Serves x c q u) (sym e) s)
+
 -- ---- query
 -- swap or keep, by the verdict
 ruling-is : (w : Verdict) (o : Outcome Constraint) (k : ℕ) → Ends w o → rulingSaid (rulingFor w) k ≡ saidReply (queryReply (outline o)) k
@@ -94,8 +98,8 @@ module _ (x : State) (v : valid x ≡ true) where
       (asked ls free r table frees fine (f (start-length ls (prefixIn x) ∙ sym frees) (covers-none free 1 (0 ∷ []) refl)))
 
   -- refused with 8: the state is as given
-  pub not-asked : (ls : List Literal) → queryFault b [] ls ≡ some 8 → Serves x (query ls) (said 8 0 0 0 []) x
-  not-asked ls e =
+  pub refused-query : (ls : List Literal) → queryFault b [] ls ≡ some 8 → Serves x (query ls) (said 8 0 0 0 []) x
+  refused-query ls e =
       subst (λ (a : Said). Serves x (query ls) a x) (ap (λ (o : Option ℕ). saidOf (learningQuery o b (storeIn x) ls .out)) e)
       (unchanged x (query ls) v (ap (λ (o : Option ℕ). record { formula = b; store = learningQuery o b (storeIn x) ls .store }) e))
 

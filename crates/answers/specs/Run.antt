@@ -31,6 +31,12 @@ pub record FoundBy (x : State) (o : LearningResult) (free : ℕ) (r : Found) (ta
   pub covers : Covers free table (newLines (o .outcome))
   pub lines : r .lines ≡ length (newLines (o .outcome))
 
+-- the tables by number of the state's prefix, and the count of its free variables
+pub record Prefixed (x : State) (places kinds : List ℕ) (free : ℕ) : Type 0 where
+  pub placed : Places (prefixIn x) places
+  pub kinded : Kinds (prefixIn x) kinds
+  pub frees : free ≡ freeVariables (prefixIn x)
+
 pub record Ran (x : State) (places kinds values : List ℕ) (at free : ℕ) (table : List ℕ) (r : Found) (table′ : List ℕ) : Type 0 where
   pub size : length table′ ≡ length table
   pub few : r .lines < 2 ^ 63

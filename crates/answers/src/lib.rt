@@ -1,9 +1,10 @@
 // The calls query and card, open to outsiders: a search on a state by value, and its answer in the paper's words.
 ghost use mathlib.Core.Path.{_≡_};
-ghost use Prim.Native.Nat.{_<_, _^_};
+ghost use Prim.Native.Nat.{ℕ, _<_, _^_};
+ghost use mathlib.Core.List.{List, []};
 ghost use lib.ListN.{length};
 ghost use Rattle.qbf.specs.Calls.{query, card};
-ghost use Rattle.serving.specs.Serves.{Serves};
+ghost use Rattle.serving.specs.Serves.{said, Serves};
 ghost use Rattle.answers.specs.Answers.{rulingSaid, cardSaid, rulingFor, total};
 use node::Verdict;
 use state::State;
@@ -63,35 +64,50 @@ fn total_lines(v: Verdict, below: usize) -> usize
     }
 }
 
+// "A refusal returns its number, 0 lines, 0 visits and the state as given": a query's.
+fn not_asked(number: u16, x: State) -> Asked
+    ensures { λ r. ⌜ (rulingSaid (r .ruling) (r .visits) ≡ said number 0 0 0 []) × (r .state ≡ x) ⌝ }
+{
+    Asked {
+        ruling: Ruling::Refused(number),
+        visits: 0,
+        state: x,
+    }
+}
+
+// A card's: "Only 21 differs: the walk runs to its end first, its visits are returned and its store is kept."
+fn not_shown(number: u16, visits: u64, x: State) -> Shown
+    ensures { λ r. ⌜
+        ((tb : List ℕ) → cardSaid (r .printed) (r .visits) tb ≡ said number 0 0 visits tb)
+        × (r .state ≡ x)
+        ⌝ }
+{
+    Shown {
+        printed: Printed::Refused(number),
+        visits: visits,
+        state: x,
+    }
+}
+
 // "Query takes the numbers of the flags that are on; a flag not named is off. It returns swap or keep, and the visits."
 pub fn query(x: State, on: &[i16]) -> Asked
     ensures { λ r. ⌜ Serves x (query (now (on .entry))) (rulingSaid (r .ruling) (r .visits)) (r .state) ⌝ }
 {
     if !run::admits(x) {
-        return Asked {
-            ruling: Ruling::Refused(MALFORMED),
-            visits: 0,
-            state: x,
-        };
+        return not_asked(MALFORMED, x);
     }
-    let numbers = x.numbers;
-    let levels = x.levels;
-    let kinds = x.kinds;
-    let prefix = state::prefix::read_prefix(&numbers, &levels, &kinds);
+    let prefix = run::prefix_of(x);
     let places = prefix.places;
-    let by_number = prefix.kinds;
-    let free = state::kinds::free_count(&numbers, &levels, &kinds);
+    let kinds = prefix.kinds;
+    let free = prefix.free;
+    let numbers = x.numbers;
     let reading = reading::read(&numbers, &places, free, on);
     if !reading.ok {
-        return Asked {
-            ruling: Ruling::Refused(NOT_FREE),
-            visits: 0,
-            state: x,
-        };
+        return not_asked(NOT_FREE, x);
     }
     let values = reading.values;
     let mut no_table = [0u8; 1];
-    let found = run::run(x, places, by_number, values, free, free, &mut no_table);
+    let found = run::run(x, places, kinds, values, free, free, &mut no_table);
     let verdict = found.verdict;
     let next = found.state;
     Asked {
@@ -107,35 +123,25 @@ pub fn card(x: State, table: &mut [u8]) -> Shown
 {
     cover::clear(table);
     if !run::admits(x) {
-        return Shown {
-            printed: Printed::Refused(MALFORMED),
-            visits: 0,
-            state: x,
-        };
+        return not_shown(MALFORMED, 0, x);
     }
-    let numbers = x.numbers;
-    let levels = x.levels;
-    let kinds = x.kinds;
-    let prefix = state::prefix::read_prefix(&numbers, &levels, &kinds);
+    let prefix = run::prefix_of(x);
     let places = prefix.places;
-    let by_number = prefix.kinds;
-    let free = state::kinds::free_count(&numbers, &levels, &kinds);
+    let kinds = prefix.kinds;
+    let free = prefix.free;
     let values = [tables::OPEN; tables::BY_NUMBER];
-    let found = run::run(x, places, by_number, values, 0, free, table);
+    let found = run::run(x, places, kinds, values, 0, free, table);
     let verdict = found.verdict;
     let lines = total_lines(verdict, found.lines);
-    let next = found.state;
+    let visits = found.visits;
+    let searched = found.state;
     if cover::fits(table.len(), free, lines) {
         return Shown {
             printed: Printed::Lines(lines),
-            visits: found.visits,
-            state: next,
+            visits: visits,
+            state: searched,
         };
     }
     cover::clear(table);
-    Shown {
-        printed: Printed::Refused(TOO_MANY_LINES),
-        visits: found.visits,
-        state: next,
-    }
+    not_shown(TOO_MANY_LINES, visits, searched)
 }

@@ -6,7 +6,7 @@ ghost use lib.ListN.{getD};
 ghost use Rattle.qbf.specs.Formula.{paper};
 ghost use Rattle.state.specs.Derived.{Sized};
 ghost use Rattle.state.specs.Reading.{valid};
-ghost use Rattle.answers.specs.Run.{Ran};
+ghost use Rattle.answers.specs.Run.{Prefixed, Ran};
 use node::Position;
 use node::Verdict;
 use state::State;
@@ -26,6 +26,29 @@ pub fn admits(x: State) -> bool
     ensures { λ r. ⌜ (r ≡ valid x) × Sized x ⌝ }
 {
     state::check(x)
+}
+
+// The prefix of a well-formed state: the tables by number that show it, and the count of its free variables.
+pub struct Prefix {
+    pub places: [u16; tables::BY_NUMBER],
+    pub kinds: [u16; tables::BY_NUMBER],
+    pub free: usize,
+}
+
+pub fn prefix_of(x: State) -> Prefix
+    ensures { λ r. ⌜ (valid x ≡ true → Prefixed x (r .places) (r .kinds) (r .free)) ⌝ }
+{
+    let numbers = x.numbers;
+    let levels = x.levels;
+    let kinds = x.kinds;
+    let read = state::prefix::read_prefix(&numbers, &levels, &kinds);
+    let places = read.places;
+    let by_number = read.kinds;
+    Prefix {
+        places: places,
+        kinds: by_number,
+        free: state::kinds::free_count(&numbers, &levels, &kinds),
+    }
 }
 
 pub fn run(

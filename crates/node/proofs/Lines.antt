@@ -2,7 +2,7 @@
 use Prim.Native.Nat.{ℕ, _+_, _-_}
 use native.Mathlib.Omega.{arith}
 use mathlib.Core.Path.{_≡_, refl, sym, ap, _∙_}
-use mathlib.Core.Bool.{true, false, cond, true≢false, false≢true}
+use mathlib.Core.Bool.{Bool, true, false, cond, true≢false, false≢true}
 use mathlib.Core.List.{List, [], _∷_, _++_, append-nil}
 use lib.ListN.{length, length-append}
 use Rattle.qbf.specs.Formula.{Prefix, Node, _▹_}
@@ -11,6 +11,10 @@ use Rattle.node.specs.declared.Verdict.{Verdict}
 use Rattle.node.specs.declared.Verdict.the-variants.{Yes, No, Mixed}
 use Rattle.node.specs.declared.Position.{Position}
 use Rattle.node.specs.Node.{isYes, LineTask, settledLines, SettledTo}
+
+-- what a test on a verdict found
+pub tested : (v : Verdict) (r b : Bool) → r ≡ isYes v → r ≡ b → isYes v ≡ b
+tested v r b e f = sym e ∙ f
 
 -- no line more
 pub covers-same : (f : ℕ) (table : List ℕ) (ls : List Node) → Covers f table ls → Covers f table (ls ++ [])

@@ -7,6 +7,8 @@ use mathlib.Core.Bool.{true, false}
 use denote.Ref.{now}
 use lib.ListN.{take}
 use Rattle.qbf.specs.Learning.{Constraint, Store}
+use Rattle.qbf.specs.Formula.{paper}
+use Rattle.tables.specs.Views.{rowsOf}
 use Rattle.tables.specs.Formed.{storeOf}
 use Rattle.node.proofs.Steps.{joined-mixed, joined-on, cubes-step, clauses-step, same-short, joined-same, finished-mixed}
 
@@ -60,10 +62,10 @@ returns-2 c =
 returns-3 : tie.Need-returns-3
 returns-3 c =
     let t = c .before .before .before .before .before .before .before .before in (
-      (c .join .ensures .0 .counts, record { clauses = c .join .ensures .1; cubes = t .pre .4 .cubes }),
+      (c .join .ensures .0 .counts, search needs),
       λ D R s κ a o k ps ks l e p q h.
           let both = clauses-step D R κ s (held t) k (off-side t) (on-side t) a o (t .args .first) (t .args .on .verdict) (c .before .before .before .before .before .before .before .is-enough .ensures κ e) (sym (c .before .before .before .before .before .before .step-of .ensures) ∙ c .before .before .before .before .enum-told3 .given .1) p q in
-          joined-same D R κ s (held t) k (off-side t) (on-side t) a o false (t .args .on) both (t .args .at) l h (c .join .result) _ _ (c .join .ensures .0 .verdict) (c .join .ensures .2 D ps ks (same-short D R κ s (held t) k (off-side t) (on-side t) a o false (t .args .on) both (t .args .at) l h)),
+          joined-same D R κ s (held t) k (off-side t) (on-side t) a o false (t .args .on) both (t .args .at) l h (c .join .result) (c .join .last .1 .0) (rowsOf (paper .numbers) (c .join .last .1 .1 .1 .1 .1 .1 .1 .1 .0) (c .join .last .1 .1 .1 .1 .1 .1 .1 .1 .1 .0)) (c .join .ensures .0 .verdict) (c .join .ensures .2 D ps ks (same-short D R κ s (held t) k (off-side t) (on-side t) a o false (t .args .on) both (t .args .at) l h)),
     )
 
 returns-4 : tie.Need-returns-4

@@ -11,7 +11,7 @@ slice-aggregate-write : tie.Need-slice-aggregate-write
 slice-aggregate-write c = simp length-take (omega (arith, c .before .before .cells .given .0))
 
 write-requires : tie.Need-write-requires
-write-requires c κs = simp length-take (omega (arith, c .before .before .cells .given .0))
+write-requires c κs = omega (arith, length-take (c .before .before .before .args .n) (now (c .before .before .before .args .up)), c .before .before .cells .given .0)
 
 same-length : tie.Need-same-length
 same-length c = search needs

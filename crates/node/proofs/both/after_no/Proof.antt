@@ -2,7 +2,9 @@
 use borrow.Author.Needs.{needs}
 use Rattle.node.proofs.both.after_no.Statement.{statement}
 use Rattle.node.proofs.both.after_no.Tie as tie
-use mathlib.Core.Path.{_∙_}
+use mathlib.Core.Path.{sym, ap, _∙_}
+use Rattle.node.specs.declared.Verdict.the-variants.{No}
+use Rattle.node.specs.Step.{stepOf}
 
 enum-told : tie.Need-enum-told
 enum-told c = search needs
@@ -20,10 +22,10 @@ enum-told-3 : tie.Need-enum-told-3
 enum-told-3 c = search needs
 
 returns : tie.Need-returns
-returns c = c .on-or .ensures ∙ rw (c .before .enum-told .given .1)
+returns c = c .on-or .ensures ∙ ap (λ v. stepOf No v (c .before .before .before .args .enough)) (sym (c .before .enum-told .given .1))
 
 returns-2 : tie.Need-returns-2
-returns-2 c = c .on-or2 .ensures ∙ rw (c .before .enum-told2 .given .1)
+returns-2 c = c .on-or2 .ensures ∙ ap (λ v. stepOf No v (c .before .before .before .args .enough)) (sym (c .before .enum-told2 .given .1))
 
 returns-3 : tie.Need-returns-3
 returns-3 c = search needs
