@@ -1,0 +1,153 @@
+-- The text of an answer, from what a call's contract says of it in numbers.
+use Prim.Native.Nat.{ℕ, zero, suc, _+_, _*_, _≤_, _<_, _^_}
+use native.Mathlib.Omega.{arith}
+use mathlib.Core.Path.{_≡_, refl, sym, ap, subst, _∙_}
+use mathlib.Core.Logic.{_⊎_, inl, inr}
+use mathlib.Core.Bool.{Bool, true, false, cond, _||_}
+use mathlib.Core.List.{List, [], _∷_}
+use mathlib.Core.Option.{Option, none, some}
+use lib.ListN.{length, take}
+use lib.Dec.{eqb, leb, ltb}
+use Rattle.qbf.specs.Formula.{Limits, Prefix, Literal, Formula, Node, quantifiers, numberOf, any, placeOf}
+use Rattle.qbf.specs.Truth.{Outcome, decided, mixed, outline, bound}
+use Rattle.qbf.specs.Learning.{learningSearch}
+use Rattle.qbf.specs.Calls.{Call, rule, query, card, forget, Reply, done, refused, swap, keep, lines, cardRefused, Answer, answer, given, _orElse_, literalFault, ruleFault, ruleReply, queryFault, startNode, queryReply, learningQuery, State as Read, step, guarded, wellFormed}
+use Rattle.layout.specs.Words.{Bytes}
+use Rattle.layout.specs.Session.{doneText, answerText}
+use Rattle.state.specs.declared.State.{State}
+use Rattle.state.specs.Reading.{readState}
+use Rattle.serving.specs.Serves.{Said, saidReply, saidOf, outOf, nextOf, Serves}
+use Rattle.rules.specs.Rules.{changeSaid}
+use Rattle.rules.specs.declared.Change.{Change}
+use Rattle.answers.specs.Answers.{rulingSaid}
+use Rattle.answers.specs.declared.Ruling.{Ruling}
+use Rattle.answers.specs.declared.Ruling.the-variants as ruling
+use Rattle.serve.specs.Line.{prefixRead, CallServed}
+use Rattle.serve.specs.Texts.{changeText, rulingText}
+
+-- ---- rule and forget
+-- done, or refused with a number
+abbrev Changing : Reply → Type 0
+Changing done = Unit {0}
+Changing (refused zero) = ⊥
+Changing (refused (suc n)) = Unit {0}
+Changing swap = ⊥
+Changing keep = ⊥
+Changing (lines ls tb) = ⊥
+Changing (cardRefused n tb) = ⊥
+
+abbrev Numbered : Option ℕ → Type 0
+Numbered none = Unit {0}
+Numbered (some zero) = ⊥
+Numbered (some (suc n)) = Unit {0}
+
+numbered-given : (t : Bool) (n : ℕ) (o : Option ℕ) → Numbered o → Numbered (given t (suc n) orElse o)
+numbered-given true n o h = tt
+numbered-given false n o h = h
+
+numbered-literals : (L : Limits) (D : Prefix) (seen : List ℕ) (ls : List Literal) → Numbered (literalFault L D seen ls)
+numbered-literals L D seen [] = tt
+numbered-literals L D seen (l ∷ ls) =
+    numbered-given (eqb (numberOf l) 0 || ltb (L .numbers) (numberOf l)) 2 _
+    (numbered-given (eqb (placeOf D (numberOf l)) 0) 4 _ (numbered-given (any (eqb (numberOf l)) seen) 5 _ (numbered-literals L D (numberOf l ∷ seen) ls)))
+
+rule-numbered : (b : Formula) (ls : List Literal) → Numbered (ruleFault b ls)
+rule-numbered b ls =
+    numbered-given (leb (b .limits .clauses) (length (b .clauses))) 19 _
+    (numbered-given (eqb (length ls) 0 || ltb (b .limits .literals) (length ls)) 6 _ (numbered-literals (b .limits) (b .prefix) [] ls))
+
+fault-changing : (o : Option ℕ) → Numbered o → Changing (ruleReply o)
+fault-changing none h = tt
+fault-changing (some zero) h = absurd h
+fault-changing (some (suc n)) h = tt
+
+pub rule-changing : (ls : List Literal) (o : Option Read) → Changing (outOf o (rule ls) .reply)
+rule-changing ls none = tt
+rule-changing ls (some y) = by (wellFormed y)
+  where
+    by : (g : Bool) → Changing (guarded g y (rule ls) .out .reply)
+    by true = fault-changing (ruleFault (y .formula) ls) (rule-numbered (y .formula) ls)
+    by false = tt
+
+pub forget-changing : (o : Option Read) → Changing (outOf o forget .reply)
+forget-changing none = tt
+forget-changing (some y) = by (wellFormed y)
+  where
+    by : (g : Bool) → Changing (guarded g y forget .out .reply)
+    by true = tt
+    by false = tt
+
+change-text : (D : Prefix) (c : Call) (n : ℕ) (a : Answer) → Changing (a .reply) → changeText (doneText c) (saidOf a .refusal) n ≡ answerText D c n a
+unfolding answerText
+change-text D c n a h = by (a .reply) (a .visits) h
+  where
+    by : (r : Reply) (k : ℕ) → Changing r → changeText (doneText c) (saidReply r k .refusal) n ≡ answerText D c n (answer r k)
+    by done k h = refl
+    by (refused zero) k h = absurd h
+    by (refused (suc m)) k h = refl
+    by swap k h = absurd h
+    by keep k h = absurd h
+    by (lines ls tb) k h = absurd h
+    by (cardRefused m tb) k h = absurd h
+
+-- a call that is done or refused, from its contract and the text
+pub change-served : (x : State) (c : Call) (n : ℕ) (ch : Change) (x′ : State) (t : Bytes) → ((o : Option Read) → Changing (outOf o c .reply)) → Serves x c (changeSaid ch) x′
+    → t ≡ changeText (doneText c) (changeSaid ch .refusal) n → CallServed x (some c) n t x′
+change-served x c n ch x′ t h s e =
+    record {
+      text = e ∙ ap (λ (q : Said). changeText (doneText c) (q .refusal) n) (s .answered) ∙ change-text (prefixRead (readState x)) c n (outOf (readState x) c) (h (readState x));
+      next = s .next;
+      kept = s .kept;
+    }
+
+-- ---- query
+abbrev Asking : Reply → Type 0
+Asking done = ⊥
+Asking (refused n) = Unit {0}
+Asking swap = Unit {0}
+Asking keep = Unit {0}
+Asking (lines ls tb) = ⊥
+Asking (cardRefused n tb) = ⊥
+
+query-asking : (ls : List Literal) (o : Option Read) → Asking (outOf o (query ls) .reply)
+query-asking ls none = tt
+query-asking ls (some y) = by (wellFormed y)
+  where
+    verdict : (o : Outcome (Unit {0})) → Asking (queryReply o)
+    verdict (decided true e) = tt
+    verdict (decided false e) = tt
+    verdict (mixed ds) = tt
+
+    asked : (o : Option ℕ) → Asking (learningQuery o (y .formula) (y .store) ls .out .reply)
+    asked none = verdict (outline (learningSearch (y .formula .limits) (y .formula .prefix) (y .formula .clauses) (bound (quantifiers (y .formula .prefix))) (startNode ls (y .formula .prefix)) (y .store) .outcome))
+    asked (some n) = tt
+
+    by : (g : Bool) → Asking (guarded g y (query ls) .out .reply)
+    by true = asked (queryFault (y .formula) [] ls)
+    by false = tt
+
+query-text : (D : Prefix) (c : Call) (n : ℕ) (q : Ruling) (k : ℕ) (a : Answer) → Asking (a .reply) → rulingSaid q k ≡ saidOf a → rulingText q k n ≡ answerText D c n a
+unfolding answerText
+query-text D c n q k a h e = by q (a .reply) (a .visits) h e
+  where
+    by : (q : Ruling) (r : Reply) (v : ℕ) → Asking r → rulingSaid q k ≡ saidReply r v → rulingText q k n ≡ answerText D c n (answer r v)
+    by q done v h e = absurd h
+    by q (lines ls tb) v h e = absurd h
+    by q (cardRefused m tb) v h e = absurd h
+    by ruling.Swap swap v h e = ap (λ (s : Said). rulingText ruling.Swap (s .visits) n) e
+    by ruling.Keep keep v h e = ap (λ (s : Said). rulingText ruling.Keep (s .visits) n) e
+    by (ruling.Refused m) (refused p) v h e = ap (λ (s : Said). rulingText (ruling.Refused (s .refusal)) 0 n) e
+    by ruling.Swap keep v h e = absurd (omega (arith, ap (λ (s : Said). s .verdict) e))
+    by ruling.Swap (refused p) v h e = absurd (omega (arith, ap (λ (s : Said). s .verdict) e))
+    by ruling.Keep swap v h e = absurd (omega (arith, ap (λ (s : Said). s .verdict) e))
+    by ruling.Keep (refused p) v h e = absurd (omega (arith, ap (λ (s : Said). s .verdict) e))
+    by (ruling.Refused m) swap v h e = absurd (omega (arith, ap (λ (s : Said). s .verdict) e))
+    by (ruling.Refused m) keep v h e = absurd (omega (arith, ap (λ (s : Said). s .verdict) e))
+
+pub query-answered : (x : State) (ls : List Literal) (n : ℕ) (q : Ruling) (k : ℕ) (x′ : State) (t : Bytes) → Serves x (query ls) (rulingSaid q k) x′ → t ≡ rulingText q k n → CallServed x (some (query ls)) n t x′
+query-answered x ls n q k x′ t s e =
+    record {
+      text = e ∙ query-text (prefixRead (readState x)) (query ls) n q k (outOf (readState x) (query ls)) (query-asking ls (readState x)) (s .answered);
+      next = s .next;
+      kept = s .kept;
+    }

@@ -1,0 +1,170 @@
+-- A call whose literals were narrowed and cut to the lent table is served as the call of the text.
+use Prim.Native.Nat.{ℕ, suc, _<_, _≤_, min}
+use mathlib.Core.Path.{_≡_, refl, sym, ap, subst, _∙_}
+use mathlib.Core.Bool.{Bool, true, false, cond}
+use mathlib.Core.List.{List, [], _∷_, map}
+use mathlib.Core.Option.{Option, none, some}
+use native.Mathlib.Omega.{arith}
+use native.Mathlib.Decide.{decLe}
+use lib.Dec.{leb}
+use lib.IntN.{ℤ, pos}
+use lib.ListN.{length, take, length-map, length-take}
+use lib.Seq.{take-all}
+use Rattle.qbf.specs.Formula.{Limits, paper, Prefix, Literal, Formula}
+use Rattle.qbf.specs.Calls.{Call, rule, query, Reply, done, refused, swap, keep, lines, cardRefused, Answer, answer, given, ruleFault, ruleReply, withRule, storeAfterRule, queryFault, learningQuery, numbersOk, _orElse_, State as Read, Called, Stepped, step, guarded, wellFormed}
+use Rattle.qbf.specs.Demands.{refusalOf}
+use Rattle.theory.proofs.WellFormed.{state-facts, numbers-ok}
+use Rattle.layout.specs.Words.{Bytes}
+use Rattle.layout.specs.Session.{doneText, answerText}
+use Rattle.state.specs.declared.State.{State}
+use Rattle.state.specs.Reading.{fits, stateIn, readState}
+use Rattle.serving.specs.Serves.{outOf, nextOf}
+use Rattle.serving.proofs.Calls.{some-none}
+use Rattle.reader.specs.Items.{narrowed, Kept}
+use Rattle.reader.proofs.Judged.{rule-judged, rule-same, rule-long}
+use Rattle.serve.specs.Line.{prefixRead, CallServed}
+use Rattle.serve.proofs.Queries.{query-width, first-decide, query-judged, query-same}
+
+-- ---- what stands in a table of so many cells
+-- where the count is cut to the table's length, the same stands
+cut-same : (n m : ℕ) (out : List ℤ) → length out ≡ m → take (min n m) out ≡ take n out
+cut-same n m out room = by (decLe n m)
+  where
+    by : Dec (n ≤ m) → take (min n m) out ≡ take n out
+    by (yes h) = ap (λ (k : ℕ). take k out) (let e : min n m ≡ n = omega (arith, h) in e)
+    by (no h) = take-all (min n m) out (omega (arith, h, room)) ∙ sym (take-all n out (omega (arith, h, room)))
+
+-- ---- one step
+module _ (y : Read) where
+  abbrev b : Formula
+  b = y .formula
+
+  abbrev ruleStep : List Literal → Option ℕ → Stepped
+  ruleStep a o = record { state = record { formula = withRule o b a; store = storeAfterRule o (y .store) }; out = answer (ruleReply o) 0 }
+
+  -- one fault, and the same literals where there is none: the same step
+  rule-step : (a c : List Literal) → ruleFault b a ≡ ruleFault b c → (ruleFault b c ≡ none → a ≡ c) → step y (rule a) ≡ step y (rule c)
+  rule-step a c e same = by (ruleFault b c) refl
+    where
+      by : (o : Option ℕ) → ruleFault b c ≡ o → step y (rule a) ≡ step y (rule c)
+      by none q = ap (λ (ls : List Literal). step y (rule ls)) (same q)
+      by (some n) q = go (wellFormed y)
+        where
+          go : (g : Bool) → guarded g y (rule a) ≡ guarded g y (rule c)
+          go true = ap (ruleStep a) (e ∙ q) ∙ sym (ap (ruleStep c) q)
+          go false = refl
+
+  abbrev queryStep : List Literal → Option ℕ → Stepped
+  queryStep a o = record { state = record { formula = b; store = learningQuery o b (y .store) a .store }; out = learningQuery o b (y .store) a .out }
+
+  query-step : (a c : List Literal) → (wellFormed y ≡ true → (queryFault b [] a ≡ queryFault b [] c) × (queryFault b [] c ≡ none → a ≡ c)) → step y (query a) ≡ step y (query c)
+  query-step a c h = go (wellFormed y) refl
+    where
+      go : (g : Bool) → wellFormed y ≡ g → guarded g y (query a) ≡ guarded g y (query c)
+      go false e = refl
+      go true e = by (queryFault b [] c) refl
+        where
+          by : (o : Option ℕ) → queryFault b [] c ≡ o → guarded true y (query a) ≡ guarded true y (query c)
+          by none q = ap (λ (ls : List Literal). guarded true y (query ls)) (h e .1 q)
+          by (some n) q = ap (queryStep a) (h e .0 ∙ q) ∙ sym (ap (queryStep c) q)
+
+module _ (y : Read) (is-paper : y .formula .limits ≡ paper) (n : ℕ) (out : List ℤ) (room : length out ≡ suc (paper .numbers)) where
+  -- "7 no literal, or over 16": so many are too many, also where some of them were left out
+  module _ (ls : List Literal) (k : Kept n out ls) where
+    too-long : suc (paper .numbers) < n → ruleFault (y .formula) (take (min n (suc (paper .numbers))) out) ≡ ruleFault (y .formula) ls
+    too-long h =
+        rule-long (y .formula) (take (min n (suc (paper .numbers))) out) (limit (omega (arith, h, room, length-take (min n (suc (paper .numbers))) out)))
+        ∙ sym (rule-long (y .formula) ls (limit (omega (arith, h, k .count))))
+      where
+        limit : {m : ℕ} → paper .literals < m → y .formula .limits .literals < m
+        limit {m} q = subst (λ (L : Limits). L .literals < m) (sym is-paper) q
+
+    refused-long : suc (paper .numbers) < n → ruleFault (y .formula) ls ≡ none → ⊥
+    refused-long h e = by (leb (y .formula .limits .clauses) (length (y .formula .clauses))) (sym e ∙ rule-long (y .formula) ls (subst (λ (L : Limits). L .literals < length ls) (sym is-paper) (omega (arith, h, k .count))))
+      where
+        by : (t : Bool) → none ≡ (given t 20 orElse some 7) → ⊥
+        by true q = some-none q
+        by false q = some-none q
+
+    pub rule-cut : step y (rule (take (min n (suc (paper .numbers))) out)) ≡ step y (rule ls)
+    rule-cut = by (decLe n (suc (paper .numbers)))
+      where
+        by : Dec (n ≤ suc (paper .numbers)) → step y (rule (take (min n (suc (paper .numbers))) out)) ≡ step y (rule ls)
+        by (yes h) =
+            ap (λ (a : List Literal). step y (rule a)) (cut-same n (suc (paper .numbers)) out room)
+            ∙ rule-step y (take n out) ls (rule-judged (y .formula) n out ls is-paper k (omega (arith, h, room))) (rule-same (y .formula) n out ls is-paper k (omega (arith, h, room)))
+        by (no h) = rule-step y (take (min n (suc (paper .numbers))) out) ls (too-long (omega (arith, h))) (λ e. absurd (refused-long (omega (arith, h)) e))
+
+  module _ (ns : List ℕ) (k : Kept n out (map pos ns)) where
+    pub query-cut : step y (query (take (min n (suc (paper .numbers))) out)) ≡ step y (query (map pos ns))
+    query-cut = ap (λ (a : List Literal). step y (query a)) standing ∙ query-step y (take (suc (paper .numbers)) (map narrowed (map pos ns))) (map pos ns) (λ w. (judged w, same w))
+      where
+        standing : take (min n (suc (paper .numbers))) out ≡ take (suc (paper .numbers)) (map narrowed (map pos ns))
+        standing = cut-same n (suc (paper .numbers)) out room ∙ k .first ∙ ap (λ (m : ℕ). take m (map narrowed (map pos ns))) room
+
+        fine : wellFormed y ≡ true → numbersOk paper [] (y .formula .prefix) ≡ true
+        fine w = subst (λ (L : Limits). numbersOk L [] (y .formula .prefix) ≡ true) is-paper (numbers-ok (y .formula) (state-facts y w .formula-ok))
+
+        judged : wellFormed y ≡ true → queryFault (y .formula) [] (take (suc (paper .numbers)) (map narrowed (map pos ns))) ≡ queryFault (y .formula) [] (map pos ns)
+        judged w = first-decide (y .formula) paper (fine w) (map narrowed (map pos ns)) ∙ query-judged (y .formula) (fine w) [] ns
+
+        same : wellFormed y ≡ true → queryFault (y .formula) [] (map pos ns) ≡ none → take (suc (paper .numbers)) (map narrowed (map pos ns)) ≡ map pos ns
+        same w e =
+            take-all (suc (paper .numbers)) (map narrowed (map pos ns)) (omega (arith, query-width (y .formula) paper (fine w) (map pos ns) e, length-map (map pos ns) narrowed))
+            ∙ query-same (y .formula) (fine w) [] ns e
+
+-- ---- a call as served
+-- the text of an answer names the call only where nothing else is said
+answer-same : (D : Prefix) (c c′ : Call) (n : ℕ) (a : Answer) → doneText c ≡ doneText c′ → answerText D c n a ≡ answerText D c′ n a
+unfolding answerText
+answer-same D c c′ n a e = by (a .reply) (a .visits)
+  where
+    by : (r : Reply) (v : ℕ) → answerText D c n (answer r v) ≡ answerText D c′ n (answer r v)
+    by done v = e
+    by (refused m) v = refl
+    by swap v = refl
+    by keep v = refl
+    by (lines ls tb) v = refl
+    by (cardRefused m tb) v = refl
+
+abbrev Papered : Option Read → Type 0
+Papered none = Unit {0}
+Papered (some y) = y .formula .limits ≡ paper
+
+papered : (x : State) → Papered (readState x)
+unfolding readState
+papered x = by (fits x)
+  where
+    by : (t : Bool) → Papered (cond t (some (stateIn x)) none)
+    by true = refl
+    by false = tt
+
+-- two calls whose steps are the same
+module _ (c c′ : Call) (word : doneText c ≡ doneText c′) (malformed : outOf none c ≡ outOf none c′) (same : (y : Read) → y .formula .limits ≡ paper → step y c ≡ step y c′) where
+  same-out : (o : Option Read) → Papered o → outOf o c ≡ outOf o c′
+  same-out none h = malformed
+  same-out (some y) h = ap (λ (s : Stepped). s .out) (same y h)
+
+  same-next : (o : Option Read) → Papered o → nextOf o c ≡ nextOf o c′
+  same-next none h = refl
+  same-next (some y) h = ap (λ (s : Stepped). some (s .state)) (same y h)
+
+  served-as : (x : State) (n : ℕ) (t : Bytes) (x′ : State) → CallServed x (some c) n t x′ → CallServed x (some c′) n t x′
+  served-as x n t x′ s =
+      record {
+        text = s .text ∙ answer-same D c c′ n (outOf (readState x) c) word ∙ ap (answerText D c′ n) (same-out (readState x) (papered x));
+        next = s .next ∙ same-next (readState x) (papered x);
+        kept = λ k e. s .kept k (ap (λ (a : Answer). refusalOf (a .reply)) (same-out (readState x) (papered x)) ∙ e);
+      }
+    where
+      D : Prefix
+      D = prefixRead (readState x)
+
+module _ (x : State) (n : ℕ) (out : List ℤ) (room : length out ≡ suc (paper .numbers)) (line : ℕ) (t : Bytes) (x′ : State) where
+  -- a rule by what stands in the table
+  pub rule-served : (ls : List Literal) → Kept n out ls → CallServed x (some (rule (take (min n (suc (paper .numbers))) out))) line t x′ → CallServed x (some (rule ls)) line t x′
+  rule-served ls k s = served-as (rule (take (min n (suc (paper .numbers))) out)) (rule ls) refl refl (λ y p. rule-cut y p n out room ls k) x line t x′ s
+
+  -- a query likewise
+  pub query-served : (ns : List ℕ) → Kept n out (map pos ns) → CallServed x (some (query (take (min n (suc (paper .numbers))) out))) line t x′ → CallServed x (some (query (map pos ns))) line t x′
+  query-served ns k s = served-as (query (take (min n (suc (paper .numbers))) out)) (query (map pos ns)) refl refl (λ y p. query-cut y p n out room ns k) x line t x′ s

@@ -1,0 +1,52 @@
+-- Every answer that is no card is short, whatever numbers of 64 bits stand in it; and what stands at the start of the lent table.
+use Prim.Native.Nat.{ℕ, zero, suc, _+_, _≤_, _<_, _^_}
+use native.Mathlib.Omega.{arith}
+use mathlib.Core.Path.{_≡_, refl, sym, ap, subst, _∙_}
+use mathlib.Core.Bool.{Bool}
+use mathlib.Core.Option.{Option, some}
+use lib.ListN.{length, take, length-take}
+use Rattle.qbf.specs.Calls.{Call, card}
+use Rattle.layout.specs.Words.{Bytes}
+use Rattle.layout.specs.Output.{decimal, refusalText, overflowText, queryText}
+use Rattle.layout_laws.proofs.Decimal.{decimal-length}
+use Rattle.state.specs.declared.State.{State}
+use Rattle.writer.specs.Wrote.{Wrote}
+use Rattle.writer.proofs.Lengths.{refusal-length, overflow-length, query-length}
+use Rattle.serve.specs.declared.Turn.{Turn}
+use Rattle.serve.specs.Line.{CallServed, Turned}
+use Rattle.serve.specs.Texts.{changeText}
+
+-- a number of 64 bits has at most 20 digits
+pub digits-20 : (n : ℕ) → n < 2 ^ 64 → length (decimal n) ≤ 20
+digits-20 n h = decimal-length 19 n (omega (arith, h))
+
+pub refusal-room : (n line : ℕ) → n < 2 ^ 64 → line < 2 ^ 64 → length (refusalText n line) ≤ 52
+refusal-room n line h k = omega (arith, refusal-length n line, digits-20 n h, digits-20 line k)
+
+pub overflow-room : (n line visits : ℕ) → n < 2 ^ 64 → line < 2 ^ 64 → visits < 2 ^ 64 → length (overflowText n line visits) ≤ 82
+overflow-room n line visits h k v = omega (arith, overflow-length n line visits, digits-20 n h, digits-20 line k, digits-20 visits v)
+
+pub query-room : (swap : Bool) (visits : ℕ) → visits < 2 ^ 64 → length (queryText swap visits) ≤ 37
+query-room swap visits v = omega (arith, query-length swap visits, digits-20 visits v)
+
+-- ---- a refusal, or none
+pub change-done : (w : Bytes) (n line : ℕ) → n ≡ 0 → w ≡ changeText w n line
+change-done w zero line e = refl
+change-done w (suc n) line e = absurd (omega (arith, e))
+
+pub change-refused : (w : Bytes) (n line : ℕ) → (n ≡ 0 → ⊥) → refusalText n line ≡ changeText w n line
+change-refused w zero line h = absurd (h refl)
+change-refused w (suc n) line h = refl
+
+-- the same text by another name
+pub wrote-as : {d₀ d t u : Bytes} {at r : ℕ} → t ≡ u → Wrote d₀ at t d r → Wrote d₀ at u d r
+wrote-as {d₀} {d} {t} {u} {at} {r} e w = subst (λ (v : Bytes). Wrote d₀ at v d r) e w
+
+-- ---- the answer that was written from the start of the table on
+pub turned : {d₀ d t : Bytes} {r : ℕ} (x : State) (c : Option Call) (n : ℕ) (x′ : State) → Wrote d₀ 0 t d r → ((u : Bytes) → u ≡ t → CallServed x c n u x′)
+    → Turned x c n (record { state = x′; length = r }) d
+turned {d₀} {d} {t} {r} x c n x′ w s = record { within = omega (arith, w .next, ap length (w .is), length-take r d); served = s (take r d) (w .is) }
+
+-- a card in a part of a table
+pub card-sized : {x : State} {line : ℕ} {r : Turn} {d : Bytes} (m size : ℕ) → m ≡ size → Turned x (some (card m)) line r d → Turned x (some (card size)) line r d
+card-sized {x} {line} {r} {d} m size e h = subst (λ (k : ℕ). Turned x (some (card k)) line r d) e h

@@ -1,0 +1,100 @@
+use borrow.Author.Needs.{needs}
+use Rattle.serve.proofs.call.serve_call.Statement.{statement}
+use Rattle.serve.proofs.call.serve_call.Tie as tie
+use Rattle.serve.proofs.call.serve_call.Reads as reads
+use Rattle.serve.proofs.call.serve_call.Lts as lts
+use Rattle.serve.proofs.call.no_call.Reads as no-call-reads
+use Rattle.serve.proofs.call.query_of.Reads as query-of-reads
+use Rattle.serve.proofs.call.rule_of.Reads as rule-of-reads
+use Rattle.serve.proofs.card.serve_card.Reads as serve-card-reads
+use Rattle.serve.proofs.change.serve_forget.Reads as serve-forget-reads
+use native.Mathlib.Omega.{arith}
+use mathlib.Core.Path.{subst}
+use denote.Ref.{now}
+use Rattle.serve.specs.Calls.{Small}
+use Rattle.serve.proofs.Called.{called-rule, called-query, called-card, called-forget, called-none}
+
+enum-known-call : tie.Need-enum-known-call
+enum-known-call c = search needs
+
+rule-of-requires : tie.Need-rule-of-requires
+rule-of-requires c κs = search needs
+
+enum-known-call-2 : tie.Need-enum-known-call-2
+enum-known-call-2 c = search needs
+
+query-of-requires : tie.Need-query-of-requires
+query-of-requires c κs = search needs
+
+enum-known-call-3 : tie.Need-enum-known-call-3
+enum-known-call-3 c = search needs
+
+serve-card-requires : tie.Need-serve-card-requires
+serve-card-requires c κs = (subst Small (c .before .before .call3 .given .1) (c .before .before .before .before .before .pre .0), omega (arith, c .before .before .before .before .before .pre .1 .1))
+
+enum-told : tie.Need-enum-told
+enum-told c = search needs
+
+serve-forget-requires : tie.Need-serve-forget-requires
+serve-forget-requires c κs = search needs
+
+enum-told-2 : tie.Need-enum-told-2
+enum-told-2 c = search needs
+
+no-call-requires : tie.Need-no-call-requires
+no-call-requires c κs = search needs
+
+same-length : tie.Need-same-length
+same-length c = search needs
+
+returns : tie.Need-returns
+returns c = λ o h. called-rule (now (c .before .before .before .before .before .before .before .before .args .lits)) (c .before .before .before .before .before .before .before .before .args .call) o h (c .before .before .before .before .before .call .given .0 .0) (c .before .before .before .before .before .call .given .1) (c .before .before .rule-of .ensures)
+
+same-length-2 : tie.Need-same-length-2
+same-length-2 c = search needs
+
+returns-2 : tie.Need-returns-2
+returns-2 c = λ o h. called-query (now (c .before .before .before .before .before .before .before .before .args .lits)) (c .before .before .before .before .before .before .before .before .args .call) o h (c .before .before .before .before .before .call2 .given .0 .0) (c .before .before .before .before .before .call2 .given .1) (c .before .before .query-of .ensures)
+
+same-length-3 : tie.Need-same-length-3
+same-length-3 c = search needs
+
+returns-3 : tie.Need-returns-3
+returns-3 c = λ o h. called-card (now (c .before .before .before .before .before .before .before .before .args .lits)) (c .before .before .before .before .before .before .before .before .args .call) o h (c .before .before .before .before .before .call3 .given .0 .0) (c .before .before .before .before .before .call3 .given .1) (c .before .before .serve-card .ensures)
+
+same-length-4 : tie.Need-same-length-4
+same-length-4 c = search needs
+
+returns-4 : tie.Need-returns-4
+returns-4 c = λ o h. called-forget (now (c .before .before .before .before .before .before .before .args .lits)) (c .before .before .before .before .before .before .before .args .call) o h (c .before .before .before .before .enum-told .given .1) (c .before .before .serve-forget .ensures)
+
+same-length-5 : tie.Need-same-length-5
+same-length-5 c = search needs
+
+returns-5 : tie.Need-returns-5
+returns-5 c = λ o h. called-none (now (c .before .before .before .before .before .before .before .args .lits)) (c .before .before .before .before .before .before .before .args .call) o h (c .before .before .before .before .enum-told2 .given .1) (c .before .before .no-call .ensures)
+
+pub serve-call-spec : {M : Type 1} → statement M
+serve-call-spec =
+    tie.close
+    (tie.spec
+    enum-known-call
+    rule-of-requires
+    enum-known-call-2
+    query-of-requires
+    enum-known-call-3
+    serve-card-requires
+    enum-told
+    serve-forget-requires
+    enum-told-2
+    no-call-requires
+    same-length
+    returns
+    same-length-2
+    returns-2
+    same-length-3
+    returns-3
+    same-length-4
+    returns-4
+    same-length-5
+    returns-5)

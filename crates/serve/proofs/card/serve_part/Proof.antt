@@ -1,0 +1,39 @@
+use borrow.Author.Needs.{needs}
+use Rattle.serve.proofs.card.serve_part.Statement.{statement}
+use Rattle.serve.proofs.card.serve_part.Tie as tie
+use Rattle.serve.proofs.card.serve_part.Reads as reads
+use Rattle.serve.proofs.card.serve_part.Lts as lts
+use Rattle.serve.proofs.card.serve_in.Reads as serve-in-reads
+use native.Mathlib.Omega.{arith}
+use denote.Ref.{now}
+use lib.ListN.{length, take, length-take}
+use Rattle.serve.proofs.Room.{card-sized}
+
+slice-relend-prefix-serve-in : tie.Need-slice-relend-prefix-serve-in
+slice-relend-prefix-serve-in c = search needs
+
+slice-aggregate-serve-in : tie.Need-slice-aggregate-serve-in
+slice-aggregate-serve-in c = simp length-take (omega arith)
+
+serve-in-requires : tie.Need-serve-in-requires
+serve-in-requires c κs = (omega (arith, length-take (c .before .before .before .before .args .size) (now (c .before .before .before .before .args .table)), c .before .before .before .before .pre .0 .0), omega arith)
+
+same-length : tie.Need-same-length
+same-length c = search needs
+
+same-length-2 : tie.Need-same-length-2
+same-length-2 c = search needs
+
+returns : tie.Need-returns
+returns c = card-sized (length (take (c .before .before .before .before .before .before .before .before .before .args .size) (now (c .before .before .before .before .before .before .before .before .before .args .table)))) (c .before .before .before .before .before .before .before .before .before .args .size) (omega (arith, length-take (c .before .before .before .before .before .before .before .before .before .args .size) (now (c .before .before .before .before .before .before .before .before .before .args .table)), c .before .before .before .before .before .before .before .before .before .pre .0 .1)) (c .before .before .before .before .serve-in .ensures)
+
+pub serve-part-spec : {M : Type 1} → statement M
+serve-part-spec =
+    tie.close
+    (tie.spec
+    slice-relend-prefix-serve-in
+    slice-aggregate-serve-in
+    serve-in-requires
+    same-length
+    same-length-2
+    returns)

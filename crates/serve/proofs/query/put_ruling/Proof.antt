@@ -1,0 +1,65 @@
+use borrow.Author.Needs.{needs}
+use Rattle.serve.proofs.query.put_ruling.Statement.{statement}
+use Rattle.serve.proofs.query.put_ruling.Tie as tie
+use Rattle.serve.proofs.query.put_ruling.Reads as reads
+use Rattle.serve.proofs.query.put_ruling.Lts as lts
+use Rattle.serve.proofs.refusal.refuse.Reads as refuse-reads
+use Rattle.writer.proofs.answer.put_query.Reads as put-query-reads
+use native.Mathlib.Omega.{arith}
+use mathlib.Core.Path.{sym, ap}
+use mathlib.Core.Bool.{true, false}
+use Rattle.serve.specs.Texts.{rulingText}
+use Rattle.serve.proofs.Room.{query-room, wrote-as}
+
+enum-told : tie.Need-enum-told
+enum-told c = search needs
+
+put-query-requires : tie.Need-put-query-requires
+put-query-requires c κs = omega (arith, query-room true (c .before .before .before .before .args .visits) (omega (arith, c .before .before .before .before .fits .visits)))
+
+enum-told-2 : tie.Need-enum-told-2
+enum-told-2 c = search needs
+
+put-query-requires-2 : tie.Need-put-query-requires-2
+put-query-requires-2 c κs = omega (arith, query-room false (c .before .before .before .before .args .visits) (omega (arith, c .before .before .before .before .fits .visits)))
+
+enum-known-ruling : tie.Need-enum-known-ruling
+enum-known-ruling c = search needs
+
+refuse-requires : tie.Need-refuse-requires
+refuse-requires c κs = search needs
+
+same-length : tie.Need-same-length
+same-length c = search needs
+
+returns : tie.Need-returns
+returns c = wrote-as (ap (λ q. rulingText q (c .before .before .before .before .before .before .before .args .visits) (c .before .before .before .before .before .before .before .args .line)) (sym (c .before .before .before .before .enum-told .given .1))) (c .before .before .put-query .ensures)
+
+same-length-2 : tie.Need-same-length-2
+same-length-2 c = search needs
+
+returns-2 : tie.Need-returns-2
+returns-2 c = wrote-as (ap (λ q. rulingText q (c .before .before .before .before .before .before .before .args .visits) (c .before .before .before .before .before .before .before .args .line)) (sym (c .before .before .before .before .enum-told2 .given .1))) (c .before .before .put-query2 .ensures)
+
+same-length-3 : tie.Need-same-length-3
+same-length-3 c = search needs
+
+returns-3 : tie.Need-returns-3
+returns-3 c = wrote-as (ap (λ q. rulingText q (c .before .before .before .before .before .before .before .before .args .visits) (c .before .before .before .before .before .before .before .before .args .line)) (sym (c .before .before .before .before .before .ruling .given .1))) (c .before .before .refuse .ensures)
+
+pub put-ruling-spec : {M : Type 1} → statement M
+put-ruling-spec =
+    tie.close
+    (tie.spec
+    enum-told
+    put-query-requires
+    enum-told-2
+    put-query-requires-2
+    enum-known-ruling
+    refuse-requires
+    same-length
+    returns
+    same-length-2
+    returns-2
+    same-length-3
+    returns-3)

@@ -1,0 +1,12 @@
+-- A card that was read from a line asks for no more bytes than the table has.
+use Prim.Native.Nat.{ℕ, _≤_}
+use Rattle.layout.specs.Program.{tableBytes}
+use Rattle.reader.specs.declared.call.CallLine.{CallLine}
+use Rattle.reader.specs.declared.call.CallLine.the-variants.{Rule, Query, Card, Forget, NotCall}
+
+abbrev pub Small : CallLine → Type 0
+Small (Rule n) = Unit {0}
+Small (Query n) = Unit {0}
+Small (Card size) = size ≤ tableBytes
+Small Forget = Unit {0}
+Small NotCall = Unit {0}

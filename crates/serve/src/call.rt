@@ -1,0 +1,87 @@
+// The call that was read from a line, served. Its literals stand in a table with one cell more than there are numbers: those that do
+// not fit would change no answer.
+use crate::Turn;
+use crate::card::serve_card;
+use crate::change::serve_forget;
+use crate::change::serve_rule;
+use crate::query::serve_query;
+use crate::refusal::refuse;
+use reader::call::CallLine;
+use state::State;
+ghost use mathlib.Core.Path.{_≡_};
+ghost use mathlib.Core.List.{List, map};
+ghost use mathlib.Core.Option.{Option, none, some};
+ghost use Prim.Native.Nat.{ℕ, suc, _≤_, min};
+ghost use lib.IntN.{pos};
+ghost use lib.ListN.{length};
+ghost use Rattle.qbf.specs.Formula.{paper, Literal};
+ghost use Rattle.qbf.specs.Calls.{Call, rule, query};
+ghost use Rattle.reader.specs.Items.{Kept};
+ghost use Rattle.reader.specs.Calls.{CallRead};
+ghost use Rattle.serve.specs.Line.{answerBytes, Turned};
+ghost use Rattle.serve.specs.Calls.{Small};
+
+// "1 text not in the layout"
+const NOT_IN_LAYOUT: u16 = 1;
+
+// How many of n literals stand in the table.
+fn kept(n: usize) -> usize
+    ensures { λ r. ⌜ r ≡ min n (suc (paper .numbers)) ⌝ }
+{
+    if n < tables::BY_NUMBER {
+        n
+    } else {
+        tables::BY_NUMBER
+    }
+}
+
+fn rule_of(x: State, lits: &[i16], n: usize, line: u64, out: &mut [u8]) -> Turn
+    requires { ⌜ length (now lits) ≡ suc (paper .numbers) ⌝ }
+    requires { ⌜ answerBytes ≤ length (now out) ⌝ }
+    ensures { λ r. ⌜ ((ls : List Literal)
+        → Kept n (now (lits .entry)) ls
+        → Turned x (some (rule ls)) line r (now (out .exit))) ⌝ }
+{
+    let k = kept(n);
+    serve_rule(x, &lits[..k], line, out)
+}
+
+fn query_of(x: State, lits: &[i16], n: usize, line: u64, out: &mut [u8]) -> Turn
+    requires { ⌜ length (now lits) ≡ suc (paper .numbers) ⌝ }
+    requires { ⌜ answerBytes ≤ length (now out) ⌝ }
+    ensures { λ r. ⌜ ((ns : List ℕ)
+        → Kept n (now (lits .entry)) (map pos ns)
+        → Turned x (some (query (map pos ns))) line r (now (out .exit))) ⌝ }
+{
+    let k = kept(n);
+    serve_query(x, &lits[..k], line, out)
+}
+
+// A line that is no call leaves the state.
+fn no_call(x: State, line: u64, out: &mut [u8]) -> Turn
+    requires { ⌜ answerBytes ≤ length (now out) ⌝ }
+    ensures { λ r. ⌜ Turned x none line r (now (out .exit)) ⌝ }
+{
+    let length = refuse(out, NOT_IN_LAYOUT, line);
+    Turn {
+        state: x,
+        length: length,
+    }
+}
+
+pub fn serve_call(x: State, call: CallLine, lits: &[i16], line: u64, out: &mut [u8]) -> Turn
+    requires { ⌜ Small call ⌝ }
+    requires { ⌜ length (now lits) ≡ suc (paper .numbers) ⌝ }
+    requires { ⌜ answerBytes ≤ length (now out) ⌝ }
+    ensures { λ r. ⌜ ((c : Option Call)
+        → CallRead c call (now (lits .entry))
+        → Turned x c line r (now (out .exit))) ⌝ }
+{
+    match call {
+        CallLine::Rule(n) => rule_of(x, lits, n, line, out),
+        CallLine::Query(n) => query_of(x, lits, n, line, out),
+        CallLine::Card(size) => serve_card(x, size, line, out),
+        CallLine::Forget => serve_forget(x, line, out),
+        CallLine::NotCall => no_call(x, line, out),
+    }
+}

@@ -1,0 +1,110 @@
+// The line of a card: its lines and visits, or refused.
+use crate::Turn;
+use crate::refusal::refuse;
+use answers::Printed;
+use state::State;
+use writer::answer::put_overflow;
+use writer::card::put_card;
+ghost use mathlib.Core.Path.{_≡_};
+ghost use mathlib.Core.List.{[]};
+ghost use mathlib.Core.Option.{some};
+ghost use Prim.Native.Nat.{ℕ, _≤_};
+ghost use lib.ListN.{length};
+ghost use Rattle.qbf.specs.Calls.{card};
+ghost use Rattle.layout.specs.Program.{tableBytes};
+ghost use Rattle.layout.specs.Session.{cardRefusalText};
+ghost use Rattle.state.specs.Reading.{readState};
+ghost use Rattle.serving.specs.Serves.{said, saidOf, outOf};
+ghost use Rattle.answers.specs.Answers.{cardSaid};
+ghost use Rattle.writer.specs.Wrote.{Wrote};
+ghost use Rattle.serve.specs.Line.{lineAnswer, answerBytes, Turned};
+
+// The refusal's number, 0 where there is none.
+fn refusal_of(p: Printed) -> u16
+    ensures { λ r. ⌜ r ≡ cardSaid p 0 [] .refusal ⌝ }
+{
+    match p {
+        Printed::Lines(n) => 0,
+        Printed::Refused(n) => n,
+    }
+}
+
+// How many lines there are.
+fn lines_of(p: Printed) -> usize
+    ensures { λ r. ⌜ r ≡ cardSaid p 0 [] .lines ⌝ }
+{
+    match p {
+        Printed::Lines(n) => n,
+        Printed::Refused(n) => 0,
+    }
+}
+
+// A card too large tells its visits.
+fn put_card_refusal(out: &mut [u8], refusal: u16, visits: u64, line: u64) -> usize
+    requires { ⌜ answerBytes ≤ length (now out) ⌝ }
+    ensures { λ r. ⌜ Wrote (now (out .entry)) 0 (cardRefusalText refusal line visits) (now (out .exit)) r ⌝ }
+{
+    if refusal == answers::TOO_MANY_LINES {
+        return put_overflow(out, 0, refusal as u64, line, visits);
+    }
+    refuse(out, refusal, line)
+}
+
+// The card whose lines stand in the table.
+fn put_shown(out: &mut [u8], x: State, table: &[u8], lines: usize, visits: u64) -> usize
+    requires { ⌜ length (now table) ≤ tableBytes ⌝ }
+    requires { ⌜ said 0 0 lines visits (now table) ≡ saidOf (outOf (readState x) (card (length (now table)))) ⌝ }
+    requires { ⌜ answerBytes ≤ length (now out) ⌝ }
+    ensures { λ r. ⌜ ((n : ℕ)
+        → Wrote (now (out .entry)) 0 (lineAnswer (readState x) n (some (card (length (now (table .entry)))))) (now (out .exit)) r) ⌝ }
+{
+    let numbers = x.numbers;
+    let levels = x.levels;
+    let kinds = x.kinds;
+    let free = state::kinds::free_count(&numbers, &levels, &kinds);
+    put_card(out, 0, &numbers, table, free, lines, visits)
+}
+
+// A card in a lent table.
+fn serve_in(x: State, table: &mut [u8], line: u64, out: &mut [u8]) -> Turn
+    requires { ⌜ length (now table) ≤ tableBytes ⌝ }
+    requires { ⌜ answerBytes ≤ length (now out) ⌝ }
+    ensures { λ r. ⌜ Turned x (some (card (length (now (table .entry))))) line r (now (out .exit)) ⌝ }
+{
+    let shown = answers::card(x, table);
+    let printed = shown.printed;
+    let visits = shown.visits;
+    let next = shown.state;
+    let refusal = refusal_of(printed);
+    if refusal != 0 {
+        let length = put_card_refusal(out, refusal, visits, line);
+        return Turn {
+            state: next,
+            length: length,
+        };
+    }
+    let lines = lines_of(printed);
+    let length = put_shown(out, x, table, lines, visits);
+    Turn {
+        state: next,
+        length: length,
+    }
+}
+
+// The first bytes of a table, as many as the call asks for.
+fn serve_part(x: State, table: &mut [u8], size: usize, line: u64, out: &mut [u8]) -> Turn
+    requires { ⌜ (size ≤ tableBytes) × (size ≤ length (now table)) ⌝ }
+    requires { ⌜ answerBytes ≤ length (now out) ⌝ }
+    ensures { λ r. ⌜ Turned x (some (card size)) line r (now (out .exit)) ⌝ }
+{
+    serve_in(x, &mut table[..size], line, out)
+}
+
+pub fn serve_card(x: State, size: usize, line: u64, out: &mut [u8]) -> Turn
+    requires { ⌜ size ≤ tableBytes ⌝ }
+    requires { ⌜ answerBytes ≤ length (now out) ⌝ }
+    ensures { λ r. ⌜ Turned x (some (card size)) line r (now (out .exit)) ⌝ }
+{
+    let mut table = [tables::OPEN; reader::call::TABLE];
+    serve_part(x, &mut table, size, line, out)
+}

@@ -1,0 +1,36 @@
+// One line of a session on a state by value: its call is read and served, and the answer written into a lent table.
+use call::serve_call;
+use reader::call::read_call;
+use state::State;
+ghost use Rattle.serve.specs.Line.{ServesLine};
+
+mod call;
+mod card;
+mod change; // rule, forget
+mod query;
+mod refusal;
+
+// The longest answer: a card whose lines fill its table. A line has up to 8 bytes for each of its places and 7 more, what is no line
+// up to 45.
+pub const ANSWER: usize = 15 * reader::call::TABLE + 45;
+
+// The answer stands in the first bytes of the lent table.
+pub struct Turn {
+    pub state: State,
+    pub length: usize,
+}
+
+// The line without its byte 10, and its number in the input. In a table of fewer than ANSWER bytes nothing is served.
+pub fn serve_line(x: State, line: &[u8], number: u64, out: &mut [u8]) -> Turn
+    ensures { λ r. ⌜ ServesLine x (now (line .entry)) number (now (out .entry)) r (now (out .exit)) ⌝ }
+{
+    if out.len() < ANSWER {
+        return Turn {
+            state: x,
+            length: 0,
+        };
+    }
+    let mut lits = [0i16; tables::BY_NUMBER];
+    let call = read_call(line, &mut lits);
+    serve_call(x, call, &lits, number, out)
+}
