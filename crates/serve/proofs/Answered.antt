@@ -1,22 +1,21 @@
 -- The text of an answer, from what a call's contract says of it in numbers.
-use Prim.Native.Nat.{ℕ, zero, suc, _+_, _*_, _≤_, _<_, _^_}
+use Prim.Native.Nat.{ℕ, zero, suc}
 use native.Mathlib.Omega.{arith}
-use mathlib.Core.Path.{_≡_, refl, sym, ap, subst, _∙_}
-use mathlib.Core.Logic.{_⊎_, inl, inr}
-use mathlib.Core.Bool.{Bool, true, false, cond, _||_}
+use mathlib.Core.Path.{_≡_, refl, ap, _∙_}
+use mathlib.Core.Bool.{Bool, true, false, _||_}
 use mathlib.Core.List.{List, [], _∷_}
 use mathlib.Core.Option.{Option, none, some}
-use lib.ListN.{length, take}
+use lib.ListN.{length}
 use lib.Dec.{eqb, leb, ltb}
-use Rattle.qbf.specs.Formula.{Limits, Prefix, Literal, Formula, Node, quantifiers, numberOf, any, placeOf}
+use Rattle.qbf.specs.Formula.{Limits, Prefix, Literal, Formula, quantifiers, numberOf, any, placeOf}
 use Rattle.qbf.specs.Truth.{Outcome, decided, mixed, outline, bound}
 use Rattle.qbf.specs.Learning.{learningSearch}
-use Rattle.qbf.specs.Calls.{Call, rule, query, card, forget, Reply, done, refused, swap, keep, lines, cardRefused, Answer, answer, given, _orElse_, literalFault, ruleFault, ruleReply, queryFault, startNode, queryReply, learningQuery, State as Read, step, guarded, wellFormed}
+use Rattle.qbf.specs.Calls.{Call, rule, query, forget, Reply, done, refused, swap, keep, lines, cardRefused, Answer, answer, given, _orElse_, literalFault, ruleFault, ruleReply, queryFault, startNode, queryReply, learningQuery, State as Read, guarded, wellFormed}
 use Rattle.layout.specs.Words.{Bytes}
 use Rattle.layout.specs.Session.{doneText, answerText}
 use Rattle.state.specs.declared.State.{State}
 use Rattle.state.specs.Reading.{readState}
-use Rattle.serving.specs.Serves.{Said, saidReply, saidOf, outOf, nextOf, Serves}
+use Rattle.serving.specs.Serves.{Said, saidReply, saidOf, outOf, Serves}
 use Rattle.rules.specs.Rules.{changeSaid}
 use Rattle.rules.specs.declared.Change.{Change}
 use Rattle.answers.specs.Answers.{rulingSaid}

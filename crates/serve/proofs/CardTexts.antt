@@ -8,12 +8,12 @@ use mathlib.Core.Bool.{Bool, true, false, cond}
 use mathlib.Core.List.{List, []}
 use mathlib.Core.Option.{Option, none, some}
 use borrow.Author.Tests.{leb-true, ne-eqb}
-use lib.ListN.{length, getD}
-use lib.Dec.{leb, eqb}
-use Rattle.qbf.specs.Formula.{paper, Prefix, Node}
+use lib.ListN.{length}
+use lib.Dec.{leb}
+use Rattle.qbf.specs.Formula.{paper, Prefix}
 use Rattle.qbf.specs.Truth.{freeVariables}
 use Rattle.qbf.specs.Card.{tableOf, zeroTable}
-use Rattle.qbf.specs.Calls.{Call, card, Reply, done, refused, swap, keep, lines, cardRefused, Answer, answer, guarded, numbersOk, State as Read, wellFormed}
+use Rattle.qbf.specs.Calls.{Call, card, Reply, lines, cardRefused, Answer, guarded, numbersOk, State as Read, wellFormed}
 use Rattle.theory.proofs.WellFormed.{state-facts, numbers-ok}
 use Rattle.layout.specs.Words.{Bytes}
 use Rattle.layout.specs.Output.{refusalText, overflowText, cardText}

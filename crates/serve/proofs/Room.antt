@@ -1,7 +1,7 @@
 -- Every answer that is no card is short, whatever numbers of 64 bits stand in it; and what stands at the start of the lent table.
-use Prim.Native.Nat.{ℕ, zero, suc, _+_, _≤_, _<_, _^_}
+use Prim.Native.Nat.{ℕ, zero, suc, _≤_, _<_, _^_}
 use native.Mathlib.Omega.{arith}
-use mathlib.Core.Path.{_≡_, refl, sym, ap, subst, _∙_}
+use mathlib.Core.Path.{_≡_, refl, ap, subst}
 use mathlib.Core.Bool.{Bool}
 use mathlib.Core.Option.{Option, some}
 use lib.ListN.{length, take, length-take}
