@@ -35,12 +35,12 @@ Changing keep = ⊥
 Changing (lines ls tb) = ⊥
 Changing (cardRefused n tb) = ⊥
 
-abbrev Numbered : Option ℕ → Type 0
+abbrev pub Numbered : Option ℕ → Type 0
 Numbered none = Unit {0}
 Numbered (some zero) = ⊥
 Numbered (some (suc n)) = Unit {0}
 
-numbered-given : (t : Bool) (n : ℕ) (o : Option ℕ) → Numbered o → Numbered (given t (suc n) orElse o)
+pub numbered-given : (t : Bool) (n : ℕ) (o : Option ℕ) → Numbered o → Numbered (given t (suc n) orElse o)
 numbered-given true n o h = tt
 numbered-given false n o h = h
 
@@ -50,7 +50,7 @@ numbered-literals L D seen (l ∷ ls) =
     numbered-given (eqb (numberOf l) 0 || ltb (L .numbers) (numberOf l)) 2 _
     (numbered-given (eqb (placeOf D (numberOf l)) 0) 4 _ (numbered-given (any (eqb (numberOf l)) seen) 5 _ (numbered-literals L D (numberOf l ∷ seen) ls)))
 
-rule-numbered : (b : Formula) (ls : List Literal) → Numbered (ruleFault b ls)
+pub rule-numbered : (b : Formula) (ls : List Literal) → Numbered (ruleFault b ls)
 rule-numbered b ls =
     numbered-given (leb (b .limits .clauses) (length (b .clauses))) 19 _
     (numbered-given (eqb (length ls) 0 || ltb (b .limits .literals) (length ls)) 6 _ (numbered-literals (b .limits) (b .prefix) [] ls))

@@ -4,6 +4,7 @@ use reader::call::read_call;
 use state::State;
 ghost use Rattle.serve.specs.Line.{ServesLine};
 
+pub mod book;
 mod call;
 mod card;
 mod change; // rule, forget
