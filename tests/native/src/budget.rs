@@ -27,10 +27,15 @@ pub fn affords(formula: &Formula, call: &Call, walk: Walk, limit: u64) -> bool {
 
 /// Whether the search from a start node visits at most `limit` nodes.
 pub fn within(formula: &Formula, start: &[bool], walk: Walk, limit: u64) -> bool {
+    visits(formula, start, walk, limit).is_some()
+}
+
+/// How many nodes the search from a start node visits. None: more than `limit`.
+pub fn visits(formula: &Formula, start: &[bool], walk: Walk, limit: u64) -> Option<u64> {
     let mut count = Count::new(formula, walk, limit);
     let on = start.iter().enumerate().map(|(index, &on)| u64::from(on) << index).sum();
     count.visit(start.len(), on);
-    count.visits <= limit
+    (count.visits <= limit).then_some(count.visits)
 }
 
 /// Clauses as sets of places, a bit for each.

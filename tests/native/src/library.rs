@@ -73,6 +73,12 @@ pub mod bare {
         reply.refusal
     }
 
+    pub fn forget(state: &mut Raw) -> u16 {
+        let reply = unsafe { bullacetop_forget(*state) };
+        *state = reply.state;
+        reply.refusal
+    }
+
     pub fn query(state: &mut Raw, on: &[i16]) -> (u16, u64) {
         let reply = unsafe { bullacetop_query(*state, on.as_ptr(), on.len()) };
         *state = reply.state;
