@@ -14,3 +14,6 @@ pub mod run;
 pub mod shrink;
 pub mod spoil;
 pub mod tally;
+#[cfg(feature = "text")]
+pub mod text;
+pub mod texts;
