@@ -64,7 +64,7 @@ impl Sides {
 
     fn call(&mut self, call: &Call, tally: &mut Tally) -> Result<(), String> {
         let before = self.native.state.clone();
-        let answer = self.native.call(call)?;
+        let answer = self.native.answer(call)?;
         tally.call(call, &answer);
         let expected = match &mut self.solver {
             Some(solver) => {

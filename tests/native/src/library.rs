@@ -1,8 +1,9 @@
 //! The library's calls. Every lent table stands between guard bytes.
 
 use crate::raw::{Raw, Reply, KEEP, SWAP};
+use crate::reading;
 use compare::answer::LENT_BYTE;
-use compare::{Answer, Call, Said};
+use compare::{Answer, Call, Formula, Said, State, Store, Subject};
 use std::ptr;
 
 extern "C" {
@@ -25,9 +26,14 @@ impl Native {
         Native { state }
     }
 
+    /// A freshly opened formula.
+    pub fn opened(formula: Formula) -> Native {
+        Native::new(reading::write(&State { formula, store: Store::default() }))
+    }
+
     /// An error says which bytes the call should not have touched, or which number of its reply
     /// belongs to no answer.
-    pub fn call(&mut self, call: &Call) -> Result<Answer, String> {
+    pub fn answer(&mut self, call: &Call) -> Result<Answer, String> {
         let mut table = vec![];
         let reply = match call {
             Call::Rule(literals) => {
@@ -44,6 +50,12 @@ impl Native {
         };
         *self.state = reply.state;
         Ok(Answer { said: said(call, &reply)?, table, visits: reply.visits })
+    }
+}
+
+impl Subject for Native {
+    fn call(&mut self, call: &Call) -> Answer {
+        self.answer(call).expect("an answer")
     }
 }
 
