@@ -75,7 +75,7 @@ fn read_call(input: &mut impl BufRead) -> io::Result<Option<Option<Call>>> {
 }
 
 /// The call on a line, without its byte 10. None: no call stands there.
-fn call(line: &[u8]) -> Option<Call> {
+pub fn call(line: &[u8]) -> Option<Call> {
     let (keyword, items) = layout::items(line)?;
     let literals = || items.iter().map(|item| narrow(item.literal())).collect();
     let plain = !items.iter().any(|item| item.negated);
@@ -101,7 +101,7 @@ fn narrow(number: i32) -> i16 {
 }
 
 /// What is printed for an answer. The formula is the opened one: calls change no declaration.
-fn print(formula: &Formula, answer: &Answer, line: usize) -> String {
+pub fn print(formula: &Formula, answer: &Answer, line: usize) -> String {
     let visits = answer.visits;
     match answer.said {
         Said::Added => "(accepted)\n".into(),

@@ -1,0 +1,171 @@
+//! Times of one book: both sides by turns, the shortest run of each.
+
+use crate::search::Solver;
+use compare::random::Random;
+use compare::solver::start_node;
+use compare::{Formula, State, Store};
+use native::budget::{self, Walk};
+use native::library::bare;
+use native::raw::{Raw, SWAP};
+use native::reading;
+use std::time::Duration;
+
+/// "The program's card table has 65,536 bytes".
+const TABLE: usize = 65_536;
+const QUERIES: usize = 200;
+/// The plain search is counted up to so many visits.
+const PLAIN: u64 = 150_000_000;
+
+#[derive(Clone, Copy, Debug, PartialEq, Eq)]
+pub enum Task {
+    /// One card on a fresh book.
+    Card,
+    /// Queries of random readings, one after another on one book.
+    Queries,
+}
+
+#[derive(Clone, Debug)]
+pub struct Times {
+    pub task: Task,
+    pub lines: usize,
+    pub visits: u64,
+    pub plain_visits: Option<u64>,
+    pub rust: Duration,
+    pub library: Duration,
+}
+
+impl Times {
+    pub fn ratio(&self) -> f64 {
+        self.library.as_secs_f64() / self.rust.as_secs_f64()
+    }
+
+    pub fn library_ns(&self) -> f64 {
+        self.library.as_nanos() as f64 / self.visits as f64
+    }
+
+    pub fn rust_ns(&self) -> f64 {
+        self.rust.as_nanos() as f64 / self.visits as f64
+    }
+}
+
+/// What a run found. Both sides have to find the same.
+#[derive(PartialEq, Eq, Debug)]
+struct Found {
+    lines: usize,
+    visits: u64,
+    table: Vec<u8>,
+    verdicts: Vec<bool>,
+}
+
+pub fn measure(formula: &Formula, task: Task) -> Times {
+    let raw = reading::write(&State { formula: formula.clone(), store: Store::default() });
+    let solver = Solver::new(formula);
+    let readings = readings(formula);
+    let (mut rust, mut library) = (Duration::MAX, Duration::MAX);
+    let mut spent = Duration::ZERO;
+    let mut runs = 0;
+    let found = loop {
+        let (expected, time) = run_rust(&solver, task, &readings);
+        rust = rust.min(time);
+        spent += time;
+        let (found, time) = run_library(&raw, task, &readings);
+        library = library.min(time);
+        spent += time;
+        runs += 1;
+        assert!(found == expected, "the two sides differ");
+        if runs >= 3 && spent > Duration::from_secs(1) || runs == 500 {
+            break found;
+        }
+    };
+    let plain_visits = plain_visits(formula, task, &readings);
+    Times { task, lines: found.lines, visits: found.visits, plain_visits, rust, library }
+}
+
+fn run_rust(solver: &Solver, task: Task, readings: &[Vec<i16>]) -> (Found, Duration) {
+    let mut solver = solver.clone();
+    let mut found = Found { lines: 0, visits: 0, table: vec![9; TABLE], verdicts: vec![] };
+    let start = cpu_time();
+    match task {
+        Task::Card => {
+            let (lines, visits) = solver.card(&mut found.table);
+            (found.lines, found.visits) = (lines.expect("the table is large enough"), visits);
+        }
+        Task::Queries => {
+            for on in readings {
+                let (yes, visits) = solver.query(on);
+                found.verdicts.push(yes);
+                found.visits += visits;
+            }
+        }
+    }
+    (found, cpu_time() - start)
+}
+
+fn run_library(raw: &Raw, task: Task, readings: &[Vec<i16>]) -> (Found, Duration) {
+    let mut raw = Box::new(*raw);
+    let mut found = Found { lines: 0, visits: 0, table: vec![9; TABLE], verdicts: vec![] };
+    let start = cpu_time();
+    match task {
+        Task::Card => {
+            let (refusal, lines, visits) = bare::card(&mut raw, &mut found.table);
+            assert_eq!(refusal, 0, "the table is large enough");
+            (found.lines, found.visits) = (lines, visits);
+        }
+        Task::Queries => {
+            for on in readings {
+                let (verdict, visits) = bare::query(&mut raw, on);
+                found.verdicts.push(verdict == SWAP);
+                found.visits += visits;
+            }
+        }
+    }
+    (found, cpu_time() - start)
+}
+
+/// A call that searches nothing: the state is checked, copied in and copied out.
+pub fn call_time(formula: &Formula) -> Duration {
+    const CALLS: u32 = 1_000;
+    let state = State { formula: formula.clone(), store: Store::default() };
+    let mut raw = reading::write(&state);
+    let mut least = Duration::MAX;
+    for _ in 0..20 {
+        let start = cpu_time();
+        for _ in 0..CALLS {
+            assert_eq!(bare::forget(&mut raw), 0, "nothing is refused");
+        }
+        least = least.min((cpu_time() - start) / CALLS);
+    }
+    least
+}
+
+fn readings(formula: &Formula) -> Vec<Vec<i16>> {
+    let mut random = Random::new(formula.clauses.len() as u64);
+    let free = &formula.prefix[..formula.free_count()];
+    let reading = |_| free.iter().map(|v| v.number).filter(|_| random.one_in(2)).collect();
+    (0..QUERIES).map(reading).collect()
+}
+
+fn plain_visits(formula: &Formula, task: Task, readings: &[Vec<i16>]) -> Option<u64> {
+    let plain = |start: &[bool]| budget::visits(formula, start, Walk::Plain, PLAIN);
+    match task {
+        Task::Card => plain(&[]),
+        Task::Queries => readings.iter().map(|on| plain(&start_node(formula, on))).sum(),
+    }
+}
+
+/// The time that this thread has run: others on the machine do not count.
+fn cpu_time() -> Duration {
+    #[repr(C)]
+    struct Timespec {
+        seconds: i64,
+        nanoseconds: i64,
+    }
+    extern "C" {
+        fn clock_gettime(clock: i32, time: *mut Timespec) -> i32;
+    }
+    const THREAD: i32 = 3;
+    let mut time = Timespec { seconds: 0, nanoseconds: 0 };
+    let failed = unsafe { clock_gettime(THREAD, &mut time) };
+    assert_eq!(failed, 0, "the clock of this thread can be read");
+    Duration::new(time.seconds as u64, time.nanoseconds as u32)
+}

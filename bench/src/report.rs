@@ -1,0 +1,69 @@
+//! The tables of docs/BENCHMARKS.md and the plot beside it.
+
+use crate::books::Book;
+use crate::measure::{Task, Times};
+use crate::plot::grouped;
+use std::fmt::Write;
+use std::path::{Path, PathBuf};
+use std::{fs, io};
+
+const BEGIN: &str = "<!-- times: begin -->\n";
+const END: &str = "<!-- times: end -->\n";
+
+pub const HEADS: &str = "| Book | Rules | Call | Lines | Visits | Plain visits | Library | Rust | Ratio | ns a visit, library | Rust |\n\
+                         |---|---|---|---|---|---|---|---|---|---|---|\n";
+
+pub fn row(book: &Book, times: &Times) -> String {
+    let (call, lines) = match times.task {
+        Task::Card => ("card", grouped(times.lines as u64)),
+        Task::Queries => ("200 queries", "-".into()),
+    };
+    let plain = times.plain_visits.map_or("over 150,000,000".into(), grouped);
+    let mut row = format!("| {} | {} | {call} | {lines} ", book.name, book.formula.clauses.len());
+    let _ = write!(row, "| {} | {plain} ", grouped(times.visits));
+    let _ = write!(row, "| {} | {} ", milliseconds(times.library), milliseconds(times.rust));
+    let (library, rust) = (times.library_ns(), times.rust_ns());
+    let _ = writeln!(row, "| {:.2} | {library:.0} | {rust:.0} |", times.ratio());
+    row
+}
+
+fn milliseconds(time: std::time::Duration) -> String {
+    let milliseconds = time.as_secs_f64() * 1e3;
+    match milliseconds {
+        0.0..10.0 => format!("{milliseconds:.3} ms"),
+        10.0..1_000.0 => format!("{milliseconds:.1} ms"),
+        _ => format!("{:.2} s", milliseconds / 1e3),
+    }
+}
+
+fn docs() -> PathBuf {
+    Path::new(env!("CARGO_MANIFEST_DIR")).join("../docs")
+}
+
+/// The geometric mean of a task's ratios, with the least and the largest.
+pub fn ratios(times: &[Times], task: Task) -> String {
+    let ratios: Vec<f64> = times.iter().filter(|t| t.task == task).map(Times::ratio).collect();
+    let mean = (ratios.iter().map(|ratio| ratio.ln()).sum::<f64>() / ratios.len() as f64).exp();
+    let least = ratios.iter().copied().fold(f64::MAX, f64::min);
+    let most = ratios.iter().copied().fold(f64::MIN, f64::max);
+    format!("{mean:.2} ({least:.2} to {most:.2})")
+}
+
+/// "load average 0.50 on 2 processors".
+pub fn load() -> String {
+    let load = fs::read_to_string("/proc/loadavg").unwrap_or_default();
+    let load = load.split(' ').next().unwrap_or_default().to_owned();
+    let processors = std::thread::available_parallelism().map_or(1, usize::from);
+    format!("load average {load} on {processors} processors")
+}
+
+/// Puts the tables between their markers and leaves the rest of the file as it is.
+pub fn write(tables: &str, svg: &str) -> io::Result<()> {
+    let path = docs().join("BENCHMARKS.md");
+    let text = fs::read_to_string(&path)?;
+    let parts = text.split_once(BEGIN).zip(text.split_once(END));
+    let ((before, _), (_, after)) =
+        parts.ok_or_else(|| io::Error::other(format!("{} has no line {BEGIN}", path.display())))?;
+    fs::write(&path, format!("{before}{BEGIN}{tables}{END}{after}"))?;
+    fs::write(docs().join("benchmarks.svg"), svg)
+}

@@ -1,0 +1,98 @@
+/*
+ * Book A of paper 01 through the C calls: its card, two queries, one more rule and a few refusals.
+ *
+ * From the repository's root:
+ *   rt staticlib bullacetop
+ *   gcc -std=c99 -Wall -Wextra -pedantic -O2 -Iinclude examples/c/card.c target/staticlib/libbullacetop.a -o target/card_c
+ *   target/card_c
+ */
+#include <inttypes.h>
+#include <stdio.h>
+
+#include "bullacetop.h"
+
+/* One variable more. Every call checks its state, so a mistake here is refused with 22 and nothing worse. */
+static void declare(struct bullacetop_state *x, uint16_t number, uint16_t kind)
+{
+    uint16_t n = x->numbers[0];
+    uint16_t level = n ? x->levels[n] : 0;
+
+    if (n == BULLACETOP_NUMBERS)
+        return;
+    if (kind != (n ? x->kinds[level] : BULLACETOP_FLAG))
+        level++;
+    x->numbers[n + 1] = number;
+    x->levels[n + 1] = level;
+    x->kinds[level] = kind;
+    x->numbers[0] = (uint16_t)(n + 1);
+}
+
+static void rule(struct bullacetop_state *x, const int16_t *literals, size_t n)
+{
+    struct bullacetop_answer a = bullacetop_rule(*x, literals, n);
+
+    *x = a.state;
+    if (a.refusal)
+        printf("rule refused with %u\n", (unsigned)a.refusal);
+}
+
+static void query(struct bullacetop_state *x, const int16_t *on, size_t n)
+{
+    struct bullacetop_answer a = bullacetop_query(*x, on, n);
+
+    *x = a.state;
+    if (a.refusal)
+        printf("query refused with %u\n", (unsigned)a.refusal);
+    else
+        printf("%s, visits %" PRIu64 "\n", a.verdict == BULLACETOP_SWAP ? "swap" : "keep", a.visits);
+}
+
+static void card(struct bullacetop_state *x, uint8_t *table, size_t length, size_t flags)
+{
+    static const char *const words[] = {"open", "off", "on"};
+    struct bullacetop_answer a = bullacetop_card(*x, table, length);
+
+    *x = a.state;
+    if (a.refusal) {
+        printf("card refused with %u, visits %" PRIu64 "\n", (unsigned)a.refusal, a.visits);
+        return;
+    }
+    for (size_t line = 0; line < a.lines; line++) {
+        printf("line:");
+        for (size_t place = 0; place < flags; place++)
+            printf(" %u %s", (unsigned)x->numbers[place + 1], words[table[line * flags + place]]);
+        printf("\n");
+    }
+    printf("lines %zu, visits %" PRIu64 "\n", a.lines, a.visits);
+}
+
+int main(void)
+{
+    static const int16_t first[] = {3, 4, -1}, second[] = {-3, -4, 2}, third[] = {1, 2};
+    static const int16_t heat[] = {1}, both[] = {2, 1}, load[] = {4}, undeclared[] = {5};
+    struct bullacetop_state book = {{0}, {0}, {0}, {0}, {0}, {0}, {0}, {0}, {0}};
+    uint8_t table[8];
+
+    declare(&book, 1, BULLACETOP_FLAG);
+    declare(&book, 2, BULLACETOP_FLAG);
+    declare(&book, 3, BULLACETOP_EXISTS);
+    declare(&book, 4, BULLACETOP_FORALL);
+    rule(&book, first, 3);
+    rule(&book, second, 3);
+    rule(&book, third, 2);
+
+    card(&book, table, sizeof table, 2);
+    query(&book, heat, 1);
+    query(&book, both, 2);
+    query(&book, NULL, 0);
+
+    /* A load is no flag; 5 is not declared; three bytes hold one line of two. */
+    query(&book, load, 1);
+    rule(&book, undeclared, 1);
+    card(&book, table, 3, 2);
+
+    /* A number twice: the state is malformed, and comes back as it went. */
+    book.numbers[2] = 1;
+    query(&book, heat, 1);
+    return 0;
+}

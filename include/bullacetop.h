@@ -1,0 +1,153 @@
+/*
+ * Bullacetop: a proved solver for parametric quantified Boolean formulas, for C and whatever calls C.
+ *
+ * Link target/staticlib/libbullacetop.a, which `rt staticlib bullacetop` makes (x86-64 Linux; size_t has 64 bits).
+ *
+ * A state is a value. Every call takes one and answers with the next one; the caller keeps it. The library has no memory of its own: it
+ * allocates nothing, keeps no pointer after a call returns and has no global data, so calls on different states may run at once.
+ *
+ * Whatever bytes a state has, no call faults or runs without end: each call checks its state in full and refuses a malformed one with 22.
+ * Nothing else needs to be checked before a call but the pointers: a list or a table of n items has to be readable (the card table
+ * writable) for n items. Where n is 0 nothing is read or written, and the pointer may be NULL. Lent lists are not written. A table must
+ * not overlap another argument.
+ *
+ * Stack: the deepest call, a card on 40 variables, was seen to take 130 KiB, with the state handed over and the answer (19 KiB each) in it.
+ * Have 256 KiB.
+ */
+#ifndef BULLACETOP_H
+#define BULLACETOP_H
+
+#include <stddef.h>
+#include <stdint.h>
+
+#ifdef __cplusplus
+extern "C" {
+#endif
+
+/* Variable numbers run from 1 to this; as many places and, at most, levels. */
+#define BULLACETOP_NUMBERS 40
+#define BULLACETOP_RULES 255
+/* Literals of a rule. */
+#define BULLACETOP_LITERALS 16
+/* Learned bars, and learned passes. */
+#define BULLACETOP_ENTRIES 64
+
+/* Quantifiers. */
+#define BULLACETOP_FLAG 0
+#define BULLACETOP_EXISTS 1
+#define BULLACETOP_FORALL 2
+
+/* Verdicts of a query. */
+#define BULLACETOP_KEEP 1
+#define BULLACETOP_SWAP 2
+
+/* Bytes of a card table. */
+#define BULLACETOP_OPEN 0
+#define BULLACETOP_OFF 1
+#define BULLACETOP_ON 2
+
+/* Refusals; 0 is none. */
+#define BULLACETOP_NOT_IN_LAYOUT 1
+#define BULLACETOP_EDITION 2
+#define BULLACETOP_NUMBER_RANGE 3
+#define BULLACETOP_DECLARED_TWICE 4
+#define BULLACETOP_NOT_DECLARED 5
+#define BULLACETOP_VARIABLE_TWICE 6
+#define BULLACETOP_RULE_LENGTH 7
+#define BULLACETOP_NO_FLAG 8
+#define BULLACETOP_TEXT_TOO_LONG 9
+#define BULLACETOP_RULES_FULL 20
+#define BULLACETOP_TABLE_TOO_SMALL 21
+#define BULLACETOP_MALFORMED 22
+
+/*
+ * A book and what was learned on it. All zero bytes are the empty book: no variable, no rule, nothing learned.
+ *
+ * A variable's place is its position, from 1, in the declared order: flags first, then the quantified ones. Its level is 0 for a flag,
+ * else the index, from 1, of the run of one quantifier that it stands in. To declare one more variable: write its number and its level to
+ * the next cell, the quantifier to the cell of the level, and add 1 to numbers[0] (see examples/c/card.c). Declare before the first rule.
+ *
+ * A literal is a variable's number for on, negated for off. Rows hold them in place order; use bullacetop_rule, which sorts and checks.
+ * Cells outside the counts may hold anything. No answer depends on them.
+ */
+struct bullacetop_state {
+    /* The count of variables, then the number of each place's variable. */
+    uint16_t numbers[BULLACETOP_NUMBERS + 1];
+    /* From cell 1 on the level of each place. */
+    uint16_t levels[BULLACETOP_NUMBERS + 1];
+    /* From cell 0 on the quantifier of each level. */
+    uint16_t kinds[BULLACETOP_NUMBERS + 1];
+    /* Rules, 16 cells each. */
+    int16_t rules[BULLACETOP_RULES * BULLACETOP_LITERALS];
+    /* The count of rules, then the length of each. */
+    uint16_t rule_sizes[BULLACETOP_RULES + 1];
+    /* Learned bars, oldest first, 40 cells each; then their count and the length of each. */
+    int16_t bars[BULLACETOP_ENTRIES * BULLACETOP_NUMBERS];
+    uint16_t bar_sizes[BULLACETOP_ENTRIES + 1];
+    /* Learned passes likewise. */
+    int16_t passes[BULLACETOP_ENTRIES * BULLACETOP_NUMBERS];
+    uint16_t pass_sizes[BULLACETOP_ENTRIES + 1];
+};
+
+/*
+ * What a call says, and the next state. A refusal has 0 lines and 0 visits, and `state` is the one that was given, byte for byte. Only 21
+ * differs: the search ran to its end, its visits are told, and `state` keeps what it learned; declarations and rules are as they were.
+ */
+struct bullacetop_answer {
+    uint16_t refusal;
+    /* Of a query that is not refused: BULLACETOP_KEEP or BULLACETOP_SWAP. Else 0. */
+    uint16_t verdict;
+    /* Of a card. */
+    size_t lines;
+    /* Of a query or a card: the nodes that the search visited. */
+    uint64_t visits;
+    struct bullacetop_state state;
+};
+
+/* Adds a rule of n literals in any order. Refusals, the first fault decides: 22, 20, 7, then from the left 3, 5, 6. */
+struct bullacetop_answer bullacetop_rule(struct bullacetop_state x, const int16_t *literals, size_t n);
+
+/* Empties what was learned. Refusal 22. */
+struct bullacetop_answer bullacetop_forget(struct bullacetop_state x);
+
+/* Whether the rules are true where the n flags of these numbers are on and the others off. Refusals 22, 8. */
+struct bullacetop_answer bullacetop_query(struct bullacetop_state x, const int16_t *on, size_t n);
+
+/*
+ * All readings of the flags for which the rules are true, as lines of f bytes, f being the count of flags: 0 open, 1 off, 2 on, in place
+ * order. Every byte of the table is written: those after the last line are zero, and all are zero after a refusal. Refusals 22, and 21
+ * where there are more than n / f lines. With no flag a line has no byte and always fits.
+ */
+struct bullacetop_answer bullacetop_card(struct bullacetop_state x, uint8_t *table, size_t n);
+
+#ifdef BULLACETOP_TEXT
+/*
+ * Texts. An answer's text is written to `out`, for which the caller has at least bullacetop_room() bytes; what stands in `out` after the
+ * told length means nothing.
+ */
+struct bullacetop_turn {
+    struct bullacetop_state state;
+    size_t length;
+};
+
+/* The bytes that an answer's text may need. */
+size_t bullacetop_room(void);
+
+/* What the program `card` prints for a text of n bytes: how many bytes, written to out. 0 where m is less than the room. */
+size_t bullacetop_print(const uint8_t *text, size_t n, uint8_t *out, size_t m);
+
+/* Opens a text: length 0 and the book's state. Refused: `(refused N L)` in out, and an empty state. */
+struct bullacetop_turn bullacetop_open(const uint8_t *text, size_t n, uint8_t *out, size_t m);
+
+/* One call of a session: a line of n bytes without its newline, and the line's number for a refusal. The answer's text is in out. */
+struct bullacetop_turn bullacetop_line(struct bullacetop_state x, const uint8_t *line, size_t n, uint64_t number, uint8_t *out, size_t m);
+#endif
+
+/* The arrays follow one another without a gap. */
+typedef char bullacetop_state_has_no_gap[sizeof(struct bullacetop_state) == 19418 ? 1 : -1];
+
+#ifdef __cplusplus
+}
+#endif
+
+#endif

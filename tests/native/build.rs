@@ -1,0 +1,12 @@
+//! Links the static library that `rt staticlib bullacetop` makes.
+
+use std::path::Path;
+
+fn main() {
+    let folder = Path::new(env!("CARGO_MANIFEST_DIR")).join("../../target/staticlib");
+    let library = folder.join("libbullacetop.a");
+    assert!(library.exists(), "{} is missing: rt staticlib bullacetop", library.display());
+    println!("cargo:rustc-link-search=native={}", folder.display());
+    println!("cargo:rustc-link-lib=static=bullacetop");
+    println!("cargo:rerun-if-changed={}", library.display());
+}

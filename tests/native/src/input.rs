@@ -1,0 +1,192 @@
+//! Inputs from a seed: each has a source and an index, and can be drawn again by itself.
+
+use crate::budget::{self, Walk};
+use crate::generate::{self, Shape, SHAPES};
+use crate::hold::Case;
+use crate::reading;
+use crate::spoil::{self, Fault, FAULTS};
+use compare::random::Random;
+use compare::{plain, Call, Formula, Options, Solver, State, Store};
+
+#[derive(Clone, Copy, Debug, PartialEq, Eq)]
+pub enum Source {
+    /// A freshly opened formula and a list of calls.
+    Opened,
+    /// A list of searches that fills the store and goes on.
+    Filling,
+    /// A card for every length of its table.
+    Lengths,
+    /// A well-formed state that calls need not reach.
+    GivenStore,
+    /// A state with a fault.
+    Malformed,
+}
+
+pub const SOURCES: [Source; 5] =
+    [Source::Opened, Source::Filling, Source::Lengths, Source::GivenStore, Source::Malformed];
+
+pub struct Input {
+    pub case: Case,
+    pub fault: Option<Fault>,
+}
+
+/// The input of a source at an index.
+pub fn draw(source: Source, seed: u64, index: u64) -> Input {
+    let place = SOURCES.iter().position(|other| *other == source).unwrap_or(0) as u64;
+    let mixed = seed.wrapping_mul(0x5851_F42D_4C95_7F2D) ^ (index * 8 + place);
+    let random = &mut Random::new(mixed);
+    let index = index as usize;
+    let shape = SHAPES[index % SHAPES.len()];
+    let (case, fault) = match source {
+        Source::Opened => (opened(shape, random), None),
+        Source::Filling => (filling(random), None),
+        Source::Lengths => (lengths(SHAPES[index % 4], random), None),
+        Source::GivenStore => (given(shape, random), None),
+        Source::Malformed => {
+            let fault = FAULTS[index % FAULTS.len()];
+            let shape = SHAPES[random.below(SHAPES.len())];
+            (malformed(shape, fault, random), Some(fault))
+        }
+    };
+    Input { case, fault }
+}
+
+fn opened(shape: Shape, random: &mut Random) -> Case {
+    let formula = shape.formula(Walk::Plain, random);
+    let mut calls = shape.calls(&formula, Walk::Plain, random);
+    let mut state = State { formula, store: Store::default() };
+    if random.one_in(6) {
+        // The same formula, clause by clause.
+        let mut clauses = std::mem::take(&mut state.formula.clauses);
+        clauses.iter_mut().for_each(|clause| random.shuffle(clause));
+        calls.splice(0..0, clauses.into_iter().map(Call::Rule));
+    }
+    Case { raw: reading::write_among_others(&state, random), calls, opened: true }
+}
+
+/// Formulas of which a card learns many clauses and cubes, and searches after it.
+fn filling(random: &mut Random) -> Case {
+    let (least, visits) = random.pick(&[(1_000, 6_000), (5_000, 16_000), (10_000, 30_000)]);
+    let shape = Shape { visits, calls: random.between(2, 10), ..SHAPES[5] };
+    let formula = loop {
+        let formula = match random.below(8) {
+            0 => shape.formula(Walk::Plain, random),
+            _ => generate::covering(random),
+        };
+        let within = |limit| budget::within(&formula, &[], Walk::Plain, limit);
+        if within(visits) && !within(least) {
+            break formula;
+        }
+    };
+    let mut calls = vec![Call::Card(1 << 16)];
+    calls.extend(shape.calls(&formula, Walk::Plain, random));
+    // A rule takes the cubes away, and forget the rest.
+    let empties = |call: &Call| matches!(call, Call::Rule(_) | Call::Forget);
+    calls.retain(|call| !empties(call) || random.one_in(6));
+    let state = State { formula, store: Store::default() };
+    Case { raw: reading::write(&state), calls, opened: true }
+}
+
+/// From no byte to more than all lines need, the store kept or emptied on the way.
+fn lengths(shape: Shape, random: &mut Random) -> Case {
+    let formula = shape.formula(Walk::Plain, random);
+    let free = formula.free_count();
+    let lines = plain::search(&formula, &[]).lines.len();
+    let longest = (lines + 1) * free + 2;
+    let step = longest.div_ceil(120);
+    let mut calls = vec![];
+    for length in (random.below(step)..=longest).step_by(step) {
+        if random.one_in(5) {
+            calls.push(Call::Forget);
+        }
+        calls.push(Call::Card(length));
+    }
+    let state = State { formula, store: Store::default() };
+    Case { raw: reading::write(&state), calls, opened: true }
+}
+
+fn given(shape: Shape, random: &mut Random) -> Case {
+    let shape = Shape { visits: random.pick(&[shape.visits, 8_000]), ..shape };
+    let mut formula = shape.formula(Walk::Whole, random);
+    if random.one_in(3) {
+        let other = generate::covering(random);
+        if budget::within(&other, &[], Walk::Whole, shape.visits) {
+            formula = other;
+        }
+    }
+    let store = match random.below(3) {
+        0 => generate::store(&formula, random),
+        _ => learned(&formula, shape, random),
+    };
+    let calls = shape.calls(&formula, Walk::Whole, random);
+    let raw = reading::write_among_others(&State { formula, store }, random);
+    Case { raw, calls, opened: false }
+}
+
+/// What a card stores on a formula of the same prefix but other clauses, among random entries.
+fn learned(formula: &Formula, shape: Shape, random: &mut Random) -> Store {
+    let mut other = formula.clone();
+    for clause in &mut other.clauses {
+        if random.one_in(6) {
+            let index = random.below(clause.len());
+            clause[index] = -clause[index];
+        }
+    }
+    if random.one_in(3) {
+        other.clauses.truncate(random.below(other.clauses.len() + 1));
+    }
+    let mut solver = Solver::opened(other, Options::paper());
+    if budget::within(&solver.state.formula, &[], Walk::Plain, shape.visits) {
+        solver.card(&mut []);
+    }
+    let mut store = solver.state.store;
+    let random_store = generate::store(formula, random);
+    let lists =
+        [(&mut store.clauses, random_store.clauses), (&mut store.cubes, random_store.cubes)];
+    for (list, entries) in lists {
+        for entry in entries {
+            // Before, among or after what was learned.
+            let index = random.below(list.len() + 1);
+            if list.len() < 64 && (random.one_in(3) || list.is_empty()) {
+                list.insert(index, entry);
+            } else if random.one_in(8) {
+                let last = list.len() - 1;
+                list[index.min(last)] = entry;
+            }
+        }
+    }
+    store
+}
+
+fn malformed(shape: Shape, fault: Fault, random: &mut Random) -> Case {
+    let formula = shape.formula(Walk::Whole, random);
+    let store = generate::store(&formula, random);
+    let mut calls = shape.calls(&formula, Walk::Whole, random);
+    calls.truncate(4);
+    calls.extend([Call::Forget, Call::Card(random.below(200)), Call::Query(vec![])]);
+    calls.push(Call::Rule(some_literal(&formula)));
+    random.shuffle(&mut calls);
+    let mut raw = reading::write_among_others(&State { formula, store }, random);
+    spoil::spoil(&mut raw, fault, random);
+    if let Some(state) = reading::read_well_formed(&raw) {
+        // Not malformed after all: a state that no calls reach, and perhaps a long search.
+        calls = affordable(state.formula, calls, shape.visits);
+    }
+    Case { raw, calls, opened: false }
+}
+
+fn some_literal(formula: &Formula) -> Vec<i16> {
+    formula.prefix.first().map(|variable| variable.number).into_iter().collect()
+}
+
+fn affordable(mut formula: Formula, calls: Vec<Call>, visits: u64) -> Vec<Call> {
+    let mut kept = vec![];
+    for call in calls {
+        if !budget::affords(&formula, &call, Walk::Whole, visits) {
+            continue;
+        }
+        generate::follow(&mut formula, &call);
+        kept.push(call);
+    }
+    kept
+}

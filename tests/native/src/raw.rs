@@ -1,0 +1,65 @@
+//! The state and the answer as the library has them: plain structs of numbers.
+
+/// A table by place: a count or nothing in cell 0, then one cell for each of 40 places.
+pub const BY_PLACE: usize = 41;
+pub const CLAUSES: usize = 255;
+/// Cells of a clause.
+pub const CLAUSE_WIDTH: usize = 16;
+/// Entries of each polarity.
+pub const ENTRIES: usize = 64;
+/// Cells of an entry.
+pub const ENTRY_WIDTH: usize = 40;
+
+pub const FREE: u16 = 0;
+pub const EXISTS: u16 = 1;
+pub const FORALL: u16 = 2;
+
+pub const KEEP: u16 = 1;
+pub const SWAP: u16 = 2;
+
+/// It has no padding, so that equal means equal byte for byte.
+#[repr(C)]
+#[derive(Clone, Copy, Debug, PartialEq, Eq)]
+pub struct Raw {
+    /// The count of variables, then the number of each place's variable.
+    pub numbers: [u16; BY_PLACE],
+    /// The level of each place, from cell 1 on.
+    pub levels: [u16; BY_PLACE],
+    /// The quantifier of each level, from cell 0 on.
+    pub kinds: [u16; BY_PLACE],
+    pub clauses: [i16; CLAUSES * CLAUSE_WIDTH],
+    /// The count of clauses, then the length of each.
+    pub clause_sizes: [u16; CLAUSES + 1],
+    pub learned_clauses: [i16; ENTRIES * ENTRY_WIDTH],
+    pub learned_clause_sizes: [u16; ENTRIES + 1],
+    pub learned_cubes: [i16; ENTRIES * ENTRY_WIDTH],
+    pub learned_cube_sizes: [u16; ENTRIES + 1],
+}
+
+impl Raw {
+    pub const EMPTY: Raw = Raw {
+        numbers: [0; BY_PLACE],
+        levels: [0; BY_PLACE],
+        kinds: [FREE; BY_PLACE],
+        clauses: [0; CLAUSES * CLAUSE_WIDTH],
+        clause_sizes: [0; CLAUSES + 1],
+        learned_clauses: [0; ENTRIES * ENTRY_WIDTH],
+        learned_clause_sizes: [0; ENTRIES + 1],
+        learned_cubes: [0; ENTRIES * ENTRY_WIDTH],
+        learned_cube_sizes: [0; ENTRIES + 1],
+    };
+}
+
+#[repr(C)]
+#[derive(Clone, Copy)]
+pub struct Reply {
+    /// 0 is none.
+    pub refusal: u16,
+    /// 0 where the call is no query or is refused.
+    pub verdict: u16,
+    pub lines: usize,
+    pub visits: u64,
+    pub state: Raw,
+}
+
+const _: () = assert!(std::mem::size_of::<Raw>() == 19_418);

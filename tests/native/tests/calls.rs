@@ -1,0 +1,49 @@
+//! Random inputs of every source. `NATIVE_SEED` sets the seed, `NATIVE_SECONDS` a time for each
+//! test in place of the usual number of inputs.
+
+use native::input::Source;
+use native::run::{amount, run, seed};
+use native::spoil::FAULTS;
+use native::tally::Tally;
+
+fn covered(source: Source, inputs: u64) -> Tally {
+    let tally = run(source, seed(), 0, amount(inputs));
+    println!("{source:?}: {tally}");
+    tally
+}
+
+#[test]
+fn opened_formulas() {
+    let tally = covered(Source::Opened, 10_000);
+    let numbers = [3, 5, 6, 7, 8, 20, 21];
+    assert!(numbers.iter().all(|number| tally.refusals.get(number) > Some(&50)), "{tally}");
+    let largest = (tally.most_variables, tally.most_clauses, tally.longest_clause);
+    assert_eq!(largest, (40, 255, 16), "{tally}");
+    assert!(tally.truths > 1_000 && tally.swaps > 100 && tally.keeps > 100, "{tally}");
+}
+
+#[test]
+fn full_stores() {
+    let tally = covered(Source::Filling, 500);
+    assert!(tally.filled.iter().all(|calls| *calls > 20), "{tally}");
+}
+
+#[test]
+fn tables_of_every_length() {
+    let tally = covered(Source::Lengths, 800);
+    assert!(tally.tables_of_no_byte > 400 && tally.tables_with_a_tail > 2_000, "{tally}");
+    assert!(tally.refusals.get(&21) > Some(&2_000), "{tally}");
+}
+
+#[test]
+fn given_stores() {
+    let tally = covered(Source::GivenStore, 8_000);
+    assert!(tally.filled.iter().all(|calls| *calls > 10), "{tally}");
+}
+
+#[test]
+fn malformed_states() {
+    let tally = covered(Source::Malformed, 200 * FAULTS.len() as u64);
+    assert_eq!(tally.faults.len(), FAULTS.len(), "{tally}");
+    assert!(tally.faults.values().all(|[malformed, _]| *malformed > 40), "{tally}");
+}

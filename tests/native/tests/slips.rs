@@ -1,0 +1,63 @@
+//! The comparison can fail: with a slip in the independent implementation it disagrees with the
+//! library on one of the inputs, for each slip that calls can show.
+
+use compare::check::Check;
+use compare::slip::{Slip, ALL};
+use compare::{Call, Options};
+use native::hold::hold_with;
+use native::input::{draw, Source};
+use native::run::seed;
+use native::tally::Tally;
+
+/// Slips of the check show on malformed states, four others on stores that no calls need reach,
+/// all others on freshly opened formulas.
+fn sources(slip: Slip) -> &'static [Source] {
+    match slip {
+        Slip::InnerTestsAtMost
+        | Slip::SatisfiedBeforeStoredClause
+        | Slip::EqualNotStoredAgain
+        | Slip::NewestCubeFirst => &[Source::GivenStore],
+        _ if slip.is_of_check() => &[Source::Malformed],
+        _ => &[Source::Opened, Source::Filling],
+    }
+}
+
+/// A count past its table is no list of this implementation: there is no run to slip. The library
+/// is held to 22 on each of them by `malformed_states`.
+const COUNTS: [Slip; 3] = [
+    Slip::CheckOmits(Check::ClauseCount),
+    Slip::CheckOmits(Check::ClauseTooLong),
+    Slip::CheckOmits(Check::EntryCount),
+];
+
+/// Whether the library and the slipped implementation disagree on an input.
+fn told_apart(slip: Slip, source: Source, seed: u64, index: u64) -> bool {
+    let mut case = draw(source, seed, index).case;
+    case.opened = false;
+    if matches!(slip, Slip::CheckOmits(_)) {
+        // A search on a malformed state means nothing.
+        case.calls.retain(|call| *call == Call::Forget);
+    }
+    let judges_state = slip.is_of_check();
+    let options = Options { slip: Some(slip), judges_state, ..Options::paper() };
+    hold_with(&case, options, &mut Tally::default()).is_err()
+}
+
+/// How many inputs of a source there are in the usual run.
+const INPUTS: u64 = 400;
+
+#[test]
+fn every_slip_is_told_apart() {
+    let seed = seed();
+    let mut hidden = vec![];
+    for (slip, words) in ALL.iter().filter(|(slip, _)| !COUNTS.contains(slip)) {
+        let indices = (0..INPUTS).flat_map(|index| sources(*slip).iter().map(move |s| (*s, index)));
+        let mut indices =
+            indices.filter(|(source, index)| told_apart(*slip, *source, seed, *index));
+        match indices.next() {
+            Some((source, index)) => println!("{slip:?}: {source:?} {index}"),
+            None => hidden.push((slip, words)),
+        }
+    }
+    assert!(hidden.is_empty(), "{hidden:#?}");
+}

@@ -1,0 +1,266 @@
+//! Texts, opened and printed, and call lines: the library against the independent implementation.
+#![cfg(feature = "text")]
+
+use compare::cases::{self, Program};
+use compare::random::Random;
+use compare::session::{self, LARGEST_LINE};
+use compare::text::{self, LARGEST_TEXT};
+use compare::{Answer, Call, Formula, Options, Said, Solver, State, Store, Subject};
+use native::budget::{self, Walk};
+use native::generate::{Shape, SHAPES};
+use native::hold::Case;
+use native::input::{draw, Source};
+use native::raw::Raw;
+use native::reading;
+use native::run::{amount, seed, Amount};
+use native::text::{room, Page};
+use native::texts;
+use std::time::Instant;
+
+fn page() -> Page {
+    Page::new(room())
+}
+
+fn shown(bytes: &[u8]) -> String {
+    let end = bytes.len().min(4_000);
+    String::from_utf8_lossy(&bytes[..end]).into_owned()
+}
+
+/// As many rounds as the environment asks for.
+fn rounds(usual: u64, mut round: impl FnMut(u64)) {
+    let start = Instant::now();
+    let amount = amount(usual);
+    let more = |index: u64| match amount {
+        Amount::Inputs(count) => index < count,
+        Amount::Time(time) => start.elapsed() < time,
+    };
+    (0..).take_while(|index| more(*index)).for_each(&mut round);
+}
+
+/// A text on both sides: what is printed, and the state that it opens to.
+fn hold_text(input: &[u8], page: &mut Page) -> Option<Formula> {
+    let options = Options::paper();
+    let opened = text::open(input, &options);
+    if let Ok(formula) = &opened {
+        if !budget::within(formula, &[], Walk::Plain, 20_000) {
+            return None;
+        }
+    }
+    let printed = page.print(input).unwrap();
+    let expected = text::card_program(input, &options).into_bytes();
+    assert_eq!(shown(&printed), shown(&expected), "{}", shown(input));
+    assert_eq!(printed, expected);
+    let found = page.open(input).unwrap();
+    let state = reading::read_well_formed(&found.state);
+    match opened {
+        Ok(formula) => {
+            assert!(found.text.is_empty(), "{}", shown(input));
+            let expected = State { formula: formula.clone(), store: Store::default() };
+            assert_eq!(state, Some(expected), "{}", shown(input));
+            Some(formula)
+        }
+        Err(refused) => {
+            let expected = format!("(refused {} {})\n", refused.number, refused.line);
+            assert_eq!(shown(&found.text), expected, "{}", shown(input));
+            assert_eq!(state, Some(State::default()), "{}", shown(input));
+            None
+        }
+    }
+}
+
+/// A line on both sides: the answer's text and the next state.
+fn hold_line(
+    state: &mut Box<Raw>,
+    solver: &mut Option<Solver>,
+    line: &[u8],
+    number: u64,
+    page: &mut Page,
+) -> Said {
+    let call = (line.len() <= LARGEST_LINE).then(|| session::call(line)).flatten();
+    let formula = solver.as_ref().map_or(Formula::default(), |s| s.state.formula.clone());
+    let answer = match (&call, solver.as_mut()) {
+        (None, _) => Answer::new(Said::Refused(1)),
+        (Some(call), Some(solver)) => solver.call(call),
+        (Some(_), None) => Answer::new(Said::Refused(22)),
+    };
+    let expected = session::print(&formula, &answer, number as usize);
+    let found = page.line(state, line, number).unwrap();
+    assert_eq!(shown(&found.text), shown(expected.as_bytes()), "line {}", shown(line));
+    assert_eq!(found.text, expected.as_bytes());
+    if matches!(answer.said, Said::Refused(number) if number != 21) {
+        assert!(found.state == *state, "the state is not the given one: {}", shown(line));
+    }
+    if let Some(solver) = solver {
+        assert_eq!(reading::read(&found.state).as_ref(), Some(&solver.state), "{}", shown(line));
+    }
+    *state = found.state;
+    answer.said
+}
+
+#[test]
+fn stored_books() {
+    let page = &mut page();
+    let stored = [cases::stored(Program::Card), cases::examples()].map(|cases| cases.unwrap());
+    for case in stored.concat() {
+        let printed = page.print(&case.input).unwrap();
+        assert!(printed == case.expected, "{}: {}", case.name, shown(&printed));
+    }
+}
+
+/// The text up to and with its first line `(end)`, and the rest.
+fn split_book(input: &[u8]) -> (&[u8], &[u8]) {
+    let mut at = 0;
+    for line in input.split_inclusive(|&byte| byte == b'\n') {
+        at += line.len();
+        if line == b"(end)\n" || at > LARGEST_TEXT {
+            break;
+        }
+    }
+    input.split_at(at)
+}
+
+#[test]
+fn stored_sessions() {
+    let page = &mut page();
+    for case in cases::stored(Program::Session).unwrap() {
+        let (book, rest) = split_book(&case.input);
+        let opened = page.open(book).unwrap();
+        let mut output = opened.text;
+        let mut state = opened.state;
+        let mut number = book.iter().filter(|&&byte| byte == b'\n').count() as u64;
+        if output.is_empty() {
+            for line in rest.split_inclusive(|&byte| byte == b'\n') {
+                number += 1;
+                let Some(line) = line.strip_suffix(b"\n") else {
+                    output.extend(format!("(refused 1 {number})\n").bytes());
+                    continue;
+                };
+                let answered = page.line(&state, line, number).unwrap();
+                output.extend(answered.text);
+                state = answered.state;
+            }
+        }
+        assert!(output == case.expected, "{}: {}", case.name, shown(&output));
+    }
+}
+
+#[test]
+fn random_books() {
+    let (seed, page) = (seed(), &mut page());
+    let (mut opened, mut refused) = (0u64, 0u64);
+    rounds(6_000, |index| {
+        let random = &mut Random::new(seed ^ index.wrapping_mul(0x9E37_79B9));
+        let shape = SHAPES[index as usize % SHAPES.len()];
+        let mut text = texts::book(&shape.formula(Walk::Plain, random), random);
+        let spoiled = !random.one_in(4);
+        if spoiled {
+            texts::spoil(&mut text, random);
+        }
+        match hold_text(&text, page) {
+            Some(_) => opened += 1,
+            None => refused += 1,
+        }
+    });
+    println!("{opened} texts opened, {refused} refused");
+    assert!(opened > 500 && refused > 500);
+}
+
+/// Texts near the longest, and lines near the longest, whatever they hold.
+#[test]
+fn long_texts() {
+    let (seed, page) = (seed(), &mut page());
+    let mut random = Random::new(seed);
+    for length in [65_535, 65_536, 65_537, 70_000, 200_000] {
+        for filler in [&b" 1"[..], b"(", b"\n", b"(rule 1)\n", b" (no 40)", b"9", b" ", b"x"] {
+            let mut text = b"(book 1)\n(flags 1 2)\n(rule 1".to_vec();
+            while text.len() < length {
+                text.extend(filler);
+            }
+            text.truncate(length - 8);
+            text.extend(b")\n(end)\n");
+            text.resize(length, b'\n');
+            hold_text(&text, page);
+            let mut line = text.split_off(21);
+            line.resize(length, b')');
+            let case = draw(Source::Opened, seed, random.below(40) as u64).case;
+            let mut solver = solver_of(&case);
+            hold_line(&mut case.raw.clone(), &mut solver, &line, u64::MAX, page);
+        }
+    }
+}
+
+fn solver_of(case: &Case) -> Option<Solver> {
+    reading::read(&case.raw).map(|state| Solver::new(state, Options::paper()))
+}
+
+/// Up to so many variables every line that comes of a fault is affordable.
+const SMALL: Shape =
+    Shape { variables: (0, 10), clauses: (0, 20), literals: (1, 5), visits: 4_000, calls: 16 };
+
+/// Sessions with faults in their lines, on opened books and on given and malformed states.
+#[test]
+fn random_lines() {
+    let (seed, page) = (seed(), &mut page());
+    let mut said = std::collections::BTreeMap::<String, u64>::new();
+    rounds(6_000, |index| {
+        let random = &mut Random::new(seed ^ index.wrapping_mul(0x9E37_79B9) ^ 1);
+        let (mut raw, calls, small) = match index % 4 {
+            0 | 1 => {
+                let formula = SMALL.formula(Walk::Plain, random);
+                let calls = SMALL.calls(&formula, Walk::Plain, random);
+                (page.open(&texts::book(&formula, random)).unwrap().state, calls, true)
+            }
+            2 => given(draw(Source::GivenStore, seed, index)),
+            _ => given(draw(Source::Malformed, seed, index)),
+        };
+        let mut solver = reading::read(&raw).map(|state| Solver::new(state, Options::paper()));
+        let mut number = random.pick(&[0, 1, 5, 250, 4_294_967_295, u64::MAX - 100]);
+        for call in calls {
+            let mut line = texts::line(&narrowed(call));
+            if small && random.one_in(2) {
+                texts::spoil(&mut line, random);
+            }
+            number += 1;
+            let answer = hold_line(&mut raw, &mut solver, &line, number, page);
+            *said.entry(kind(answer)).or_default() += 1;
+        }
+    });
+    println!("{said:?}");
+    assert!(["1", "3", "5", "6", "7", "8", "21", "22"].iter().all(|n| said.contains_key(*n)));
+}
+
+fn given(input: native::input::Input) -> (Box<Raw>, Vec<Call>, bool) {
+    (input.case.raw, input.case.calls, false)
+}
+
+/// A card's table in a line has up to 65,536 bytes.
+fn narrowed(call: Call) -> Call {
+    match call {
+        Call::Card(length) => Call::Card(length.min(65_536)),
+        call => call,
+    }
+}
+
+fn kind(said: Said) -> String {
+    match said {
+        Said::Refused(number) => number.to_string(),
+        Said::Lines(_) => "lines".into(),
+        said => format!("{said:?}"),
+    }
+}
+
+/// In a page that is too short nothing is done.
+#[test]
+fn short_pages() {
+    let case = draw(Source::Opened, seed(), 3).case;
+    let book = b"(book 1)\n(flags 1)\n(rule 1)\n(end)\n";
+    for length in [0, 1, 15, 1_000, room() - 1] {
+        let mut page = Page::new(length);
+        assert!(page.print(book).unwrap().is_empty());
+        let opened = page.open(book).unwrap();
+        assert!(opened.text.is_empty());
+        assert_eq!(reading::read_well_formed(&opened.state), Some(State::default()));
+        let answered = page.line(&case.raw, b"(forget)", 7).unwrap();
+        assert!(answered.text.is_empty() && answered.state == case.raw);
+    }
+}
