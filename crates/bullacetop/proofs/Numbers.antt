@@ -1,6 +1,6 @@
 -- Answers by their numbers.
 use Prim.Native.Nat.{ℕ}
-use mathlib.Core.Path.{_≡_, refl, sym, ap, subst, _∙_}
+use mathlib.Core.Path.{_≡_, refl, sym, subst, _∙_}
 use mathlib.Core.List.{List, []}
 use Rattle.qbf.specs.Calls.{Call}
 use Rattle.state.specs.declared.State.{State}

@@ -8,17 +8,17 @@ use native.Mathlib.Omega.{arith}
 use lib.Dec.{eqb, ltb}
 use lib.IntN.{ℤ, pos}
 use lib.ListN.{length, getD, drop}
-use Rattle.qbf.specs.Formula.{paper, Quantifier, forall, Prefix, quantifiers, numberOf, placeOf}
+use Rattle.qbf.specs.Formula.{paper, Quantifier, Prefix, quantifiers, numberOf, placeOf}
 use Rattle.qbf.specs.Calls.{given, numbersOk, freeFirst, prefixOk, _orElse_}
 use Rattle.theory.proofs.Basics.{and-both}
 use Rattle.constraint.proofs.Lists.{drop-more, drop-end}
 use Rattle.state.specs.Reading.{quantifierOf, prefixOf}
-use Rattle.state.specs.Declare.{variableFault, withVariable, refusalOf, Sound, Declarable, Declared}
+use Rattle.state.specs.Declare.{variableFault, withVariable, refusalOf, Declarable, Declared}
 use Rattle.state.proofs.SoundPrefix.{sound-free-first}
 use Rattle.rules.specs.Faults.{faultOf}
 use Rattle.layout.specs.Opening.{variable, declareFault}
 use Rattle.layout_laws.proofs.Blocks.{Before, before-more, in-range, prefix-more}
-use Rattle.opening.specs.Blocks.{Growable, Grown, withVariables, variablesFault}
+use Rattle.opening.specs.Blocks.{Growable, Grown, withVariables}
 
 -- ---- one variable
 module _ {ns ls ks : List ℕ} {kind : ℕ} (g : Growable ns ls ks kind) where

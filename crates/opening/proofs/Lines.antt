@@ -3,19 +3,19 @@ use Prim.Native.Nat.{ℕ, suc, _≤_, min}
 use mathlib.Core.Path.{_≡_, refl, sym, ap, subst, _∙_}
 use mathlib.Core.Bool.{true}
 use mathlib.Core.List.{List, [], _∷_, map}
-use mathlib.Core.Option.{Option, none, some}
+use mathlib.Core.Option.{Option}
 use native.Mathlib.Omega.{arith}
 use lib.IntN.{ℤ, pos}
 use lib.ListN.{length, getD, take}
-use Rattle.qbf.specs.Formula.{paper, Quantifier, free, exists, forall, Formula, Literal, numberOf}
+use Rattle.qbf.specs.Formula.{paper, Quantifier, free, exists, forall, Formula, numberOf}
 use Rattle.qbf.specs.Calls.{numbersOk}
 use Rattle.theory.proofs.WellFormed.{numbers-ok}
 use Rattle.tables.specs.Views.{quantifierCode}
 use Rattle.state.specs.declared.State.{State}
 use Rattle.state.specs.Reading.{quantifierOf, prefixIn, formulaIn}
-use Rattle.layout.specs.Forms.{Form, book, block, clause, end}
+use Rattle.layout.specs.Forms.{Form, book, block}
 use Rattle.layout.specs.Opening.{declareFault}
-use Rattle.reader.specs.Items.{narrow, narrowed, Kept}
+use Rattle.reader.specs.Items.{narrow, Kept}
 use Rattle.reader.specs.Lines.{LineRead}
 use Rattle.reader.specs.declared.keyword.Line.the-variants as line
 use Rattle.reader.proofs.Judged.{cut-same, rule-cut, rule-cut-same, block-judged, block-same}

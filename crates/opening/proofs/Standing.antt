@@ -1,6 +1,6 @@
 -- States that stand while a text is read, and a form judged at its stage.
-use Prim.Native.Nat.{ℕ, zero, suc}
-use mathlib.Core.Path.{_≡_, refl, sym, ap, subst, _∙_}
+use Prim.Native.Nat.{ℕ}
+use mathlib.Core.Path.{_≡_, sym, ap, subst, _∙_}
 use mathlib.Core.Bool.{Bool, true, false, not}
 use mathlib.Core.Option.{Option, none, some}
 use native.Mathlib.Omega.{arith}
@@ -16,7 +16,7 @@ use Rattle.layout.specs.Forms.{Form}
 use Rattle.layout.specs.Opening.{rank, allowed, stageAfter, formFault, lineFault, withForm}
 use Rattle.layout_laws.proofs.Opened.{Reached, line-reached, fresh-formed}
 use Rattle.opening.specs.declared.line.Taken.{Taken}
-use Rattle.opening.specs.Opened.{Standing, Advanced, TookForm}
+use Rattle.opening.specs.Opened.{Standing, TookForm}
 
 -- ---- what stands
 module _ {stage : ℕ} {x : State} (s : Standing stage x) where

@@ -1,34 +1,33 @@
 -- The forms of a text's lines, each on the state that stands.
 use Prim.Native.Nat.{ℕ, zero, suc, _≤_, _<_}
 use mathlib.Core.Path.{_≡_, refl, sym, ap, subst, _∙_}
-use mathlib.Core.Bool.{Bool, true, false, cond, not, _&&_, _||_}
-use mathlib.Core.List.{List, [], _∷_, _++_, map}
+use mathlib.Core.Bool.{Bool, true, false, cond, not}
+use mathlib.Core.List.{List, [], _++_, map}
 use mathlib.Core.Option.{Option, none, some}
 use native.Mathlib.Omega.{arith}
 use borrow.Author.Tests.{ne-eqb, not-false}
-use lib.Dec.{eqb, leb, ltb}
+use lib.Dec.{eqb}
 use lib.IntN.{ℤ}
-use lib.ListN.{length}
-use Rattle.qbf.specs.Formula.{Limits, paper, Quantifier, Prefix, quantifiers, Literal, Clause, Formula, all, any, isFree, numberOf, placeOf}
-use Rattle.qbf.specs.Learning.{Store, Constraint, emptyStore}
-use Rattle.qbf.specs.Calls.{rule, answer, ruleReply, given, literalFault, ruleFault, withRule, storeAfterRule, clauseOk, constraintOk, wellFormed, guarded, State as Read, _orElse_}
+use Rattle.qbf.specs.Formula.{paper, Prefix, quantifiers, Literal, all, isFree}
+use Rattle.qbf.specs.Learning.{Store, emptyStore}
+use Rattle.qbf.specs.Calls.{rule, answer, ruleReply, given, ruleFault, withRule, storeAfterRule, clauseOk, constraintOk, wellFormed, guarded, State as Read}
 use Rattle.qbf.specs.Runs.{fresh}
 use Rattle.theory.proofs.Basics.{and-both}
 use Rattle.state.specs.declared.State.{State}
 use Rattle.state.specs.Reading.{quantifierOf, rowsFit, prefixOf, prefixIn, formulaIn, storeIn, stateIn, fits, readState, valid}
-use Rattle.state.specs.Declare.{Sound}
 use Rattle.state.proofs.Valid.{valid-facts}
 use Rattle.state.proofs.SoundPrefix.{valid-sound, sound-valid}
 use Rattle.serving.specs.Serves.{Said, said, saidOf, outOf, nextOf, Serves}
 use Rattle.rules.specs.Faults.{faultOf}
-use Rattle.layout.specs.Forms.{Form, book, block, clause, end}
-use Rattle.layout.specs.Opening.{rank, allowed, stageAfter, variable, declareFault, formFault, withBlock, withForm}
+use Rattle.layout.specs.Forms.{book, block, clause, end}
+use Rattle.layout.specs.Opening.{rank, allowed, stageAfter, variable}
 use Rattle.layout_laws.proofs.Blocks.{Before}
 use Rattle.layout_laws.proofs.Opened.{allowed-is, fresh-formed}
 use Rattle.reader.specs.Items.{narrow}
 use Rattle.opening.specs.Blocks.{blockRank, Growable, Grown}
 use Rattle.opening.specs.declared.line.Taken.{Taken}
 use Rattle.opening.specs.Opened.{Standing, TookForm, BlockTook, RuleTook}
+use Rattle.opening.proofs.Numbered.{rule-numbered, number, numbered-is}
 use Rattle.opening.proofs.Standing.{standing-valid, nothing-stored, fresh-read, misplaced, judged}
 
 abbrev taken : ℕ → ℕ → State → Taken
@@ -123,27 +122,6 @@ module _ {stage : ℕ} {x : State} (s : Standing stage x) (kind : ℕ) {t : Bool
           ))
 
 -- ---- a rule
-number : Option ℕ → ℕ
-number none = 0
-number (some n) = n
-
--- no refusal has the number 0
-numbered-given : (x : Bool) (n : ℕ) (o : Option ℕ) → o ≡ faultOf (number o) → (given x (suc n) orElse o) ≡ faultOf (number (given x (suc n) orElse o))
-unfolding number
-numbered-given true n o h = refl
-numbered-given false n o h = h
-
-literal-numbered : (L : Limits) (D : Prefix) (seen : List ℕ) (ls : List Literal) → literalFault L D seen ls ≡ faultOf (number (literalFault L D seen ls))
-unfolding number
-literal-numbered L D seen [] = refl
-literal-numbered L D seen (l ∷ ls) =
-    numbered-given (eqb (numberOf l) 0 || ltb (L .numbers) (numberOf l)) 2 _
-    (numbered-given (eqb (placeOf D (numberOf l)) 0) 4 _ (numbered-given (any (eqb (numberOf l)) seen) 5 _ (literal-numbered L D (numberOf l ∷ seen) ls)))
-
-rule-numbered : (b : Formula) (ls : List Literal) → ruleFault b ls ≡ faultOf (number (ruleFault b ls))
-rule-numbered b ls =
-    numbered-given (leb (b .limits .clauses) (length (b .clauses))) 19 _ (numbered-given (eqb (length ls) 0 || ltb (b .limits .literals) (length ls)) 6 _ (literal-numbered (b .limits) (b .prefix) [] ls))
-
 pub read-is : (x : State) (y : Read) → readState x ≡ some y → stateIn x ≡ y
 unfolding readState
 read-is x y e = by (fits x) e
@@ -166,7 +144,7 @@ module _ {stage : ℕ} {x : State} (s : Standing stage x) {t : Bool} (a : t ≡ 
 
     fault-is : ruleFault (formulaIn x) lits ≡ faultOf n
     unfolding number
-    fault-is = rule-numbered (formulaIn x) lits ∙ ap faultOf (sym (ap (λ (q : Said). q .refusal) (w .answered) ∙ ap (λ (o : Option Read). saidOf (outOf o (rule lits)) .refusal) (s .read) ∙ ap (λ (u : Bool). saidOf (guarded u (fresh (formulaIn x)) (rule lits) .out) .refusal) formed ∙ refusal-is (ruleFault (formulaIn x) lits)))
+    fault-is = numbered-is (ruleFault (formulaIn x) lits) (rule-numbered (formulaIn x) lits) ∙ ap faultOf (sym (ap (λ (q : Said). q .refusal) (w .answered) ∙ ap (λ (o : Option Read). saidOf (outOf o (rule lits)) .refusal) (s .read) ∙ ap (λ (u : Bool). saidOf (guarded u (fresh (formulaIn x)) (rule lits) .out) .refusal) formed ∙ refusal-is (ruleFault (formulaIn x) lits)))
       where
         refusal-is : (o : Option ℕ) → saidOf (answer (ruleReply o) 0) .refusal ≡ number o
         refusal-is none = refl

@@ -1,13 +1,13 @@
 -- The loop over a text's lines: the lines left, on the state that stands, open what the text opens.
 use Prim.Native.Nat.{ℕ, zero, suc, _+_, _-_, _<_, _≤_, zero-le}
 use mathlib.Core.Path.{_≡_, refl, sym, ap, subst, _∙_}
-use mathlib.Core.Bool.{Bool, true, false, cond}
-use mathlib.Core.List.{List, [], _∷_}
+use mathlib.Core.Bool.{Bool, cond}
+use mathlib.Core.List.{[], _∷_}
 use mathlib.Core.Option.{Option, none, some}
 use native.Mathlib.Omega.{arith}
 use native.Mathlib.Numerals.{add-one}
 use borrow.Author.Tests.{eq-eqb, ne-eqb, le-leb, le-ltb}
-use lib.Dec.{eqb, ltb}
+use lib.Dec.{eqb}
 use lib.ListN.{length, take, drop, drop-of-length-le}
 use Rattle.qbf.specs.Formula.{Formula, paper}
 use Rattle.qbf.specs.Calls.{State as Read}
@@ -17,13 +17,13 @@ use Rattle.state.specs.Reading.{readState, formulaIn, emptyState}
 use Rattle.rules.specs.Faults.{faultOf}
 use Rattle.layout.specs.Words.{Bytes, newline, split}
 use Rattle.layout.specs.Forms.{Form, formOf}
-use Rattle.layout.specs.Opening.{textBytes, rank, stageAfter, lineFault, withForm, Opened, refused, opened, refusedOr, readLine, atEnd, isEnd, readLines, emptyFormula, openText}
+use Rattle.layout.specs.Opening.{textBytes, rank, stageAfter, withForm, Opened, refused, opened, refusedOr, readLine, atEnd, isEnd, readLines, emptyFormula, openText}
 use Rattle.layout_laws.proofs.Opened.{Reached, reached-none}
 use Rattle.reader.specs.Pieces.{piecesFrom, Piece}
-use Rattle.reader.proofs.Texts.{open-long, open-start, open-missing, open-line, open-end}
+use Rattle.reader.proofs.Texts.{open-start, open-missing, open-line, open-end}
 use Rattle.opening.specs.declared.line.Taken.{Taken}
 use Rattle.opening.specs.declared.Opened.{Opened as Answer}
-use Rattle.opening.specs.Opened.{Standing, Advanced, TookForm, Took, OpenedAs}
+use Rattle.opening.specs.Opened.{Standing, Advanced, Took, OpenedAs}
 use Rattle.opening.proofs.Taking.{read-is}
 
 pub record Turn (s : Bytes) (x : State) (stage at number : ℕ) : Type 0 where

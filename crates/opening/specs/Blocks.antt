@@ -8,8 +8,7 @@ use Rattle.tables.specs.Views.{quantifierCode}
 use Rattle.state.specs.Reading.{quantifierOf, prefixOf}
 use Rattle.state.specs.Declare.{Sound}
 use Rattle.rules.specs.Faults.{faultOf}
-use Rattle.layout.specs.Opening.{variable, declareFault, rank}
-use Rattle.layout.specs.Forms.{block}
+use Rattle.layout.specs.Opening.{variable, declareFault}
 use Rattle.layout_laws.proofs.Blocks.{Before}
 
 -- the rank of a block with a quantifier's code

@@ -1,17 +1,15 @@
 -- A call whose literals were narrowed and cut to the lent table is served as the call of the text.
-use Prim.Native.Nat.{ℕ, suc, _<_, _≤_, min}
+use Prim.Native.Nat.{ℕ, suc, min}
 use mathlib.Core.Path.{_≡_, refl, sym, ap, subst, _∙_}
 use mathlib.Core.Bool.{Bool, true, false, cond}
 use mathlib.Core.List.{List, [], map}
 use mathlib.Core.Option.{Option, none, some}
 use native.Mathlib.Omega.{arith}
-use native.Mathlib.Decide.{decLe}
-use lib.Dec.{leb}
 use lib.IntN.{ℤ, pos}
-use lib.ListN.{length, take, length-map, length-take}
+use lib.ListN.{length, take, length-map}
 use lib.Seq.{take-all}
 use Rattle.qbf.specs.Formula.{Limits, paper, Prefix, Literal, Formula}
-use Rattle.qbf.specs.Calls.{Call, rule, query, Reply, done, refused, swap, keep, lines, cardRefused, Answer, answer, given, ruleFault, ruleReply, withRule, storeAfterRule, queryFault, learningQuery, numbersOk, _orElse_, State as Read, Stepped, step, guarded, wellFormed}
+use Rattle.qbf.specs.Calls.{Call, rule, query, Reply, done, refused, swap, keep, lines, cardRefused, Answer, answer, ruleFault, ruleReply, withRule, storeAfterRule, queryFault, learningQuery, numbersOk, State as Read, Stepped, step, guarded, wellFormed}
 use Rattle.qbf.specs.Demands.{refusalOf}
 use Rattle.theory.proofs.WellFormed.{state-facts, numbers-ok}
 use Rattle.layout.specs.Words.{Bytes}
@@ -19,20 +17,10 @@ use Rattle.layout.specs.Session.{doneText, answerText}
 use Rattle.state.specs.declared.State.{State}
 use Rattle.state.specs.Reading.{fits, stateIn, readState}
 use Rattle.serving.specs.Serves.{outOf, nextOf}
-use Rattle.serving.proofs.Calls.{some-none}
 use Rattle.reader.specs.Items.{narrowed, Kept}
-use Rattle.reader.proofs.Judged.{rule-judged, rule-same, rule-long}
+use Rattle.reader.proofs.Judged.{cut-same, rule-cut, rule-cut-same}
 use Rattle.serve.specs.Line.{prefixRead, CallServed}
 use Rattle.serve.proofs.Queries.{query-width, first-decide, query-judged, query-same}
-
--- ---- what stands in a table of so many cells
--- where the count is cut to the table's length, the same stands
-cut-same : (n m : ℕ) (out : List ℤ) → length out ≡ m → take (min n m) out ≡ take n out
-cut-same n m out room = by (decLe n m)
-  where
-    by : Dec (n ≤ m) → take (min n m) out ≡ take n out
-    by (yes h) = ap (λ (k : ℕ). take k out) (let e : min n m ≡ n = omega (arith, h) in e)
-    by (no h) = take-all (min n m) out (omega (arith, h, room)) ∙ sym (take-all n out (omega (arith, h, room)))
 
 -- ---- one step
 module _ (y : Read) where
@@ -69,31 +57,8 @@ module _ (y : Read) where
           by (some n) q = ap (queryStep a) (h e .0 ∙ q) ∙ sym (ap (queryStep c) q)
 
 module _ (y : Read) (is-paper : y .formula .limits ≡ paper) (n : ℕ) (out : List ℤ) (room : length out ≡ suc (paper .numbers)) where
-  -- "7 no literal, or over 16": so many are too many, also where some of them were left out
-  module _ (ls : List Literal) (k : Kept n out ls) where
-    too-long : suc (paper .numbers) < n → ruleFault (y .formula) (take (min n (suc (paper .numbers))) out) ≡ ruleFault (y .formula) ls
-    too-long h =
-        rule-long (y .formula) (take (min n (suc (paper .numbers))) out) (limit (omega (arith, h, room, length-take (min n (suc (paper .numbers))) out)))
-        ∙ sym (rule-long (y .formula) ls (limit (omega (arith, h, k .count))))
-      where
-        limit : {m : ℕ} → paper .literals < m → y .formula .limits .literals < m
-        limit {m} q = subst (λ (L : Limits). L .literals < m) (sym is-paper) q
-
-    refused-long : suc (paper .numbers) < n → ruleFault (y .formula) ls ≡ none → ⊥
-    refused-long h e = by (leb (y .formula .limits .clauses) (length (y .formula .clauses))) (sym e ∙ rule-long (y .formula) ls (subst (λ (L : Limits). L .literals < length ls) (sym is-paper) (omega (arith, h, k .count))))
-      where
-        by : (t : Bool) → none ≡ (given t 20 orElse some 7) → ⊥
-        by true q = some-none q
-        by false q = some-none q
-
-    pub rule-cut : step y (rule (take (min n (suc (paper .numbers))) out)) ≡ step y (rule ls)
-    rule-cut = by (decLe n (suc (paper .numbers)))
-      where
-        by : Dec (n ≤ suc (paper .numbers)) → step y (rule (take (min n (suc (paper .numbers))) out)) ≡ step y (rule ls)
-        by (yes h) =
-            ap (λ (a : List Literal). step y (rule a)) (cut-same n (suc (paper .numbers)) out room)
-            ∙ rule-step y (take n out) ls (rule-judged (y .formula) n out ls is-paper k (omega (arith, h, room))) (rule-same (y .formula) n out ls is-paper k (omega (arith, h, room)))
-        by (no h) = rule-step y (take (min n (suc (paper .numbers))) out) ls (too-long (omega (arith, h))) (λ e. absurd (refused-long (omega (arith, h)) e))
+  pub rule-same-step : (ls : List Literal) → Kept n out ls → step y (rule (take (min n (suc (paper .numbers))) out)) ≡ step y (rule ls)
+  rule-same-step ls k = rule-step y (take (min n (suc (paper .numbers))) out) ls (rule-cut (y .formula) is-paper n out ls room k) (rule-cut-same (y .formula) is-paper n out ls room k)
 
   module _ (ns : List ℕ) (k : Kept n out (map pos ns)) where
     pub query-cut : step y (query (take (min n (suc (paper .numbers))) out)) ≡ step y (query (map pos ns))
@@ -163,7 +128,7 @@ module _ (c c′ : Call) (word : doneText c ≡ doneText c′) (malformed : outO
 module _ (x : State) (n : ℕ) (out : List ℤ) (room : length out ≡ suc (paper .numbers)) (line : ℕ) (t : Bytes) (x′ : State) where
   -- a rule by what stands in the table
   pub rule-served : (ls : List Literal) → Kept n out ls → CallServed x (some (rule (take (min n (suc (paper .numbers))) out))) line t x′ → CallServed x (some (rule ls)) line t x′
-  rule-served ls k s = served-as (rule (take (min n (suc (paper .numbers))) out)) (rule ls) refl refl (λ y p. rule-cut y p n out room ls k) x line t x′ s
+  rule-served ls k s = served-as (rule (take (min n (suc (paper .numbers))) out)) (rule ls) refl refl (λ y p. rule-same-step y p n out room ls k) x line t x′ s
 
   -- a query likewise
   pub query-served : (ns : List ℕ) → Kept n out (map pos ns) → CallServed x (some (query (take (min n (suc (paper .numbers))) out))) line t x′ → CallServed x (some (query (map pos ns))) line t x′

@@ -3,7 +3,7 @@ use borrow.Author.Needs.{needs}
 use Rattle.opening.proofs.ended.Statement.{statement}
 use Rattle.opening.proofs.ended.Tie as tie
 use Prim.Native.Nat.{ℕ}
-use mathlib.Core.Path.{_≡_, refl, sym, ap, subst}
+use mathlib.Core.Path.{refl, sym, subst}
 use mathlib.Core.Bool.{Bool, cond}
 use borrow.Author.Tests.{ne-eqb}
 use lib.Dec.{eqb}

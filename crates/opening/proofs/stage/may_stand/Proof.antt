@@ -1,7 +1,7 @@
 -- `stage::may_stand`: the test of a stage by cases.
 use Rattle.opening.proofs.stage.may_stand.Statement.{statement}
 use Rattle.opening.proofs.stage.may_stand.Tie as tie
-use mathlib.Core.Path.{sym, ap, _∙_}
+use mathlib.Core.Path.{sym, ap}
 use mathlib.Core.Bool.{Bool, cond}
 use borrow.Author.Tests.{lt-ltb, le-ltb}
 use lib.Dec.{eqb, leb}

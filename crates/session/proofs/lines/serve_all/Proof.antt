@@ -3,7 +3,6 @@ use Rattle.session.proofs.lines.serve_all.Statement.{statement}
 use Rattle.session.proofs.lines.serve_all.Tie as tie
 use Prim.Native.Nat.{_≤_}
 use mathlib.Core.Path.{_≡_}
-use native.Mathlib.Omega.{arith}
 use borrow.Author.Needs.{needs}
 use lib.ListN.{length}
 
