@@ -122,8 +122,9 @@ struct bullacetop_answer bullacetop_card(struct bullacetop_state x, uint8_t *tab
 
 #ifdef BULLACETOP_TEXT
 /*
- * Texts. An answer's text is written to `out`, for which the caller has at least bullacetop_room() bytes; what stands in `out` after the
- * told length means nothing.
+ * Books and call lines as text. An answer's text is written to the first bytes of `out`, for which the caller has m bytes, at least
+ * bullacetop_room(); what stands there after the told length means nothing. Where m is less nothing is done: the length is 0, `out` is as
+ * it was, and the state is empty (open) or the one that was given (line).
  */
 struct bullacetop_turn {
     struct bullacetop_state state;
@@ -133,13 +134,16 @@ struct bullacetop_turn {
 /* The bytes that an answer's text may need. */
 size_t bullacetop_room(void);
 
-/* What the program `card` prints for a text of n bytes: how many bytes, written to out. 0 where m is less than the room. */
+/* What the program `card` prints for a text of n bytes; returns its length. */
 size_t bullacetop_print(const uint8_t *text, size_t n, uint8_t *out, size_t m);
 
-/* Opens a text: length 0 and the book's state. Refused: `(refused N L)` in out, and an empty state. */
+/* Opens a text of n bytes: length 0 and the book's state, nothing learned. Refused: the text `(refused N L)` and an empty state. */
 struct bullacetop_turn bullacetop_open(const uint8_t *text, size_t n, uint8_t *out, size_t m);
 
-/* One call of a session: a line of n bytes without its newline, and the line's number for a refusal. The answer's text is in out. */
+/*
+ * One call, as a line of n bytes without its newline: `(rule 1 (no 2))`, `(query 1)`, `(card)`, `(card 64)` for a table of 64 bytes,
+ * `(forget)`. The number is the line's, for the text of a refusal. A line that is no call is refused with 1.
+ */
 struct bullacetop_turn bullacetop_line(struct bullacetop_state x, const uint8_t *line, size_t n, uint64_t number, uint8_t *out, size_t m);
 #endif
 
