@@ -2,8 +2,14 @@
 use Prim.Native.Nat.{ℕ}
 use mathlib.Core.List.{List}
 use Rattle.serving.specs.Serves.{Said, said}
+use Rattle.serve.specs.declared.Turn.{Turn}
 use Rattle.bullacetop.specs.declared.calls.Answer.{Answer}
+use Rattle.bullacetop.specs.declared.text.Spoken.{Spoken}
 
 -- with the bytes of the card table
 abbrev pub answerSaid : Answer → List ℕ → Said
 answerSaid r table = said (r .refusal) (r .verdict) (r .lines) (r .visits) table
+
+-- an exported answer in text
+abbrev pub spokenTurn : Spoken → Turn
+spokenTurn r = record { state = r .state; length = r .length }

@@ -8,3 +8,4 @@ pub mod Keywords
 pub mod Calls
 pub mod Judged
 pub mod Texts
+pub mod Books

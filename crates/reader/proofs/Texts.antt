@@ -13,7 +13,7 @@ use Rattle.layout.specs.Forms.{formOf}
 use Rattle.layout.specs.Opening.{textBytes, rank, stageAfter, readLine, atEnd, isEnd, readLines, emptyFormula, openText, refused, opened}
 use Rattle.reader.specs.Pieces.{piecesFrom, Piece}
 
-split-some : (c : ℕ) (s : Bytes) → (w : Bytes) × (ws : List Bytes) × (split c s ≡ w ∷ ws)
+pub split-some : (c : ℕ) (s : Bytes) → (w : Bytes) × (ws : List Bytes) × (split c s ≡ w ∷ ws)
 unfolding split
 split-some c [] = ([], [], refl)
 split-some c (b ∷ s) = by (eqb b c) (split-some c s)

@@ -3,3 +3,4 @@ pub mod Numbers
 pub mod Items
 pub mod Lines
 pub mod Calls
+pub mod Books

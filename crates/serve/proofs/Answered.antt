@@ -1,22 +1,21 @@
 -- The text of an answer, from what a call's contract says of it in numbers.
-use Prim.Native.Nat.{ℕ, zero, suc, _+_, _*_, _≤_, _<_, _^_}
+use Prim.Native.Nat.{ℕ, zero, suc}
 use native.Mathlib.Omega.{arith}
-use mathlib.Core.Path.{_≡_, refl, sym, ap, subst, _∙_}
-use mathlib.Core.Logic.{_⊎_, inl, inr}
-use mathlib.Core.Bool.{Bool, true, false, cond, _||_}
+use mathlib.Core.Path.{_≡_, refl, ap, _∙_}
+use mathlib.Core.Bool.{Bool, true, false, _||_}
 use mathlib.Core.List.{List, [], _∷_}
 use mathlib.Core.Option.{Option, none, some}
-use lib.ListN.{length, take}
+use lib.ListN.{length}
 use lib.Dec.{eqb, leb, ltb}
-use Rattle.qbf.specs.Formula.{Limits, Prefix, Literal, Formula, Node, quantifiers, numberOf, any, placeOf}
+use Rattle.qbf.specs.Formula.{Limits, Prefix, Literal, Formula, quantifiers, numberOf, any, placeOf}
 use Rattle.qbf.specs.Truth.{Outcome, decided, mixed, outline, bound}
 use Rattle.qbf.specs.Learning.{learningSearch}
-use Rattle.qbf.specs.Calls.{Call, rule, query, card, forget, Reply, done, refused, swap, keep, lines, cardRefused, Answer, answer, given, _orElse_, literalFault, ruleFault, ruleReply, queryFault, startNode, queryReply, learningQuery, State as Read, step, guarded, wellFormed}
+use Rattle.qbf.specs.Calls.{Call, rule, query, forget, Reply, done, refused, swap, keep, lines, cardRefused, Answer, answer, given, _orElse_, literalFault, ruleFault, ruleReply, queryFault, startNode, queryReply, learningQuery, State as Read, guarded, wellFormed}
 use Rattle.layout.specs.Words.{Bytes}
 use Rattle.layout.specs.Session.{doneText, answerText}
 use Rattle.state.specs.declared.State.{State}
 use Rattle.state.specs.Reading.{readState}
-use Rattle.serving.specs.Serves.{Said, saidReply, saidOf, outOf, nextOf, Serves}
+use Rattle.serving.specs.Serves.{Said, saidReply, saidOf, outOf, Serves}
 use Rattle.rules.specs.Rules.{changeSaid}
 use Rattle.rules.specs.declared.Change.{Change}
 use Rattle.answers.specs.Answers.{rulingSaid}
@@ -36,12 +35,12 @@ Changing keep = ⊥
 Changing (lines ls tb) = ⊥
 Changing (cardRefused n tb) = ⊥
 
-abbrev Numbered : Option ℕ → Type 0
+abbrev pub Numbered : Option ℕ → Type 0
 Numbered none = Unit {0}
 Numbered (some zero) = ⊥
 Numbered (some (suc n)) = Unit {0}
 
-numbered-given : (t : Bool) (n : ℕ) (o : Option ℕ) → Numbered o → Numbered (given t (suc n) orElse o)
+pub numbered-given : (t : Bool) (n : ℕ) (o : Option ℕ) → Numbered o → Numbered (given t (suc n) orElse o)
 numbered-given true n o h = tt
 numbered-given false n o h = h
 
@@ -51,7 +50,7 @@ numbered-literals L D seen (l ∷ ls) =
     numbered-given (eqb (numberOf l) 0 || ltb (L .numbers) (numberOf l)) 2 _
     (numbered-given (eqb (placeOf D (numberOf l)) 0) 4 _ (numbered-given (any (eqb (numberOf l)) seen) 5 _ (numbered-literals L D (numberOf l ∷ seen) ls)))
 
-rule-numbered : (b : Formula) (ls : List Literal) → Numbered (ruleFault b ls)
+pub rule-numbered : (b : Formula) (ls : List Literal) → Numbered (ruleFault b ls)
 rule-numbered b ls =
     numbered-given (leb (b .limits .clauses) (length (b .clauses))) 19 _
     (numbered-given (eqb (length ls) 0 || ltb (b .limits .literals) (length ls)) 6 _ (numbered-literals (b .limits) (b .prefix) [] ls))

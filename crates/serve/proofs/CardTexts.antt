@@ -8,12 +8,12 @@ use mathlib.Core.Bool.{Bool, true, false, cond}
 use mathlib.Core.List.{List, []}
 use mathlib.Core.Option.{Option, none, some}
 use borrow.Author.Tests.{leb-true, ne-eqb}
-use lib.ListN.{length, getD}
-use lib.Dec.{leb, eqb}
-use Rattle.qbf.specs.Formula.{paper, Prefix, Node}
+use lib.ListN.{length}
+use lib.Dec.{leb}
+use Rattle.qbf.specs.Formula.{paper, Prefix}
 use Rattle.qbf.specs.Truth.{freeVariables}
 use Rattle.qbf.specs.Card.{tableOf, zeroTable}
-use Rattle.qbf.specs.Calls.{Call, card, Reply, done, refused, swap, keep, lines, cardRefused, Answer, answer, guarded, numbersOk, State as Read, wellFormed}
+use Rattle.qbf.specs.Calls.{Call, card, Reply, lines, cardRefused, Answer, guarded, numbersOk, State as Read, wellFormed}
 use Rattle.theory.proofs.WellFormed.{state-facts, numbers-ok}
 use Rattle.layout.specs.Words.{Bytes}
 use Rattle.layout.specs.Output.{refusalText, overflowText, cardText}
@@ -44,13 +44,13 @@ other-text n line visits h = ap (λ (t : Bool). cond t (overflowText n line visi
 
 -- a card's answer is a refusal with a number, or lines
 module _ (size : ℕ) where
-  abbrev Listed : Read → Reply → Type 0
+  abbrev pub Listed : Read → Reply → Type 0
   Listed y r = (r ≡ lines (cardLines y) (tableOf (freeVariables (y .formula .prefix)) size (cardLines y))) × (length (cardLines y) * freeVariables (y .formula .prefix) ≤ size)
 
-  abbrev Refused : Reply → Type 0
+  abbrev pub Refused : Reply → Type 0
   Refused r = (n : ℕ) × (tb : List ℕ) × (r ≡ cardRefused (suc n) tb)
 
-  formed-cases : (y : Read) → Refused (guarded true y (card size) .out .reply) ⊎ Listed y (guarded true y (card size) .out .reply)
+  pub formed-cases : (y : Read) → Refused (guarded true y (card size) .out .reply) ⊎ Listed y (guarded true y (card size) .out .reply)
   formed-cases y = by (leb (length (cardLines y) * freeVariables (y .formula .prefix)) size) refl
     where
       by : (t : Bool) → leb (length (cardLines y) * freeVariables (y .formula .prefix)) size ≡ t → Refused (guarded true y (card size) .out .reply) ⊎ Listed y (guarded true y (card size) .out .reply)
@@ -70,10 +70,10 @@ module _ (size : ℕ) where
           go (inr l) = inr (y, refl, e, l)
 
 -- ---- an answer in numbers and its text
-said-by : (a : Answer) (r : Reply) → a .reply ≡ r → saidOf a ≡ saidReply r (a .visits)
+pub said-by : (a : Answer) (r : Reply) → a .reply ≡ r → saidOf a ≡ saidReply r (a .visits)
 said-by a r e = ap (λ (q : Reply). saidReply q (a .visits)) e
 
-text-by : (D : Prefix) (c : Call) (line : ℕ) (a : Answer) (r : Reply) → a .reply ≡ r → answerText D c line a ≡ replyPrinted D c line r (a .visits)
+pub text-by : (D : Prefix) (c : Call) (line : ℕ) (a : Answer) (r : Reply) → a .reply ≡ r → answerText D c line a ≡ replyPrinted D c line r (a .visits)
 unfolding answerText
 text-by D c line a r e = ap (λ (q : Reply). replyPrinted D c line q (a .visits)) e
 

@@ -2,7 +2,7 @@
 use Prim.Native.Nat.{ℕ, suc, _<_, _≤_, min}
 use mathlib.Core.Path.{_≡_, refl, sym, ap, subst, _∙_}
 use mathlib.Core.Bool.{Bool, true, false, cond}
-use mathlib.Core.List.{List, [], _∷_, map}
+use mathlib.Core.List.{List, [], map}
 use mathlib.Core.Option.{Option, none, some}
 use native.Mathlib.Omega.{arith}
 use native.Mathlib.Decide.{decLe}
@@ -11,7 +11,7 @@ use lib.IntN.{ℤ, pos}
 use lib.ListN.{length, take, length-map, length-take}
 use lib.Seq.{take-all}
 use Rattle.qbf.specs.Formula.{Limits, paper, Prefix, Literal, Formula}
-use Rattle.qbf.specs.Calls.{Call, rule, query, Reply, done, refused, swap, keep, lines, cardRefused, Answer, answer, given, ruleFault, ruleReply, withRule, storeAfterRule, queryFault, learningQuery, numbersOk, _orElse_, State as Read, Called, Stepped, step, guarded, wellFormed}
+use Rattle.qbf.specs.Calls.{Call, rule, query, Reply, done, refused, swap, keep, lines, cardRefused, Answer, answer, given, ruleFault, ruleReply, withRule, storeAfterRule, queryFault, learningQuery, numbersOk, _orElse_, State as Read, Stepped, step, guarded, wellFormed}
 use Rattle.qbf.specs.Demands.{refusalOf}
 use Rattle.theory.proofs.WellFormed.{state-facts, numbers-ok}
 use Rattle.layout.specs.Words.{Bytes}

@@ -6,3 +6,4 @@ pub mod Session
 pub mod Room
 pub mod CardTexts
 pub mod Called
+pub mod Books

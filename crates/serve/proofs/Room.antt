@@ -1,7 +1,7 @@
 -- Every answer that is no card is short, whatever numbers of 64 bits stand in it; and what stands at the start of the lent table.
-use Prim.Native.Nat.{ℕ, zero, suc, _+_, _≤_, _<_, _^_}
+use Prim.Native.Nat.{ℕ, zero, suc, _≤_, _<_, _^_}
 use native.Mathlib.Omega.{arith}
-use mathlib.Core.Path.{_≡_, refl, sym, ap, subst, _∙_}
+use mathlib.Core.Path.{_≡_, refl, ap, subst}
 use mathlib.Core.Bool.{Bool}
 use mathlib.Core.Option.{Option, some}
 use lib.ListN.{length, take, length-take}
@@ -43,9 +43,12 @@ pub wrote-as : {d₀ d t u : Bytes} {at r : ℕ} → t ≡ u → Wrote d₀ at t
 wrote-as {d₀} {d} {t} {u} {at} {r} e w = subst (λ (v : Bytes). Wrote d₀ at v d r) e w
 
 -- ---- the answer that was written from the start of the table on
+pub within : {d₀ d t : Bytes} {r : ℕ} → Wrote d₀ 0 t d r → r ≤ length d
+within {d₀} {d} {t} {r} w = omega (arith, w .next, ap length (w .is), length-take r d)
+
 pub turned : {d₀ d t : Bytes} {r : ℕ} (x : State) (c : Option Call) (n : ℕ) (x′ : State) → Wrote d₀ 0 t d r → ((u : Bytes) → u ≡ t → CallServed x c n u x′)
     → Turned x c n (record { state = x′; length = r }) d
-turned {d₀} {d} {t} {r} x c n x′ w s = record { within = omega (arith, w .next, ap length (w .is), length-take r d); served = s (take r d) (w .is) }
+turned {d₀} {d} {t} {r} x c n x′ w s = record { within = within w; served = s (take r d) (w .is) }
 
 -- a card in a part of a table
 pub card-sized : {x : State} {line : ℕ} {r : Turn} {d : Bytes} (m size : ℕ) → m ≡ size → Turned x (some (card m)) line r d → Turned x (some (card size)) line r d

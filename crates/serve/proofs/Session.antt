@@ -8,7 +8,7 @@ use Rattle.layout.specs.Words.{Bytes}
 use Rattle.layout.specs.Session.{callOf, turnOf, serveLines}
 use Rattle.state.specs.declared.State.{State}
 use Rattle.state.specs.Reading.{readState}
-use Rattle.serve.specs.Line.{lineAnswer, lineNext, LineServed, ServedLines, joined}
+use Rattle.serve.specs.Line.{lineAnswer, lineNext, ServedLines, joined}
 
 -- on a state that reads, what is owed is the definition's turn
 text-is : (y : Read) (n : ℕ) (c : Option Call) → lineAnswer (some y) n c ≡ turnOf y n c .text

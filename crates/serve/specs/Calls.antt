@@ -1,5 +1,5 @@
 -- A card that was read from a line asks for no more bytes than the table has.
-use Prim.Native.Nat.{ℕ, _≤_}
+use Prim.Native.Nat.{_≤_}
 use Rattle.layout.specs.Program.{tableBytes}
 use Rattle.reader.specs.declared.call.CallLine.{CallLine}
 use Rattle.reader.specs.declared.call.CallLine.the-variants.{Rule, Query, Card, Forget, NotCall}

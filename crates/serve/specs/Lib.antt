@@ -1,3 +1,4 @@
 pub mod Line
 pub mod Texts
 pub mod Calls
+pub mod Books

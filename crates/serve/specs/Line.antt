@@ -45,8 +45,8 @@ abbrev pub LineServed : State → Bytes → ℕ → Bytes → State → Type 0
 LineServed x l n t x′ = CallServed x (callOf l) n t x′
 
 -- ---- the lent table
--- The longest answer: a card of 65,536 lines of one variable each, or fewer longer ones. A line has at most 8 bytes for each of its
--- places, and 7 more; what is not a line has at most 45.
+-- No answer is longer. All lines of a card together have no more places than its table has bytes, and there are no more lines than
+-- that; a line has at most 8 bytes for each of its places and 7 more, what is no line at most 45.
 abbrev pub answerBytes : ℕ
 answerBytes = 15 * tableBytes + 45
 

@@ -20,7 +20,7 @@ ghost use Rattle.writer.specs.Wrote.{Wrote};
 ghost use Rattle.serve.specs.Line.{lineAnswer, answerBytes, Turned};
 
 // The refusal's number, 0 where there is none.
-fn refusal_of(p: Printed) -> u16
+pub fn refusal_of(p: Printed) -> u16
     ensures { λ r. ⌜ r ≡ cardSaid p 0 [] .refusal ⌝ }
 {
     match p {
@@ -30,7 +30,7 @@ fn refusal_of(p: Printed) -> u16
 }
 
 // How many lines there are.
-fn lines_of(p: Printed) -> usize
+pub fn lines_of(p: Printed) -> usize
     ensures { λ r. ⌜ r ≡ cardSaid p 0 [] .lines ⌝ }
 {
     match p {
@@ -51,7 +51,7 @@ fn put_card_refusal(out: &mut [u8], refusal: u16, visits: u64, line: u64) -> usi
 }
 
 // The card whose lines stand in the table.
-fn put_shown(out: &mut [u8], x: State, table: &[u8], lines: usize, visits: u64) -> usize
+pub fn put_shown(out: &mut [u8], x: State, table: &[u8], lines: usize, visits: u64) -> usize
     requires { ⌜ length (now table) ≤ tableBytes ⌝ }
     requires { ⌜ said 0 0 lines visits (now table) ≡ saidOf (outOf (readState x) (card (length (now table)))) ⌝ }
     requires { ⌜ answerBytes ≤ length (now out) ⌝ }

@@ -4,14 +4,15 @@ use reader::call::read_call;
 use state::State;
 ghost use Rattle.serve.specs.Line.{ServesLine};
 
+pub mod book;
 mod call;
 mod card;
 mod change; // rule, forget
 mod query;
 mod refusal;
 
-// The longest answer: a card whose lines fill its table. A line has up to 8 bytes for each of its places and 7 more, what is no line
-// up to 45.
+// No answer is longer: all lines of a card together have no more places than its table has bytes. A line has up to 8 bytes for each of
+// its places and 7 more, what is no line up to 45.
 pub const ANSWER: usize = 15 * reader::call::TABLE + 45;
 
 // The answer stands in the first bytes of the lent table.

@@ -1,10 +1,6 @@
 use borrow.Author.Needs.{needs}
 use Rattle.serve.proofs.serve_line.Statement.{statement}
 use Rattle.serve.proofs.serve_line.Tie as tie
-use Rattle.serve.proofs.serve_line.Reads as reads
-use Rattle.serve.proofs.serve_line.Lts as lts
-use Rattle.reader.proofs.call.read_call.Reads as read-call-reads
-use Rattle.serve.proofs.call.serve_call.Reads as serve-call-reads
 use native.Mathlib.Omega.{arith}
 use denote.Ref.{now}
 use Rattle.layout.specs.Session.{callOf}

@@ -1,11 +1,7 @@
+-- `bullacetop::calls::bullacetop_card` meets its contract.
 use borrow.Author.Needs.{needs}
 use Rattle.bullacetop.proofs.calls.bullacetop_card.Statement.{statement}
 use Rattle.bullacetop.proofs.calls.bullacetop_card.Tie as tie
-use Rattle.bullacetop.proofs.calls.bullacetop_card.Reads as reads
-use Rattle.bullacetop.proofs.calls.bullacetop_card.Lts as lts
-use Rattle.answers.proofs.card.Reads as card-reads
-use Rattle.bullacetop.proofs.calls.card_refusal.Reads as card-refusal-reads
-use Rattle.bullacetop.proofs.calls.lines_of.Reads as lines-of-reads
 use mathlib.Core.Path.{refl}
 use denote.Ref.{now}
 use lib.ListN.{length}

@@ -1,10 +1,7 @@
+-- `bullacetop::calls::bullacetop_forget` meets its contract.
 use borrow.Author.Needs.{needs}
 use Rattle.bullacetop.proofs.calls.bullacetop_forget.Statement.{statement}
 use Rattle.bullacetop.proofs.calls.bullacetop_forget.Tie as tie
-use Rattle.bullacetop.proofs.calls.bullacetop_forget.Reads as reads
-use Rattle.bullacetop.proofs.calls.bullacetop_forget.Lts as lts
-use Rattle.bullacetop.proofs.calls.changed.Reads as changed-reads
-use Rattle.rules.proofs.forget.Reads as forget-reads
 use Rattle.qbf.specs.Calls.{forget}
 use Rattle.bullacetop.proofs.Numbers.{serves-as}
 

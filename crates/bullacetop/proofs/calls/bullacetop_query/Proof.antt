@@ -1,11 +1,7 @@
+-- `bullacetop::calls::bullacetop_query` meets its contract.
 use borrow.Author.Needs.{needs}
 use Rattle.bullacetop.proofs.calls.bullacetop_query.Statement.{statement}
 use Rattle.bullacetop.proofs.calls.bullacetop_query.Tie as tie
-use Rattle.bullacetop.proofs.calls.bullacetop_query.Reads as reads
-use Rattle.bullacetop.proofs.calls.bullacetop_query.Lts as lts
-use Rattle.answers.proofs.query.Reads as query-reads
-use Rattle.bullacetop.proofs.calls.ruling_refusal.Reads as ruling-refusal-reads
-use Rattle.bullacetop.proofs.calls.verdict_of.Reads as verdict-of-reads
 use mathlib.Core.Path.{refl}
 use denote.Ref.{now}
 use Rattle.qbf.specs.Calls.{query}

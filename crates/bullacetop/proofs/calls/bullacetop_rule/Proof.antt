@@ -1,10 +1,7 @@
+-- `bullacetop::calls::bullacetop_rule` meets its contract.
 use borrow.Author.Needs.{needs}
 use Rattle.bullacetop.proofs.calls.bullacetop_rule.Statement.{statement}
 use Rattle.bullacetop.proofs.calls.bullacetop_rule.Tie as tie
-use Rattle.bullacetop.proofs.calls.bullacetop_rule.Reads as reads
-use Rattle.bullacetop.proofs.calls.bullacetop_rule.Lts as lts
-use Rattle.bullacetop.proofs.calls.changed.Reads as changed-reads
-use Rattle.rules.proofs.rule.Reads as rule-reads
 use denote.Ref.{now}
 use Rattle.qbf.specs.Calls.{rule}
 use Rattle.bullacetop.proofs.Numbers.{serves-as}

@@ -1,9 +1,7 @@
+-- `bullacetop::calls::changed` meets its contract.
 use borrow.Author.Needs.{needs}
 use Rattle.bullacetop.proofs.calls.changed.Statement.{statement}
 use Rattle.bullacetop.proofs.calls.changed.Tie as tie
-use Rattle.bullacetop.proofs.calls.changed.Reads as reads
-use Rattle.bullacetop.proofs.calls.changed.Lts as lts
-use Rattle.bullacetop.proofs.calls.change_refusal.Reads as change-refusal-reads
 use mathlib.Core.Path.{refl, sym}
 
 change-refusal-requires : tie.Need-change-refusal-requires

@@ -2,9 +2,6 @@
 use borrow.Author.Needs.{needs}
 use Rattle.reader.proofs.text.line_end.Statement.{statement}
 use Rattle.reader.proofs.text.line_end.Tie as tie
-use Rattle.reader.proofs.text.line_end.Reads as reads
-use Rattle.reader.proofs.text.line_end.Lts as lts
-use Rattle.reader.proofs.word.find.Reads as find-reads
 use native.Mathlib.Omega.{arith}
 
 returns : tie.Need-returns

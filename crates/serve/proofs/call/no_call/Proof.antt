@@ -1,9 +1,6 @@
 use borrow.Author.Needs.{needs}
 use Rattle.serve.proofs.call.no_call.Statement.{statement}
 use Rattle.serve.proofs.call.no_call.Tie as tie
-use Rattle.serve.proofs.call.no_call.Reads as reads
-use Rattle.serve.proofs.call.no_call.Lts as lts
-use Rattle.serve.proofs.refusal.refuse.Reads as refuse-reads
 use mathlib.Core.Option.{none}
 use Rattle.serve.proofs.Room.{turned}
 use Rattle.serve.proofs.Called.{none-served}

@@ -1,10 +1,6 @@
 use borrow.Author.Needs.{needs}
 use Rattle.serve.proofs.call.query_of.Statement.{statement}
 use Rattle.serve.proofs.call.query_of.Tie as tie
-use Rattle.serve.proofs.call.query_of.Reads as reads
-use Rattle.serve.proofs.call.query_of.Lts as lts
-use Rattle.serve.proofs.call.kept.Reads as kept-reads
-use Rattle.serve.proofs.query.serve_query.Reads as serve-query-reads
 use native.Mathlib.Omega.{arith}
 use denote.Ref.{now}
 use lib.ListN.{length-take}

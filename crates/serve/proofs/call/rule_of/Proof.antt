@@ -1,10 +1,6 @@
 use borrow.Author.Needs.{needs}
 use Rattle.serve.proofs.call.rule_of.Statement.{statement}
 use Rattle.serve.proofs.call.rule_of.Tie as tie
-use Rattle.serve.proofs.call.rule_of.Reads as reads
-use Rattle.serve.proofs.call.rule_of.Lts as lts
-use Rattle.serve.proofs.call.kept.Reads as kept-reads
-use Rattle.serve.proofs.change.serve_rule.Reads as serve-rule-reads
 use native.Mathlib.Omega.{arith}
 use denote.Ref.{now}
 use lib.ListN.{length-take}

@@ -1,13 +1,6 @@
 use borrow.Author.Needs.{needs}
 use Rattle.serve.proofs.call.serve_call.Statement.{statement}
 use Rattle.serve.proofs.call.serve_call.Tie as tie
-use Rattle.serve.proofs.call.serve_call.Reads as reads
-use Rattle.serve.proofs.call.serve_call.Lts as lts
-use Rattle.serve.proofs.call.no_call.Reads as no-call-reads
-use Rattle.serve.proofs.call.query_of.Reads as query-of-reads
-use Rattle.serve.proofs.call.rule_of.Reads as rule-of-reads
-use Rattle.serve.proofs.card.serve_card.Reads as serve-card-reads
-use Rattle.serve.proofs.change.serve_forget.Reads as serve-forget-reads
 use native.Mathlib.Omega.{arith}
 use mathlib.Core.Path.{subst}
 use denote.Ref.{now}

@@ -1,10 +1,6 @@
 use borrow.Author.Needs.{needs}
 use Rattle.serve.proofs.card.put_card_refusal.Statement.{statement}
 use Rattle.serve.proofs.card.put_card_refusal.Tie as tie
-use Rattle.serve.proofs.card.put_card_refusal.Reads as reads
-use Rattle.serve.proofs.card.put_card_refusal.Lts as lts
-use Rattle.serve.proofs.refusal.refuse.Reads as refuse-reads
-use Rattle.writer.proofs.answer.put_overflow.Reads as put-overflow-reads
 use native.Mathlib.Omega.{arith}
 use Rattle.serve.proofs.Room.{overflow-room, wrote-as}
 use Rattle.serve.proofs.CardTexts.{overflow-text, other-text}

@@ -1,14 +1,10 @@
 use borrow.Author.Needs.{needs}
 use Rattle.serve.proofs.card.put_shown.Statement.{statement}
 use Rattle.serve.proofs.card.put_shown.Tie as tie
-use Rattle.serve.proofs.card.put_shown.Reads as reads
-use Rattle.serve.proofs.card.put_shown.Lts as lts
-use Rattle.state.proofs.kinds.free_count.Reads as free-count-reads
-use Rattle.writer.proofs.card.put_card.Reads as put-card-reads
 use native.Mathlib.Omega.{arith}
 use denote.Ref.{now}
 use Rattle.serve.proofs.Room.{wrote-as}
-use Rattle.serve.proofs.CardTexts.{CardWritten, card-written}
+use Rattle.serve.proofs.CardTexts.{card-written}
 
 free-count-requires : tie.Need-free-count-requires
 free-count-requires c κs = search needs

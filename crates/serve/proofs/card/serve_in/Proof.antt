@@ -1,13 +1,6 @@
 use borrow.Author.Needs.{needs}
 use Rattle.serve.proofs.card.serve_in.Statement.{statement}
 use Rattle.serve.proofs.card.serve_in.Tie as tie
-use Rattle.serve.proofs.card.serve_in.Reads as reads
-use Rattle.serve.proofs.card.serve_in.Lts as lts
-use Rattle.answers.proofs.card.Reads as card-reads
-use Rattle.serve.proofs.card.lines_of.Reads as lines-of-reads
-use Rattle.serve.proofs.card.put_card_refusal.Reads as put-card-refusal-reads
-use Rattle.serve.proofs.card.put_shown.Reads as put-shown-reads
-use Rattle.serve.proofs.card.refusal_of.Reads as refusal-of-reads
 use native.Mathlib.Omega.{arith}
 use mathlib.Core.Path.{_≡_, _∙_, ap}
 use mathlib.Core.Option.{some}

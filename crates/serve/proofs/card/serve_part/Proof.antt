@@ -1,9 +1,6 @@
 use borrow.Author.Needs.{needs}
 use Rattle.serve.proofs.card.serve_part.Statement.{statement}
 use Rattle.serve.proofs.card.serve_part.Tie as tie
-use Rattle.serve.proofs.card.serve_part.Reads as reads
-use Rattle.serve.proofs.card.serve_part.Lts as lts
-use Rattle.serve.proofs.card.serve_in.Reads as serve-in-reads
 use native.Mathlib.Omega.{arith}
 use denote.Ref.{now}
 use lib.ListN.{length, take, length-take}

@@ -1,10 +1,6 @@
 use borrow.Author.Needs.{needs}
 use Rattle.serve.proofs.change.put_change.Statement.{statement}
 use Rattle.serve.proofs.change.put_change.Tie as tie
-use Rattle.serve.proofs.change.put_change.Reads as reads
-use Rattle.serve.proofs.change.put_change.Lts as lts
-use Rattle.serve.proofs.refusal.refuse.Reads as refuse-reads
-use Rattle.writer.proofs.bytes.put_word.Reads as put-word-reads
 use denote.Ref.{now}
 use Rattle.serve.proofs.Room.{change-done, change-refused, wrote-as}
 

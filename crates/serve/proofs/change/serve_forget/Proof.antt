@@ -1,11 +1,6 @@
 use borrow.Author.Needs.{needs}
 use Rattle.serve.proofs.change.serve_forget.Statement.{statement}
 use Rattle.serve.proofs.change.serve_forget.Tie as tie
-use Rattle.serve.proofs.change.serve_forget.Reads as reads
-use Rattle.serve.proofs.change.serve_forget.Lts as lts
-use Rattle.rules.proofs.forget.Reads as forget-reads
-use Rattle.serve.proofs.change.put_change.Reads as put-change-reads
-use Rattle.serve.proofs.change.refusal_of.Reads as refusal-of-reads
 use mathlib.Core.Path.{_∙_, ap}
 use mathlib.Core.Option.{some}
 use Rattle.qbf.specs.Calls.{forget}

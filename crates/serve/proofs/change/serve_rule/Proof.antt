@@ -1,11 +1,6 @@
 use borrow.Author.Needs.{needs}
 use Rattle.serve.proofs.change.serve_rule.Statement.{statement}
 use Rattle.serve.proofs.change.serve_rule.Tie as tie
-use Rattle.serve.proofs.change.serve_rule.Reads as reads
-use Rattle.serve.proofs.change.serve_rule.Lts as lts
-use Rattle.rules.proofs.rule.Reads as rule-reads
-use Rattle.serve.proofs.change.put_change.Reads as put-change-reads
-use Rattle.serve.proofs.change.refusal_of.Reads as refusal-of-reads
 use mathlib.Core.Path.{_∙_, ap}
 use mathlib.Core.Option.{some}
 use denote.Ref.{now}

@@ -1,10 +1,6 @@
 use borrow.Author.Needs.{needs}
 use Rattle.serve.proofs.query.put_ruling.Statement.{statement}
 use Rattle.serve.proofs.query.put_ruling.Tie as tie
-use Rattle.serve.proofs.query.put_ruling.Reads as reads
-use Rattle.serve.proofs.query.put_ruling.Lts as lts
-use Rattle.serve.proofs.refusal.refuse.Reads as refuse-reads
-use Rattle.writer.proofs.answer.put_query.Reads as put-query-reads
 use native.Mathlib.Omega.{arith}
 use mathlib.Core.Path.{sym, ap}
 use mathlib.Core.Bool.{true, false}

@@ -1,10 +1,6 @@
 use borrow.Author.Needs.{needs}
 use Rattle.serve.proofs.query.serve_query.Statement.{statement}
 use Rattle.serve.proofs.query.serve_query.Tie as tie
-use Rattle.serve.proofs.query.serve_query.Reads as reads
-use Rattle.serve.proofs.query.serve_query.Lts as lts
-use Rattle.answers.proofs.query.Reads as query-reads
-use Rattle.serve.proofs.query.put_ruling.Reads as put-ruling-reads
 use mathlib.Core.Option.{some}
 use denote.Ref.{now}
 use Rattle.qbf.specs.Calls.{query}

@@ -1,9 +1,6 @@
 use borrow.Author.Needs.{needs}
 use Rattle.serve.proofs.refusal.refuse.Statement.{statement}
 use Rattle.serve.proofs.refusal.refuse.Tie as tie
-use Rattle.serve.proofs.refusal.refuse.Reads as reads
-use Rattle.serve.proofs.refusal.refuse.Lts as lts
-use Rattle.writer.proofs.answer.put_refusal.Reads as put-refusal-reads
 use native.Mathlib.Omega.{arith}
 use Rattle.serve.proofs.Room.{refusal-room}
 

@@ -1,0 +1,78 @@
+use borrow.Author.Needs.{needs}
+use Rattle.serve.proofs.book.print_in.Statement.{statement}
+use Rattle.serve.proofs.book.print_in.Tie as tie
+use Rattle.serve.proofs.book.print_in.Reads as reads
+use Rattle.serve.proofs.book.print_in.Lts as lts
+use Rattle.answers.proofs.card.Reads as card-reads
+use Rattle.serve.proofs.card.lines_of.Reads as lines-of-reads
+use Rattle.serve.proofs.card.put_shown.Reads as put-shown-reads
+use Rattle.serve.proofs.card.refusal_of.Reads as refusal-of-reads
+use Rattle.serve.proofs.refusal.refuse.Reads as refuse-reads
+use native.Mathlib.Omega.{arith}
+use mathlib.Core.Path.{_≡_, _∙_, ap}
+use mathlib.Core.Option.{some}
+use denote.Ref.{now}
+use lib.ListN.{length}
+use Rattle.qbf.specs.Calls.{card}
+use Rattle.state.specs.Reading.{readState}
+use Rattle.serve.specs.Line.{lineAnswer}
+use Rattle.serve.proofs.Room.{wrote-as}
+use Rattle.serve.proofs.CardTexts.{shown-said}
+use Rattle.serve.proofs.Books.{refused-printed, shown-printed}
+
+card-requires : tie.Need-card-requires
+card-requires c κs = search needs
+
+refusal-of-requires : tie.Need-refusal-of-requires
+refusal-of-requires c κs = search needs
+
+refuse-requires : tie.Need-refuse-requires
+refuse-requires c κs = search needs
+
+same-length : tie.Need-same-length
+same-length c = search needs
+
+same-length-2 : tie.Need-same-length-2
+same-length-2 c = search needs
+
+returns : tie.Need-returns
+returns c = λ b e ok. wrote-as {d = c .before .before .refuse .last .0} {r = c .before .before .refuse .result} (refused-printed (c .before .before .before .before .before .before .before .before .before .before .before .before .args .x) (length (now (c .before .before .before .before .before .before .before .before .before .before .before .before .args .table))) (c .before .before .before .before .before .before .before .before .card .result .printed) (c .before .before .before .before .before .before .before .before .card .result .visits) (c .before .before .before .before .before .before .before .before .card .last .1 .0) (c .before .before .before .before .before .before .before .before .card .result .state) (c .before .before .before .before .before .before .before .before .card .ensures) (c .before .before .before .before .before .refusal-of .result) (c .before .before .before .before .before .refusal-of .ensures) b e ok (c .before .before .before .before .if1 .taken)) (c .before .before .refuse .ensures)
+
+lines-of-requires : tie.Need-lines-of-requires
+lines-of-requires c κs = search needs
+
+put-shown-requires : tie.Need-put-shown-requires
+put-shown-requires c κs = (
+  (let q : length (c .before .before .before .before .before .before .before .card .last .1 .0) ≡ length (now (c .before .before .before .before .before .before .before .before .before .before .before .args .table)) = search needs in omega (arith, q, c .before .before .before .before .before .before .before .before .before .before .before .pre .0)),
+  (
+    shown-said (c .before .before .before .before .before .before .before .before .before .before .before .args .x) (length (now (c .before .before .before .before .before .before .before .before .before .before .before .args .table))) (c .before .before .before .before .refusal-of .result) (c .before .before .lines-of .result) (c .before .before .before .before .before .before .before .card .result .printed) (c .before .before .before .before .before .before .before .card .result .visits) (c .before .before .before .before .before .before .before .card .last .1 .0) (c .before .before .before .before .before .before .before .card .result .state) (search needs) (c .before .before .before .before .before .before .before .card .ensures) (c .before .before .before .before .refusal-of .ensures) (c .before .before .before .if1 .left) (c .before .before .lines-of .ensures),
+    omega arith,
+  ),
+)
+
+same-length-3 : tie.Need-same-length-3
+same-length-3 c = search needs
+
+same-length-4 : tie.Need-same-length-4
+same-length-4 c = search needs
+
+returns-2 : tie.Need-returns-2
+returns-2 c = λ b e ok.
+    let q : length (c .before .before .before .before .before .before .before .before .before .before .card .last .1 .0) ≡ length (now (c .before .before .before .before .before .before .before .before .before .before .before .before .before .before .args .table)) = search needs in
+    wrote-as (ap (λ m. lineAnswer (readState (c .before .before .before .before .before .before .before .before .before .before .before .before .before .before .args .x)) 0 (some (card m))) q ∙ shown-printed (c .before .before .before .before .before .before .before .before .before .before .before .before .before .before .args .x) (length (now (c .before .before .before .before .before .before .before .before .before .before .before .before .before .before .args .table))) (c .before .before .before .before .before .before .before .before .before .before .card .result .printed) (c .before .before .before .before .before .before .before .before .before .before .card .result .visits) (c .before .before .before .before .before .before .before .before .before .before .card .last .1 .0) (c .before .before .before .before .before .before .before .before .before .before .card .result .state) (c .before .before .before .before .before .before .before .before .before .before .card .ensures) (c .before .before .before .before .before .before .before .refusal-of .result) (c .before .before .before .before .before .before .before .refusal-of .ensures) b e ok (c .before .before .before .before .before .before .if1 .left) 0) (c .before .before .put-shown .ensures 0)
+
+pub print-in-spec : {M : Type 1} → statement M
+print-in-spec =
+    tie.close
+    (tie.spec
+    card-requires
+    refusal-of-requires
+    refuse-requires
+    same-length
+    same-length-2
+    returns
+    lines-of-requires
+    put-shown-requires
+    same-length-3
+    same-length-4
+    returns-2)

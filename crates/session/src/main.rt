@@ -1,0 +1,31 @@
+// The program `session`: a book on standard input, then one call to a line, each answered as soon as its line is read.
+mod book;
+mod input;
+mod lines;
+
+// The lines are counted from the book's first.
+fn serve_book(text: &mut [u8], answer: &mut [u8; serve::ANSWER]) {
+    let read = book::read_book(text);
+    let opened = serve::book::open_book(&text[..read.end], answer);
+    if opened.length > 0 {
+        output::print(answer, opened.length);
+        return;
+    }
+    let before = reader::text::line_count(&text[..read.end]);
+    let x = opened.state;
+    lines::serve_all(
+        x,
+        text,
+        lines::behind_book(read.end, read.held, before),
+        answer,
+    );
+}
+
+// One byte more than a text or a line may have.
+const ROOM: usize = reader::text::TEXT + 1;
+
+fn main() {
+    let mut text = [0u8; ROOM];
+    let mut answer = [0u8; serve::ANSWER];
+    serve_book(&mut text, &mut answer);
+}
