@@ -14,28 +14,55 @@
 
 static struct bullacetop_state book;
 static struct bullacetop_answer answer;
-static uint8_t table[65536];
-static int call;
-static const char *const names[] = {"rule", "forget", "query", "card"};
+static struct bullacetop_turn turn;
+static uint8_t table[65536], page[1 << 20];
+/* The same book, as text. */
+static char text[4096] = "(book 1)\n(flags)\n(exists";
 
-static void make_call(void)
+/* One function for each call, so that a frame holds the state handed over and the answer of one call only. */
+static void rule(void)
 {
     static const int16_t literals[] = {1, -2, 3};
 
-    switch (call) {
-    case 0:
-        answer = bullacetop_rule(book, literals, 3);
-        break;
-    case 1:
-        answer = bullacetop_forget(book);
-        break;
-    case 2:
-        answer = bullacetop_query(book, NULL, 0);
-        break;
-    default:
-        answer = bullacetop_card(book, table, sizeof table);
-    }
+    answer = bullacetop_rule(book, literals, 3);
 }
+
+static void forget(void)
+{
+    answer = bullacetop_forget(book);
+}
+
+static void query(void)
+{
+    answer = bullacetop_query(book, NULL, 0);
+}
+
+static void card(void)
+{
+    answer = bullacetop_card(book, table, sizeof table);
+}
+
+static void print(void)
+{
+    turn.length = bullacetop_print((const uint8_t *)text, strlen(text), page, sizeof page);
+}
+
+static void open(void)
+{
+    turn = bullacetop_open((const uint8_t *)text, strlen(text), page, sizeof page);
+}
+
+static void line(void)
+{
+    static const uint8_t bytes[] = "(card)";
+
+    turn = bullacetop_line(book, bytes, sizeof bytes - 1, 1, page, sizeof page);
+}
+
+static const struct {
+    const char *name;
+    void (*make)(void);
+} calls[] = {{"rule", rule}, {"forget", forget}, {"query", query}, {"card", card}, {"print", print}, {"open", open}, {"line", line}};
 
 static size_t written(const unsigned char *stack)
 {
@@ -58,22 +85,24 @@ int main(void)
     for (uint16_t place = 1; place <= 40; place++) {
         book.numbers[place] = place;
         book.levels[place] = 1;
+        sprintf(text + strlen(text), " %u", (unsigned)place);
     }
+    strcat(text, ")\n(rule 40)\n(rule (no 39))\n(end)\n");
     book.kinds[1] = BULLACETOP_EXISTS;
     book.rule_sizes[0] = 2;
     book.rule_sizes[1] = 1;
     book.rules[0] = 40;
     book.rule_sizes[2] = 1;
     book.rules[BULLACETOP_LITERALS] = -39;
-    for (call = 0; call < 4; call++) {
+    for (size_t i = 0; i < sizeof calls / sizeof *calls; i++) {
         memset(stack, FILL, SIZE);
         getcontext(&there);
         there.uc_stack.ss_sp = stack;
         there.uc_stack.ss_size = SIZE;
         there.uc_link = &here;
-        makecontext(&there, make_call, 0);
+        makecontext(&there, calls[i].make, 0);
         swapcontext(&here, &there);
-        printf("%s: %zu bytes, refusal %u\n", names[call], written(stack), (unsigned)answer.refusal);
+        printf("%s: %zu bytes, refusal %u, text %zu\n", calls[i].name, written(stack), (unsigned)answer.refusal, turn.length);
     }
     free(stack);
     return 0;

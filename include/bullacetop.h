@@ -11,8 +11,8 @@
  * writable) for n items. Where n is 0 nothing is read or written, and the pointer may be NULL. Lent lists are not written. A table must
  * not overlap another argument.
  *
- * Stack: the deepest call, a card on 40 variables, was seen to take 130 KiB, with the state handed over and the answer (19 KiB each) in it.
- * Have 256 KiB.
+ * Stack: the deepest call, a card on 40 variables, was seen to take 138 KiB, with the state handed over and the answer (19 KiB each) in it:
+ * have 256 KiB. The functions on texts were seen to take up to 257 KiB: have 512 KiB.
  */
 #ifndef BULLACETOP_H
 #define BULLACETOP_H
@@ -120,10 +120,10 @@ struct bullacetop_answer bullacetop_query(struct bullacetop_state x, const int16
  */
 struct bullacetop_answer bullacetop_card(struct bullacetop_state x, uint8_t *table, size_t n);
 
-#ifdef BULLACETOP_TEXT
 /*
- * Texts. An answer's text is written to `out`, for which the caller has at least bullacetop_room() bytes; what stands in `out` after the
- * told length means nothing.
+ * Books and call lines as text. An answer's text is written to the first bytes of `out`, for which the caller has m bytes, at least
+ * bullacetop_room(); what stands there after the told length means nothing. Where m is less nothing is done: the length is 0, `out` is as
+ * it was, and the state is empty (open) or the one that was given (line).
  */
 struct bullacetop_turn {
     struct bullacetop_state state;
@@ -133,15 +133,17 @@ struct bullacetop_turn {
 /* The bytes that an answer's text may need. */
 size_t bullacetop_room(void);
 
-/* What the program `card` prints for a text of n bytes: how many bytes, written to out. 0 where m is less than the room. */
+/* What the program `card` prints for a text of n bytes; returns its length. */
 size_t bullacetop_print(const uint8_t *text, size_t n, uint8_t *out, size_t m);
 
-/* Opens a text: length 0 and the book's state. Refused: `(refused N L)` in out, and an empty state. */
+/* Opens a text of n bytes: length 0 and the book's state, nothing learned. Refused: the text `(refused N L)` and an empty state. */
 struct bullacetop_turn bullacetop_open(const uint8_t *text, size_t n, uint8_t *out, size_t m);
 
-/* One call of a session: a line of n bytes without its newline, and the line's number for a refusal. The answer's text is in out. */
+/*
+ * One call, as a line of n bytes without its newline: `(rule 1 (no 2))`, `(query 1)`, `(card)`, `(card 64)` for a table of 64 bytes,
+ * `(forget)`. The number is the line's, for the text of a refusal. A line that is no call is refused with 1.
+ */
 struct bullacetop_turn bullacetop_line(struct bullacetop_state x, const uint8_t *line, size_t n, uint64_t number, uint8_t *out, size_t m);
-#endif
 
 /* The arrays follow one another without a gap. */
 typedef char bullacetop_state_has_no_gap[sizeof(struct bullacetop_state) == 19418 ? 1 : -1];

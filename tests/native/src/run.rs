@@ -27,6 +27,11 @@ pub fn amount(usual: u64) -> Amount {
     seconds.map_or(Amount::Inputs(usual), Amount::Time)
 }
 
+/// Whether the environment gives a time: a short one covers less than the usual run has to.
+pub fn timed() -> bool {
+    variable("NATIVE_SECONDS").is_some()
+}
+
 fn variable(name: &str) -> Option<u64> {
     std::env::var(name).ok()?.parse().ok()
 }

@@ -2,19 +2,20 @@
 //! test in place of the usual number of inputs.
 
 use native::input::Source;
-use native::run::{amount, run, seed};
+use native::run::{amount, run, seed, timed};
 use native::spoil::FAULTS;
 use native::tally::Tally;
 
-fn covered(source: Source, inputs: u64) -> Tally {
+/// What the usual run covered; a timed one is held to nothing but agreement.
+fn covered(source: Source, inputs: u64) -> Option<Tally> {
     let tally = run(source, seed(), 0, amount(inputs));
     println!("{source:?}: {tally}");
-    tally
+    (!timed()).then_some(tally)
 }
 
 #[test]
 fn opened_formulas() {
-    let tally = covered(Source::Opened, 10_000);
+    let Some(tally) = covered(Source::Opened, 10_000) else { return };
     let numbers = [3, 5, 6, 7, 8, 20, 21];
     assert!(numbers.iter().all(|number| tally.refusals.get(number) > Some(&50)), "{tally}");
     let largest = (tally.most_variables, tally.most_clauses, tally.longest_clause);
@@ -24,26 +25,26 @@ fn opened_formulas() {
 
 #[test]
 fn full_stores() {
-    let tally = covered(Source::Filling, 500);
+    let Some(tally) = covered(Source::Filling, 500) else { return };
     assert!(tally.filled.iter().all(|calls| *calls > 20), "{tally}");
 }
 
 #[test]
 fn tables_of_every_length() {
-    let tally = covered(Source::Lengths, 800);
+    let Some(tally) = covered(Source::Lengths, 800) else { return };
     assert!(tally.tables_of_no_byte > 400 && tally.tables_with_a_tail > 2_000, "{tally}");
     assert!(tally.refusals.get(&21) > Some(&2_000), "{tally}");
 }
 
 #[test]
 fn given_stores() {
-    let tally = covered(Source::GivenStore, 8_000);
+    let Some(tally) = covered(Source::GivenStore, 8_000) else { return };
     assert!(tally.filled.iter().all(|calls| *calls > 10), "{tally}");
 }
 
 #[test]
 fn malformed_states() {
-    let tally = covered(Source::Malformed, 200 * FAULTS.len() as u64);
+    let Some(tally) = covered(Source::Malformed, 200 * FAULTS.len() as u64) else { return };
     assert_eq!(tally.faults.len(), FAULTS.len(), "{tally}");
     assert!(tally.faults.values().all(|[malformed, _]| *malformed > 40), "{tally}");
 }

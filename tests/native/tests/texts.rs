@@ -12,7 +12,7 @@ use native::hold::Case;
 use native::input::{draw, Source};
 use native::raw::Raw;
 use native::reading;
-use native::run::{amount, seed, Amount};
+use native::run::{amount, seed, timed, Amount};
 use native::text::{room, Page};
 use native::texts;
 use std::time::Instant;
@@ -162,7 +162,7 @@ fn random_books() {
         }
     });
     println!("{opened} texts opened, {refused} refused");
-    assert!(opened > 500 && refused > 500);
+    assert!(timed() || opened > 500 && refused > 500);
 }
 
 /// Texts near the longest, and lines near the longest, whatever they hold.
@@ -226,7 +226,9 @@ fn random_lines() {
         }
     });
     println!("{said:?}");
-    assert!(["1", "3", "5", "6", "7", "8", "21", "22"].iter().all(|n| said.contains_key(*n)));
+    assert!(
+        timed() || ["1", "3", "5", "6", "7", "8", "21", "22"].iter().all(|n| said.contains_key(*n))
+    );
 }
 
 fn given(input: native::input::Input) -> (Box<Raw>, Vec<Call>, bool) {
