@@ -1,17 +1,17 @@
 -- The answers of query and card, from what the search on the state found.
-use Prim.Native.Nat.{ℕ, zero, suc, _+_, _*_}
+use Prim.Native.Nat.{ℕ, _*_}
 use native.Mathlib.Omega.{arith}
 use mathlib.Core.Path.{_≡_, refl, sym, ap, _∙_, subst}
 use mathlib.Core.Bool.{Bool, true, false, cond}
-use mathlib.Core.List.{List, [], _∷_, _++_}
+use mathlib.Core.List.{List, [], _∷_}
 use mathlib.Core.Option.{Option, none, some}
-use lib.ListN.{length, drop, length-append, length-replicate}
+use lib.ListN.{length, drop, length-replicate}
 use lib.Dec.{leb}
 use Rattle.qbf.specs.Formula.{paper, Formula, Literal, Node, quantifiers}
-use Rattle.qbf.specs.Truth.{Outcome, decided, mixed, decidedNodes, select, outline, bound, freeVariables, DecidedNode}
-use Rattle.qbf.specs.Learning.{Constraint, LearningResult, Store, learningSearch}
+use Rattle.qbf.specs.Truth.{Outcome, decided, mixed, decidedNodes, select, outline, bound, freeVariables}
+use Rattle.qbf.specs.Learning.{Constraint, LearningResult, learningSearch}
 use Rattle.qbf.specs.Card.{tableOf, zeroTable}
-use Rattle.qbf.specs.Calls.{Call, query, card, Reply, swap, keep, lines, cardRefused, Answer, answer, queryFault, startNode, queryReply, learningQuery, cardReply, cardReplyOf, guarded}
+use Rattle.qbf.specs.Calls.{Call, query, card, lines, cardRefused, Answer, answer, queryFault, startNode, queryReply, learningQuery, guarded}
 use Rattle.qbf.specs.Demands.{refusalOf}
 use Rattle.theory.proofs.Starting.{free-rest, start-length}
 use Rattle.cover.specs.Cover.{Covers}
@@ -20,7 +20,7 @@ use Rattle.node.specs.Node.{newLines}
 use Rattle.node.specs.declared.Verdict.{Verdict}
 use Rattle.node.specs.declared.Verdict.the-variants.{Yes, No, Mixed}
 use Rattle.state.specs.declared.State.{State}
-use Rattle.state.specs.Reading.{readState, valid, prefixIn, formulaIn, storeIn, stateIn}
+use Rattle.state.specs.Reading.{valid, prefixIn, formulaIn, storeIn, stateIn}
 use Rattle.serving.specs.Serves.{Said, said, saidReply, saidOf, Serves}
 use Rattle.serving.proofs.Calls.{Passes, malformed, moved-on, unchanged}
 use Rattle.answers.specs.Answers.{rulingSaid, cardSaid, rulingFor, total}

@@ -1,35 +1,34 @@
 -- The search on a state by value: what it needs of the state, and what its result says of the next one.
-use Prim.Native.Nat.{ℕ, zero, suc, _+_, _*_, _-_, _^_, _≤_, _<_, zero-le}
+use Prim.Native.Nat.{ℕ, zero, suc, _-_, _^_, _≤_, _<_}
 use native.Mathlib.Omega.{arith}
 use native.Mathlib.Nat.{pow-le-pow-right}
-use mathlib.Core.Path.{_≡_, refl, sym, ap, _∙_, subst}
-use mathlib.Core.Bool.{Bool, true, false, cond, _&&_}
-use mathlib.Core.List.{List, [], _∷_, _++_}
-use mathlib.Core.Option.{Option, none, some}
+use mathlib.Core.Path.{_≡_, refl, ap, _∙_}
+use mathlib.Core.Bool.{Bool, true, cond, _&&_}
+use mathlib.Core.List.{List, []}
+use mathlib.Core.Option.{none, some}
 use lib.ListN.{length, getD, take, drop, replicate, length-map}
 use lib.IntN.{ℤ}
 use lib.Dec.{leb}
 use borrow.Author.Tests.{leb-true}
-use Rattle.qbf.specs.Formula.{paper, Prefix, Clause, Node, quantifiers, all, placeOf, valueAt}
-use Rattle.qbf.specs.Truth.{Outcome, decided, mixed, freeVariables}
-use Rattle.qbf.specs.Learning.{Constraint, LearningResult, Store, learningSearch}
-use Rattle.theory.proofs.Basics.{and-both, and-left, and-right}
+use Rattle.qbf.specs.Formula.{paper, Prefix, Node, quantifiers, placeOf, valueAt}
+use Rattle.qbf.specs.Truth.{Outcome, freeVariables}
+use Rattle.qbf.specs.Learning.{Constraint, Store, learningSearch}
+use Rattle.theory.proofs.Basics.{and-both, and-left}
 use Rattle.theory.proofs.Starting.{free-fit}
 use Rattle.theory.proofs.WellFormed.{state-facts, shaped-store}
 use Rattle.tables.specs.Views.{Places, Kinds, Values, valueCode}
-use Rattle.tables.specs.Formed.{Clauses, Constraints, Stores, Formed, clausesOf, storeOf}
+use Rattle.tables.specs.Formed.{Stores, Formed, clausesOf, storeOf}
 use Rattle.cover.specs.Cover.{Covers}
-use Rattle.node.specs.Node.{Reads, newLines}
+use Rattle.node.specs.Node.{Reads}
 use Rattle.node.specs.declared.Verdict.{Verdict}
 use Rattle.node.specs.declared.Verdict.the-variants.{Yes, No, Mixed}
 use Rattle.node.specs.declared.Position.{Position}
 use Rattle.node.specs.declared.Answer.{Answer}
 use Rattle.search.specs.Search.{Room, Counts, Task, Result, visitOf}
 use Rattle.state.specs.declared.State.{State}
-use Rattle.state.specs.Reading.{rowsFit, prefixFits, fits, readState, valid, prefixIn, formulaIn, storeIn, stateIn}
+use Rattle.state.specs.Reading.{rowsFit, prefixFits, readState, valid, prefixIn, formulaIn, storeIn, stateIn}
 use Rattle.state.proofs.Valid.{ValidFacts, valid-facts, table-rows, valid-numbers}
 use Rattle.answers.specs.Run.{Ends, FoundBy}
-use Rattle.answers.specs.declared.run.Found.{Found}
 
 -- where a search on a state starts
 abbrev pub startAt : ℕ → ℕ → Position

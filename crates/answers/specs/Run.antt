@@ -3,7 +3,7 @@ use Prim.Native.Nat.{ℕ, suc, _^_, _<_}
 use mathlib.Core.Path.{_≡_}
 use mathlib.Core.Bool.{true, false}
 use mathlib.Core.List.{List, []}
-use mathlib.Core.Option.{Option, some}
+use mathlib.Core.Option.{some}
 use lib.ListN.{length, drop}
 use Rattle.qbf.specs.Formula.{paper, Node, quantifiers}
 use Rattle.qbf.specs.Truth.{Outcome, decided, mixed, DecidedNode, freeVariables}

@@ -1,7 +1,7 @@
 -- A literal as the answer of a search: 0 is no variable's literal and says that there is none.
-use Prim.Native.Nat.{ℕ, zero, suc}
+use Prim.Native.Nat.{zero, suc}
 use mathlib.Core.Option.{Option, none, some}
-use lib.IntN.{ℤ, pos, negsuc}
+use lib.IntN.{pos, negsuc}
 use Rattle.qbf.specs.Formula.{Literal}
 
 abbrev pub found : Literal → Option Literal

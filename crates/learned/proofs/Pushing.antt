@@ -7,7 +7,7 @@ use lib.IntN.{ℤ}
 use lib.ListN.{length, getD, drop, set, length-drop, length-set}
 use lib.Seq.{paste, getD-set-same}
 use Rattle.qbf.specs.Formula.{paper}
-use Rattle.tables.specs.Views.{row, rows, rowsOf, Table}
+use Rattle.tables.specs.Views.{rows, rowsOf, Table}
 use Rattle.tables.proofs.Laws.{rows-length}
 use Rattle.learned.specs.Store.{moved, Made, Pushed}
 use Rattle.learned.proofs.Rows.{appended-rows, appended-table, dropped-rows, dropped-table, none-rows, none-table}

@@ -2,7 +2,7 @@
 use Prim.Native.Nat.{ℕ, zero, suc, _+_, _-_, _≤_, _<_}
 use native.Mathlib.Omega.{arith}
 use mathlib.Core.Path.{_≡_, refl, sym, ap, _∙_}
-use mathlib.Core.Bool.{Bool, true, false, not, _||_, true≢false, false≢true}
+use mathlib.Core.Bool.{Bool, true, false, not, true≢false, false≢true}
 use mathlib.Core.List.{List}
 use lib.ListN.{length, getD, take, drop}
 use lib.Seq.{length-take-le, getD-take}
@@ -10,7 +10,7 @@ use lib.Dec.{eqb, eqb·zero-suc, eqb·suc-suc}
 use lib.IntN.{ℤ, pos}
 use borrow.Author.Tests.{eqb-true, eqb-false}
 use Rattle.qbf.specs.Formula.{Quantifier, free, exists, forall, Prefix, Literal, place}
-use Rattle.qbf.specs.Truth.{Outcome, decided, mixed}
+use Rattle.qbf.specs.Truth.{Outcome}
 use Rattle.qbf.specs.Plain.{decides}
 use Rattle.qbf.specs.Learning.{Constraint, mentions}
 use Rattle.tables.specs.Views.{quantifierCode}

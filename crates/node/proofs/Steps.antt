@@ -3,16 +3,15 @@ use Prim.Native.Nat.{ℕ, suc, _≤_, zero-le}
 use native.Mathlib.Omega.{arith}
 use mathlib.Core.Path.{_≡_, refl, sym, ap, _∙_}
 use mathlib.Core.Bool.{Bool, true, false, cond}
-use mathlib.Core.List.{List, [], _∷_, _++_}
+use mathlib.Core.List.{List}
 use lib.IntN.{ℤ}
 use lib.ListN.{length, take}
 use Rattle.qbf.specs.Formula.{paper, Quantifier, Prefix, Clause, Node}
 use Rattle.qbf.specs.Truth.{Outcome, DecidedNode, decided, mixed}
-use Rattle.qbf.specs.Learning.{Polarity, Constraint, Store, constraints, push, learn, mentions, resolvent, resolve, LearningResult}
+use Rattle.qbf.specs.Learning.{Polarity, Constraint, Store, constraints, push, mentions, resolvent, resolve, LearningResult}
 use Rattle.node.specs.declared.Verdict.{Verdict}
 use Rattle.node.specs.declared.Verdict.the-variants.{Yes, No, Mixed}
 use Rattle.node.specs.declared.Answer.{Answer}
-use Rattle.node.specs.declared.both.Step.{Step}
 use Rattle.node.specs.declared.both.Step.the-variants as step
 use Rattle.node.specs.Node.{Reads, onwardOf, resolventOf, Finished, Joined}
 use Rattle.node.specs.Step.{alone, stepOf, joinedOf, storedOf, JoinedSides, OfSide}

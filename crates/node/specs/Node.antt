@@ -1,16 +1,16 @@
 -- What the code's answers say: verdicts and the constraint that goes up, the tables of a node, step 5, and the lines of a card.
-use Prim.Native.Nat.{ℕ, zero, suc, _+_, _-_, _*_, _^_, _≤_, _<_}
+use Prim.Native.Nat.{ℕ, suc, _+_, _-_, _≤_, _<_}
 use mathlib.Core.Path.{_≡_}
-use mathlib.Core.Bool.{Bool, true, false, cond, not, _&&_, _||_, Bool·beq}
+use mathlib.Core.Bool.{Bool, true, false, cond}
 use mathlib.Core.List.{List, [], _∷_, _++_}
-use mathlib.Core.Option.{Option, none, some}
-use lib.ListN.{length, getD, take, drop}
+use mathlib.Core.Option.{none}
+use lib.ListN.{length, getD, take}
 use lib.IntN.{ℤ}
-use Rattle.qbf.specs.Formula.{Limits, paper, Quantifier, Prefix, Clause, Node, _▹_, quantifiers}
-use Rattle.qbf.specs.Truth.{Outcome, decided, mixed, decidedNodes, select, freeVariables}
+use Rattle.qbf.specs.Formula.{paper, Quantifier, Prefix, Clause, Node, _▹_}
+use Rattle.qbf.specs.Truth.{Outcome, decided, mixed, decidedNodes, select}
 use Rattle.qbf.specs.Learning.{Constraint, Store, goesUp, afterBoth, resolvent, LearningResult}
-use Rattle.qbf.specs.Calls.{numbersOk, prefixOk, clausesOk, storeOk}
-use Rattle.tables.specs.Views.{Places, Kinds, Values, Numbers, Table, rowsOf, quantifierCode}
+use Rattle.qbf.specs.Calls.{numbersOk}
+use Rattle.tables.specs.Views.{Places, Kinds, Values, Numbers}
 use Rattle.cover.specs.Cover.{Covers}
 use Rattle.node.specs.declared.Verdict.{Verdict}
 use Rattle.node.specs.declared.Verdict.the-variants.{Yes, No, Mixed}

@@ -1,7 +1,7 @@
 -- Paper 01's table of bench cases, proved together, and its other cases: all by computation.
 use Prim.Native.Nat.{ℕ, zero, suc}
 use mathlib.Core.Path.{_≡_, refl}
-use mathlib.Core.Bool.{Bool, true, false}
+use mathlib.Core.Bool.{true, false}
 use mathlib.Core.List.{List, [], _∷_, _++_, map}
 use lib.ListN.{replicate}
 use Rattle.qbf.specs.Formula.{paper, exists, forall, free, Literal, Formula, placeOf}

@@ -1,11 +1,10 @@
 -- What paper 01's bench table does not notice, by computation: each row goes wrong under the slip that its comment rules out.
-use Prim.Native.Nat.{ℕ, suc}
 use mathlib.Core.Path.{_≡_, refl}
-use mathlib.Core.Bool.{Bool, true, false}
+use mathlib.Core.Bool.{true, false}
 use mathlib.Core.List.{List, [], _∷_, _++_, map}
-use lib.ListN.{length, replicate}
-use Rattle.qbf.specs.Formula.{Limits, paper, exists, forall, free, Prefix, Literal, Clause, Formula, placeOf, levels}
-use Rattle.qbf.specs.Learning.{Constraint, Store, emptyStore, constraints, learn}
+use lib.ListN.{replicate}
+use Rattle.qbf.specs.Formula.{paper, exists, forall, free, Formula, placeOf, levels}
+use Rattle.qbf.specs.Learning.{Constraint, Store, constraints, learn}
 use Rattle.qbf.specs.Calls.{card, cardRefused, done, forget, keep, lines, query, refused, rule, swap}
 use Rattle.qbf.proofs.Rows.{y, n, dec, under, held, opened, Row, row, ran, expected, Given, given, gave, wanted}
 

@@ -1,10 +1,10 @@
 -- Rows of computed tables: a state, calls on it, and what the two runs answer.
 use Prim.Native.Nat.{ℕ}
-use mathlib.Core.List.{List, [], _∷_, _++_, map}
+use mathlib.Core.List.{List, map}
 use lib.IntN.{pos, negℤ}
-use Rattle.qbf.specs.Formula.{Limits, paper, Quantifier, Variable, Prefix, Literal, Clause, Formula}
+use Rattle.qbf.specs.Formula.{Limits, paper, Quantifier, Prefix, Literal, Clause, Formula}
 use Rattle.qbf.specs.Learning.{Store}
-use Rattle.qbf.specs.Calls.{Call, Reply, State, clauseOf}
+use Rattle.qbf.specs.Calls.{Call, Reply, clauseOf}
 use Rattle.qbf.specs.Runs.{plainRun, learningRun, fresh}
 
 -- a number is on, its negation off

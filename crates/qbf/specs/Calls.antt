@@ -1,5 +1,5 @@
 -- The calls rule, query, card and forget on a state, with every refusal. Paper 01, "Calls and card" and both lists of refusals.
-use Prim.Native.Nat.{ℕ, suc, _*_}
+use Prim.Native.Nat.{ℕ, _*_}
 use mathlib.Core.Bool.{Bool, true, false, cond, not, _&&_, _||_}
 use mathlib.Core.List.{List, [], _∷_, _++_}
 use mathlib.Core.Option.{Option, none, some}

@@ -1,5 +1,5 @@
 -- The card: its lines by the paper's sentence, their order, and the bytes of the table. Paper 01, "Calls and card".
-use Prim.Native.Nat.{ℕ, suc, _+_, _*_, _-_, _≤_, _<_}
+use Prim.Native.Nat.{ℕ, _+_, _*_, _-_, _≤_, _<_}
 use mathlib.Core.Path.{_≡_}
 use mathlib.Core.Logic.{_⊎_}
 use mathlib.Core.Bool.{Bool, true, false, _&&_, Bool·beq}

@@ -2,14 +2,14 @@
 use Prim.Native.Nat.{ℕ, _*_, _≤_, _<_}
 use mathlib.Core.Path.{_≡_}
 use mathlib.Core.Logic.{_↔_}
-use mathlib.Core.Bool.{Bool, true, false}
+use mathlib.Core.Bool.{true, false}
 use mathlib.Core.List.{List, [], _∷_}
 use mathlib.Core.Option.{Option, none, some}
 use lib.ListN.{length}
 use Rattle.qbf.specs.Formula.{Prefix, Clause, Node}
 use Rattle.qbf.specs.Truth.{Verdict, truth, freeVariables}
 use Rattle.qbf.specs.Card.{Mem, IsLine, liesOn, Rises, tableOf, zeroTable}
-use Rattle.qbf.specs.Calls.{Call, Reply, done, refused, swap, keep, lines, cardRefused, Answer, State, Stepped}
+use Rattle.qbf.specs.Calls.{Reply, done, refused, swap, keep, lines, cardRefused, Answer, State, Stepped}
 
 -- ---- demand 1: refusals
 -- the number of a refusal

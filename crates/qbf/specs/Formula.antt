@@ -1,6 +1,6 @@
 -- The formula (the paper's book): prefix and clauses; nodes of the search tree; satisfied and dead clauses.
 -- Paper 01, "Book". A variable's number, its place and its level are three counters that never stand in for one another.
-use Prim.Native.Nat.{ℕ, zero, suc, _-_}
+use Prim.Native.Nat.{ℕ, zero, suc}
 use mathlib.Core.Bool.{Bool, true, false, cond, _&&_, _||_, Bool·beq}
 use mathlib.Core.List.{List, [], _∷_, _++_, map}
 use mathlib.Core.Option.{Option, none, some}

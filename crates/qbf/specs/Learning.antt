@@ -1,7 +1,7 @@
 -- The learning search (the paper's learning walk). Paper 01, "Learning walk".
 -- A constraint is a conflict clause (the paper's bar) or a cube (its pass). Clause and cube, No and Yes, exists and forall are dual:
 -- one polarity, true for cube and Yes, false for clause and No, says which is meant, and every definition is given once.
-use Prim.Native.Nat.{ℕ, zero, suc, _+_, _-_}
+use Prim.Native.Nat.{ℕ, suc, _+_, _-_}
 use mathlib.Core.Bool.{Bool, true, false, cond, not, _&&_, _||_, Bool·beq}
 use mathlib.Core.List.{List, [], _∷_, _++_}
 use mathlib.Core.Option.{Option, none, some}

@@ -1,6 +1,6 @@
 -- Lists of calls: the plain run, which has no store, and the learning run. Paper 01, "Lists of calls and the plain run".
 use Prim.Native.Nat.{ℕ}
-use mathlib.Core.Bool.{Bool, true, false}
+use mathlib.Core.Bool.{true}
 use mathlib.Core.List.{List, [], _∷_}
 use mathlib.Core.Option.{Option, none, some}
 use Rattle.qbf.specs.Formula.{quantifiers, Literal, Formula}

@@ -3,11 +3,11 @@ use Prim.Native.Nat.{ℕ, suc}
 use mathlib.Core.Path.{_≡_}
 use mathlib.Core.Bool.{Bool, true, false}
 use mathlib.Core.List.{List, []}
-use mathlib.Core.Option.{Option, none, some}
+use mathlib.Core.Option.{none, some}
 use lib.ListN.{length}
 use Rattle.qbf.specs.Formula.{paper, Prefix, Literal, Formula}
 use Rattle.qbf.specs.Truth.{freeVariables}
-use Rattle.qbf.specs.Calls.{numbersOk, prefixOk, queryFault, startNode}
+use Rattle.qbf.specs.Calls.{prefixOk, queryFault, startNode}
 use Rattle.tables.specs.Views.{Values}
 
 pub record QueryRead (D : Prefix) (free : ℕ) (ls : List Literal) (ok : Bool) (values : List ℕ) : Type 0 where

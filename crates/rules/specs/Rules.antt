@@ -1,5 +1,4 @@
 -- What the answer of rule or forget says, in the paper's numbers.
-use Prim.Native.Nat.{ℕ}
 use mathlib.Core.List.{[]}
 use Rattle.serving.specs.Serves.{Said, said}
 use Rattle.rules.specs.declared.Change.{Change}

@@ -1,38 +1,33 @@
 -- A branch of the search by what its sides gave: the off side's result goes up, or both are finished.
-use Prim.Native.Nat.{ℕ, zero, suc, _+_, _-_, _*_, _^_, _≤_, _<_, suc-le-suc, zero-le}
+use Prim.Native.Nat.{ℕ, zero, suc, _+_, _-_, _≤_, _<_, suc-le-suc, zero-le}
 use native.Mathlib.Omega.{arith}
 use native.Mathlib.Numerals.{add-one}
 use mathlib.Core.Path.{_≡_, refl, sym, ap, _∙_, subst}
-use mathlib.Core.Logic.{_⊎_, inl, inr}
-use mathlib.Core.Bool.{Bool, true, false, cond, true≢false, false≢true}
-use mathlib.Core.List.{List, [], _∷_, _++_}
-use lib.ListN.{length, getD, take, drop, length-map, length-append}
+use mathlib.Core.Bool.{Bool, true, false, false≢true}
+use mathlib.Core.List.{List, [], _∷_}
+use lib.ListN.{length, drop, length-map}
 use lib.IntN.{ℤ}
-use lib.Dec.{leb, eqb}
-use Rattle.qbf.specs.Formula.{paper, Limits, Quantifier, exists, forall, free, Prefix, Clause, Formula, Node, _▹_, quantifiers, quantifierAt}
-use Rattle.qbf.specs.Truth.{Outcome, decided, mixed, freeVariables, freeCount, DecidedNode, decidedNodes, select}
-use Rattle.qbf.specs.Learning.{Constraint, Store, LearningResult, visit, below, branch, goesUp, afterBoth, resolvent, union, without}
+use lib.Dec.{eqb}
+use Rattle.qbf.specs.Formula.{paper, Quantifier, exists, forall, free, Prefix, Clause, Formula, Node, _▹_, quantifiers, quantifierAt}
+use Rattle.qbf.specs.Truth.{Outcome, decided, mixed, freeCount}
+use Rattle.qbf.specs.Learning.{Constraint, Store, LearningResult, visit, below, branch, resolvent, union, without}
 use Rattle.qbf.specs.Calls.{numbersOk}
-use Rattle.qbf.specs.Card.{Mem, byteOf}
-use Rattle.theory.proofs.Laws.{branch-up, branch-on, branch-mixed, select-append}
+use Rattle.qbf.specs.Card.{Mem}
+use Rattle.theory.proofs.Laws.{branch-up, branch-on, branch-mixed}
 use Rattle.theory.proofs.Rest.{Rest, nil-cons, rest-up, drop-cons}
 use Rattle.theory.proofs.Game.{Rising, rising-above}
 use Rattle.theory.proofs.Stores.{ShapedStore}
 use Rattle.theory.proofs.WellFormed.{FormulaFacts, clauses-rising, free-before, store-shaped, shaped-store}
-use Rattle.theory.proofs.ShapedSearch.{ShapedOutcome, ShapedResult, shaped-visit, shaped-branch, raise-nothing}
+use Rattle.theory.proofs.ShapedSearch.{ShapedOutcome, shaped-visit, shaped-branch}
 use Rattle.theory.proofs.Verdict.{NoFree}
 use Rattle.theory.proofs.Search.{Below, FreeFirst}
 use Rattle.theory.proofs.Unmixed.{Unmixed, unmixed-visit, unmixed-branch}
 use Rattle.theory.proofs.Constraints.{reduce-rising}
 use Rattle.theory.proofs.Sets.{without-rising, without-sub, union-rising}
 use Rattle.theory.proofs.Widths.{constraint-width}
-use Rattle.tables.specs.Views.{Places, Kinds, Values, Numbers, eligible, quantifierCode}
-use Rattle.cover.specs.Cover.{Covers}
-use Rattle.tables.specs.Formed.{storeOf, clausesOf, Formed}
-use Rattle.node.specs.Node.{isYes, Reads, Shown, goesUpOf, onwardOf, resolventOf, newLines, Finished, Joined, LineTask, settledLines, SettledTo}
-use Rattle.search.specs.Search.{Task, Result, visitOf, branchOf}
-use Rattle.node.specs.declared.Verdict.{Verdict}
-use Rattle.node.specs.declared.Verdict.the-variants.{Yes, No, Mixed}
+use Rattle.tables.specs.Formed.{Formed}
+use Rattle.node.specs.Node.{goesUpOf, onwardOf, resolventOf}
+use Rattle.search.specs.Search.{Task, Result, visitOf}
 use Rattle.node.specs.declared.Position.{Position}
 use Rattle.node.specs.declared.Answer.{Answer}
 use Rattle.search.proofs.Counts as counts

@@ -5,7 +5,7 @@ use native.Mathlib.Nat.{two-pow-succ, pow-le-pow-right, not-suc-le-zero, le-of-s
 use mathlib.Core.Path.{_≡_, refl, sym, ap, _∙_, subst}
 use mathlib.Core.Bool.{Bool, true, false, cond}
 use mathlib.Core.List.{List, [], _∷_}
-use lib.ListN.{length, getD, set, take}
+use lib.ListN.{getD, set, take}
 use lib.Seq.{set-set, set-getD}
 use lib.IntN.{ℤ}
 use Rattle.qbf.specs.Formula.{paper, Node}

@@ -1,21 +1,20 @@
 -- What the visitor of a free variable returns: its lines are those of the two sides, and two Yes are one line above.
-use Prim.Native.Nat.{ℕ, zero, suc, _+_, _-_, _≤_, _<_, suc-le-suc, zero-le}
+use Prim.Native.Nat.{ℕ, suc, _+_, _-_, _<_}
 use native.Mathlib.Omega.{arith}
 use mathlib.Core.Path.{_≡_, refl, sym, ap, _∙_, subst}
 use mathlib.Core.Bool.{Bool, true, false, cond}
 use mathlib.Core.List.{List, [], _∷_, _++_, append-nil, append-assoc}
 use lib.ListN.{length, getD, take, drop, length-append, length-map}
 use lib.IntN.{ℤ}
-use Rattle.qbf.specs.Formula.{paper, Quantifier, free, exists, forall, Prefix, Clause, Formula, Node, _▹_, quantifiers, quantifierAt}
-use Rattle.qbf.specs.Truth.{Outcome, decided, mixed, DecidedNode, decidedNodes, select, freeCount, freeVariables}
+use Rattle.qbf.specs.Formula.{paper, free, Prefix, Clause, Node, _▹_, quantifiers, quantifierAt}
+use Rattle.qbf.specs.Truth.{Outcome, decided, mixed, DecidedNode, decidedNodes, select}
 use Rattle.qbf.specs.Learning.{Constraint, Store, LearningResult, mentions, resolve}
 use Rattle.qbf.specs.Card.{byteOf}
 use Rattle.theory.proofs.Laws.{select-append}
 use Rattle.theory.proofs.WellFormed.{numbers-ok, free-before}
 use Rattle.theory.proofs.Starting.{free-fit}
-use Rattle.tables.specs.Views.{Values, quantifierCode}
+use Rattle.tables.specs.Views.{Values}
 use Rattle.cover.specs.Cover.{Covers}
-use Rattle.tables.specs.Formed.{Formed}
 use Rattle.node.specs.Node.{isYes, Reads, onwardOf, newLines, Joined, LineTask, settledLines, SettledTo}
 use Rattle.search.specs.Search.{Task, Result, branchOf}
 use Rattle.node.specs.declared.Verdict.{Verdict}

@@ -1,5 +1,5 @@
 -- What a visitor of an exists or forall variable returns, by what its two sides gave.
-use Prim.Native.Nat.{ℕ, zero, suc, _+_, _-_, _≤_, _<_}
+use Prim.Native.Nat.{ℕ, suc, _+_, _-_, _≤_, _<_}
 use native.Mathlib.Omega.{arith}
 use native.Mathlib.Numerals.{add-one}
 use mathlib.Core.Path.{_≡_, refl, sym, ap, _∙_, subst}
@@ -9,15 +9,15 @@ use lib.ListN.{length, getD, take, drop}
 use lib.IntN.{ℤ}
 use lib.Dec.{eqb}
 use Rattle.qbf.specs.Formula.{paper, Quantifier, Prefix, Clause, Node, _▹_, quantifiers, quantifierAt}
-use Rattle.qbf.specs.Truth.{Outcome, decided, mixed, freeVariables}
-use Rattle.qbf.specs.Learning.{Constraint, Store, LearningResult, visit, below, branch}
+use Rattle.qbf.specs.Truth.{Outcome, decided, mixed}
+use Rattle.qbf.specs.Learning.{Constraint, Store, LearningResult, visit, below}
 use Rattle.qbf.specs.Card.{byteOf}
 use Rattle.theory.proofs.Visits.{on-visits}
 use Rattle.theory.proofs.Verdict.{NoFree}
 use Rattle.theory.proofs.Search.{Below}
 use Rattle.theory.proofs.Unmixed.{Unmixed}
 use Rattle.theory.proofs.WellFormed.{numbers-ok}
-use Rattle.tables.specs.Views.{Places, Kinds, Values, quantifierCode}
+use Rattle.tables.specs.Views.{Places, Kinds, quantifierCode}
 use Rattle.cover.specs.Cover.{Covers}
 use Rattle.tables.specs.Formed.{Formed}
 use Rattle.node.specs.Node.{Reads, Shown, goesUpOf, onwardOf, resolventOf, newLines, Joined}

@@ -1,34 +1,30 @@
 -- A visit: it is decided by a leaf, or it branches on the variable of the next place; and the node below, one value longer.
-use Prim.Native.Nat.{ℕ, zero, suc, _+_, _-_, _≤_, _<_}
+use Prim.Native.Nat.{ℕ, suc, _+_, _-_, _≤_, _<_}
 use native.Mathlib.Omega.{arith}
-use native.Mathlib.Numerals.{add-one}
 use mathlib.Core.Path.{_≡_, refl, sym, ap, _∙_, subst}
 use mathlib.Core.Logic.{_⊎_, inl, inr}
-use mathlib.Core.Bool.{Bool, true, false, cond, true≢false}
+use mathlib.Core.Bool.{Bool, true, false, cond}
 use mathlib.Core.List.{List, [], _∷_, _++_, map, append-nil}
 use mathlib.Core.Option.{Option, none, some}
 use lib.ListN.{length, getD, set, take, drop, length-map, length-set, drop-of-length-le}
-use lib.Seq.{getD-set-same, getD-set-other, set-set, set-getD}
+use lib.Seq.{getD-set-same, getD-set-other}
 use lib.IntN.{ℤ}
 use lib.Dec.{eqb}
 use Rattle.qbf.specs.Formula.{paper, Quantifier, free, exists, forall, Prefix, Clause, Node, _▹_, quantifiers, quantifierAt, placeOf, valueAt}
-use Rattle.qbf.specs.Truth.{Outcome, decided, mixed}
-use Rattle.qbf.specs.Learning.{Constraint, Store, LearningResult, visit, below, branch, leaf, settle}
+use Rattle.qbf.specs.Truth.{Outcome, decided}
+use Rattle.qbf.specs.Learning.{Constraint, Store, LearningResult, below, leaf, settle}
 use Rattle.qbf.specs.Card.{byteOf}
 use Rattle.qbf.specs.Calls.{numbersOk}
 use Rattle.theory.proofs.Basics.{le-or-lt, length-▹, eqb-true, false-eqb, dichotomy}
-use Rattle.theory.proofs.Rest.{drop-cons}
 use Rattle.theory.proofs.WellFormed.{numbers-ok}
 use Rattle.theory.proofs.Prefixes.{place-of-number, number-range, value-step}
 use Rattle.theory.proofs.ShapedSearch.{raise-nothing}
-use Rattle.tables.specs.Views.{Places, Kinds, Values, Numbers, eligible, quantifierCode, valueCode}
+use Rattle.tables.specs.Views.{eligible, quantifierCode, valueCode}
 use Rattle.cover.specs.Cover.{Covers}
-use Rattle.tables.specs.Formed.{Formed}
-use Rattle.leaf.specs.Leaf.{leafRead}
 use Rattle.node.specs.Node.{Reads, Shown, newLines, NextKind}
 use Rattle.search.specs.Search.{Room, Task, Result, visitOf, branchOf}
 use Rattle.node.specs.declared.Verdict.{Verdict}
-use Rattle.node.specs.declared.Verdict.the-variants.{Yes, No, Mixed}
+use Rattle.node.specs.declared.Verdict.the-variants.{No}
 use Rattle.node.specs.declared.Position.{Position}
 use Rattle.node.specs.declared.Answer.{Answer}
 use Rattle.search.proofs.Counts as counts

@@ -1,9 +1,9 @@
 -- What a visitor asks of the lent tables and what it gives: safety without a prefix, and the learning search for every prefix, node
 -- and list of lines that the tables show.
-use Prim.Native.Nat.{ℕ, zero, suc, _+_, _-_, _*_, _^_, _≤_, _<_}
+use Prim.Native.Nat.{ℕ, suc, _+_, _-_, _*_, _^_, _≤_, _<_}
 use mathlib.Core.Path.{_≡_}
-use mathlib.Core.Bool.{Bool, true, false}
-use mathlib.Core.List.{List, [], _∷_, _++_}
+use mathlib.Core.Bool.{false}
+use mathlib.Core.List.{List, _++_}
 use lib.ListN.{length, getD, take, drop}
 use lib.IntN.{ℤ}
 use Rattle.qbf.specs.Formula.{paper, Quantifier, Prefix, Clause, Node, quantifiers}

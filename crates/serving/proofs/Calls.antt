@@ -8,7 +8,7 @@ use Rattle.qbf.specs.Demands.{refusalOf}
 use Rattle.state.specs.declared.State.{State}
 use Rattle.state.specs.Reading.{fits, stateIn, readState, wellFormedRead, valid}
 use Rattle.state.proofs.Valid.{valid-facts}
-use Rattle.serving.specs.Serves.{Said, saidOf, outOf, nextOf, Serves}
+use Rattle.serving.specs.Serves.{saidOf, outOf, nextOf, Serves}
 
 pub some-none : {n : ℕ} → _≡_ {A = Option ℕ} none (some n) → ⊥
 some-none e = subst code e tt

@@ -3,15 +3,15 @@ use Prim.Native.Nat.{ℕ, _≤_}
 use mathlib.Core.Path.{_≡_, refl, sym, ap, _∙_, subst}
 use mathlib.Core.Bool.{true}
 use mathlib.Core.List.{List, [], _∷_, map}
-use mathlib.Core.Option.{Option, none, some}
+use mathlib.Core.Option.{Option, some}
 use Rattle.qbf.specs.Formula.{Formula}
 use Rattle.qbf.specs.Calls.{Call, Reply, done, refused, swap, keep, lines, cardRefused, Answer, State as Read, formulaOk, step}
-use Rattle.qbf.specs.Runs.{after, fresh, learningRun, plainRun}
+use Rattle.qbf.specs.Runs.{fresh, learningRun, plainRun}
 use Rattle.qbf.specs.Demands.{Agree, AllAgree}
 use Rattle.theory.proofs.Demands.{demand-3}
 use Rattle.state.specs.declared.State.{State}
 use Rattle.state.specs.Reading.{readState}
-use Rattle.serving.specs.Serves.{Said, said, saidReply, saidOf, outOf, nextOf, Serves, Served, SaidAgrees, AllSaid}
+use Rattle.serving.specs.Serves.{Said, said, saidReply, saidOf, outOf, nextOf, Served, SaidAgrees, AllSaid}
 
 -- the answers are exactly the learning run's, visits included
 pub served-learning : (cs : List Call) (x : State) (y : Read) → readState x ≡ some y → (qs : List Said) → Served x cs qs → qs ≡ map saidOf (learningRun y cs)

@@ -1,7 +1,7 @@
 -- For whoever builds a state: tables by place that show a well-formed prefix, and the state that they give.
 use Prim.Native.Nat.{ℕ}
 use native.Mathlib.Omega.{arith}
-use mathlib.Core.Path.{_≡_, refl, ap, _∙_}
+use mathlib.Core.Path.{_≡_, ap, _∙_}
 use mathlib.Core.Bool.{true}
 use mathlib.Core.List.{List, []}
 use lib.ListN.{length, getD}

@@ -1,18 +1,18 @@
 -- Laws of the views: what a table says of a literal, and the rows of a flat table.
-use Prim.Native.Nat.{ℕ, zero, suc, _+_, _*_, _-_, _≤_, _<_, suc-le-suc, zero-le}
-use native.Mathlib.Nat.{le-of-suc-le-suc, not-suc-le-zero, le-refl}
+use Prim.Native.Nat.{ℕ, zero, suc, _+_, _-_, _≤_, _<_, suc-le-suc, zero-le}
+use native.Mathlib.Nat.{le-of-suc-le-suc, not-suc-le-zero}
 use native.Mathlib.Omega.{arith}
-use mathlib.Core.Path.{_≡_, refl, sym, ap, _∙_, subst}
+use mathlib.Core.Path.{_≡_, refl, sym, ap, _∙_}
 use mathlib.Core.Logic.{_⊎_, inl, inr}
-use mathlib.Core.Bool.{Bool, true, false, cond, not, _&&_, _||_, Bool·beq, true≢false, false≢true}
+use mathlib.Core.Bool.{Bool, true, false, cond, Bool·beq}
 use mathlib.Core.List.{List, [], _∷_, _++_}
 use mathlib.Core.Option.{Option, none, some}
-use lib.ListN.{length, getD, take, drop, length-append}
+use lib.ListN.{length, getD, length-append}
 use lib.IntN.{ℤ, pos, negsuc}
 use lib.Dec.{eqb}
-use Rattle.qbf.specs.Formula.{Quantifier, free, exists, forall, isForall, isExists, Prefix, Literal, Clause, Node, numberOf, positive, placeOf, place, quantifierAt, valueAt, equals, isOpen, has}
+use Rattle.qbf.specs.Formula.{Quantifier, free, exists, forall, Prefix, Literal, Node, numberOf, positive, place, quantifierAt, valueAt, equals, isOpen, has}
 use Rattle.qbf.specs.Learning.{Polarity, dropped}
-use Rattle.tables.specs.Views.{quantifierCode, valueCode, Places, Kinds, Values, negated, signed, status, row, rows, rowsOf, Table, indexOf}
+use Rattle.tables.specs.Views.{quantifierCode, valueCode, Kinds, Values, signed, status, row, rows}
 
 -- ---- literals
 -- the truth value of a literal by its status: 2 true, 1 false, 0 open

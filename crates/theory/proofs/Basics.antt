@@ -1,14 +1,13 @@
 -- Laws of Booleans, lists and nodes.
-use Prim.Native.Nat.{ℕ, zero, suc, _+_, _-_, _≤_, _<_, suc-le-suc, zero-le}
-use native.Mathlib.Nat.{le-of-suc-le-suc, not-suc-le-zero, le-of-lt, le-trans, add-zero, add-suc, suc-add, suc-inj, lt-irrefl, eq-or-lt-of-le, le-refl}
-use native.Mathlib.Omega.{arith}
+use Prim.Native.Nat.{ℕ, zero, suc, _-_, _≤_, _<_, suc-le-suc, zero-le}
+use native.Mathlib.Nat.{le-of-suc-le-suc, not-suc-le-zero}
 use mathlib.Core.Path.{_≡_, refl, sym, ap, _∙_, subst}
 use mathlib.Core.Logic.{_⊎_, inl, inr}
-use mathlib.Core.Bool.{Bool, true, false, cond, not, _&&_, _||_, Bool·beq, true≢false, false≢true}
-use mathlib.Core.List.{List, [], _∷_, _++_}
-use mathlib.Core.Option.{Option, none, some}
-use lib.ListN.{length, getD, getElem?, drop, length-append}
-use lib.Dec.{eqb, leb, ltb, T, eqb→eq, eqb-refl, leb→le, le→leb}
+use mathlib.Core.Bool.{Bool, true, false, not, _&&_, _||_, Bool·beq, true≢false, false≢true}
+use mathlib.Core.List.{List, [], _∷_}
+use mathlib.Core.Option.{none, some}
+use lib.ListN.{length, getD, getElem?}
+use lib.Dec.{eqb, T, eqb→eq, eqb-refl}
 use Rattle.qbf.specs.Formula.{Literal, Node, Prefix, _▹_, all, any, equals, has, place, positive, valueAt}
 use Rattle.qbf.specs.Card.{Mem}
 

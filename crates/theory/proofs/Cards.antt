@@ -1,23 +1,22 @@
 -- Demand 2: the card of a reached state.
-use Prim.Native.Nat.{ℕ, zero, suc, _+_, _*_, _-_, _≤_, _<_, zero-le, suc-le-suc}
-use native.Mathlib.Nat.{not-suc-le-zero, le-of-suc-le-suc, suc-mul}
+use Prim.Native.Nat.{ℕ, _*_, _-_, _≤_}
 use native.Mathlib.Omega.{arith}
 use mathlib.Core.Path.{_≡_, refl, sym, ap, _∙_, subst}
-use mathlib.Core.Logic.{_⊎_, inl, inr}
-use mathlib.Core.Bool.{Bool, true, false, cond, not, _&&_, _||_, true≢false, false≢true}
-use mathlib.Core.List.{List, [], _∷_, _++_, map}
+use mathlib.Core.Logic.{inl, inr}
+use mathlib.Core.Bool.{Bool, true, false, cond, not}
+use mathlib.Core.List.{List, [], _∷_, map}
 use lib.ListN.{length, replicate, length-append, length-map, length-replicate}
 use lib.Dec.{leb, leb→le, nleb→lt}
-use Rattle.qbf.specs.Formula.{Clause, Formula, Node, Prefix, quantifiers}
+use Rattle.qbf.specs.Formula.{Clause, Node, Prefix, quantifiers}
 use Rattle.qbf.specs.Truth.{freeVariables, outline, select, verdictOf}
 use Rattle.qbf.specs.Card.{Mem, byteOf, bytesOf, lineBytes, tableOf, zeroTable}
-use Rattle.qbf.specs.Calls.{Call, State, card, cardRefused, cardReply, cardReplyOf, formulaOk, guarded, lines, step}
-use Rattle.qbf.specs.Runs.{after, fresh}
+use Rattle.qbf.specs.Calls.{Call, State, card, cardRefused, cardReply, cardReplyOf, guarded, lines, step}
+use Rattle.qbf.specs.Runs.{after}
 use Rattle.qbf.specs.Demands.{CardOwed, CardRight}
 use Rattle.theory.proofs.Basics.{≡→T}
-use Rattle.theory.proofs.WellFormed.{FormulaFacts, formula-facts, clauses-rising, capacity, free-before, inside}
-use Rattle.theory.proofs.Starting.{starts-empty, learning, Searched, searched}
-use Rattle.theory.proofs.Runs.{Reached, reached-formed, step-ok, fresh-reached}
+use Rattle.theory.proofs.WellFormed.{free-before}
+use Rattle.theory.proofs.Starting.{starts-empty, learning, searched}
+use Rattle.theory.proofs.Runs.{Reached, reached-formed, step-ok}
 use Rattle.theory.proofs.Topmost.{tops, card-right}
 
 bytes-length : (f : ℕ) (ls : List Node) → ((s : Node) → Mem s ls → length s ≤ f) → length (bytesOf f ls) ≡ length ls * f

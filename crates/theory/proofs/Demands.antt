@@ -3,10 +3,10 @@
 use Prim.Native.Nat.{ℕ, suc, _^_, _≤_, _<_}
 use mathlib.Core.Path.{_≡_, refl}
 use mathlib.Core.Bool.{Bool, true}
-use mathlib.Core.List.{List, []}
-use mathlib.Core.Option.{Option, some}
+use mathlib.Core.List.{List}
+use mathlib.Core.Option.{some}
 use lib.ListN.{length}
-use Rattle.qbf.specs.Formula.{Clause, Formula, Limits, Literal, Node, Prefix, Quantifier, quantifiers}
+use Rattle.qbf.specs.Formula.{Clause, Formula, Limits, Literal, Node, Prefix, Quantifier}
 use Rattle.qbf.specs.Truth.{outline, verdictOf}
 use Rattle.qbf.specs.Plain.{plainSearch}
 use Rattle.qbf.specs.Learning.{Constraint, Store, constraints, learningSearch}

@@ -4,18 +4,16 @@ use mathlib.Core.Path.{_≡_, refl, sym, _∙_, subst}
 use mathlib.Core.Bool.{Bool, true, false}
 use mathlib.Core.List.{List, [], _∷_}
 use mathlib.Core.Option.{Option, none, some}
-use Rattle.qbf.specs.Formula.{Clause, Formula, Literal, Node, Prefix, Quantifier, exists, forall, free, quantifiers}
+use Rattle.qbf.specs.Formula.{Clause, Literal, Node, Prefix, Quantifier, exists, forall, free, quantifiers}
 use Rattle.qbf.specs.Truth.{Outcome, bound, completions, decided, truth, verdictOf}
-use Rattle.qbf.specs.Calls.{Call, State, formulaOk, guarded, learningQuery, query, queryFault, queryReply, startNode, step}
-use Rattle.qbf.specs.Runs.{after, fresh}
+use Rattle.qbf.specs.Calls.{State, guarded, learningQuery, query, queryFault, queryReply, startNode, step}
 use Rattle.qbf.specs.Demands.{QueryOwed}
 use Rattle.theory.proofs.Verdict.{NoFree, verdict-win, without-free}
 use Rattle.theory.proofs.Search.{FreeFirst}
 use Rattle.theory.proofs.WellFormed.{free-before}
 use Rattle.theory.proofs.Starting.{start-length, starts-full, Searched, searched}
-use Rattle.theory.proofs.Runs.{Reached, reached-formed, fresh-reached}
+use Rattle.theory.proofs.Runs.{Reached, reached-formed}
 use Rattle.theory.proofs.Refusals.{eight}
-use Rattle.theory.proofs.Cards.{after-reached}
 
 none-since : (ks : List Quantifier) → FreeFirst ks → NoFree (bound ks)
 none-since [] h = tt

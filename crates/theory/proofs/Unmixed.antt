@@ -3,7 +3,7 @@
 use Prim.Native.Nat.{ℕ, _≤_}
 use mathlib.Core.Path.{_≡_, subst}
 use mathlib.Core.Bool.{Bool, true, false, Bool·beq, true≢false}
-use mathlib.Core.List.{List, [], _∷_}
+use mathlib.Core.List.{List, _∷_}
 use lib.Dec.{eqb}
 use Rattle.qbf.specs.Formula.{Clause, Limits, Node, Prefix, Quantifier, _▹_, exists, forall, free}
 use Rattle.qbf.specs.Truth.{Outcome, decided, mixed}
@@ -12,7 +12,7 @@ use Rattle.qbf.specs.Card.{Mem}
 use Rattle.theory.proofs.Rest.{Rest}
 use Rattle.theory.proofs.Game.{Rising}
 use Rattle.theory.proofs.Stores.{ShapedStore}
-use Rattle.theory.proofs.Induction.{Gives, BranchCases, LeafCases, SearchCases, Mixes, visit-by, below-by, branching-by}
+use Rattle.theory.proofs.Induction.{BranchCases, LeafCases, SearchCases, Mixes, visit-by, below-by, branching-by}
 use Rattle.theory.proofs.Leaves.{shaped-leaves}
 use Rattle.theory.proofs.Verdict.{NoFree}
 use Rattle.theory.proofs.ShapedSearch.{ShapedOutcome, shaped-branches, shaped-search, raise-nothing}

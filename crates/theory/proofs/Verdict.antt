@@ -1,12 +1,11 @@
 -- The verdict by quantification, from who wins.
-use Prim.Native.Nat.{ℕ, zero, suc}
-use mathlib.Core.Path.{_≡_, refl, sym, ap, _∙_, subst}
+use mathlib.Core.Path.{_≡_, refl, sym, ap, _∙_}
 use mathlib.Core.Logic.{_⊎_, inl, inr}
-use mathlib.Core.Bool.{Bool, true, false, cond, not, _&&_, _||_, true≢false, false≢true}
+use mathlib.Core.Bool.{Bool, true, false, cond, _&&_, _||_, true≢false}
 use mathlib.Core.List.{List, [], _∷_, _++_}
 use Rattle.qbf.specs.Formula.{Clause, Node, Prefix, Quantifier, _▹_, exists, forall, free}
 use Rattle.qbf.specs.Truth.{DecidedNode, Outcome, completions, decided, decidedNodes, mixed, outline, verdictOf}
-use Rattle.theory.proofs.Basics.{dichotomy, or-cases, or-left, or-right, and-left, and-right, and-both}
+use Rattle.theory.proofs.Basics.{or-cases, or-left, or-right, and-left, and-right, and-both}
 use Rattle.theory.proofs.Game.{Win}
 
 pub decided-outline : {X : Type 0} (s : Node) (o : Outcome X) → decidedNodes s (outline o) ≡ decidedNodes s o

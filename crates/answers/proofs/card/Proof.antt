@@ -12,7 +12,7 @@ use Rattle.cover.proofs.clear.Reads as clear-reads
 use Rattle.cover.proofs.fits.Reads as fits-reads
 use native.Mathlib.Omega.{arith}
 use borrow.Author.Tests.{not-true, not-false}
-use mathlib.Core.Path.{_≡_, _∙_, sym, ap, refl}
+use mathlib.Core.Path.{_∙_, sym, ap, refl}
 use mathlib.Core.List.{[]}
 use lib.Dec.{leb}
 use Prim.Native.Nat.{_*_}

@@ -10,7 +10,7 @@ use Rattle.answers.proofs.run.prefix_of.Reads as prefix-of-reads
 use Rattle.answers.proofs.run.run.Reads as run-reads
 use Rattle.reading.proofs.read.Reads as read-reads
 use borrow.Author.Tests.{not-true, not-false}
-use mathlib.Core.Path.{_≡_, _∙_, sym, ap, refl}
+use mathlib.Core.Path.{_∙_, sym, refl}
 use Rattle.qbf.specs.Calls.{query}
 use Rattle.state.specs.Reading.{formulaIn}
 use Rattle.state.proofs.Valid.{valid-numbers}

@@ -3,7 +3,7 @@ use Rattle.answers.proofs.ruling_for.Statement.{statement}
 use Rattle.answers.proofs.ruling_for.Tie as tie
 use Rattle.answers.proofs.ruling_for.Reads as reads
 use Rattle.answers.proofs.ruling_for.Lts as lts
-use mathlib.Core.Path.{_≡_, sym, ap}
+use mathlib.Core.Path.{sym, ap}
 use Rattle.answers.specs.Answers.{rulingFor}
 
 enum-told : tie.Need-enum-told

@@ -3,7 +3,7 @@ use Rattle.answers.proofs.total_lines.Statement.{statement}
 use Rattle.answers.proofs.total_lines.Tie as tie
 use Rattle.answers.proofs.total_lines.Reads as reads
 use Rattle.answers.proofs.total_lines.Lts as lts
-use mathlib.Core.Path.{_≡_, sym, ap, refl}
+use mathlib.Core.Path.{sym, ap}
 use Rattle.answers.specs.Answers.{total}
 
 enum-told : tie.Need-enum-told

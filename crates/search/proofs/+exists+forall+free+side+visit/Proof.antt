@@ -32,18 +32,15 @@ use Rattle.search.proofs.+exists+forall+free+side+visit.{statement}
 use Rattle.search.proofs.+exists+forall+free+side+visit.Tie.{close}
 use native.Mathlib.Omega.{arith}
 use borrow.Author.Needs.{needs}
-use mathlib.Core.Path.{_≡_, _∙_, sym, ap, refl, subst}
+use mathlib.Core.Path.{_∙_, sym, ap, refl}
 use mathlib.Core.Bool.{true, false}
 use Prim.Native.Nat.{_+_, _-_, _*_}
-use lib.ListN.{length, set, getD, take, drop, length-set, length-take, length-drop}
-use lib.Seq.{set-set, set-getD}
+use lib.ListN.{length, getD, length-take, length-drop}
 use borrow.Rule.Slice.PartMut.{take-put}
 use Rattle.qbf.specs.Formula.{exists, forall, free}
-use Rattle.tables.specs.Formed.{storeOf, clausesOf}
-use Rattle.node.specs.Node.{isYes}
 use Rattle.leaf.specs.Leaf.{leafRead}
 use Rattle.node.specs.declared.Verdict.the-variants.{Yes, No}
-use Rattle.search.proofs.Counts.{room-off, room-on, aside-room, falls-side, counts-up, counts-quantified, counts-free, counts-settled, visits-small, still, lines-small, off-lines, on-lines-one, on-lines-small, part-room, set-back, result-as}
+use Rattle.search.proofs.Counts.{room-off, room-on, aside-room, falls-side, counts-up, counts-quantified, counts-free, counts-settled, visits-small, still, lines-small, off-lines, on-lines-one, on-lines-small, set-back, result-as}
 use Rattle.search.proofs.Returns.{up-result, both-result}
 use Rattle.search.proofs.FreeReturns.{free-result}
 use Rattle.search.proofs.Visiting.{leaf-result, exists-result, forall-result, free-visit-result, end-result, more-places, side-result}

@@ -4,10 +4,6 @@ use Rattle.answers.proofs.run.run.Tie as tie
 use Rattle.answers.proofs.run.run.Reads as reads
 use Rattle.answers.proofs.run.run.Lts as lts
 use Rattle.search.proofs.visit.Reads as visit-reads
-use native.Mathlib.Omega.{arith}
-use mathlib.Core.Path.{_≡_, _∙_, sym, ap, refl}
-use lib.ListN.{length}
-use Rattle.qbf.specs.Formula.{paper}
 use Rattle.state.proofs.Valid.{valid-tables}
 use Rattle.answers.proofs.Running.{room, few-lines, few-variables, found}
 

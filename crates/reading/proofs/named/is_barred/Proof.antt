@@ -2,7 +2,7 @@
 use borrow.Author.Needs.{needs}
 use Rattle.reading.proofs.named.is_barred.Statement.{statement}
 use Rattle.reading.proofs.named.is_barred.Tie as tie
-use mathlib.Core.Path.{_≡_, ap, _∙_}
+use mathlib.Core.Path.{ap, _∙_}
 use Prim.Native.Nat.{ℕ}
 use lib.Dec.{eqb}
 use lib.ListN.{getD}

@@ -3,7 +3,7 @@ use borrow.Author.Needs.{needs}
 use Rattle.reading.proofs.named.mark.Statement.{statement}
 use Rattle.reading.proofs.named.mark.Tie as tie
 use Prim.Native.Nat.{ℕ}
-use mathlib.Core.Path.{_≡_, ap, _∙_}
+use mathlib.Core.Path.{ap, _∙_}
 use lib.ListN.{set}
 use denote.Ref.{now}
 use Rattle.qbf.specs.Formula.{numberOf}
