@@ -1,5 +1,6 @@
 // The calls query and card, open to outsiders: a search on a state by value, and its answer in the paper's words.
 ghost use mathlib.Core.Path.{_≡_};
+ghost use mathlib.Core.List.{[]};
 ghost use Prim.Native.Nat.{ℕ, _<_, _^_};
 ghost use mathlib.Core.List.{List, []};
 ghost use lib.ListN.{length};
@@ -39,6 +40,26 @@ pub struct Shown {
     pub printed: Printed,
     pub visits: u64,
     pub state: State,
+}
+
+// The number of a card's refusal, 0 where there is none.
+pub fn refusal_of(p: Printed) -> u16
+    ensures { λ r. ⌜ r ≡ cardSaid p 0 [] .refusal ⌝ }
+{
+    match p {
+        Printed::Lines(n) => 0,
+        Printed::Refused(n) => n,
+    }
+}
+
+// How many lines a card has.
+pub fn lines_of(p: Printed) -> usize
+    ensures { λ r. ⌜ r ≡ cardSaid p 0 [] .lines ⌝ }
+{
+    match p {
+        Printed::Lines(n) => n,
+        Printed::Refused(n) => 0,
+    }
 }
 
 // "Yes is swap and No is keep"; the start node of a query is never Mixed.

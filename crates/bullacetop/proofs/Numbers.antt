@@ -8,8 +8,8 @@ use Rattle.serving.specs.Serves.{Said, said, Serves}
 use Rattle.answers.specs.declared.Ruling.{Ruling}
 use Rattle.answers.specs.declared.Ruling.the-variants as ruling
 use Rattle.answers.specs.declared.Printed.{Printed}
-use Rattle.answers.specs.declared.Printed.the-variants as printed
 use Rattle.answers.specs.Answers.{rulingSaid, cardSaid}
+use Rattle.answers.proofs.Told.{card-said}
 
 -- the same answer and the same state
 pub serves-as : (x : State) (c : Call) {a b : Said} {y z : State} → Serves x c a y → b ≡ a → z ≡ y → Serves x c b z
@@ -23,9 +23,5 @@ ruling-said (ruling.Refused n) k = refl
 pub ruling-numbers : (r : Ruling) {n v : ℕ} (k : ℕ) → n ≡ rulingSaid r 0 .refusal → v ≡ rulingSaid r 0 .verdict → said n v 0 k [] ≡ rulingSaid r k
 ruling-numbers r k p q = (λ i. said (p i) (q i) 0 k []) ∙ ruling-said r k
 
-card-said : (p : Printed) (k : ℕ) (t : List ℕ) → said (cardSaid p 0 [] .refusal) 0 (cardSaid p 0 [] .lines) k t ≡ cardSaid p k t
-card-said (printed.Lines n) k t = refl
-card-said (printed.Refused n) k t = refl
-
 pub card-numbers : (r : Printed) {n m : ℕ} (k : ℕ) (t : List ℕ) → n ≡ cardSaid r 0 [] .refusal → m ≡ cardSaid r 0 [] .lines → said n 0 m k t ≡ cardSaid r k t
-card-numbers r k t p q = (λ i. said (p i) 0 (q i) k t) ∙ card-said r k t
+card-numbers r k t p q = (λ i. said (p i) 0 (q i) k t) ∙ sym (card-said r k t)

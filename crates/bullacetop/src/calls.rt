@@ -1,16 +1,14 @@
 // The four calls. A refusal of 0 is none; a verdict is 1 for keep and 2 for swap, 0 where the call is no query.
-use answers::Printed;
 use answers::Ruling;
-use rules::Change;
 use rules::Changed;
 use state::State;
 ghost use mathlib.Core.Path.{_≡_};
 ghost use mathlib.Core.List.{[]};
 ghost use lib.ListN.{length};
 ghost use Rattle.qbf.specs.Calls.{rule, query, card, forget};
-ghost use Rattle.serving.specs.Serves.{said, Serves};
+ghost use Rattle.serving.specs.Serves.{Serves};
 ghost use Rattle.rules.specs.Rules.{changeSaid};
-ghost use Rattle.answers.specs.Answers.{rulingSaid, cardSaid};
+ghost use Rattle.answers.specs.Answers.{rulingSaid};
 ghost use Rattle.bullacetop.specs.Answers.{answerSaid};
 
 #[repr(C)]
@@ -27,15 +25,6 @@ const NONE: u16 = 0;
 const KEEP: u16 = 1;
 
 const SWAP: u16 = 2;
-
-fn change_refusal(c: Change) -> u16
-    ensures { λ r. ⌜ changeSaid c ≡ said r 0 0 0 [] ⌝ }
-{
-    match c {
-        Change::Done => NONE,
-        Change::Refused(n) => n,
-    }
-}
 
 fn ruling_refusal(r: Ruling) -> u16
     ensures { λ n. ⌜ n ≡ rulingSaid r 0 .refusal ⌝ }
@@ -57,31 +46,13 @@ fn verdict_of(r: Ruling) -> u16
     }
 }
 
-fn card_refusal(p: Printed) -> u16
-    ensures { λ n. ⌜ n ≡ cardSaid p 0 [] .refusal ⌝ }
-{
-    match p {
-        Printed::Lines(n) => NONE,
-        Printed::Refused(n) => n,
-    }
-}
-
-fn lines_of(p: Printed) -> usize
-    ensures { λ n. ⌜ n ≡ cardSaid p 0 [] .lines ⌝ }
-{
-    match p {
-        Printed::Lines(n) => n,
-        Printed::Refused(n) => 0,
-    }
-}
-
 fn changed(c: Changed) -> Answer
     ensures { λ r. ⌜ (answerSaid r [] ≡ changeSaid (c .change)) × (r .state ≡ c .state) ⌝ }
 {
     let change = c.change;
     let next = c.state;
     Answer {
-        refusal: change_refusal(change),
+        refusal: rules::refusal_of(change),
         verdict: NONE,
         lines: 0,
         visits: 0,
@@ -129,9 +100,9 @@ pub extern "C" fn bullacetop_card(x: State, table: &mut [u8]) -> Answer
     let visits = shown.visits;
     let next = shown.state;
     Answer {
-        refusal: card_refusal(printed),
+        refusal: answers::refusal_of(printed),
         verdict: NONE,
-        lines: lines_of(printed),
+        lines: answers::lines_of(printed),
         visits: visits,
         state: next,
     }

@@ -5,19 +5,16 @@ use native.Mathlib.Numerals.{add-one}
 use native.Mathlib.Omega.{arith}
 use mathlib.Core.Path.{_≡_, refl, sym, ap, _∙_, subst}
 use mathlib.Core.Logic.{inl, inr}
-use mathlib.Core.List.{List, [], _∷_, _++_, map, append-assoc}
-use lib.ListN.{length, take, drop, length-append, length-map, length-replicate, replicate-append-replicate}
+use mathlib.Core.List.{List, [], _∷_, _++_, append-assoc, append-nil}
+use lib.ListN.{length, take, drop, length-append, length-replicate, replicate-append-replicate}
 use lib.Seq.{take-at, drop-at}
 use Rattle.qbf.specs.Formula.{Node}
-use Rattle.qbf.specs.Card.{Mem, byteOf, lineBytes, bytesOf, tableOf, zeroTable}
+use Rattle.qbf.specs.Card.{Mem, lineBytes, bytesOf, tableOf, zeroTable}
+use Rattle.theory.proofs.Cards.{bytes-length}
 
 -- no line is longer than f
 abbrev pub Short : ℕ → List Node → Type 0
 Short f ls = (s : Node) → Mem s ls → length s ≤ f
-
-pub append-nil : (xs : List ℕ) → xs ++ [] ≡ xs
-append-nil [] = refl
-append-nil (x ∷ xs) = ap (λ (l : List ℕ). x ∷ l) (append-nil xs)
 
 pub zeros-length : (n : ℕ) → length (zeroTable n) ≡ n
 zeros-length n = length-replicate {A = ℕ} n 0
@@ -38,19 +35,12 @@ short-last f [] s h = h s (inl refl)
 short-last f (x ∷ ls) s h = short-last f ls s (λ y n. h y (inr n))
 
 module _ (f : ℕ) where
-  pub line-length : (s : Node) → length s ≤ f → length (lineBytes f s) ≡ f
-  line-length s h = omega (arith, length-append (map byteOf s) (zeroTable (f - length s)), length-map s byteOf, zeros-length (f - length s))
-
-  pub bytes-length : (ls : List Node) → Short f ls → length (bytesOf f ls) ≡ length ls * f
-  bytes-length [] h = omega arith
-  bytes-length (s ∷ ls) h = omega (arith, bytes-length ls (λ t m. h t (inr m)), line-length s (h s (inl refl)), length-append (lineBytes f s) (bytesOf f ls))
-
   bytes-append : (ms ns : List Node) → bytesOf f (ms ++ ns) ≡ bytesOf f ms ++ bytesOf f ns
   bytes-append [] ns = refl
   bytes-append (s ∷ ms) ns = ap (λ (l : List ℕ). lineBytes f s ++ l) (bytes-append ms ns) ∙ sym (append-assoc (lineBytes f s) (bytesOf f ms) (bytesOf f ns))
 
   pub table-length : (size : ℕ) (ls : List Node) → Short f ls → length ls * f ≤ size → length (tableOf f size ls) ≡ size
-  table-length size ls h k = omega (arith, length-append (bytesOf f ls) (zeroTable (size - length ls * f)), bytes-length ls h, zeros-length (size - length ls * f))
+  table-length size ls h k = omega (arith, length-append (bytesOf f ls) (zeroTable (size - length ls * f)), bytes-length f ls h, zeros-length (size - length ls * f))
 
   pub count-more : (ls : List Node) (s : Node) → length (ls ++ (s ∷ [])) * f ≡ length ls * f + f
   count-more ls s = ap (λ (n : ℕ). n * f) (length-append ls (s ∷ []) ∙ add-one (length ls)) ∙ omega arith

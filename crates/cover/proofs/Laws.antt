@@ -14,7 +14,8 @@ use Rattle.qbf.specs.Card.{lineBytes, bytesOf, tableOf, zeroTable}
 use Rattle.theory.proofs.Basics.{≡→T, le-or-lt}
 use Rattle.cover.specs.Cover.{held, Covers}
 use Rattle.cover.proofs.Count.{fits-count, no-row}
-use Rattle.cover.proofs.Bytes.{Short, short-more, short-less, short-last, zeros-length, line-length, bytes-length, table-length, count-more, one-more, free-row, spliced, part-of, no-bytes}
+use Rattle.cover.proofs.Bytes.{Short, short-more, short-less, short-last, zeros-length, table-length, count-more, one-more, free-row, spliced, part-of, no-bytes}
+use Rattle.theory.proofs.Cards.{line-length, bytes-length}
 
 -- ---- by computation: two free variables, three lines, and tables that hold all, two or none of them
 abbrev three : List Node

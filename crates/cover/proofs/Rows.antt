@@ -3,11 +3,10 @@ use Prim.Native.Nat.{ℕ, zero, suc, _+_, _<_}
 use native.Mathlib.Numerals.{add-one}
 use native.Mathlib.Omega.{arith}
 use mathlib.Core.Path.{_≡_, refl, sym, ap, _∙_}
-use mathlib.Core.List.{List, [], _∷_, _++_, append-assoc}
+use mathlib.Core.List.{List, [], _∷_, _++_, append-assoc, append-nil}
 use lib.ListN.{length, getD, set, drop, replicate, length-append, length-replicate, replicate-append-replicate}
 use lib.Seq.{set-at, drop-cons, drop-length}
 use Rattle.cover.specs.Cover.{firstValues}
-use Rattle.cover.proofs.Bytes.{append-nil}
 
 -- one more byte in front of what stands
 extended : (row xs : List ℕ) (i v : ℕ) → length xs ≡ i → i < length row → set (xs ++ drop i row) i v ≡ (xs ++ (v ∷ [])) ++ drop (i + 1) row

@@ -11,13 +11,9 @@ use lib.Dec.{eqb, leb, ltb}
 use Rattle.qbf.specs.Formula.{Limits, Quantifier, free, exists, forall, isFree, Variable, Prefix, quantifiers, any, all, placeFrom, placeOf}
 use Rattle.qbf.specs.Calls.{given, noFree, freeFirst, numbersOk, prefixOk, _orElse_}
 use Rattle.theory.proofs.Basics.{and-left, and-right, and-both, or-false-left, or-false-right, not-false}
+use Rattle.theory.proofs.AcceptedRule.{given-none}
 use Rattle.theory.proofs.Widths.{prefix-width}
 use Rattle.layout.specs.Opening.{variable, declareFault}
-
--- ---- faults
-pub given-none : (x : Bool) (n : ℕ) (o : Option ℕ) → (given x n orElse o) ≡ none → (x ≡ false) × (o ≡ none)
-given-none true n o e = absurd (let z : _≡_ {A = ℕ} 0 1 = cc in omega arith)
-given-none false n o e = (refl, e)
 
 -- ---- one more declared number
 -- a number that is not declared from place p on, and not among those before, may be declared

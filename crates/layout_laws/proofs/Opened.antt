@@ -14,11 +14,11 @@ use Rattle.qbf.specs.Calls.{limitsOk, clausesOk, formulaOk, storeOk, wellFormed
 use Rattle.qbf.specs.Runs.{fresh}
 use Rattle.theory.proofs.Basics.{and-both, not-false}
 use Rattle.theory.proofs.WellFormed.{FormulaFacts, facts-formula}
-use Rattle.theory.proofs.AcceptedRule.{rule-formula}
+use Rattle.theory.proofs.AcceptedRule.{given-none, rule-formula}
 use Rattle.layout.specs.Words.{Bytes, split, newline}
 use Rattle.layout.specs.Forms.{Form, book, block, clause, end, formOf}
 use Rattle.layout.specs.Opening.{rank, allowed, stageAfter, variable, declareFault, withBlock, formFault, lineFault, withForm, Opened, refused, opened, refusedOr, readLine, atEnd, isEnd, readLines, emptyFormula, openText, textBytes}
-use Rattle.layout_laws.proofs.Blocks.{given-none, Before, block-prefix}
+use Rattle.layout_laws.proofs.Blocks.{Before, block-prefix}
 
 -- ---- lines
 -- what is known at a stage: before the flags' line no variable, before the first rule no clause

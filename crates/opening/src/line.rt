@@ -1,12 +1,9 @@
 // One line of a text on the state that the lines before it have built. "line by line 1, 2, then as the calls"
-ghost use Prim.Native.Nat.{ℕ, _≤_, min};
+ghost use Prim.Native.Nat.{ℕ, _≤_};
 ghost use mathlib.Core.Path.{_≡_};
-ghost use mathlib.Core.List.{[]};
 ghost use Rattle.qbf.specs.Formula.{forall};
 ghost use Rattle.tables.specs.Views.{quantifierCode};
 ghost use Rattle.state.specs.Reading.{formulaIn};
-ghost use Rattle.serving.specs.Serves.{said};
-ghost use Rattle.rules.specs.Rules.{changeSaid};
 ghost use Rattle.layout.specs.Forms.{book, end, formOf};
 ghost use Rattle.reader.specs.Items.{narrow};
 ghost use Rattle.opening.specs.Opened.{Standing, TookForm, BlockTook, RuleTook, Took};
@@ -15,8 +12,9 @@ use crate::stage;
 use literal::Number;
 use literal::number_of;
 use reader::keyword::Line;
+use reader::line::kept;
 use reader::line::read_line;
-use rules::Change;
+use rules::refusal_of;
 use state::State;
 
 // Nothing is refused; "1 not in the layout"; "2 edition not 1"
@@ -43,12 +41,6 @@ fn refuse(x: State, number: u16) -> Taken
         stage: stage::BOOK,
         state: x,
     }
-}
-
-fn least(a: usize, b: usize) -> usize
-    ensures { λ r. ⌜ r ≡ min a b ⌝ }
-{
-    if a < b { a } else { b }
 }
 
 fn take_book(x: State, stage: usize, edition: Number) -> Taken
@@ -91,16 +83,6 @@ fn take_block(x: State, stage: usize, kind: u16, lits: &[i16]) -> Taken
     }
 }
 
-// The number of a refusal, or NONE.
-fn fault_of(change: Change) -> u16
-    ensures { λ r. ⌜ changeSaid change ≡ said r 0 0 0 [] ⌝ }
-{
-    match change {
-        Change::Done => NONE,
-        Change::Refused(number) => number,
-    }
-}
-
 fn take_rule(x: State, stage: usize, lits: &[i16]) -> Taken
     requires { ⌜ Standing stage x ⌝ }
     ensures { λ r. ⌜ RuleTook stage x (now (lits .entry)) r ⌝ }
@@ -112,7 +94,7 @@ fn take_rule(x: State, stage: usize, lits: &[i16]) -> Taken
     let change = changed.change;
     let next = changed.state;
     Taken {
-        refusal: fault_of(change),
+        refusal: refusal_of(change),
         stage: stage::RULE,
         state: next,
     }
@@ -142,11 +124,11 @@ pub fn take_line(x: State, stage: usize, line: &[u8]) -> Taken
         Line::NotLine => refuse(x, NOT_IN_LAYOUT),
         Line::Book => take_book(x, stage, number_of(items[0])),
         Line::Block(kind, n) => {
-            let count = least(n, tables::BY_NUMBER);
+            let count = kept(n);
             take_block(x, stage, kind, &items[..count])
         }
         Line::Rule(n) => {
-            let count = least(n, tables::BY_NUMBER);
+            let count = kept(n);
             take_rule(x, stage, &items[..count])
         }
         Line::End => take_end(x, stage),

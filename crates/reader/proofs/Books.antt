@@ -13,7 +13,7 @@ use Rattle.layout.specs.Words.{Bytes, newline, onFirst, split, same}
 use Rattle.layout.specs.Session.{endLine, Parted, onto, parted}
 use Rattle.reader.specs.Pieces.{piecesFrom, Piece}
 use Rattle.reader.specs.Books.{lineCount, BookEnd}
-use Rattle.reader.proofs.Texts.{split-some}
+use Rattle.reader.proofs.Texts.{split-some, pieces-at, piece-follows}
 
 -- ---- pieces put together again
 joined : List Bytes → Bytes
@@ -39,10 +39,6 @@ unfolding joined
 joined-more w [] (v, us, q) = absurd (let z : _≡_ {A = ℕ} 0 1 = cc in omega (arith, z))
 joined-more w (x ∷ vs) (v, us, q) = refl
 
-pieces-at : (s : Bytes) (at : ℕ) → at ≤ length s → piecesFrom newline s at ≡ split newline (drop at s)
-unfolding piecesFrom
-pieces-at s at h = rw (le-leb at (length s) h)
-
 -- ---- one line
 module _ {s : Bytes} {at e : ℕ} (p : Piece newline s at e) where
   none-left : length s ≤ e → piecesFrom newline s at ≡ take (e - at) (drop at s) ∷ []
@@ -50,17 +46,13 @@ module _ {s : Bytes} {at e : ℕ} (p : Piece newline s at e) where
   none-left h = p .is ∙ ap (λ (ws : List Bytes). take (e - at) (drop at s) ∷ ws) (rw (lt-leb (e + 1) (length s) (omega (arith, h))))
 
   module _ (h : e < length s) where
-    -- another piece follows a whole line
-    more : (w : Bytes) × (ws : List Bytes) × (piecesFrom newline s (e + 1) ≡ w ∷ ws)
-    more = let r = split-some newline (drop (e + 1) s) in (r .0, r .1, pieces-at s (e + 1) (omega (arith, h)) ∙ r .2)
-
     size : length (take (e - at) (drop at s)) ≡ e - at
     size = let q : min (e - at) (length (drop at s)) ≡ e - at = omega (arith, h, p .low, length-drop at s) in length-take (e - at) (drop at s) ∙ q
 
     byte : getD (drop at s) (e - at) 0 ≡ newline
     byte =
         ap (λ (t : Bytes). getD t (e - at) 0)
-        (sym (joined-split (drop at s)) ∙ ap joined (sym (pieces-at s at (omega (arith, h, p .low))) ∙ p .is) ∙ joined-more (take (e - at) (drop at s)) (piecesFrom newline s (e + 1)) more)
+        (sym (joined-split (drop at s)) ∙ ap joined (sym (pieces-at s at (omega (arith, h, p .low))) ∙ p .is) ∙ joined-more (take (e - at) (drop at s)) (piecesFrom newline s (e + 1)) (piece-follows s e h))
         ∙ getD-at (take (e - at) (drop at s)) newline (joined (piecesFrom newline s (e + 1))) 0 (e - at) size
 
     -- a whole line and its byte 10 stand behind what came before
@@ -103,7 +95,7 @@ module _ {s : Bytes} {at : ℕ} (k : Seeking s at) where
       -- what a whole line adds
       one : (t : Bool) → t ≡ same l endLine → parted (l ∷ piecesFrom newline s (e + 1)) ≡ cond t (record { book = l ++ (newline ∷ []); count = 1; rest = piecesFrom newline s (e + 1) }) (onto l (parted (piecesFrom newline s (e + 1))))
       unfolding parted
-      one t q = by (piecesFrom newline s (e + 1)) (more p h)
+      one t q = by (piecesFrom newline s (e + 1)) (piece-follows s e h)
         where
           by : (vs : List Bytes) → (w : Bytes) × (ws : List Bytes) × (vs ≡ w ∷ ws) → parted (l ∷ vs) ≡ cond t (record { book = l ++ (newline ∷ []); count = 1; rest = vs }) (onto l (parted vs))
           by [] (w, ws, z) = absurd (let y : _≡_ {A = ℕ} 0 1 = cc in omega (arith, y))

@@ -14,8 +14,9 @@ use lib.Seq.{take-all}
 use Rattle.qbf.specs.Formula.{Limits, paper, Quantifier, Prefix, Literal, Formula, numberOf, any, placeOf}
 use Rattle.qbf.specs.Calls.{given, literalFault, ruleFault, numbersOk, _orElse_}
 use Rattle.theory.proofs.Basics.{or-false-right}
+use Rattle.theory.proofs.AcceptedRule.{given-none}
 use Rattle.layout.specs.Opening.{variable, declareFault}
-use Rattle.layout_laws.proofs.Blocks.{given-none, declarable, first-decide, block-width}
+use Rattle.layout_laws.proofs.Blocks.{declarable, first-decide, block-width}
 use Rattle.reader.specs.Items.{narrow, narrowed, Kept}
 
 -- ---- one number

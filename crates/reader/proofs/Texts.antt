@@ -22,6 +22,14 @@ split-some c (b ∷ s) = by (eqb b c) (split-some c s)
     by true r = ([], split c s, refl)
     by false r = (b ∷ r .0, r .1, ap (onFirst b) (r .2))
 
+pub pieces-at : (s : Bytes) (at : ℕ) → at ≤ length s → piecesFrom newline s at ≡ split newline (drop at s)
+unfolding piecesFrom
+pieces-at s at h = rw (le-leb at (length s) h)
+
+-- another piece follows a whole line
+pub piece-follows : (s : Bytes) (e : ℕ) → e < length s → (w : Bytes) × (ws : List Bytes) × (piecesFrom newline s (e + 1) ≡ w ∷ ws)
+piece-follows s e h = let r = split-some newline (drop (e + 1) s) in (r .0, r .1, pieces-at s (e + 1) (omega (arith, h)) ∙ r .2)
+
 pub open-long : (L : Limits) (s : Bytes) → textBytes < length s → openText L s ≡ refused 9 0
 unfolding openText
 open-long L s h = rw (lt-ltb textBytes (length s) h)
@@ -46,11 +54,8 @@ module _ {s : Bytes} {at e : ℕ} (p : Piece newline s at e) (n stage : ℕ) (b 
       (λ f x. cond (isEnd f) (atEnd (suc n) x (piecesFrom newline s (e + 1)))
       (readLines (suc n) (stageAfter (rank f)) x (piecesFrom newline s (e + 1))))
   unfolding readLines piecesFrom
-  open-line h = ap (readLines n stage b) (p .is) ∙ go (piecesFrom newline s (e + 1)) more
+  open-line h = ap (readLines n stage b) (p .is) ∙ go (piecesFrom newline s (e + 1)) (piece-follows s e h)
     where
-      more : (w : Bytes) × (ws : List Bytes) × (piecesFrom newline s (e + 1) ≡ w ∷ ws)
-      more = let r = split-some newline (drop (e + 1) s) in (r .0, r .1, rw (le-leb (e + 1) (length s) (omega arith)) (r .2))
-
       go : (ws : List Bytes) → (w : Bytes) × (vs : List Bytes) × (ws ≡ w ∷ vs)
           → readLines n stage b (take (e - at) (drop at s) ∷ ws)
           ≡ readLine n stage b (formOf (take (e - at) (drop at s)))

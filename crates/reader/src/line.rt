@@ -8,6 +8,9 @@ use crate::keyword::takes_signs;
 use crate::keyword::word_of;
 use crate::word::SPACE;
 use crate::word::find;
+ghost use mathlib.Core.Path.{_≡_};
+ghost use Prim.Native.Nat.{suc, min};
+ghost use Rattle.qbf.specs.Formula.{paper};
 ghost use Rattle.layout.specs.Words.{space, split};
 ghost use Rattle.layout.specs.Forms.{formFrom, formOf};
 ghost use Rattle.reader.specs.Lines.{LineRead};
@@ -23,6 +26,17 @@ fn read_form(s: &[u8], out: &mut [i16]) -> Line
         return Line::NotLine;
     };
     line_of(w, n)
+}
+
+// How many of n items stand in a table with one cell more than there are variables: enough to decide.
+pub fn kept(n: usize) -> usize
+    ensures { λ r. ⌜ r ≡ min n (suc (paper .numbers)) ⌝ }
+{
+    if n < tables::BY_NUMBER {
+        n
+    } else {
+        tables::BY_NUMBER
+    }
 }
 
 pub fn read_line(l: &[u8], out: &mut [i16]) -> Line

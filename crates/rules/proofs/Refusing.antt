@@ -15,15 +15,11 @@ use borrow.Author.Tests.{lt-ltb, le-ltb, le-leb, lt-leb, leb-false, eq-eqb, ne-e
 use Rattle.qbf.specs.Formula.{paper, Prefix, Literal, numberOf, placeOf, any}
 use Rattle.qbf.specs.Calls.{_orElse_, given, literalFault}
 use Rattle.theory.proofs.Basics.{or-right, or-false, or-false-right, dichotomy, eqb-true}
+use Rattle.theory.proofs.AcceptedRule.{given-none}
 use Rattle.tables.specs.Views.{Places}
 use Rattle.state.specs.declared.State.{State}
 use Rattle.state.specs.Reading.{valid}
 use Rattle.rules.specs.Faults.{faultOf, numberFault, faultAfter, Judged}
-use Rattle.serving.proofs.Calls.{some-none}
-
-given-none : (x : Bool) (n : ℕ) (o : Option ℕ) → none ≡ (given x n orElse o) → (x ≡ false) × (none ≡ o)
-given-none true n o e = absurd (some-none e)
-given-none false n o e = (refl, e)
 
 given-joins : (a b c : Bool) (o : Option ℕ) → (given a 3 orElse given b 5 orElse given c 6 orElse o) ≡ ((given a 3 orElse given b 5 orElse given c 6) orElse o)
 given-joins true b c o = refl
@@ -59,7 +55,7 @@ module _ (n place mark : ℕ) where
   -- a number without a fault has a cell
   pub number-cell : none ≡ numberFault n place mark → n < 41
   number-cell e =
-      let h = ltb-false 40 n (or-false-right (eqb n 0) (ltb 40 n) (given-none (eqb n 0 || ltb 40 n) 3 (given (eqb place 0) 5 orElse given (not (eqb mark 0)) 6) e .0)) in
+      let h = ltb-false 40 n (or-false-right (eqb n 0) (ltb 40 n) (given-none (eqb n 0 || ltb 40 n) 3 (given (eqb place 0) 5 orElse given (not (eqb mark 0)) 6) (sym e) .0)) in
       omega (arith, h)
 
 -- ---- the literals from the left: the first i have no fault, and their numbers are marked
@@ -161,8 +157,8 @@ module _ (count : ℕ) (D : Prefix) (ls : List Literal) where
 
   -- a rule without a fault: there is room for its clause, and in the area for its literals
   module _ (fine : none ≡ faultAfter count D ls) where
-    full : (leb 255 count ≡ false) × (none ≡ (given (eqb (length ls) 0 || ltb 16 (length ls)) 7 orElse literalFault paper D [] ls))
-    full = given-none (leb 255 count) 20 (given (eqb (length ls) 0 || ltb 16 (length ls)) 7 orElse literalFault paper D [] ls) fine
+    full : (leb 255 count ≡ false) × ((given (eqb (length ls) 0 || ltb 16 (length ls)) 7 orElse literalFault paper D [] ls) ≡ none)
+    full = given-none (leb 255 count) 20 (given (eqb (length ls) 0 || ltb 16 (length ls)) 7 orElse literalFault paper D [] ls) (sym fine)
 
     pub fine-room : count < 255
     fine-room = leb-false 255 count (full .0)

@@ -1,7 +1,8 @@
 // The calls rule and forget, open to outsiders: they change what a state holds, and ask for no search.
 ghost use mathlib.Core.Path.{_≡_};
+ghost use mathlib.Core.List.{[]};
 ghost use Rattle.qbf.specs.Calls.{rule, forget};
-ghost use Rattle.serving.specs.Serves.{Serves};
+ghost use Rattle.serving.specs.Serves.{said, Serves};
 ghost use Rattle.rules.specs.Rules.{changeSaid};
 
 mod clauses;
@@ -18,6 +19,16 @@ pub enum Change {
 pub struct Changed {
     pub change: Change,
     pub state: State,
+}
+
+// The number of a refusal, 0 where there is none.
+pub fn refusal_of(c: Change) -> u16
+    ensures { λ r. ⌜ changeSaid c ≡ said r 0 0 0 [] ⌝ }
+{
+    match c {
+        Change::Done => refusals::NONE,
+        Change::Refused(n) => n,
+    }
 }
 
 // "Forget empties the store."

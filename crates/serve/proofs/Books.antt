@@ -33,10 +33,11 @@ use Rattle.opening.specs.declared.Opened.{Opened as Answered}
 use Rattle.writer.specs.Wrote.{Wrote}
 use Rattle.serve.specs.Line.{prefixRead, lineAnswer, answerBytes}
 use Rattle.serve.specs.Books.{BookOpened, OpensBook, PrintsCard}
+use Rattle.answers.proofs.Told.{card-said}
 use Rattle.opening.proofs.Numbered.{Numbered, numbered-given, rule-numbered}
 use Rattle.serve.proofs.Room.{within}
 use Rattle.serve.proofs.FreeLines.{cardLines}
-use Rattle.serve.proofs.CardTexts.{Listed, Refused, formed-cases, said-by, text-by, card-said}
+use Rattle.serve.proofs.CardTexts.{Listed, Refused, formed-cases, said-by, text-by}
 
 -- ---- no refusal of a text is 0
 declare-numbered : (L : Limits) (κ : Quantifier) (D : Prefix) (ns : List ℕ) → Numbered (declareFault L κ D ns)

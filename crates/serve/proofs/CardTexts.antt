@@ -27,6 +27,7 @@ use Rattle.state.proofs.Valid.{valid-facts, valid-numbers, valid-quantified}
 use Rattle.serving.specs.Serves.{Said, said, saidReply, saidOf, outOf, Serves}
 use Rattle.serving.proofs.Calls.{malformed}
 use Rattle.answers.specs.Answers.{cardSaid}
+use Rattle.answers.proofs.Told.{card-said}
 use Rattle.answers.specs.declared.Printed.{Printed}
 use Rattle.answers.specs.declared.Printed.the-variants as printed
 use Rattle.answers.proofs.Running.{free-within, free-small}
@@ -76,10 +77,6 @@ said-by a r e = ap (λ (q : Reply). saidReply q (a .visits)) e
 pub text-by : (D : Prefix) (c : Call) (line : ℕ) (a : Answer) (r : Reply) → a .reply ≡ r → answerText D c line a ≡ replyPrinted D c line r (a .visits)
 unfolding answerText
 text-by D c line a r e = ap (λ (q : Reply). replyPrinted D c line q (a .visits)) e
-
-pub card-said : (p : Printed) (k : ℕ) (tb : List ℕ) → cardSaid p k tb ≡ said (cardSaid p 0 [] .refusal) 0 (cardSaid p 0 [] .lines) k tb
-card-said (printed.Lines n) k tb = refl
-card-said (printed.Refused n) k tb = refl
 
 refused-text : (o : Option Read) (D : Prefix) (size line r n k : ℕ) (tb : List ℕ) → (r ≡ 0 → ⊥) → said r 0 n k tb ≡ saidOf (outOf o (card size)) → cardRefusalText r line k ≡ answerText D (card size) line (outOf o (card size))
 refused-text o D size line r n k tb h s = by (card-cases size o)

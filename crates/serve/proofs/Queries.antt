@@ -19,8 +19,7 @@ use Rattle.theory.proofs.Basics.{and-both, or-false-left, or-false-right, false
 use Rattle.theory.proofs.Prefixes.{place-of-zero, place-beyond}
 use Rattle.theory.proofs.Widths.{prefix-width}
 use Rattle.layout.specs.Opening.{variable}
-use Rattle.layout_laws.proofs.Blocks.{given-none}
-use Rattle.serving.proofs.Calls.{some-none}
+use Rattle.theory.proofs.AcceptedRule.{some-none, given-none}
 use Rattle.reader.specs.Items.{narrow, narrowed}
 
 module _ (b : Formula) where
@@ -34,7 +33,7 @@ module _ (b : Formula) where
   -- ---- cutting
   -- a fault among the first numbers is the fault of all
   first-fault : (k : ℕ) (seen : List ℕ) (ls : List Literal) (m : ℕ) → queryFault b seen (take k ls) ≡ some m → queryFault b seen ls ≡ queryFault b seen (take k ls)
-  first-fault zero seen ls m e = absurd (some-none e)
+  first-fault zero seen ls m e = absurd (some-none (sym e))
   first-fault (suc k) seen [] m e = refl
   first-fault (suc k) seen (l ∷ ls) m e = by (barred seen l) e (first-fault k (numberOf l ∷ seen) ls m)
     where
@@ -118,7 +117,7 @@ module _ (b : Formula) where
     query-same seen (n ∷ ns) e = by (decLt (paper .numbers) n) (query-same (n ∷ seen) ns (given-none (barred seen (pos n)) 8 (queryFault b (n ∷ seen) (map pos ns)) e .1))
       where
         by : Dec (paper .numbers < n) → map narrowed (map pos ns) ≡ map pos ns → pos (narrow n) ∷ map narrowed (map pos ns) ≡ pos n ∷ map pos ns
-        by (yes h) ih = absurd (some-none (sym e ∙ no-place seen n _ h))
+        by (yes h) ih = absurd (some-none (sym (no-place seen n _ h) ∙ e))
         by (no h) ih = (λ i. pos (same i) ∷ ih i)
           where
             same : narrow n ≡ n

@@ -1,9 +1,9 @@
 // A book opened from its text, and the card that the program `card` prints for one.
 use crate::Turn;
-use crate::card::lines_of;
 use crate::card::put_shown;
-use crate::card::refusal_of;
 use crate::refusal::refuse;
+use answers::lines_of;
+use answers::refusal_of;
 use state::State;
 ghost use mathlib.Core.Path.{_≡_};
 ghost use mathlib.Core.Bool.{true};

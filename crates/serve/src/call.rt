@@ -7,11 +7,12 @@ use crate::change::serve_rule;
 use crate::query::serve_query;
 use crate::refusal::refuse;
 use reader::call::CallLine;
+use reader::line::kept;
 use state::State;
 ghost use mathlib.Core.Path.{_≡_};
 ghost use mathlib.Core.List.{List, map};
 ghost use mathlib.Core.Option.{Option, none, some};
-ghost use Prim.Native.Nat.{ℕ, suc, _≤_, min};
+ghost use Prim.Native.Nat.{ℕ, suc, _≤_};
 ghost use lib.IntN.{pos};
 ghost use lib.ListN.{length};
 ghost use Rattle.qbf.specs.Formula.{paper, Literal};
@@ -23,17 +24,6 @@ ghost use Rattle.serve.specs.Calls.{Small};
 
 // "1 text not in the layout"
 const NOT_IN_LAYOUT: u16 = 1;
-
-// How many of n literals stand in the table.
-fn kept(n: usize) -> usize
-    ensures { λ r. ⌜ r ≡ min n (suc (paper .numbers)) ⌝ }
-{
-    if n < tables::BY_NUMBER {
-        n
-    } else {
-        tables::BY_NUMBER
-    }
-}
 
 fn rule_of(x: State, lits: &[i16], n: usize, line: u64, out: &mut [u8]) -> Turn
     requires { ⌜ length (now lits) ≡ suc (paper .numbers) ⌝ }

@@ -1,7 +1,8 @@
 // The line of a card: its lines and visits, or refused.
 use crate::Turn;
 use crate::refusal::refuse;
-use answers::Printed;
+use answers::lines_of;
+use answers::refusal_of;
 use state::State;
 use writer::answer::put_overflow;
 use writer::card::put_card;
@@ -18,26 +19,6 @@ ghost use Rattle.serving.specs.Serves.{said, saidOf, outOf};
 ghost use Rattle.answers.specs.Answers.{cardSaid};
 ghost use Rattle.writer.specs.Wrote.{Wrote};
 ghost use Rattle.serve.specs.Line.{lineAnswer, answerBytes, Turned};
-
-// The refusal's number, 0 where there is none.
-pub fn refusal_of(p: Printed) -> u16
-    ensures { λ r. ⌜ r ≡ cardSaid p 0 [] .refusal ⌝ }
-{
-    match p {
-        Printed::Lines(n) => 0,
-        Printed::Refused(n) => n,
-    }
-}
-
-// How many lines there are.
-pub fn lines_of(p: Printed) -> usize
-    ensures { λ r. ⌜ r ≡ cardSaid p 0 [] .lines ⌝ }
-{
-    match p {
-        Printed::Lines(n) => n,
-        Printed::Refused(n) => 0,
-    }
-}
 
 // A card too large tells its visits.
 fn put_card_refusal(out: &mut [u8], refusal: u16, visits: u64, line: u64) -> usize

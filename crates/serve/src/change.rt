@@ -1,28 +1,16 @@
 // The lines of rule and forget: accepted, forgotten, or refused.
 use crate::Turn;
 use crate::refusal::refuse;
-use rules::Change;
+use rules::refusal_of;
 use state::State;
 use writer::bytes::put_word;
-ghost use mathlib.Core.Path.{_≡_};
 ghost use mathlib.Core.Option.{some};
 ghost use Prim.Native.Nat.{_≤_};
 ghost use lib.ListN.{length};
 ghost use Rattle.qbf.specs.Calls.{rule, forget};
-ghost use Rattle.rules.specs.Rules.{changeSaid};
 ghost use Rattle.writer.specs.Wrote.{Wrote};
 ghost use Rattle.serve.specs.Line.{answerBytes, Turned};
 ghost use Rattle.serve.specs.Texts.{changeText};
-
-// The refusal's number, 0 where there is none.
-fn refusal_of(c: Change) -> u16
-    ensures { λ r. ⌜ r ≡ changeSaid c .refusal ⌝ }
-{
-    match c {
-        Change::Done => 0,
-        Change::Refused(n) => n,
-    }
-}
 
 // The word of a call that is done, or the refusal.
 fn put_change(out: &mut [u8], done: &[u8], refusal: u16, line: u64) -> usize

@@ -5,17 +5,11 @@ use mathlib.Core.Bool.{Bool, true, false, cond}
 use mathlib.Core.Option.{Option, none, some}
 use Rattle.qbf.specs.Calls.{Call, Answer, answer, refusal, guarded, State as Read}
 use Rattle.qbf.specs.Demands.{refusalOf}
+use Rattle.theory.proofs.AcceptedRule.{some-none}
 use Rattle.state.specs.declared.State.{State}
 use Rattle.state.specs.Reading.{fits, stateIn, readState, wellFormedRead, valid}
 use Rattle.state.proofs.Valid.{valid-facts}
 use Rattle.serving.specs.Serves.{saidOf, outOf, nextOf, Serves}
-
-pub some-none : {n : ℕ} → _≡_ {A = Option ℕ} none (some n) → ⊥
-some-none e = subst code e tt
-  where
-    code : Option ℕ → Type 0
-    code none = Unit {0}
-    code (some n) = ⊥
 
 -- no refusal, or 21: then the state may differ from the one given
 abbrev pub Passes : Option ℕ → Type 0
@@ -23,7 +17,7 @@ Passes none = Unit {0}
 Passes (some n) = n ≡ 21
 
 passes-21 : (o : Option ℕ) → Passes o → (n : ℕ) → o ≡ some n → n ≡ 21
-passes-21 none h n e = absurd (some-none e)
+passes-21 none h n e = absurd (some-none (sym e))
 passes-21 (some m) h n e = sym (number e) ∙ h
   where
     of : Option ℕ → ℕ

@@ -20,15 +20,15 @@ use Rattle.theory.proofs.Stores.{mem-append}
 use Rattle.theory.proofs.WellFormed.{FormulaFacts, each-clause, →rising}
 
 -- ---- a rule without a fault
-some-none : (n : ℕ) → _≡_ {A = Option ℕ} (some n) none → ⊥
-some-none n e = subst code e tt
+pub some-none : {n : ℕ} → _≡_ {A = Option ℕ} (some n) none → ⊥
+some-none e = subst code e tt
   where
     code : Option ℕ → Type 0
     code none = ⊥
     code (some k) = Unit {0}
 
-given-none : (x : Bool) (n : ℕ) (o : Option ℕ) → (given x n orElse o) ≡ none → (x ≡ false) × (o ≡ none)
-given-none true n o e = absurd (some-none n e)
+pub given-none : (x : Bool) (n : ℕ) (o : Option ℕ) → (given x n orElse o) ≡ none → (x ≡ false) × (o ≡ none)
+given-none true n o e = absurd (some-none e)
 given-none false n o e = (refl, e)
 
 fault-free : (L : Limits) (D : Prefix) (seen : List ℕ) (ls : List Literal) → literalFault L D seen ls ≡ none → (l : Literal) → Mem l ls → 0 < place D l

@@ -19,10 +19,15 @@ use Rattle.theory.proofs.Starting.{starts-empty, learning, searched}
 use Rattle.theory.proofs.Runs.{Reached, reached-formed, step-ok}
 use Rattle.theory.proofs.Topmost.{tops, card-right}
 
-bytes-length : (f : ℕ) (ls : List Node) → ((s : Node) → Mem s ls → length s ≤ f) → length (bytesOf f ls) ≡ length ls * f
+-- ---- the bytes of lines
+pub line-length : (f : ℕ) (s : Node) → length s ≤ f → length (lineBytes f s) ≡ f
+line-length f s h = omega (arith, h, length-append (map byteOf s) (replicate (f - length s) 0), length-map s byteOf, length-replicate {A = ℕ} (f - length s) 0)
+
+pub bytes-length : (f : ℕ) (ls : List Node) → ((s : Node) → Mem s ls → length s ≤ f) → length (bytesOf f ls) ≡ length ls * f
 bytes-length f [] h = omega arith
-bytes-length f (s ∷ ls) h =
-    omega (arith, bytes-length f ls (λ t m. h t (inr m)), h s (inl refl), length-append (lineBytes f s) (bytesOf f ls), length-append (map byteOf s) (replicate (f - length s) 0), length-map s byteOf, length-replicate {A = ℕ} (f - length s) 0)
+bytes-length f (s ∷ ls) h = omega (arith, bytes-length f ls (λ t m. h t (inr m)), line-length f s (h s (inl refl)), length-append (lineBytes f s) (bytesOf f ls))
+
+-- ---- the card
 
 module _ (p : Bool) (D : Prefix) (R : List Clause) where
   table-length : (len : ℕ) (ls : List Node) → CardRight p D R ls → length ls * freeVariables D ≤ len → length (tableOf (freeVariables D) len ls) ≡ len

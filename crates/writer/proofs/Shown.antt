@@ -15,6 +15,7 @@ use Rattle.qbf.specs.Formula.{Limits, paper, Variable, Prefix, Node, any}
 use Rattle.qbf.specs.Card.{Mem, byteOf, lineBytes, bytesOf, tableOf}
 use Rattle.qbf.specs.Calls.{numbersOk}
 use Rattle.theory.proofs.Basics.{and-left, and-right}
+use Rattle.theory.proofs.Cards.{line-length}
 use Rattle.tables.specs.Views.{Numbers}
 use Rattle.layout.specs.Words.{Bytes, ascii, space}
 use Rattle.layout.specs.Forms.{off}
@@ -94,12 +95,6 @@ module _ (L : Limits) (D : Prefix) (numbers : List ℕ) (f : ℕ) (fine : number
       next : (k : ℕ) → 1 + k ≡ suc k
       next k = omega arith
 
-  line-width : (s : Node) → length s ≤ f → length (lineBytes f s) ≡ f
-  line-width s within = length-append (map byteOf s) (replicate (f - length s) 0) ∙ by (length-map s byteOf) (length-replicate (f - length s) 0)
-    where
-      by : {a b : ℕ} → a ≡ length s → b ≡ f - length s → a + b ≡ f
-      by p q = omega (arith, p, q, within)
-
   pub rows-shown : (ls : List Node) (after : List ℕ) → Within f ls → rowsText f numbers (bytesOf f ls ++ after) (length ls) ≡ linesText D ls
   unfolding rowsText linesText
   rows-shown [] after within = refl
@@ -111,7 +106,7 @@ module _ (L : Limits) (D : Prefix) (numbers : List ℕ) (f : ℕ) (fine : number
       ∙ ap (λ (t : Bytes). lineText D s ++ t) (rows-shown ls after (λ r m. within r (inr m)))
     where
       width : length (lineBytes f s) ≡ f
-      width = line-width s (within s (inl refl))
+      width = line-length f s (within s (inl refl))
 
   -- the whole card
   pub card-shown : (ls : List Node) (size visits : ℕ) → Within f ls → cardRows f numbers (tableOf f size ls) (length ls) visits ≡ cardText D ls visits

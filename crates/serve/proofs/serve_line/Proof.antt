@@ -1,3 +1,4 @@
+-- `serve::serve_line` meets its contract.
 use borrow.Author.Needs.{needs}
 use Rattle.serve.proofs.serve_line.Statement.{statement}
 use Rattle.serve.proofs.serve_line.Tie as tie

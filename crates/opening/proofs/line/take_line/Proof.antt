@@ -47,14 +47,14 @@ take-book-requires c κs = search needs
 enum-known-kind : tie.Need-enum-known-kind
 enum-known-kind c = search needs
 
-least-requires : tie.Need-least-requires
-least-requires c κs = search needs
+kept-requires : tie.Need-kept-requires
+kept-requires c κs = search needs
 
 array-share-prefix-items : tie.Need-array-share-prefix-items
 array-share-prefix-items c = search needs
 
 slice-aggregate-take-block : tie.Need-slice-aggregate-take-block
-slice-aggregate-take-block c = counted (c .before .before .before .kind .given .0 .1 .0) (c .before .before .before .before .before .before .read-line .last .1 .0) (c .before .least .ensures) (search needs)
+slice-aggregate-take-block c = counted (c .before .before .before .kind .given .0 .1 .0) (c .before .before .before .before .before .before .read-line .last .1 .0) (c .before .kept .ensures) (search needs)
 
 take-block-requires : tie.Need-take-block-requires
 take-block-requires c κs = (c .before .before .before .before .before .before .before .before .before .pre, block-code (subst (λ (l : Line). LineRead (formOf (now (c .before .before .before .before .before .before .before .before .before .args .line))) l (c .before .before .before .before .before .before .read-line .last .1 .0)) (c .before .before .before .kind .given .1) (c .before .before .before .before .before .before .read-line .ensures)))
@@ -62,14 +62,14 @@ take-block-requires c κs = (c .before .before .before .before .before .before .
 enum-known-n : tie.Need-enum-known-n
 enum-known-n c = search needs
 
-least-requires-2 : tie.Need-least-requires-2
-least-requires-2 c κs = search needs
+kept-requires-2 : tie.Need-kept-requires-2
+kept-requires-2 c κs = search needs
 
 array-share-prefix-items-2 : tie.Need-array-share-prefix-items-2
 array-share-prefix-items-2 c = search needs
 
 slice-aggregate-take-rule : tie.Need-slice-aggregate-take-rule
-slice-aggregate-take-rule c = counted (c .before .before .before .n .given .0 .0) (c .before .before .before .before .before .before .read-line .last .1 .0) (c .before .least2 .ensures) (search needs)
+slice-aggregate-take-rule c = counted (c .before .before .before .n .given .0 .0) (c .before .before .before .before .before .before .read-line .last .1 .0) (c .before .kept2 .ensures) (search needs)
 
 take-rule-requires : tie.Need-take-rule-requires
 take-rule-requires c κs = search needs
@@ -87,10 +87,10 @@ returns-2 : tie.Need-returns-2
 returns-2 c = line-book (c .before .before .before .before .before .before .before .before .before .pre) (search needs) (subst (λ (l : Line). LineRead (formOf (now (c .before .before .before .before .before .before .before .before .before .args .line))) l (c .before .before .before .before .before .before .read-line .last .1 .0)) (c .before .before .before .enum-told2 .given .1) (c .before .before .before .before .before .before .read-line .ensures)) (back (sfits-of (c .before .before .number-of-arg .given))) (c .before .number-of .ensures) (c .take-book .ensures)
 
 returns-3 : tie.Need-returns-3
-returns-3 c = line-block (c .before .before .before .before .before .before .before .before .before .before .pre) (search needs) (c .before .before .before .before .kind .given .0 .0) (c .before .before .before .before .kind .given .0 .1 .0) (c .before .before .least .ensures) (subst (λ (l : Line). LineRead (formOf (now (c .before .before .before .before .before .before .before .before .before .before .args .line))) l (c .before .before .before .before .before .before .before .read-line .last .1 .0)) (c .before .before .before .before .kind .given .1) (c .before .before .before .before .before .before .before .read-line .ensures)) (c .take-block .ensures)
+returns-3 c = line-block (c .before .before .before .before .before .before .before .before .before .before .pre) (search needs) (c .before .before .before .before .kind .given .0 .0) (c .before .before .before .before .kind .given .0 .1 .0) (c .before .before .kept .ensures) (subst (λ (l : Line). LineRead (formOf (now (c .before .before .before .before .before .before .before .before .before .before .args .line))) l (c .before .before .before .before .before .before .before .read-line .last .1 .0)) (c .before .before .before .before .kind .given .1) (c .before .before .before .before .before .before .before .read-line .ensures)) (c .take-block .ensures)
 
 returns-4 : tie.Need-returns-4
-returns-4 c = line-rule (c .before .before .before .before .before .before .before .before .before .before .pre) (search needs) (c .before .before .before .before .n .given .0 .0) (c .before .before .least2 .ensures) (subst (λ (l : Line). LineRead (formOf (now (c .before .before .before .before .before .before .before .before .before .before .args .line))) l (c .before .before .before .before .before .before .before .read-line .last .1 .0)) (c .before .before .before .before .n .given .1) (c .before .before .before .before .before .before .before .read-line .ensures)) (c .take-rule .ensures)
+returns-4 c = line-rule (c .before .before .before .before .before .before .before .before .before .before .pre) (search needs) (c .before .before .before .before .n .given .0 .0) (c .before .before .kept2 .ensures) (subst (λ (l : Line). LineRead (formOf (now (c .before .before .before .before .before .before .before .before .before .before .args .line))) l (c .before .before .before .before .before .before .before .read-line .last .1 .0)) (c .before .before .before .before .n .given .1) (c .before .before .before .before .before .before .before .read-line .ensures)) (c .take-rule .ensures)
 
 returns-5 : tie.Need-returns-5
 returns-5 c = line-is (c .before .before .before .before .before .before .before .args .stage) (formulaIn (c .before .before .before .before .before .before .before .args .x)) (c .take-end .result) (subst (λ (l : Line). LineRead (formOf (now (c .before .before .before .before .before .before .before .args .line))) l (c .before .before .before .before .read-line .last .1 .0)) (c .before .enum-told3 .given .1) (c .before .before .before .before .read-line .ensures)) (c .take-end .ensures)
@@ -108,12 +108,12 @@ take-line-spec =
     number-of-requires
     take-book-requires
     enum-known-kind
-    least-requires
+    kept-requires
     array-share-prefix-items
     slice-aggregate-take-block
     take-block-requires
     enum-known-n
-    least-requires-2
+    kept-requires-2
     array-share-prefix-items-2
     slice-aggregate-take-rule
     take-rule-requires

@@ -20,13 +20,13 @@ returns c = rule-misplaced (c .before .before .before .pre) (c .before .before .
 rule-requires : tie.Need-rule-requires
 rule-requires c κs = search needs
 
-fault-of-requires : tie.Need-fault-of-requires
-fault-of-requires c κs = search needs
+refusal-of-requires : tie.Need-refusal-of-requires
+refusal-of-requires c κs = search needs
 
 returns-2 : tie.Need-returns-2
-returns-2 c = rule-taken (c .before .before .before .before .before .pre) (c .before .before .before .before .may-stand .ensures) (now (c .before .before .before .before .before .args .lits)) (c .before .before .before .if1 .left) (subst (λ (a : Said). Serves (c .before .before .before .before .before .args .x) (rule (now (c .before .before .before .before .before .args .lits))) a (c .before .before .rule .result .state)) (c .fault-of .ensures) (c .before .before .rule .ensures))
+returns-2 c = rule-taken (c .before .before .before .before .before .pre) (c .before .before .before .before .may-stand .ensures) (now (c .before .before .before .before .before .args .lits)) (c .before .before .before .if1 .left) (subst (λ (a : Said). Serves (c .before .before .before .before .before .args .x) (rule (now (c .before .before .before .before .before .args .lits))) a (c .before .before .rule .result .state)) (c .refusal-of .ensures) (c .before .before .rule .ensures))
 
 pub take-rule-spec : {M : Type 1} → statement M
 take-rule-spec =
     tie.close
-    (tie.spec may-stand-requires refuse-requires returns rule-requires fault-of-requires returns-2)
+    (tie.spec may-stand-requires refuse-requires returns rule-requires refusal-of-requires returns-2)

@@ -1,11 +1,7 @@
+-- `serve::book::open_book` meets its contract.
 use borrow.Author.Needs.{needs}
 use Rattle.serve.proofs.book.open_book.Statement.{statement}
 use Rattle.serve.proofs.book.open_book.Tie as tie
-use Rattle.serve.proofs.book.open_book.Reads as reads
-use Rattle.serve.proofs.book.open_book.Lts as lts
-use Rattle.opening.proofs.open_text.Reads as open-text-reads
-use Rattle.serve.proofs.refusal.refuse.Reads as refuse-reads
-use Rattle.state.proofs.empty.Reads as empty-reads
 use native.Mathlib.Omega.{arith}
 use denote.Ref.{now}
 use Rattle.serve.proofs.Books.{book-short, book-refused, book-opened}

@@ -1,11 +1,7 @@
+-- `serve::book::print_card` meets its contract.
 use borrow.Author.Needs.{needs}
 use Rattle.serve.proofs.book.print_card.Statement.{statement}
 use Rattle.serve.proofs.book.print_card.Tie as tie
-use Rattle.serve.proofs.book.print_card.Reads as reads
-use Rattle.serve.proofs.book.print_card.Lts as lts
-use Rattle.opening.proofs.open_text.Reads as open-text-reads
-use Rattle.serve.proofs.book.print_opened.Reads as print-opened-reads
-use Rattle.serve.proofs.refusal.refuse.Reads as refuse-reads
 use native.Mathlib.Omega.{arith}
 use denote.Ref.{now}
 use Rattle.serve.proofs.Books.{card-short, text-refused, text-printed}

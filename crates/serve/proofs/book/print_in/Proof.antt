@@ -1,13 +1,7 @@
+-- `serve::book::print_in` meets its contract.
 use borrow.Author.Needs.{needs}
 use Rattle.serve.proofs.book.print_in.Statement.{statement}
 use Rattle.serve.proofs.book.print_in.Tie as tie
-use Rattle.serve.proofs.book.print_in.Reads as reads
-use Rattle.serve.proofs.book.print_in.Lts as lts
-use Rattle.answers.proofs.card.Reads as card-reads
-use Rattle.serve.proofs.card.lines_of.Reads as lines-of-reads
-use Rattle.serve.proofs.card.put_shown.Reads as put-shown-reads
-use Rattle.serve.proofs.card.refusal_of.Reads as refusal-of-reads
-use Rattle.serve.proofs.refusal.refuse.Reads as refuse-reads
 use native.Mathlib.Omega.{arith}
 use mathlib.Core.Path.{_≡_, _∙_, ap}
 use mathlib.Core.Option.{some}

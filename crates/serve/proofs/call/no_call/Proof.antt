@@ -1,3 +1,4 @@
+-- `serve::call::no_call` meets its contract.
 use borrow.Author.Needs.{needs}
 use Rattle.serve.proofs.call.no_call.Statement.{statement}
 use Rattle.serve.proofs.call.no_call.Tie as tie

@@ -1,3 +1,4 @@
+-- `serve::call::query_of` meets its contract.
 use borrow.Author.Needs.{needs}
 use Rattle.serve.proofs.call.query_of.Statement.{statement}
 use Rattle.serve.proofs.call.query_of.Tie as tie

@@ -1,3 +1,4 @@
+-- `serve::call::rule_of` meets its contract.
 use borrow.Author.Needs.{needs}
 use Rattle.serve.proofs.call.rule_of.Statement.{statement}
 use Rattle.serve.proofs.call.rule_of.Tie as tie

@@ -1,3 +1,4 @@
+-- `serve::call::serve_call` meets its contract.
 use borrow.Author.Needs.{needs}
 use Rattle.serve.proofs.call.serve_call.Statement.{statement}
 use Rattle.serve.proofs.call.serve_call.Tie as tie

@@ -1,3 +1,4 @@
+-- `serve::card::put_card_refusal` meets its contract.
 use borrow.Author.Needs.{needs}
 use Rattle.serve.proofs.card.put_card_refusal.Statement.{statement}
 use Rattle.serve.proofs.card.put_card_refusal.Tie as tie

@@ -1,3 +1,4 @@
+-- `serve::card::put_shown` meets its contract.
 use borrow.Author.Needs.{needs}
 use Rattle.serve.proofs.card.put_shown.Statement.{statement}
 use Rattle.serve.proofs.card.put_shown.Tie as tie

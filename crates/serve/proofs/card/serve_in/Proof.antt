@@ -1,3 +1,4 @@
+-- `serve::card::serve_in` meets its contract.
 use borrow.Author.Needs.{needs}
 use Rattle.serve.proofs.card.serve_in.Statement.{statement}
 use Rattle.serve.proofs.card.serve_in.Tie as tie

@@ -1,3 +1,4 @@
+-- `serve::card::serve_part` meets its contract.
 use borrow.Author.Needs.{needs}
 use Rattle.serve.proofs.card.serve_part.Statement.{statement}
 use Rattle.serve.proofs.card.serve_part.Tie as tie

@@ -1,3 +1,4 @@
+-- `serve::change::put_change` meets its contract.
 use borrow.Author.Needs.{needs}
 use Rattle.serve.proofs.change.put_change.Statement.{statement}
 use Rattle.serve.proofs.change.put_change.Tie as tie

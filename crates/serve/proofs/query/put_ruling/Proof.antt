@@ -1,3 +1,4 @@
+-- `serve::query::put_ruling` meets its contract.
 use borrow.Author.Needs.{needs}
 use Rattle.serve.proofs.query.put_ruling.Statement.{statement}
 use Rattle.serve.proofs.query.put_ruling.Tie as tie

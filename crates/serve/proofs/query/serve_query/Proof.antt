@@ -1,3 +1,4 @@
+-- `serve::query::serve_query` meets its contract.
 use borrow.Author.Needs.{needs}
 use Rattle.serve.proofs.query.serve_query.Statement.{statement}
 use Rattle.serve.proofs.query.serve_query.Tie as tie

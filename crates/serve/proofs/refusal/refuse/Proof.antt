@@ -1,3 +1,4 @@
+-- `serve::refusal::refuse` meets its contract.
 use borrow.Author.Needs.{needs}
 use Rattle.serve.proofs.refusal.refuse.Statement.{statement}
 use Rattle.serve.proofs.refusal.refuse.Tie as tie
