@@ -35,7 +35,7 @@ pub fn number_of(lit: i16) -> Number
 }
 
 // Off and on exchanged.
-fn negated(value: u8) -> u8
+pub fn negated(value: u8) -> u8
     ensures { λ r. ⌜ r ≡ negated value ⌝ }
 {
     if value == tables::OPEN {
@@ -48,13 +48,13 @@ fn negated(value: u8) -> u8
 }
 
 // A cell of a table, 0 past its end.
-fn byte_at<'a>(table: &'a [u8], i: usize) -> u8
+pub fn byte_at<'a>(table: &'a [u8], i: usize) -> u8
     ensures { λ r. ⌜ r ≡ getD (now (table .entry)) i 0 ⌝ }
 {
     if i < table.len() { table[i] } else { 0 }
 }
 
-fn cell_at<'a>(table: &'a [u16], i: usize) -> u16
+pub fn cell_at<'a>(table: &'a [u16], i: usize) -> u16
     ensures { λ r. ⌜ r ≡ getD (now (table .entry)) i 0 ⌝ }
 {
     if i < table.len() { table[i] } else { 0 }

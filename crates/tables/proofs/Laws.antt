@@ -8,7 +8,7 @@ use mathlib.Core.Bool.{Bool, true, false, cond, Bool·beq}
 use mathlib.Core.List.{List, [], _∷_, _++_}
 use mathlib.Core.Option.{Option, none, some}
 use lib.ListN.{length, getD, length-append}
-use lib.IntN.{ℤ, pos, negsuc}
+use lib.IntN.{pos, negsuc}
 use lib.Dec.{eqb}
 use Rattle.qbf.specs.Formula.{Quantifier, free, exists, forall, Prefix, Literal, Node, numberOf, positive, place, quantifierAt, valueAt, equals, isOpen, has}
 use Rattle.qbf.specs.Learning.{Polarity, dropped}
@@ -64,30 +64,30 @@ pub kinds-dropped : (D : Prefix) (ks : List ℕ) → Kinds D ks → (v : Polarit
 kinds-dropped D ks shown v l = ap (λ (k : ℕ). eqb k (cond v 1 2)) (shown .at (numberOf l)) ∙ sym (code-dropped v (quantifierAt D (place D l)))
 
 -- ---- rows
-pub rows-length : (w : ℕ) (flat : List ℤ) (sizes : List ℕ) (n : ℕ) → length (rows w flat sizes n) ≡ n
+pub rows-length : {A : Type 0} (w : ℕ) (flat : List A) (sizes : List ℕ) (n : ℕ) → length (rows w flat sizes n) ≡ n
 unfolding rows
 rows-length w flat sizes zero = refl
 rows-length w flat sizes (suc n) = omega (arith, length-append (rows w flat sizes n) (row w flat sizes n ∷ []), rows-length w flat sizes n)
 
-pub rows-suc : (w : ℕ) (flat : List ℤ) (sizes : List ℕ) (n : ℕ) → rows w flat sizes (suc n) ≡ rows w flat sizes n ++ (row w flat sizes n ∷ [])
+pub rows-suc : {A : Type 0} (w : ℕ) (flat : List A) (sizes : List ℕ) (n : ℕ) → rows w flat sizes (suc n) ≡ rows w flat sizes n ++ (row w flat sizes n ∷ [])
 unfolding rows
 rows-suc w flat sizes n = refl
 
-pub rows-zero : (w : ℕ) (flat : List ℤ) (sizes : List ℕ) → rows w flat sizes 0 ≡ []
+pub rows-zero : {A : Type 0} (w : ℕ) (flat : List A) (sizes : List ℕ) → rows w flat sizes 0 ≡ []
 unfolding rows
 rows-zero w flat sizes = refl
 
-getD-left : (xs ys : List (List ℤ)) (i : ℕ) → i < length xs → getD (xs ++ ys) i [] ≡ getD xs i []
+getD-left : {A : Type 0} (xs ys : List (List A)) (i : ℕ) → i < length xs → getD (xs ++ ys) i [] ≡ getD xs i []
 getD-left [] ys i h = absurd (not-suc-le-zero h)
 getD-left (x ∷ xs) ys zero h = refl
 getD-left (x ∷ xs) ys (suc i) h = getD-left xs ys i (le-of-suc-le-suc h)
 
-getD-end : (xs : List (List ℤ)) (y : List ℤ) → getD (xs ++ (y ∷ [])) (length xs) [] ≡ y
+getD-end : {A : Type 0} (xs : List (List A)) (y : List A) → getD (xs ++ (y ∷ [])) (length xs) [] ≡ y
 getD-end [] y = refl
 getD-end (x ∷ xs) y = getD-end xs y
 
 -- the row at an index
-pub rows-at : (w : ℕ) (flat : List ℤ) (sizes : List ℕ) (n k : ℕ) → k < n → getD (rows w flat sizes n) k [] ≡ row w flat sizes k
+pub rows-at : {A : Type 0} (w : ℕ) (flat : List A) (sizes : List ℕ) (n k : ℕ) → k < n → getD (rows w flat sizes n) k [] ≡ row w flat sizes k
 unfolding rows
 rows-at w flat sizes zero k h = absurd (not-suc-le-zero h)
 rows-at w flat sizes (suc n) k h = by (dec k n) (λ a. rows-at w flat sizes n k a)

@@ -1,2 +1,5 @@
 pub mod Views
 pub mod Formed
+pub mod Codes
+pub mod Shelves
+pub mod Marks

@@ -56,19 +56,19 @@ status vs l = signed l (getD vs (numberOf l) 0)
 
 -- ---- rows of a flat table
 -- Row k is the first literals of the cells from k * stride on. The sizes are the number of rows, then the length of each row.
-abbrev pub row : ℕ → List ℤ → List ℕ → ℕ → List ℤ
+abbrev pub row : {A : Type 0} → ℕ → List A → List ℕ → ℕ → List A
 row stride flat sizes k = take (getD sizes (suc k) 0) (drop (k * stride) flat)
 
 -- the first n rows
-unfoldable pub rows : ℕ → List ℤ → List ℕ → ℕ → List (List ℤ)
+unfoldable pub rows : {A : Type 0} → ℕ → List A → List ℕ → ℕ → List (List A)
 rows stride flat sizes zero = []
 rows stride flat sizes (suc n) = rows stride flat sizes n ++ (row stride flat sizes n ∷ [])
 
-abbrev pub rowsOf : ℕ → List ℤ → List ℕ → List (List ℤ)
+abbrev pub rowsOf : {A : Type 0} → ℕ → List A → List ℕ → List (List A)
 rowsOf stride flat sizes = rows stride flat sizes (getD sizes 0 0)
 
 -- the rows that stand lie within the table
-pub record Table (stride capacity : ℕ) (flat : List ℤ) (sizes : List ℕ) : Type 0 where
+pub record Table {A : Type 0} (stride capacity : ℕ) (flat : List A) (sizes : List ℕ) : Type 0 where
   pub room : length flat ≡ capacity * stride
   pub counted : length sizes ≡ suc capacity
   pub few : getD sizes 0 0 ≤ capacity

@@ -25,6 +25,24 @@ pub const CONSTRAINT_SIZES: usize = CONSTRAINTS + 1;
 // Room for two constraints, so that one can be put into the other.
 pub const AREA: usize = NUMBERS * 2;
 
+// Codes of literals inside a search: a byte, so that a table by code needs no test. In a shelf each slot has a row's length and its codes; its
+// links have a cell for each code, one for the newest row's number, and one for each slot.
+pub const CODES: usize = 256;
+
+// One slot more than there can be clauses makes a power of two, so that the slot of a number is had by a mask.
+pub const CLAUSE_SLOTS: usize = CLAUSES + 1;
+
+pub const CLAUSE_CODES: usize = CLAUSE_SLOTS * (LITERALS + 1);
+
+pub const CLAUSE_LINKS: usize = CODES + 1 + CLAUSE_SLOTS;
+
+pub const CONSTRAINT_CODES: usize = CONSTRAINTS * (NUMBERS + 1);
+
+pub const CONSTRAINT_LINKS: usize = CODES + 1 + CONSTRAINTS;
+
+// Marks by place: the cells of a table by place in whole words of sixteen, so that a copy is a few moves.
+pub const MARKS: usize = NUMBERS / 16 * 16 + 16;
+
 // Values of a table by number.
 pub const OPEN: u8 = 0;
 

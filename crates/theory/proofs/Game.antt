@@ -56,13 +56,14 @@ module _ (D : Prefix) (R : List Clause) where
   win-down false ks s false w = or-false-left (completions true D R ks (s ▹ false)) (completions true D R ks (s ▹ true)) w
   win-down false ks s true w = or-false-right (completions true D R ks (s ▹ false)) (completions true D R ks (s ▹ true)) w
 
-  -- every clause satisfied: Yes
-  satisfied-up : (s : Node) (b : Bool) → all (satisfied D s) R ≡ true → all (satisfied D (s ▹ b)) R ≡ true
+  -- clauses that are satisfied stay so at a longer node
+  pub satisfied-up : (s : Node) (b : Bool) → all (satisfied D s) R ≡ true → all (satisfied D (s ▹ b)) R ≡ true
   satisfied-up s b e = →all (satisfied D (s ▹ b)) R (λ r m. one r (all→ (satisfied D s) R e r m))
     where
       one : (r : Clause) → satisfied D s r ≡ true → satisfied D (s ▹ b) r ≡ true
       one r h = let w = any→ (has D true s) r h in →any (has D true (s ▹ b)) r (w .0) (w .1) (has-up D true s b (w .0) (w .2))
 
+  -- every clause satisfied: Yes
   pub win-satisfied : (ks : List Quantifier) (s : Node) → all (satisfied D s) R ≡ true → Win true ks s
   win-satisfied [] s e = e
   win-satisfied (κ ∷ ks) s e = by (dichotomy (dropped true κ)) (λ b. win-satisfied ks (s ▹ b) (satisfied-up s b e))

@@ -5,6 +5,9 @@ pub mod Game
 pub mod Constraints
 pub mod Sets
 pub mod Shape
+pub mod Dying
+pub mod Resumed
+pub mod Uniting
 pub mod Stores
 pub mod Induction
 pub mod Claim
