@@ -2,40 +2,54 @@
 use Prim.Native.Nat.{ℕ, zero, suc, _-_, _^_, _≤_, _<_}
 use native.Mathlib.Omega.{arith}
 use native.Mathlib.Nat.{pow-le-pow-right}
-use mathlib.Core.Path.{_≡_, refl, ap, _∙_}
-use mathlib.Core.Bool.{Bool, true, cond, _&&_}
-use mathlib.Core.List.{List, []}
-use mathlib.Core.Option.{none, some}
+use mathlib.Core.Path.{_≡_, refl, sym, ap, _∙_, subst}
+use mathlib.Core.Bool.{Bool, true, false, cond, _&&_}
+use mathlib.Core.List.{List, [], map}
+use mathlib.Core.Option.{Option, none, some}
 use lib.ListN.{length, getD, take, drop, replicate, length-map}
 use lib.IntN.{ℤ}
 use lib.Dec.{leb}
 use borrow.Author.Tests.{leb-true}
-use Rattle.qbf.specs.Formula.{paper, Prefix, Node, quantifiers, placeOf, valueAt}
-use Rattle.qbf.specs.Truth.{Outcome, freeVariables}
-use Rattle.qbf.specs.Learning.{Constraint, Store, learningSearch}
+use Rattle.qbf.specs.Formula.{paper, Prefix, Literal, Clause, Node, quantifiers, place, placeOf, valueAt}
+use Rattle.qbf.specs.Truth.{Outcome, decided, freeVariables}
+use Rattle.qbf.specs.Learning.{Constraint, Store, constraints, leaf, settle, below, firstDead, learningSearch}
+use Rattle.qbf.specs.Card.{Mem}
+use Rattle.qbf.specs.Calls.{numbersOk}
 use Rattle.theory.proofs.Basics.{and-both, and-left}
 use Rattle.theory.proofs.Starting.{free-fit}
-use Rattle.theory.proofs.WellFormed.{state-facts, shaped-store}
-use Rattle.tables.specs.Views.{Places, Kinds, Values, valueCode}
-use Rattle.tables.specs.Formed.{Stores, Formed, clausesOf, storeOf}
+use Rattle.theory.proofs.Game.{rising-above}
+use Rattle.theory.proofs.Stores.{ShapedStore}
+use Rattle.theory.proofs.ShapedSearch.{shaped-below}
+use Rattle.theory.proofs.WellFormed.{state-facts, shaped-store, clauses-rising, numbers-ok}
+use Rattle.tables.specs.Views.{Numbers, Places, Kinds, Values, valueCode, rowsOf}
+use Rattle.tables.specs.Formed.{Stores, Formed, storeOf}
+use Rattle.tables.specs.Codes.{codes, Statuses, Quantified}
+use Rattle.tables.specs.Shelves.{MatrixShown, StoreShown, entriesOf, newestOf}
 use Rattle.cover.specs.Cover.{Covers}
 use Rattle.node.specs.Node.{Reads}
 use Rattle.node.specs.declared.Verdict.{Verdict}
 use Rattle.node.specs.declared.Verdict.the-variants.{Yes, No, Mixed}
 use Rattle.node.specs.declared.Position.{Position}
 use Rattle.node.specs.declared.Answer.{Answer}
-use Rattle.search.specs.Search.{Room, Counts, Task, Result, visitOf}
+use Rattle.inner.proofs.Below.{marked-none}
+use Rattle.search.proofs.Visiting.{open-alive}
+use Rattle.search.specs.Search.{Room, Counts, Task, Result, belowOf}
 use Rattle.state.specs.declared.State.{State}
 use Rattle.state.specs.Reading.{rowsFit, prefixFits, readState, valid, prefixIn, formulaIn, storeIn, stateIn}
 use Rattle.state.proofs.Valid.{ValidFacts, valid-facts, table-rows, valid-numbers}
-use Rattle.answers.specs.Run.{Ends, FoundBy}
+use Rattle.leaf.specs.Leaf.{leafRead}
+use Rattle.leaf.specs.declared.Leaf.{Leaf}
+use Rattle.leaf.specs.declared.Leaf.the-variants.{No as NoLeaf, Yes as YesLeaf, Open}
+use Rattle.answers.specs.Run.{Starts, AtStart, Ends, FoundBy, belowStart, BelowBy, Below, Searched, Ran}
+use Rattle.answers.specs.declared.run.Found.{Found}
 
 -- where a search on a state starts
 abbrev pub startAt : ℕ → ℕ → Position
-startAt at free = record { at = at; free = free; visits = 0; lines = 0; start = true }
+startAt at free = record { at = at; free = free; visits = 0; lines = 0; satisfied = 0 }
 
-pub room : (numbers : List ℕ) (at free : ℕ) → getD numbers 0 0 ≤ paper .numbers → at ≤ getD numbers 0 0 → free ≤ paper .numbers → Room numbers 1600 (startAt at free)
-room numbers at free few within small =
+pub room : (numbers cl ql : List ℕ) (at free : ℕ) → getD numbers 0 0 ≤ paper .numbers → at ≤ getD numbers 0 0 → free ≤ paper .numbers → newestOf cl ≤ paper .constraints → newestOf ql ≤ paper .constraints
+    → Room numbers 1600 cl ql (startAt at free)
+room numbers cl ql at free few within small learned cubes =
     record {
       few = few;
       within = within;
@@ -43,11 +57,73 @@ room numbers at free few within small =
       aside = omega arith;
       visits = omega (arith, pow-le-pow-right {n = 2} (omega arith) {i = suc (getD numbers 0 0 - at)} {j = 62} (omega arith));
       lines = omega arith;
+      clauses = learned;
+      cubes = cubes;
     }
 
-pub few-lines : (numbers : List ℕ) (at free : ℕ) (r : Answer) → getD numbers 0 0 ≤ paper .numbers → Counts numbers (startAt at free) r → r .lines < 2 ^ 63
-few-lines numbers at free r few c =
+pub few-lines : (numbers cl ql : List ℕ) (at free : ℕ) (r : Answer) (cl′ ql′ : List ℕ) → getD numbers 0 0 ≤ paper .numbers → Counts numbers cl ql (startAt at free) r cl′ ql′ → r .lines < 2 ^ 63
+few-lines numbers cl ql at free r cl′ ql′ few c =
     omega (arith, c .fewer, c .lines-fewer, pow-le-pow-right {n = 2} (omega arith) {i = suc (getD numbers 0 0 - at)} {j = 41} (omega arith))
+
+ends : (D : Prefix) (w : Verdict) (cs : List ℕ) (o : Outcome Constraint) → Reads D w cs o → Ends w o
+ends D Yes cs o h = (h .0, h .1)
+ends D No cs o h = (h .0, h .1)
+ends D Mixed cs o h = h
+
+-- steps 1 to 4 at the start node, by what the code found
+pub starts : (r : Leaf) (up : List ℤ) (o : Option (Outcome Constraint)) → leafRead r up ≡ o → Starts r o
+starts (NoLeaf n) up o e = (take n up, sym e)
+starts (YesLeaf n) up o e = (take n up, sym e)
+starts Open up o e = sym e
+
+-- the search below an open start node, from what the branch there gives
+pub below-shown : (clauses sizes dying links numbers kinds quantifiers values statuses cs cl qs ql table : List ℕ) (at free : ℕ) (a : Answer) (up cs′ cl′ qs′ ql′ table′ : List ℕ)
+    → at ≤ getD numbers 0 0
+    → ((D : Prefix) (s : Node) → Numbers D numbers → Values D s values → numbersOk paper [] D ≡ true → length s ≡ at → length s ≤ length D → Statuses s statuses)
+    → ((D : Prefix) (s : Node) (ls : List Node) (R : List Clause) (st : Store)
+    → Task D s ls R st clauses sizes dying links numbers kinds quantifiers values statuses cs cl qs ql table (replicate 48 0) at (startAt at free)
+    → firstDead D s R ≡ none → Result D ls (belowOf D R (startAt at free) s st) (startAt at free) a up cs′ cl′ qs′ ql′ table′)
+    → Below clauses sizes dying links numbers kinds quantifiers values cs cl qs ql table at free a cs′ cl′ qs′ ql′ table′
+below-shown clauses sizes dying links numbers kinds quantifiers values statuses cs cl qs ql table at free a up cs′ cl′ qs′ ql′ table′ within coded branch = record { by = shown }
+  where
+    shown : (D : Prefix) (R : List Clause) (s : Node) (st : Store)
+        → Numbers D numbers → Kinds D kinds → Values D s values → length values ≡ suc (paper .numbers) → Quantified D quantifiers → MatrixShown D R clauses sizes dying links → StoreShown D st cs cl qs ql
+        → Formed D R st → length s ≡ at → free ≡ freeVariables D → Covers free table [] → firstDead D s R ≡ none
+        → BelowBy D (belowStart D R at s st) free a cs′ cl′ qs′ ql′ table′
+    shown D R s st ns ks vs wide qs-shown matrix stored form long frees cov alive =
+        record {
+          verdict = ends D (a .verdict) (take (a .len) up) _ (r .verdict);
+          visits = omega (arith, r .visited);
+          stored = r .stored;
+          covers = r .covers;
+          lines = r .counted;
+        }
+      where
+        ok : numbersOk paper [] D ≡ true
+        ok = numbers-ok (record { limits = paper; prefix = D; clauses = R }) (record { limits-ok = refl; prefix-ok = form .prefix-ok; clauses-ok = form .clauses-ok })
+
+        r : Result D [] (belowStart D R at s st) (startAt at free) a up cs′ cl′ qs′ ql′ table′
+        r =
+            branch D s [] R st
+            (record {
+              shown =
+                  record {
+                    numbered = ns;
+                    kinded = ks;
+                    valued = vs;
+                    wide = wide;
+                    quantified = qs-shown;
+                    statused = coded D s ns vs ok long (omega (arith, within, long, ns .count));
+                    long = long;
+                  };
+              formed = form;
+              matrix = matrix;
+              stored = stored;
+              marked = marked-none D s R;
+              frees = frees;
+              covers = cov;
+              counted = refl;
+            }) alive
 
 -- ---- the next state
 abbrev pub withStore : State → List ℤ → List ℕ → List ℤ → List ℕ → State
@@ -76,6 +152,12 @@ module _ (x : State) (v : valid x ≡ true) where
   pub few-variables : getD (x .numbers) 0 0 ≤ paper .numbers
   few-variables = leb-true (getD (x .numbers) 0 0) (paper .numbers) (and-left (leb (getD (x .numbers) 0 0) (paper .numbers)) _ (f .prefix-fits))
 
+  pub variables-numbered : numbersOk paper [] (prefixIn x) ≡ true
+  variables-numbered = numbers-ok (formulaIn x) (state-facts (stateIn x) (f .formed) .formula-ok)
+
+  pub variables-small : length (prefixIn x) ≤ paper .numbers
+  variables-small = omega (arith, few-variables, valid-numbers x v .count)
+
   pub next-reads : (cs : List ℤ) (css : List ℕ) (qs : List ℤ) (qss : List ℕ) → Stores cs css qs qss
       → readState (withStore x cs css qs qss) ≡ some (record { formula = formulaIn x; store = storeOf cs css qs qss })
   unfolding readState
@@ -89,38 +171,102 @@ module _ (x : State) (v : valid x ≡ true) where
       (table-rows (paper .numbers) (paper .constraints) cs css (s .clauses)))
       (table-rows (paper .numbers) (paper .constraints) qs qss (s .cubes)))
 
-  ends : (w : Verdict) (e : List ℤ) (o : Outcome Constraint) → Reads w e o → Ends w o
-  ends Yes e o h = (e, h)
-  ends No e o h = (e, h)
-  ends Mixed e o h = h
-
-  -- the result of the visit of the start node, as the answer of the search on the state
-  pub found : (places kinds values : List ℕ) (at free : ℕ) (table : List ℕ) (a : Answer) (up : List ℤ) (cs : List ℤ) (css : List ℕ) (qs : List ℤ) (qss table′ : List ℕ)
-      → length values ≡ suc (paper .numbers) → Stores cs css qs qss
-      → ((D : Prefix) (s : Node) (ls : List Node) → Task D s ls (clausesOf (x .clauses) (x .«clause_sizes»)) (storeIn x) (x .numbers) places kinds values table at (startAt at free)
-      → Result ls (visitOf D (clausesOf (x .clauses) (x .«clause_sizes»)) (startAt at free) s (storeIn x)) (startAt at free) a up (storeOf cs css qs qss) table′)
-      → (s : Node) → Places (prefixIn x) places → Kinds (prefixIn x) kinds → Values (prefixIn x) s values → length s ≡ at → free ≡ freeVariables (prefixIn x) → Covers free table []
-      → FoundBy x (learningSearch paper (prefixIn x) (formulaIn x .clauses) (drop at (quantifiers (prefixIn x))) s (storeIn x)) free
-      (record { verdict = a .verdict; visits = a .visits; lines = a .lines; state = withStore x cs css qs qss }) table′
-  found places kinds values at free table a up cs css qs qss table′ wide stores vis s ps ks vs long frees cov =
-      record {
-        verdict = ends (a .verdict) (take (a .len) up) _ (r .verdict);
-        visits = omega (arith, r .visited);
-        state = next-reads cs css qs qss stores ∙ ap (λ (st : Store). some (record { formula = formulaIn x; store = st })) (r .stored);
-        covers = r .covers;
-        lines = r .counted;
-      }
+  -- what is learned below a node is declared
+  learned-declared : (at : ℕ) (s : Node) → length s ≡ at → at ≤ getD (x .numbers) 0 0
+      → (v : Bool) (e : Constraint) → Mem e (constraints v (belowStart (prefixIn x) (formulaIn x .clauses) at s (storeIn x) .store)) → (l : Literal) → Mem l e → 1 ≤ place (prefixIn x) l
+  learned-declared at s long within v e m l i = rising-above (prefixIn x) 0 e (shaped .each v e m .rising) l i
     where
-      r : Result [] (learningSearch paper (prefixIn x) (formulaIn x .clauses) (drop at (quantifiers (prefixIn x))) s (storeIn x)) (startAt at free) a up (storeOf cs css qs qss) table′
-      r =
-          vis (prefixIn x) s []
-          (record {
-            shown = record { numbered = valid-numbers x v; placed = ps; kinded = ks; valued = vs; wide = wide; long = long };
-            formed = formed;
-            frees = frees;
-            covers = cov;
-            counted = refl;
-          })
+      shaped : ShapedStore paper (prefixIn x) (belowStart (prefixIn x) (formulaIn x .clauses) at s (storeIn x) .store)
+      shaped =
+          shaped-below paper (omega arith) (prefixIn x) (formulaIn x .clauses) (clauses-rising (formulaIn x) (state-facts (stateIn x) (f .formed) .formula-ok)) (drop at (quantifiers (prefixIn x))) s (storeIn x)
+          (ap (λ (i : ℕ). drop i (quantifiers (prefixIn x))) long) (state-facts (stateIn x) (f .formed) .store-ok) .store-ok
+
+  -- the search on the state, over derived tables of its clauses
+  module _ (clauses dying links quantifiers places kinds values : List ℕ) (at free : ℕ) (table table′ : List ℕ) (a : Answer)
+      (cs cl qs ql cs′ cl′ qs′ ql′ : List ℕ) (lc : List ℤ) (lcs : List ℕ) (lq : List ℤ) (lqs : List ℕ)
+      (within : at ≤ getD (x .numbers) 0 0)
+      (loaded : (D : Prefix) → Places D places → length D ≤ paper .numbers → entriesOf cs cl ≡ map (codes D) (rowsOf (paper .numbers) (x .«learned_clauses») (x .«learned_clause_sizes»)))
+      (loaded-cubes : (D : Prefix) → Places D places → length D ≤ paper .numbers → entriesOf qs ql ≡ map (codes D) (rowsOf (paper .numbers) (x .«learned_cubes») (x .«learned_cube_sizes»)))
+      (run : Below clauses (x .«clause_sizes») dying links (x .numbers) kinds quantifiers values cs cl qs ql table at free a cs′ cl′ qs′ ql′ table′)
+      (stores : Stores lc lcs lq lqs)
+      (unloaded : (D : Prefix) (es : List Constraint) → Numbers D (x .numbers) → numbersOk paper [] D ≡ true → entriesOf cs′ cl′ ≡ map (codes D) es
+      → ((e : Constraint) → Mem e es → (l : Literal) → Mem l e → 1 ≤ place D l) → rowsOf (paper .numbers) lc lcs ≡ es)
+      (unloaded-cubes : (D : Prefix) (es : List Constraint) → Numbers D (x .numbers) → numbersOk paper [] D ≡ true → entriesOf qs′ ql′ ≡ map (codes D) es
+      → ((e : Constraint) → Mem e es → (l : Literal) → Mem l e → 1 ≤ place D l) → rowsOf (paper .numbers) lq lqs ≡ es)
+    where
+      pub over-found : (s : Node) → MatrixShown (prefixIn x) (formulaIn x .clauses) clauses (x .«clause_sizes») dying links → Quantified (prefixIn x) quantifiers
+          → Places (prefixIn x) places → Kinds (prefixIn x) kinds → Values (prefixIn x) s values → length values ≡ suc (paper .numbers) → length s ≡ at → free ≡ freeVariables (prefixIn x) → Covers free table []
+          → firstDead (prefixIn x) s (formulaIn x .clauses) ≡ none
+          → FoundBy x (belowStart (prefixIn x) (formulaIn x .clauses) at s (storeIn x)) free
+          (record { verdict = a .verdict; visits = a .visits; lines = a .lines; state = withStore x lc lcs lq lqs }) table′
+      over-found s matrix quantified ps ks vs wide long frees cov alive =
+          record {
+            verdict = r .verdict;
+            visits = r .visits;
+            state = next-reads lc lcs lq lqs stores ∙ ap (λ (st : Store). some (record { formula = formulaIn x; store = st })) same;
+            covers = r .covers;
+            lines = r .lines;
+          }
+        where
+          r : BelowBy (prefixIn x) (belowStart (prefixIn x) (formulaIn x .clauses) at s (storeIn x)) free a cs′ cl′ qs′ ql′ table′
+          r =
+              run .by (prefixIn x) (formulaIn x .clauses) s (storeIn x) (valid-numbers x v) ks vs wide quantified matrix
+              (record { clauses = loaded (prefixIn x) ps variables-small; cubes = loaded-cubes (prefixIn x) ps variables-small }) formed long frees cov alive
+
+          same : storeOf lc lcs lq lqs ≡ belowStart (prefixIn x) (formulaIn x .clauses) at s (storeIn x) .store
+          same i =
+              record {
+                clauses = unloaded (prefixIn x) (belowStart (prefixIn x) (formulaIn x .clauses) at s (storeIn x) .store .clauses) (valid-numbers x v) variables-numbered (r .stored .clauses) (learned-declared at s long within false) i;
+                cubes = unloaded-cubes (prefixIn x) (belowStart (prefixIn x) (formulaIn x .clauses) at s (storeIn x) .store .cubes) (valid-numbers x v) variables-numbered (r .stored .cubes) (learned-declared at s long within true) i;
+              }
+
+  -- ---- the whole search
+  -- a start node that is decided
+  decided-found : (places kinds values : List ℕ) (at free : ℕ) (table : List ℕ) (w : Verdict) (b : Bool) → ((e : Constraint) → Ends w (decided b e))
+      → ((s : Node) → Places (prefixIn x) places → Kinds (prefixIn x) kinds → Values (prefixIn x) s values → length s ≡ at
+      → (e : Constraint) × (leaf (prefixIn x) (formulaIn x .clauses) leb s (storeIn x) ≡ some (decided b e)))
+      → Ran x places kinds values at free table (record { verdict = w; visits = 1; lines = 0; state = x }) table
+  decided-found places kinds values at free table w b is start =
+      record { size = refl; few = omega arith; found = found }
+    where
+      found : (s : Node) → Places (prefixIn x) places → Kinds (prefixIn x) kinds → Values (prefixIn x) s values → length values ≡ suc (paper .numbers) → length s ≡ at → free ≡ freeVariables (prefixIn x) → Covers free table []
+          → FoundBy x (learningSearch paper (prefixIn x) (formulaIn x .clauses) (drop at (quantifiers (prefixIn x))) s (storeIn x)) free (record { verdict = w; visits = 1; lines = 0; state = x }) table
+      found s ps ks vs wide long frees cov =
+          subst (λ (o : Option (Outcome Constraint)). FoundBy x (settle o (below paper (prefixIn x) (formulaIn x .clauses) (drop at (quantifiers (prefixIn x)))) s (storeIn x)) free (record { verdict = w; visits = 1; lines = 0; state = x }) table)
+          (sym (start s ps ks vs long .1))
+          (record { verdict = is (start s ps ks vs long .0); visits = refl; state = f .read; covers = cov; lines = refl })
+
+  -- one that is open
+  open-found : (places kinds values : List ℕ) (at free : ℕ) (table : List ℕ) (r : Found) (table′ : List ℕ)
+      → ((s : Node) → Places (prefixIn x) places → Kinds (prefixIn x) kinds → Values (prefixIn x) s values → length s ≡ at → leaf (prefixIn x) (formulaIn x .clauses) leb s (storeIn x) ≡ none)
+      → Searched x places kinds values at free table r table′ → Ran x places kinds values at free table r table′
+  open-found places kinds values at free table r table′ start h =
+      record {
+        size = h .size;
+        few = h .few;
+        found = λ s ps ks vs wide long frees cov.
+            subst (λ (o : Option (Outcome Constraint)). FoundBy x (settle o (below paper (prefixIn x) (formulaIn x .clauses) (drop at (quantifiers (prefixIn x)))) s (storeIn x)) free r table′)
+            (sym (start s ps ks vs long))
+            (h .found s ps ks vs wide long frees cov (open-alive (prefixIn x) (formulaIn x .clauses) leb s (storeIn x) (start s ps ks vs long)));
+      }
+
+  module _ (places kinds values : List ℕ) (at free : ℕ) (table : List ℕ) (r : Leaf) (start : AtStart x places kinds values at r) where
+    pub start-no : (n : ℕ) → r ≡ NoLeaf n → {y : Found} → y ≡ record { verdict = No; visits = 1; lines = 0; state = x } → Ran x places kinds values at free table y table
+    start-no n e q =
+        subst (λ (y : Found). Ran x places kinds values at free table y table) (sym q)
+        (decided-found places kinds values at free table No false (λ c. (c, refl))
+        (λ s ps ks vs long. subst (λ (l : Leaf). Starts l (leaf (prefixIn x) (formulaIn x .clauses) leb s (storeIn x))) e (start .read s ps ks vs long)))
+
+    pub start-yes : (n : ℕ) → r ≡ YesLeaf n → {y : Found} → y ≡ record { verdict = Yes; visits = 1; lines = 0; state = x } → Ran x places kinds values at free table y table
+    start-yes n e q =
+        subst (λ (y : Found). Ran x places kinds values at free table y table) (sym q)
+        (decided-found places kinds values at free table Yes true (λ c. (c, refl))
+        (λ s ps ks vs long. subst (λ (l : Leaf). Starts l (leaf (prefixIn x) (formulaIn x .clauses) leb s (storeIn x))) e (start .read s ps ks vs long)))
+
+    pub start-open : r ≡ Open → (y : Found) (table′ : List ℕ) → Searched x places kinds values at free table y table′ → Ran x places kinds values at free table y table′
+    start-open e y table′ h =
+        open-found places kinds values at free table y table′
+        (λ s ps ks vs long. subst (λ (l : Leaf). Starts l (leaf (prefixIn x) (formulaIn x .clauses) leb s (storeIn x))) e (start .read s ps ks vs long)) h
 
   -- the free variables are among the declared ones
   pub free-within : (free : ℕ) → free ≡ freeVariables (prefixIn x) → free ≤ getD (x .numbers) 0 0

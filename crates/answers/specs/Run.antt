@@ -3,12 +3,19 @@ use Prim.Native.Nat.{ℕ, suc, _^_, _<_}
 use mathlib.Core.Path.{_≡_}
 use mathlib.Core.Bool.{true, false}
 use mathlib.Core.List.{List, []}
-use mathlib.Core.Option.{some}
+use mathlib.Core.Option.{Option, none, some}
 use lib.ListN.{length, drop}
-use Rattle.qbf.specs.Formula.{paper, Node, quantifiers}
+use Rattle.qbf.specs.Formula.{paper, Prefix, Clause, Node, quantifiers}
 use Rattle.qbf.specs.Truth.{Outcome, decided, mixed, DecidedNode, freeVariables}
-use Rattle.qbf.specs.Learning.{Constraint, LearningResult, learningSearch}
-use Rattle.tables.specs.Views.{Places, Kinds, Values}
+use Rattle.qbf.specs.Learning.{Constraint, Store, LearningResult, leaf, firstDead, below, learningSearch}
+use lib.Dec.{leb}
+use Rattle.tables.specs.Views.{Numbers, Places, Kinds, Values}
+use Rattle.tables.specs.Formed.{Formed}
+use Rattle.tables.specs.Codes.{Quantified}
+use Rattle.tables.specs.Shelves.{MatrixShown, StoreShown}
+use Rattle.leaf.specs.declared.Leaf.{Leaf}
+use Rattle.leaf.specs.declared.Leaf.the-variants.{No as NoLeaf, Yes as YesLeaf, Open}
+use Rattle.node.specs.declared.Answer.{Answer}
 use Rattle.cover.specs.Cover.{Covers}
 use Rattle.node.specs.Node.{newLines}
 use Rattle.node.specs.declared.Verdict.{Verdict}
@@ -37,6 +44,52 @@ pub record Prefixed (x : State) (places kinds : List ℕ) (free : ℕ) : Type 0 
   pub kinded : Kinds (prefixIn x) kinds
   pub frees : free ≡ freeVariables (prefixIn x)
 
+-- steps 1 to 4 at the start node: a verdict, or the node is open
+abbrev pub Starts : Leaf → Option (Outcome Constraint) → Type 0
+Starts (NoLeaf n) o = (e : Constraint) × (o ≡ some (decided false e))
+Starts (YesLeaf n) o = (e : Constraint) × (o ≡ some (decided true e))
+Starts Open o = o ≡ none
+
+pub record AtStart (x : State) (places kinds values : List ℕ) (at : ℕ) (r : Leaf) : Type 0 where
+  pub read : (s : Node) → Places (prefixIn x) places → Kinds (prefixIn x) kinds → Values (prefixIn x) s values → length s ≡ at
+      → Starts r (leaf (prefixIn x) (formulaIn x .clauses) leb s (storeIn x))
+
+-- the search below an open start node
+abbrev pub belowStart : Prefix → List Clause → ℕ → Node → Store → LearningResult
+belowStart D R at s st = below paper D R (drop at (quantifiers D)) s st
+
+-- over the derived tables, for every prefix, clauses, store and node that they show
+pub record BelowBy (D : Prefix) (o : LearningResult) (free : ℕ) (r : Answer) (cs cl qs ql table : List ℕ) : Type 0 where
+  pub verdict : Ends (r .verdict) (o .outcome)
+  pub visits : r .visits ≡ o .visits
+  pub stored : StoreShown D (o .store) cs cl qs ql
+  pub covers : Covers free table (newLines (o .outcome))
+  pub lines : r .lines ≡ length (newLines (o .outcome))
+
+pub record Below (clauses sizes dying links numbers kinds quantifiers values cs cl qs ql table : List ℕ) (at free : ℕ) (r : Answer) (cs′ cl′ qs′ ql′ table′ : List ℕ) : Type 0 where
+  pub by : (D : Prefix) (R : List Clause) (s : Node) (st : Store)
+      → Numbers D numbers → Kinds D kinds → Values D s values → length values ≡ suc (paper .numbers) → Quantified D quantifiers → MatrixShown D R clauses sizes dying links → StoreShown D st cs cl qs ql
+      → Formed D R st → length s ≡ at → free ≡ freeVariables D → Covers free table [] → firstDead D s R ≡ none
+      → BelowBy D (belowStart D R at s st) free r cs′ cl′ qs′ ql′ table′
+
+-- on a state, over derived tables of its clauses
+pub record Over (x : State) (clauses dying links quantifiers places kinds values : List ℕ) (at free : ℕ) (table : List ℕ) (r : Found) (table′ : List ℕ) : Type 0 where
+  pub size : length table′ ≡ length table
+  pub few : r .lines < 2 ^ 63
+  pub found : (s : Node) → MatrixShown (prefixIn x) (formulaIn x .clauses) clauses (x .«clause_sizes») dying links → Quantified (prefixIn x) quantifiers
+      → Places (prefixIn x) places → Kinds (prefixIn x) kinds → Values (prefixIn x) s values → length values ≡ suc (paper .numbers) → length s ≡ at → free ≡ freeVariables (prefixIn x) → Covers free table []
+      → firstDead (prefixIn x) s (formulaIn x .clauses) ≡ none
+      → FoundBy x (belowStart (prefixIn x) (formulaIn x .clauses) at s (storeIn x)) free r table′
+
+-- on a state
+pub record Searched (x : State) (places kinds values : List ℕ) (at free : ℕ) (table : List ℕ) (r : Found) (table′ : List ℕ) : Type 0 where
+  pub size : length table′ ≡ length table
+  pub few : r .lines < 2 ^ 63
+  pub found : (s : Node) → Places (prefixIn x) places → Kinds (prefixIn x) kinds → Values (prefixIn x) s values → length values ≡ suc (paper .numbers) → length s ≡ at → free ≡ freeVariables (prefixIn x) → Covers free table []
+      → firstDead (prefixIn x) s (formulaIn x .clauses) ≡ none
+      → FoundBy x (belowStart (prefixIn x) (formulaIn x .clauses) at s (storeIn x)) free r table′
+
+-- the whole search, with the start node
 pub record Ran (x : State) (places kinds values : List ℕ) (at free : ℕ) (table : List ℕ) (r : Found) (table′ : List ℕ) : Type 0 where
   pub size : length table′ ≡ length table
   pub few : r .lines < 2 ^ 63

@@ -2,5 +2,3 @@ pub mod Lists
 pub mod Reducing
 pub mod Mentioning
 pub mod Inserting
-pub mod Removing
-pub mod Uniting

@@ -1,8 +1,8 @@
-// "Its last place is then that of its last literal, 0 if empty"; and whether a bar or pass names the variable of a place.
+// "Its last place is then that of its last literal, 0 if empty".
 use literal::literal_place;
 ghost use mathlib.Core.Path.{_≡_};
 ghost use Rattle.qbf.specs.Formula.{Prefix};
-ghost use Rattle.qbf.specs.Learning.{lastPlace, mentions};
+ghost use Rattle.qbf.specs.Learning.{lastPlace};
 ghost use Rattle.tables.specs.Views.{Places};
 
 pub fn last_place<'a>(lits: &'a [i16], places: &'a [u16; tables::BY_NUMBER]) -> usize
@@ -14,18 +14,4 @@ pub fn last_place<'a>(lits: &'a [i16], places: &'a [u16; tables::BY_NUMBER]) -> 
     }
     let last = lits[n - 1];
     literal_place(places, last)
-}
-
-pub fn mentions<'a>(lits: &'a [i16], places: &'a [u16; tables::BY_NUMBER], p: usize) -> bool
-    ensures { λ r. ⌜ ((D : Prefix) → Places D (now (places .entry)) → r ≡ mentions D p (now (lits .entry))) ⌝ }
-{
-    let mut i: usize = 0;
-    while i < lits.len() {
-        let lit = lits[i];
-        if literal_place(places, lit) == p {
-            return true;
-        }
-        i += 1;
-    }
-    false
 }

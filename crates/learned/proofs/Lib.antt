@@ -1,6 +1,5 @@
-pub mod Moves
+pub mod Pasting
 pub mod Rows
-pub mod Pushing
 pub mod Search
 pub mod Matches
 pub mod Parts

@@ -1,17 +1,16 @@
--- The rows of a flat table after one was written behind the others, and after the table moved down by one row.
+-- The rows of a flat table after one was written behind the others.
 use mathlib.Core.Path.{_≡_, sym, ap, subst, _∙_}
 use mathlib.Core.List.{List, [], _∷_, _++_, append-assoc}
-use Prim.Native.Nat.{ℕ, zero, suc, _+_, _*_, _-_, _<_, _≤_}
+use Prim.Native.Nat.{ℕ, zero, suc, _+_, _*_, _<_, _≤_}
 use native.Mathlib.Omega.{arith}
 use native.Mathlib.Nat.{zero-add, suc-add, suc-mul, mul-le-mul-right, le-refl}
 use native.Mathlib.Numerals.{add-one}
 use borrow.Author.Count.{below-more}
 use lib.IntN.{ℤ}
-use lib.ListN.{length, getD, take, drop, set, length-drop, length-set, length-append, List·getD-append}
-use lib.Seq.{getD-drop, take-all, take-at, drop-at, take-nil, take-append-le, drop-append-le, take-take, drop-drop, paste, length-paste, length-take-le, getD-set-same, getD-set-other}
+use lib.ListN.{length, getD, take, drop, set, length-set, length-append}
+use lib.Seq.{take-all, take-at, drop-at, take-nil, take-append-le, take-take, paste, length-paste, length-take-le, getD-set-same, getD-set-other}
 use Rattle.tables.specs.Views.{row, rows, rowsOf, Table}
-use Rattle.tables.proofs.Laws.{rows-length, rows-suc, rows-zero}
-use Rattle.learned.specs.Store.{moved}
+use Rattle.tables.proofs.Laws.{rows-suc, rows-zero}
 
 -- ---- parts of lists
 module _ {A : Type 0} where
@@ -49,15 +48,6 @@ module _ (w : ℕ) (f : List ℤ) (l : List ℕ) (f′ : List ℤ) (l′ : List 
       ∙ ap (λ (x : List ℤ). rows w f′ l′ n ++ (x ∷ [])) (h n (le-refl (suc n)))
       ∙ ap (λ (xs : List (List ℤ)). xs ++ (row w f l n ∷ [])) (same-rows n (λ k lt. h k (omega arith)))
       ∙ sym (rows-suc w f l n)
-
-  next-rows : (n : ℕ) → ((k : ℕ) → k < n → row w f′ l′ k ≡ row w f l (suc k)) → rows w f′ l′ n ≡ drop 1 (rows w f l (suc n))
-  next-rows zero h = rows-zero w f′ l′ ∙ sym (ap (drop 1) (rows-suc w f l 0 ∙ ap (λ (xs : List (List ℤ)). xs ++ (row w f l 0 ∷ [])) (rows-zero w f l)))
-  next-rows (suc n) h =
-      rows-suc w f′ l′ n
-      ∙ ap (λ (x : List ℤ). rows w f′ l′ n ++ (x ∷ [])) (h n (le-refl (suc n)))
-      ∙ ap (λ (xs : List (List ℤ)). xs ++ (row w f l (suc n) ∷ [])) (next-rows n (λ k lt. h k (omega arith)))
-      ∙ sym (drop-append-le 1 (rows w f l (suc n)) (row w f l (suc n) ∷ []) (omega (arith, rows-length w f l (suc n))))
-      ∙ sym (ap (drop 1) (rows-suc w f l (suc n)))
 
 -- row k ends before row n begins
 pub before : (w k n : ℕ) → k < n → k * w + w ≤ n * w
@@ -116,59 +106,6 @@ module _ (w cap : ℕ) (f : List ℤ) (l : List ℕ) (e : List ℤ) (t : Table w
     few = rw count (omega arith);
     short = rw count (below-more (λ (k : ℕ). getD l′ (suc k) 0 ≤ w) n (λ k h. rw (old-size k h) (t .short k h)) (rw new-size fits));
   }
-
--- ---- the table moved down by one row
-module _ (w cap : ℕ) (f : List ℤ) (l : List ℕ) (t : Table w cap f l) (some : 0 < getD l 0 0) where
-  abbrev m : ℕ
-  m = getD l 0 0 - 1
-
-  abbrev g : List ℤ
-  g = moved w f
-
-  abbrev q : List ℕ
-  q = set (moved 1 l) 0 m
-
-  moved-long : {A : Type 0} (k : ℕ) (xs : List A) → k ≤ length xs → length (moved k xs) ≡ length xs
-  unfolding moved
-  moved-long k xs h = length-append (drop k xs) (drop (length xs - k) xs) ∙ simp length-drop (omega arith)
-
-  first-count : getD q 0 0 ≡ m
-  first-count = getD-set-same (moved 1 l) 0 m 0 (omega (arith, moved-long 1 l (omega (arith, t .counted)), t .counted))
-
-  next-size : (k : ℕ) → k < m → getD q (suc k) 0 ≡ getD l (suc (suc k)) 0
-  unfolding moved
-  next-size k h =
-      getD-set-other (moved 1 l) 0 (suc k) m 0 (omega arith)
-      ∙ List·getD-append (drop 1 l) (drop (length l - 1) l) 0 (suc k) (simp length-drop (omega (arith, t .counted, t .few)))
-      ∙ getD-drop 1 l (suc k) 0
-      ∙ (let z : 1 + suc k ≡ suc (suc k) = omega arith in ap (λ (i : ℕ). getD l i 0) z)
-
-  next-row : (k : ℕ) → k < m → row w g q k ≡ row w f l (suc k)
-  unfolding moved
-  next-row k h =
-      let lower : suc k < cap = omega (arith, t .few) in
-      let within : suc k * w + w ≤ length f = rw (t .room) (before w (suc k) cap lower) in
-      let z : suc k * w ≡ k * w + w = suc-mul k w in
-      ap (λ (i : ℕ). take i (drop (k * w) g)) (next-size k h)
-      ∙ part-left (k * w) (getD l (suc (suc k)) 0) (drop w f) (drop (length f - w) f) (simp length-drop (omega (arith, t .short (suc k) (omega arith))))
-      ∙ ap (take (getD l (suc (suc k)) 0)) (drop-drop (k * w) w f ∙ (let y : w + k * w ≡ suc k * w = omega arith in ap (λ (i : ℕ). drop i f) y))
-
-  pub dropped-rows : rowsOf w g q ≡ drop 1 (rowsOf w f l)
-  dropped-rows =
-      ap (rows w g q) first-count
-      ∙ next-rows w f l g q m next-row
-      ∙ (let y : suc m ≡ getD l 0 0 = omega arith in ap (λ (i : ℕ). drop 1 (rows w f l i)) y)
-
-  pub dropped-table : Table w cap g q
-  dropped-table =
-      let one : 0 < cap = omega (arith, t .few) in
-      let within : 0 * w + w ≤ length f = rw (t .room) (before w 0 cap one) in
-      record {
-        room = moved-long w f (omega arith) ∙ t .room;
-        counted = length-set (moved 1 l) 0 m ∙ moved-long 1 l (omega (arith, t .counted)) ∙ t .counted;
-        few = rw first-count (omega (arith, t .few));
-        short = rw first-count (λ k h. rw (next-size k h) (t .short (suc k) (omega arith)));
-      }
 
 -- ---- a table in which no row stands
 module _ (w cap : ℕ) where

@@ -1,3 +1,2 @@
-pub mod Store
 pub mod Lookup
 pub mod Part

@@ -1,38 +1,41 @@
 -- Joining the constraints of two sides: the resolvent, and what is stored.
-use Prim.Native.Nat.{ℕ, suc, _+_, _≤_}
+use Prim.Native.Nat.{ℕ, suc, _≤_}
 use native.Mathlib.Omega.{arith}
-use native.Mathlib.Numerals.{add-one}
-use mathlib.Core.Path.{_≡_, ap, _∙_}
+use mathlib.Core.Path.{_≡_, sym, ap, _∙_}
 use mathlib.Core.Bool.{Bool, true, false}
-use mathlib.Core.List.{List}
-use lib.IntN.{ℤ}
-use lib.ListN.{length, take}
+use mathlib.Core.List.{List, map}
+use lib.ListN.{length, take, length-map}
 use lib.Seq.{length-take-le}
+use lib.Dec.{eqb}
 use Rattle.qbf.specs.Formula.{paper, Prefix}
-use Rattle.qbf.specs.Learning.{Polarity, Constraint, push, mentions, resolvent}
-use Rattle.tables.specs.Views.{rowsOf}
-use Rattle.learned.specs.Store.{Pushed}
-use Rattle.node.specs.Step.{Resolved, JoinedSides}
+use Rattle.qbf.specs.Learning.{Polarity, Constraint, push, mentions, resolvent, lastPlace}
+use Rattle.qbf.specs.Calls.{inOrder}
+use Rattle.tables.specs.Codes.{codeOf, codes}
+use Rattle.theory.proofs.Uniting.{mentions-last}
+use Rattle.theory.proofs.WellFormed.{rising→}
+use Rattle.node.specs.Step.{JoinedSides}
+use Rattle.node.proofs.Coded.{map-push}
 
--- the first m literals of the area are the resolvent, and are stored where they have room
-module _ (D : Prefix) (at : ℕ) (v : Polarity) (e₀ e₁ : Constraint) (up : List ℤ) (m : ℕ) (within : m ≤ length up) (made : take m up ≡ resolvent D (at + 1) v e₀ e₁) (short : length (resolvent D (suc at) v e₀ e₁) ≤ paper .numbers) where
-  pub resolved : take m up ≡ resolvent D (suc at) v e₀ e₁
-  resolved = rw add-one at made
+-- by whether the on side's constraint f ends at the next place, which no literal of it stands beyond
+module _ (D : Prefix) (at : ℕ) (v : Polarity) (e f : Constraint) (ordered : inOrder D 0 f ≡ true) (ends : lastPlace D f ≤ suc at) {b : Bool} (named : b ≡ eqb (lastPlace D f) (suc at)) where
+  -- that is whether it names that place
+  is-named : mentions D (suc at) f ≡ b
+  is-named = mentions-last D (suc at) f (rising→ D 0 f ordered) (omega arith) ends ∙ sym named
 
-  pub resolved-short : m ≤ paper .numbers
-  resolved-short = omega (arith, ap length resolved, length-take-le m up within)
+  -- it does not: it goes up, and nothing is stored
+  pub joined-lacking : b ≡ false → (es : List Constraint) {cs : List ℕ} {rows : List (List ℕ)} → cs ≡ codes D f → rows ≡ map (codes D) es → JoinedSides D (suc at) v e f es cs rows
+  joined-lacking h es k s = record { up = rw (is-named, h) k; stored = rw (is-named, h) s }
 
-  pub resolved-stored : {r : ℕ} {cells cells′ : List ℤ} {sizes sizes′ : List ℕ} → r ≡ m → Pushed cells sizes (take m up) cells′ sizes′
-      → Resolved D (suc at) v e₀ e₁ (rowsOf (paper .numbers) cells sizes) (take r up) (rowsOf (paper .numbers) cells′ sizes′)
-  resolved-stored {cells = cells} {sizes = sizes} e p = record {
-    up = rw e resolved;
-    stored = p .rows ∙ ap (λ (l : Constraint). push (paper .constraints) l (rowsOf (paper .numbers) cells sizes)) resolved;
-  }
+  -- it does: the resolvent, the first m codes of the area, goes up and is stored
+  module _ (h : b ≡ true) (es : List Constraint) (up : List ℕ) (m : ℕ) (within : m ≤ length up) (made : take m up ≡ codes D (resolvent D (suc at) v e f)) (short : length (resolvent D (suc at) v e f) ≤ paper .numbers) where
+    -- it has room
+    made-short : m ≤ paper .numbers
+    made-short = omega (arith, ap length made, length-map (resolvent D (suc at) v e f) (codeOf D), length-take-le m up within, short)
 
--- by whether the on side's constraint names the place
-module _ {D : Prefix} {p : ℕ} (v : Polarity) (e₀ e₁ : Constraint) {b : Bool} (named : b ≡ mentions D p e₁) where
-  pub joined-lacking : b ≡ false → (es : List Constraint) → JoinedSides D p v e₀ e₁ es e₁ es
-  joined-lacking e es = record { up = rw (← named, e); stored = rw (← named, e) }
-
-  pub joined-named : b ≡ true → {es : List Constraint} {l : Constraint} {es′ : List Constraint} → Resolved D p v e₀ e₁ es l es′ → JoinedSides D p v e₀ e₁ es l es′
-  joined-named e r = record { up = rw (← named, e) (r .up); stored = rw (← named, e) (r .stored) }
+    pub joined-named : {r : ℕ} {old new : List (List ℕ)} → old ≡ map (codes D) es → (m ≤ paper .numbers → (r ≡ m) × (new ≡ push (paper .constraints) (take m up) old)) → JoinedSides D (suc at) v e f es (take r up) new
+    joined-named {old = old} k s =
+        let g = s made-short in
+        record {
+          up = rw (is-named, h) (ap (λ (n : ℕ). take n up) (g .0) ∙ made);
+          stored = rw (is-named, h) (g .1 ∙ ap (λ (x : List ℕ). push (paper .constraints) x old) made ∙ ap (push (paper .constraints) (codes D (resolvent D (suc at) v e f))) k ∙ sym (map-push (codes D) (paper .constraints) (resolvent D (suc at) v e f) es));
+        }

@@ -1,5 +1,6 @@
 pub mod Lines
-pub mod Aside
 pub mod Sides
+pub mod Coded
+pub mod Aside
 pub mod Joins
 pub mod Steps

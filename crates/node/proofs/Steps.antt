@@ -4,16 +4,18 @@ use native.Mathlib.Omega.{arith}
 use mathlib.Core.Path.{_≡_, refl, sym, ap, _∙_}
 use mathlib.Core.Bool.{Bool, true, false, cond}
 use mathlib.Core.List.{List}
-use lib.IntN.{ℤ}
 use lib.ListN.{length, take}
 use Rattle.qbf.specs.Formula.{paper, Quantifier, Prefix, Clause, Node}
 use Rattle.qbf.specs.Truth.{Outcome, DecidedNode, decided, mixed}
-use Rattle.qbf.specs.Learning.{Polarity, Constraint, Store, constraints, push, mentions, resolvent, resolve, LearningResult}
+use Rattle.qbf.specs.Learning.{Polarity, Constraint, Store, constraints, push, mentions, resolvent, resolve, lastPlace, LearningResult}
+use Rattle.qbf.specs.Calls.{inOrder}
+use Rattle.tables.specs.Codes.{codes}
+use Rattle.tables.specs.Shelves.{StoreShown, entriesOf}
 use Rattle.node.specs.declared.Verdict.{Verdict}
 use Rattle.node.specs.declared.Verdict.the-variants.{Yes, No, Mixed}
 use Rattle.node.specs.declared.Answer.{Answer}
 use Rattle.node.specs.declared.both.Step.the-variants as step
-use Rattle.node.specs.Node.{Reads, onwardOf, resolventOf, Finished, Joined}
+use Rattle.node.specs.Node.{Reads, Ended, onwardOf, resolventOf, Finished, Joined, Grown}
 use Rattle.node.specs.Step.{alone, stepOf, joinedOf, storedOf, JoinedSides, OfSide}
 
 -- ---- the steps differ
@@ -40,9 +42,9 @@ abbrev sideOf : Polarity → Verdict
 sideOf true = Yes
 sideOf false = No
 
-reads : (c : Polarity) (e : Constraint) (o : Outcome Constraint) → o ≡ decided c e → Reads (sideOf c) e o
-reads true e o h = h
-reads false e o h = h
+reads : (D : Prefix) (c : Polarity) (cs : List ℕ) (e : Constraint) (o : Outcome Constraint) → o ≡ decided c e → cs ≡ codes D e → Reads D (sideOf c) cs o
+reads D true cs e o h k = (e, h, k)
+reads D false cs e o h k = (e, h, k)
 
 -- the store with other constraints of one polarity
 abbrev pub put : Polarity → List Constraint → Store → Store
@@ -76,48 +78,52 @@ same-store D R s st k e₀ e₁ c = by c (mentions D (suc (length s)) e₁)
     by false true = refl
     by false false = refl
 
-module _ (D : Prefix) (R : List Clause) (κ : Quantifier) (s : Node) (st : Store) (k : ℕ) (e₀ e₁ : Constraint) (a o : Outcome Constraint) where
+module _ (D : Prefix) (R : List Clause) (κ : Quantifier) (s : Node) (st : Store) (k : ℕ) (cs₀ cs₁ : List ℕ) (a o : Outcome Constraint) where
   abbrev result : LearningResult
   result = onwardOf D R κ s a o st k
 
-  mixed-step : (v w : Verdict) {x : Bool} → x ≡ alone w κ → stepOf v w x ≡ step.Mixed → Reads v e₀ a → Reads w e₁ o
+  mixed-step : (v w : Verdict) {x : Bool} → x ≡ alone w κ → stepOf v w x ≡ step.Mixed → Reads D v cs₀ a → Reads D w cs₁ o
       → (ds : List DecidedNode) × (result ≡ record { outcome = mixed ds; store = st; visits = k })
   mixed-step Yes Yes {x = true} h e p q = absurd (on-mixed e)
   mixed-step Yes Yes {x = false} h e p q = absurd (mixed-cubes (sym e))
   mixed-step Yes No {x = true} h e p q = absurd (on-mixed e)
-  mixed-step Yes No {x = false} h e p q = rw (p, q, ← h) (_, refl)
-  mixed-step Yes Mixed h e p (ds, q) = rw (p, q) (_, refl)
+  mixed-step Yes No {x = false} h e (e₀, p, z₀) (e₁, q, z₁) = rw (p, q, ← h) (_, refl)
+  mixed-step Yes Mixed h e (e₀, p, z₀) (ds, q) = rw (p, q) (_, refl)
   mixed-step No Yes {x = true} h e p q = absurd (on-mixed e)
-  mixed-step No Yes {x = false} h e p q = rw (p, q, ← h) (_, refl)
+  mixed-step No Yes {x = false} h e (e₀, p, z₀) (e₁, q, z₁) = rw (p, q, ← h) (_, refl)
   mixed-step No No {x = true} h e p q = absurd (on-mixed e)
   mixed-step No No {x = false} h e p q = absurd (mixed-clauses (sym e))
-  mixed-step No Mixed h e p (ds, q) = rw (p, q) (_, refl)
+  mixed-step No Mixed h e (e₀, p, z₀) (ds, q) = rw (p, q) (_, refl)
   mixed-step Mixed w h e (ds, p) q = rw p (_, refl)
 
-  on-step : (v w : Verdict) {x : Bool} → x ≡ alone w κ → stepOf v w x ≡ step.On → Reads v e₀ a → Reads w e₁ o
-      → Reads w e₁ (result .outcome) × (st ≡ result .store)
-  on-step Yes Yes {x = true} h e p q = rw (p, q, ← h) (refl, refl)
+  on-step : (v w : Verdict) {x : Bool} → x ≡ alone w κ → stepOf v w x ≡ step.On → Reads D v cs₀ a → Reads D w cs₁ o
+      → Reads D w cs₁ (result .outcome) × (st ≡ result .store)
+  on-step Yes Yes {x = true} h e (e₀, p, z₀) (e₁, q, z₁) = rw (p, q, ← h) ((e₁, refl, z₁), refl)
   on-step Yes Yes {x = false} h e p q = absurd (on-cubes (sym e))
-  on-step Yes No {x = true} h e p q = rw (p, q, ← h) (refl, refl)
+  on-step Yes No {x = true} h e (e₀, p, z₀) (e₁, q, z₁) = rw (p, q, ← h) ((e₁, refl, z₁), refl)
   on-step Yes No {x = false} h e p q = absurd (on-mixed (sym e))
   on-step Yes Mixed h e p q = absurd (on-mixed (sym e))
-  on-step No Yes {x = true} h e p q = rw (p, q, ← h) (refl, refl)
+  on-step No Yes {x = true} h e (e₀, p, z₀) (e₁, q, z₁) = rw (p, q, ← h) ((e₁, refl, z₁), refl)
   on-step No Yes {x = false} h e p q = absurd (on-mixed (sym e))
-  on-step No No {x = true} h e p q = rw (p, q, ← h) (refl, refl)
+  on-step No No {x = true} h e (e₀, p, z₀) (e₁, q, z₁) = rw (p, q, ← h) ((e₁, refl, z₁), refl)
   on-step No No {x = false} h e p q = absurd (on-clauses (sym e))
   on-step No Mixed h e p q = absurd (on-mixed (sym e))
   on-step Mixed w h e p q = absurd (on-mixed (sym e))
 
-  -- both sides have the polarity c
+  -- both sides have the polarity c, and the codes of constraints
   pub record Same (c : Polarity) (w : Verdict) : Type 0 where
+    pub first : Constraint
+    pub second : Constraint
     pub side : w ≡ sideOf c
-    pub off : a ≡ decided c e₀
-    pub on : o ≡ decided c e₁
-    pub gives : result ≡ same D R s st k e₀ e₁ c
+    pub off : a ≡ decided c first
+    pub on : o ≡ decided c second
+    pub off-codes : cs₀ ≡ codes D first
+    pub on-codes : cs₁ ≡ codes D second
+    pub gives : result ≡ same D R s st k first second c
 
-  pub cubes-step : (v w : Verdict) {x : Bool} → x ≡ alone w κ → stepOf v w x ≡ step.Cubes → Reads v e₀ a → Reads w e₁ o → Same true w
+  pub cubes-step : (v w : Verdict) {x : Bool} → x ≡ alone w κ → stepOf v w x ≡ step.Cubes → Reads D v cs₀ a → Reads D w cs₁ o → Same true w
   cubes-step Yes Yes {x = true} h e p q = absurd (on-cubes e)
-  cubes-step Yes Yes {x = false} h e p q = record { side = refl; off = p; on = q; gives = rw (p, q, ← h) }
+  cubes-step Yes Yes {x = false} h e (e₀, p, z₀) (e₁, q, z₁) = record { first = e₀; second = e₁; side = refl; off = p; on = q; off-codes = z₀; on-codes = z₁; gives = rw (p, q, ← h) }
   cubes-step Yes No {x = true} h e p q = absurd (on-cubes e)
   cubes-step Yes No {x = false} h e p q = absurd (mixed-cubes e)
   cubes-step Yes Mixed h e p q = absurd (mixed-cubes e)
@@ -128,7 +134,7 @@ module _ (D : Prefix) (R : List Clause) (κ : Quantifier) (s : Node) (st : Store
   cubes-step No Mixed h e p q = absurd (mixed-cubes e)
   cubes-step Mixed w h e p q = absurd (mixed-cubes e)
 
-  pub clauses-step : (v w : Verdict) {x : Bool} → x ≡ alone w κ → stepOf v w x ≡ step.Clauses → Reads v e₀ a → Reads w e₁ o → Same false w
+  pub clauses-step : (v w : Verdict) {x : Bool} → x ≡ alone w κ → stepOf v w x ≡ step.Clauses → Reads D v cs₀ a → Reads D w cs₁ o → Same false w
   clauses-step Yes Yes {x = true} h e p q = absurd (on-clauses e)
   clauses-step Yes Yes {x = false} h e p q = absurd (clauses-cubes (sym e))
   clauses-step Yes No {x = true} h e p q = absurd (on-clauses e)
@@ -137,32 +143,59 @@ module _ (D : Prefix) (R : List Clause) (κ : Quantifier) (s : Node) (st : Store
   clauses-step No Yes {x = true} h e p q = absurd (on-clauses e)
   clauses-step No Yes {x = false} h e p q = absurd (mixed-clauses e)
   clauses-step No No {x = true} h e p q = absurd (on-clauses e)
-  clauses-step No No {x = false} h e p q = record { side = refl; off = p; on = q; gives = rw (p, q, ← h) }
+  clauses-step No No {x = false} h e (e₀, p, z₀) (e₁, q, z₁) = record { first = e₀; second = e₁; side = refl; off = p; on = q; off-codes = z₀; on-codes = z₁; gives = rw (p, q, ← h) }
   clauses-step No Mixed h e p q = absurd (mixed-clauses e)
   clauses-step Mixed w h e p q = absurd (mixed-clauses e)
 
-  -- ---- the answer
-  module _ (v : Verdict) (on : Answer) {x : Bool} (enough : x ≡ alone (on .verdict) κ) (p : Reads v e₀ a) (q : Reads (on .verdict) e₁ o) where
-    pub joined-mixed : stepOf v (on .verdict) x ≡ step.Mixed → (up : List ℤ) → Joined result (record { verdict = Mixed; len = 0; visits = on .visits; lines = on .lines }) up st
+  -- ---- the answer, where the store stays
+  module _ (v : Verdict) (on : Answer) {x : Bool} (enough : x ≡ alone (on .verdict) κ) (p : Reads D v cs₀ a) (q : Reads D (on .verdict) cs₁ o) {cs cl qs ql : List ℕ} (shown : StoreShown D st cs cl qs ql) where
+    pub joined-mixed : stepOf v (on .verdict) x ≡ step.Mixed → (up : List ℕ) → Joined D result (record { verdict = Mixed; len = 0; visits = on .visits; lines = on .lines }) up cs cl qs ql
     joined-mixed e up =
         let m = mixed-step v (on .verdict) enough e p q in
-        record { verdict = (m .0, ap (λ (r : LearningResult). r .outcome) (m .1)); stored = sym (ap (λ (r : LearningResult). r .store) (m .1)) }
+        record { verdict = (m .0, ap (λ (r : LearningResult). r .outcome) (m .1)); stored = rw (m .1) shown }
 
-    pub joined-on : stepOf v (on .verdict) x ≡ step.On → (up : List ℤ) → e₁ ≡ take (on .len) up → Joined result on up st
+    pub joined-on : stepOf v (on .verdict) x ≡ step.On → (up : List ℕ) → cs₁ ≡ take (on .len) up → Joined D result on up cs cl qs ql
     joined-on e up z =
         let m = on-step v (on .verdict) enough e p q in
-        record { verdict = rw (← z) (m .0); stored = m .1 }
+        record { verdict = rw (← z) (m .0); stored = rw (← m .1) shown }
 
-  -- the answer r, and the constraints of the polarity c then
-  module _ (c : Polarity) (on : Answer) (both : Same c (on .verdict)) (at : ℕ) (long : length s ≡ at) (short : length (resolventOf D (suc at) a o) ≤ paper .numbers) where
-    pub same-short : length (resolvent D (suc at) c e₀ e₁) ≤ paper .numbers
-    same-short = rw (both .off, both .on) at short
+  -- ---- the answer r, where both sides have the polarity c
+  module _ (c : Polarity) (on : Answer) (both : Same c (on .verdict)) (at : ℕ) (long : length s ≡ at) where
+    -- what the two outcomes say of the constraints
+    pub same-short : length (resolventOf D (suc at) a o) ≤ paper .numbers → length (resolvent D (suc at) c (both .first) (both .second)) ≤ paper .numbers
+    same-short short = rw (both .off, both .on) at short
 
-    pub joined-same : (r : Answer) (up : List ℤ) (es : List Constraint) → r .verdict ≡ on .verdict → JoinedSides D (suc at) c e₀ e₁ (constraints c st) (take (r .len) up) es
-        → Joined result r up (put c es st)
-    joined-same r up es v j = record {
-      verdict = rw (v, both .side) (reads c (take (r .len) up) (result .outcome) (ap (λ (x : LearningResult). x .outcome) (both .gives) ∙ same-outcome D R s st k e₀ e₁ c ∙ ap (decided c) (rw long (sym (j .up)))));
-      stored = ap (λ (l : List Constraint). put c l st) (rw (← long) at (j .stored)) ∙ sym (ap (λ (x : LearningResult). x .store) (both .gives) ∙ same-store D R s st k e₀ e₁ c);
+    pub off-ended : Ended D (suc at) a → (inOrder D 0 (both .first) ≡ true) × (lastPlace D (both .first) ≤ suc at)
+    off-ended h = rw (both .off) at h
+
+    pub on-ended : Ended D (suc at) o → (inOrder D 0 (both .second) ≡ true) × (lastPlace D (both .second) ≤ suc at)
+    on-ended h = rw (both .on) at h
+
+    -- the outcome and the store
+    same-verdict : (r : Answer) (up : List ℕ) {rows : List (List ℕ)} → r .verdict ≡ on .verdict
+        → JoinedSides D (suc at) c (both .first) (both .second) (constraints c st) (take (r .len) up) rows
+        → Reads D (r .verdict) (take (r .len) up) (result .outcome)
+    same-verdict r up v j = rw (v, both .side) (reads D c (take (r .len) up) (joinedOf D (suc at) c (both .first) (both .second)) (result .outcome) (ap (λ (x : LearningResult). x .outcome) (both .gives) ∙ same-outcome D R s st k (both .first) (both .second) c ∙ rw long) (j .up))
+
+    same-stored : result .store ≡ put c (storedOf D (suc at) c (both .first) (both .second) (constraints c st)) st
+    same-stored = ap (λ (x : LearningResult). x .store) (both .gives) ∙ same-store D R s st k (both .first) (both .second) c ∙ rw long
+
+  -- the constraints are stored among the clauses, or among the cubes
+  module _ (on r : Answer) (at : ℕ) (long : length s ≡ at) (up : List ℕ) {cs cl qs ql : List ℕ} (shown : StoreShown D st cs cl qs ql) (verdict : r .verdict ≡ on .verdict) where
+    pub joined-clauses : (both : Same false (on .verdict)) (cs′ cl′ : List ℕ)
+        → JoinedSides D (suc at) false (both .first) (both .second) (st .clauses) (take (r .len) up) (entriesOf cs′ cl′)
+        → Joined D result r up cs′ cl′ qs ql
+    joined-clauses both cs′ cl′ j = record {
+      verdict = same-verdict false on both at long r up verdict j;
+      stored = rw (same-stored false on both at long) (record { clauses = j .stored; cubes = shown .cubes });
+    }
+
+    pub joined-cubes : (both : Same true (on .verdict)) (qs′ ql′ : List ℕ)
+        → JoinedSides D (suc at) true (both .first) (both .second) (st .cubes) (take (r .len) up) (entriesOf qs′ ql′)
+        → Joined D result r up cs cl qs′ ql′
+    joined-cubes both qs′ ql′ j = record {
+      verdict = same-verdict true on both at long r up verdict j;
+      stored = rw (same-stored true on both at long) (record { clauses = shown .clauses; cubes = j .stored });
     }
 
 -- the counts are the on side's
@@ -174,3 +207,7 @@ side-same on h = record { counts = record { short = h; visits = refl; lines = re
 
 pub side-len : (on : Answer) (m : ℕ) → m ≤ paper .numbers → OfSide on (record { verdict = on .verdict; len = m; visits = on .visits; lines = on .lines })
 side-len on m h = record { counts = record { short = h; visits = refl; lines = refl }; verdict = refl }
+
+-- no row more
+pub grown-none : (cl ql : List ℕ) → Grown cl ql cl ql
+grown-none cl ql = record { clauses = omega arith; cubes = omega arith }

@@ -5,12 +5,13 @@ use mathlib.Core.Bool.{Bool, true, false, cond}
 use mathlib.Core.List.{List, [], _∷_, _++_}
 use mathlib.Core.Option.{none}
 use lib.ListN.{length, getD, take}
-use lib.IntN.{ℤ}
 use Rattle.qbf.specs.Formula.{paper, Quantifier, Prefix, Clause, Node, _▹_}
-use Rattle.qbf.specs.Truth.{Outcome, decided, mixed, decidedNodes, select}
-use Rattle.qbf.specs.Learning.{Constraint, Store, goesUp, afterBoth, resolvent, LearningResult}
-use Rattle.qbf.specs.Calls.{numbersOk}
-use Rattle.tables.specs.Views.{Places, Kinds, Values, Numbers}
+use Rattle.qbf.specs.Truth.{Outcome, DecidedNode, decided, mixed, decidedNodes, select}
+use Rattle.qbf.specs.Learning.{Constraint, Store, goesUp, afterBoth, resolvent, lastPlace, LearningResult}
+use Rattle.qbf.specs.Calls.{numbersOk, inOrder}
+use Rattle.tables.specs.Views.{Kinds, Values, Numbers}
+use Rattle.tables.specs.Codes.{codes, Statuses, Quantified}
+use Rattle.tables.specs.Shelves.{StoreShown, newestOf}
 use Rattle.cover.specs.Cover.{Covers}
 use Rattle.node.specs.declared.Verdict.{Verdict}
 use Rattle.node.specs.declared.Verdict.the-variants.{Yes, No, Mixed}
@@ -33,20 +34,26 @@ isMixed Yes = false
 isMixed No = false
 isMixed Mixed = true
 
--- the outcome o has the verdict, with the constraint e where it is Yes or No
-abbrev pub Reads : Verdict → List ℤ → Outcome Constraint → Type 0
-Reads Yes e o = o ≡ decided true e
-Reads No e o = o ≡ decided false e
-Reads Mixed e o = (ds : List _) × (o ≡ mixed ds)
+-- the outcome o has the verdict, with the constraint of the codes cs where it is Yes or No
+abbrev pub Reads : Prefix → Verdict → List ℕ → Outcome Constraint → Type 0
+Reads D Yes cs o = (e : Constraint) × (o ≡ decided true e) × (cs ≡ codes D e)
+Reads D No cs o = (e : Constraint) × (o ≡ decided false e) × (cs ≡ codes D e)
+Reads D Mixed cs o = (ds : List DecidedNode) × (o ≡ mixed ds)
+
+-- what comes up from a node of p places: a constraint in place order, none of them beyond the node
+abbrev pub Ended : Prefix → ℕ → Outcome Constraint → Type 0
+Ended D p (decided v e) = (inOrder D 0 e ≡ true) × (lastPlace D e ≤ p)
+Ended D p (mixed ds) = Unit {0}
 
 -- ---- the tables
 -- the tables show the prefix D and the node s of length k
-pub record Shown (D : Prefix) (s : Node) (numbers places kinds values : List ℕ) (k : ℕ) : Type 0 where
+pub record Shown (D : Prefix) (s : Node) (numbers kinds values quantifiers statuses : List ℕ) (k : ℕ) : Type 0 where
   pub numbered : Numbers D numbers
-  pub placed : Places D places
   pub kinded : Kinds D kinds
   pub valued : Values D s values
   pub wide : length values ≡ suc (paper .numbers)
+  pub quantified : Quantified D quantifiers
+  pub statused : Statuses s statuses
   pub long : length s ≡ k
 
 -- ---- step 5
@@ -84,9 +91,14 @@ pub record Finished (on r : Answer) : Type 0 where
   pub visits : r .visits ≡ on .visits
   pub lines : r .lines ≡ on .lines
 
-pub record Joined (o : LearningResult) (r : Answer) (up : List ℤ) (st : Store) : Type 0 where
-  pub verdict : Reads (r .verdict) (take (r .len) up) (o .outcome)
-  pub stored : st ≡ o .store
+pub record Joined (D : Prefix) (o : LearningResult) (r : Answer) (up cs cl qs ql : List ℕ) : Type 0 where
+  pub verdict : Reads D (r .verdict) (take (r .len) up) (o .outcome)
+  pub stored : StoreShown D (o .store) cs cl qs ql
+
+-- at most one row more on each shelf
+pub record Grown (cl ql cl′ ql′ : List ℕ) : Type 0 where
+  pub clauses : newestOf cl′ ≤ suc (newestOf cl)
+  pub cubes : newestOf ql′ ≤ suc (newestOf ql)
 
 -- the tables show what a line is written from
 pub record LineTask (D : Prefix) (s : Node) (ls : List Node) (numbers values table : List ℕ) (p : Position) (lines : ℕ) : Type 0 where

@@ -2,10 +2,11 @@
 use Prim.Native.Nat.{ℕ}
 use mathlib.Core.Path.{_≡_}
 use mathlib.Core.Bool.{Bool, true, false, cond}
-use mathlib.Core.List.{List}
+use mathlib.Core.List.{List, map}
 use Rattle.qbf.specs.Formula.{paper, Quantifier, Prefix}
 use Rattle.qbf.specs.Plain.{decides}
 use Rattle.qbf.specs.Learning.{Polarity, Constraint, push, mentions, resolvent}
+use Rattle.tables.specs.Codes.{codes}
 use Rattle.node.specs.declared.Verdict.{Verdict}
 use Rattle.node.specs.declared.Verdict.the-variants.{Yes, No, Mixed}
 use Rattle.node.specs.declared.Answer.{Answer}
@@ -30,22 +31,18 @@ stepOf No Mixed enough = step.Mixed
 stepOf Mixed second enough = step.Mixed
 
 -- ---- both sides have the polarity v, and the constraints e₀ and e₁
--- "Joining unites the two without v, reduces, stores the result and sends it up": the constraint e that goes up, and the constraints
--- of that polarity, es before and es′ after
-pub record Resolved (D : Prefix) (p : ℕ) (v : Polarity) (e₀ e₁ : Constraint) (es : List Constraint) (e : Constraint) (es′ : List Constraint) : Type 0 where
-  pub up : e ≡ resolvent D p v e₀ e₁
-  pub stored : es′ ≡ push (paper .constraints) (resolvent D p v e₀ e₁) es
-
 -- "the on side's entry goes up if it lacks v, else the two are joined"
 abbrev pub joinedOf : Prefix → ℕ → Polarity → Constraint → Constraint → Constraint
 joinedOf D p v e₀ e₁ = cond (mentions D p e₁) (resolvent D p v e₀ e₁) e₁
 
+-- "Joining unites the two without v, reduces, stores the result and sends it up"
 abbrev pub storedOf : Prefix → ℕ → Polarity → Constraint → Constraint → List Constraint → List Constraint
 storedOf D p v e₀ e₁ es = cond (mentions D p e₁) (push (paper .constraints) (resolvent D p v e₀ e₁) es) es
 
-pub record JoinedSides (D : Prefix) (p : ℕ) (v : Polarity) (e₀ e₁ : Constraint) (es : List Constraint) (e : Constraint) (es′ : List Constraint) : Type 0 where
-  pub up : e ≡ joinedOf D p v e₀ e₁
-  pub stored : es′ ≡ storedOf D p v e₀ e₁ es
+-- the codes of the constraint that goes up, and of the constraints of that polarity after
+pub record JoinedSides (D : Prefix) (p : ℕ) (v : Polarity) (e₀ e₁ : Constraint) (es : List Constraint) (cs : List ℕ) (rows : List (List ℕ)) : Type 0 where
+  pub up : cs ≡ codes D (joinedOf D p v e₀ e₁)
+  pub stored : rows ≡ map (codes D) (storedOf D p v e₀ e₁ es)
 
 -- the answer has the on side's verdict and counts
 pub record OfSide (on r : Answer) : Type 0 where

@@ -1,88 +1,141 @@
 // "Joining unites the two without v, reduces, stores the result and sends it up."
 use super::Answer;
-use super::side::mentions_next;
+use super::side::ends_next;
+use super::write;
+use coding::list::reduced_first;
+use coding::union::unite;
 ghost use mathlib.Core.Path.{_≡_};
-ghost use Prim.Native.Nat.{suc, _≤_, _<_};
+ghost use mathlib.Core.Bool.{true};
+ghost use mathlib.Core.List.{List, map};
+ghost use Prim.Native.Nat.{suc, _+_, _^_, _≤_, _<_};
 ghost use lib.ListN.{length, take};
 ghost use Rattle.qbf.specs.Formula.{paper, Prefix};
-ghost use Rattle.qbf.specs.Learning.{resolvent};
-ghost use Rattle.tables.specs.Views.{Places, Kinds, rowsOf};
-ghost use Rattle.tables.specs.Formed.{Constraints};
-ghost use Rattle.learned.specs.Store.{Pushed};
-ghost use Rattle.node.specs.Step.{Resolved, JoinedSides, OfSide};
+ghost use Rattle.qbf.specs.Learning.{Constraint, push, without, resolvent, lastPlace};
+ghost use Rattle.qbf.specs.Calls.{inOrder};
+ghost use Rattle.tables.specs.Codes.{codes, Quantified};
+ghost use Rattle.tables.specs.Shelves.{Entries, entriesOf, newestOf};
+ghost use Rattle.node.specs.Step.{JoinedSides, OfSide};
 
-// The first n literals are stored. A constraint has at most one literal of a variable, so that there is always room for them; the
-// test keeps that from being asked of every caller.
+// How many of the first n codes are left without the place after `at`, which can only be the last.
+fn trimmed<'a>(cells: &'a [u8], n: usize, at: usize) -> usize
+    requires { ⌜ (n ≤ length (now cells)) × (at < suc (paper .numbers)) ⌝ }
+    ensures { λ r. ⌜
+        (r ≤ n)
+        × ((D : Prefix) (e : Constraint)
+        → take n (now (cells .entry)) ≡ codes D e
+        → inOrder D 0 e ≡ true
+        → lastPlace D e ≤ suc at
+        → take r (now (cells .entry)) ≡ codes D (without D (suc at) e))
+        ⌝ }
+{
+    if ends_next(cells, n, at) {
+        return n - 1;
+    }
+    n
+}
+
+// The resolvent of the first n codes put aside and the first `len` of the area, which is made in a second area and written into the first.
+fn resolve_in<'a>(
+    joined: &mut [u8; tables::AREA],
+    up: &mut [u8; tables::AREA],
+    len: usize,
+    saved: &'a [u8],
+    n: usize,
+    at: usize,
+    quantifiers: &'a [u8; tables::CODES],
+    cube: bool,
+) -> usize
+    requires { ⌜
+        (len ≤ paper .numbers)
+        × (n ≤ paper .numbers)
+        × (n ≤ length (now saved))
+        × (at < suc (paper .numbers))
+        × (paper .numbers + paper .numbers ≤ length (now joined))
+        ⌝ }
+    ensures { λ r. ⌜
+        (r ≤ length (now (up .exit)))
+        × ((D : Prefix) (e f : Constraint)
+        → Quantified D (now (quantifiers .entry))
+        → take n (now (saved .entry)) ≡ codes D e
+        → take len (now (up .entry)) ≡ codes D f
+        → inOrder D 0 e ≡ true
+        → inOrder D 0 f ≡ true
+        → lastPlace D e ≤ suc at
+        → lastPlace D f ≤ suc at
+        → take r (now (up .exit)) ≡ codes D (resolvent D (suc at) cube e f))
+        ⌝ }
+{
+    let a = trimmed(saved, n, at);
+    let b = trimmed(up, len, at);
+    let on: &[u8] = up;
+    let m = unite(joined, &saved[..a], &on[..b]);
+    let r = reduced_first(joined, m, quantifiers, cube);
+    let made: &[u8] = joined;
+    write(up, &made[..r]);
+    r
+}
+
+// The resolvent of the first n codes put aside and the first `len` of the area.
+fn resolve<'a>(
+    up: &mut [u8; tables::AREA],
+    len: usize,
+    saved: &'a [u8],
+    n: usize,
+    at: usize,
+    quantifiers: &'a [u8; tables::CODES],
+    cube: bool,
+) -> usize
+    requires { ⌜ (len ≤ paper .numbers) × (n ≤ paper .numbers) × (n ≤ length (now saved)) × (at < suc (paper .numbers)) ⌝ }
+    ensures { λ r. ⌜
+        (r ≤ length (now (up .exit)))
+        × ((D : Prefix) (e f : Constraint)
+        → Quantified D (now (quantifiers .entry))
+        → take n (now (saved .entry)) ≡ codes D e
+        → take len (now (up .entry)) ≡ codes D f
+        → inOrder D 0 e ≡ true
+        → inOrder D 0 f ≡ true
+        → lastPlace D e ≤ suc at
+        → lastPlace D f ≤ suc at
+        → take r (now (up .exit)) ≡ codes D (resolvent D (suc at) cube e f))
+        ⌝ }
+{
+    let mut joined = [0u8; tables::AREA];
+    resolve_in(&mut joined, up, len, saved, n, at, quantifiers, cube)
+}
+
+// The first n codes are stored. A constraint has at most one literal of a variable, so that there is always room for them; the test keeps
+// that from being asked of every caller.
 fn store_first<'a>(
-    cells: &mut [i16; tables::CONSTRAINT_CELLS],
-    sizes: &mut [u16; tables::CONSTRAINT_SIZES],
-    lits: &'a [i16],
+    cells: &mut [u8; tables::CONSTRAINT_CODES],
+    links: &mut [u64; tables::CONSTRAINT_LINKS],
+    row: &'a [u8],
     n: usize,
 ) -> usize
-    requires { ⌜ Constraints (now cells) (now sizes) × (n ≤ length (now lits)) ⌝ }
+    requires { ⌜ Entries (now cells) (now links) × (n ≤ length (now row)) × (newestOf (now links) < 2 ^ 63) ⌝ }
     ensures { λ r. ⌜
         (r ≤ paper .numbers)
-        × Constraints (now (cells .exit)) (now (sizes .exit))
+        × Entries (now (cells .exit)) (now (links .exit))
+        × (newestOf (now (links .exit)) ≤ suc (newestOf (now (links .entry))))
         × (n ≤ paper .numbers
         → (r ≡ n)
-        × Pushed
-        (now (cells .entry))
-        (now (sizes .entry))
-        (take n (now (lits .entry)))
-        (now (cells .exit))
-        (now (sizes .exit)))
+        × (entriesOf (now (cells .exit)) (now (links .exit))
+        ≡ push (paper .constraints) (take n (now (row .entry))) (entriesOf (now (cells .entry)) (now (links .entry)))))
         ⌝ }
 {
     if tables::NUMBERS < n {
         return 0;
     }
-    learned::store::push(cells, sizes, &lits[..n]);
+    shelf::store::push(
+        cells,
+        links,
+        tables::NUMBERS,
+        tables::CONSTRAINTS,
+        &row[..n],
+    );
     n
 }
 
-// The resolvent of the first n literals put aside and the first `len` of the area.
-fn resolve_and_store<'a>(
-    up: &mut [i16; tables::AREA],
-    len: usize,
-    saved: &'a [i16],
-    n: usize,
-    at: usize,
-    places: &'a [u16; tables::BY_NUMBER],
-    kinds: &'a [u16; tables::BY_NUMBER],
-    cube: bool,
-    cells: &mut [i16; tables::CONSTRAINT_CELLS],
-    sizes: &mut [u16; tables::CONSTRAINT_SIZES],
-) -> usize
-    requires { ⌜
-        (len ≤ paper .numbers)
-        × (n ≤ paper .numbers)
-        × (paper .numbers ≤ length (now saved))
-        × (at < suc (paper .numbers))
-        × Constraints (now cells) (now sizes)
-        ⌝ }
-    ensures { λ r. ⌜
-        (r ≤ paper .numbers)
-        × Constraints (now (cells .exit)) (now (sizes .exit))
-        × ((D : Prefix)
-        → Places D (now (places .entry))
-        → Kinds D (now (kinds .entry))
-        → length (resolvent D (suc at) cube (take n (now (saved .entry))) (take len (now (up .entry)))) ≤ paper .numbers
-        → Resolved
-        D
-        (suc at)
-        cube
-        (take n (now (saved .entry)))
-        (take len (now (up .entry)))
-        (rowsOf (paper .numbers) (now (cells .entry)) (now (sizes .entry)))
-        (take r (now (up .exit)))
-        (rowsOf (paper .numbers) (now (cells .exit)) (now (sizes .exit))))
-        ⌝ }
-{
-    let place = at + 1;
-    let m = constraint::resolution::resolve(up, len, &saved[..n], place, places, kinds, cube);
-    store_first(cells, sizes, up, m)
-}
-
+// The answer with another length.
 fn with_len(on: Answer, len: usize) -> Answer
     ensures { λ r. ⌜ r ≡ record { verdict = on .verdict; len = len; visits = on .visits; lines = on .lines } ⌝ }
 {
@@ -98,45 +151,52 @@ fn with_len(on: Answer, len: usize) -> Answer
 // "the on side's entry goes up if it lacks v, else the two are joined"
 pub fn join<'a>(
     on: Answer,
-    up: &mut [i16; tables::AREA],
-    saved: &'a [i16],
+    up: &mut [u8; tables::AREA],
+    saved: &'a [u8],
     n: usize,
     at: usize,
-    places: &'a [u16; tables::BY_NUMBER],
-    kinds: &'a [u16; tables::BY_NUMBER],
+    quantifiers: &'a [u8; tables::CODES],
     cube: bool,
-    cells: &mut [i16; tables::CONSTRAINT_CELLS],
-    sizes: &mut [u16; tables::CONSTRAINT_SIZES],
+    cells: &mut [u8; tables::CONSTRAINT_CODES],
+    links: &mut [u64; tables::CONSTRAINT_LINKS],
 ) -> Answer
     requires { ⌜
         (on .len ≤ paper .numbers)
         × (n ≤ paper .numbers)
-        × (paper .numbers ≤ length (now saved))
+        × (n ≤ length (now saved))
         × (at < suc (paper .numbers))
-        × Constraints (now cells) (now sizes)
+        × Entries (now cells) (now links)
+        × (newestOf (now links) < 2 ^ 63)
         ⌝ }
     ensures { λ r. ⌜
         OfSide on r
-        × Constraints (now (cells .exit)) (now (sizes .exit))
-        × ((D : Prefix)
-        → Places D (now (places .entry))
-        → Kinds D (now (kinds .entry))
-        → length (resolvent D (suc at) cube (take n (now (saved .entry))) (take (on .len) (now (up .entry)))) ≤ paper .numbers
+        × Entries (now (cells .exit)) (now (links .exit))
+        × (newestOf (now (links .exit)) ≤ suc (newestOf (now (links .entry))))
+        × ((D : Prefix) (e f : Constraint) (es : List Constraint)
+        → Quantified D (now (quantifiers .entry))
+        → take n (now (saved .entry)) ≡ codes D e
+        → take (on .len) (now (up .entry)) ≡ codes D f
+        → inOrder D 0 e ≡ true
+        → inOrder D 0 f ≡ true
+        → lastPlace D e ≤ suc at
+        → lastPlace D f ≤ suc at
+        → length (resolvent D (suc at) cube e f) ≤ paper .numbers
+        → entriesOf (now (cells .entry)) (now (links .entry)) ≡ map (codes D) es
         → JoinedSides
         D
         (suc at)
         cube
-        (take n (now (saved .entry)))
-        (take (on .len) (now (up .entry)))
-        (rowsOf (paper .numbers) (now (cells .entry)) (now (sizes .entry)))
+        e
+        f
+        es
         (take (r .len) (now (up .exit)))
-        (rowsOf (paper .numbers) (now (cells .exit)) (now (sizes .exit))))
+        (entriesOf (now (cells .exit)) (now (links .exit))))
         ⌝ }
 {
     let len = on.len;
-    if !mentions_next(up, len, places, at) {
+    if !ends_next(up, len, at) {
         return on;
     }
-    let m = resolve_and_store(up, len, saved, n, at, places, kinds, cube, cells, sizes);
-    with_len(on, m)
+    let m = resolve(up, len, saved, n, at, quantifiers, cube);
+    with_len(on, store_first(cells, links, up, m))
 }

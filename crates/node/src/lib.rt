@@ -6,12 +6,13 @@ ghost use Prim.Native.Nat.{ℕ, suc, _+_, _-_, _^_, _≤_, _<_};
 ghost use lib.ListN.{length, getD, take};
 ghost use Rattle.qbf.specs.Formula.{paper, Quantifier, Prefix, Clause, Node, _▹_};
 ghost use Rattle.qbf.specs.Truth.{Outcome};
-ghost use Rattle.qbf.specs.Learning.{Constraint};
+ghost use Rattle.qbf.specs.Learning.{Constraint, Store};
 ghost use Rattle.qbf.specs.Card.{byteOf};
-ghost use Rattle.tables.specs.Views.{Places, Kinds, quantifierCode};
-ghost use Rattle.tables.specs.Formed.{Stores, storeOf};
+ghost use Rattle.tables.specs.Views.{quantifierCode};
+ghost use Rattle.tables.specs.Codes.{Quantified};
+ghost use Rattle.tables.specs.Shelves.{Shelves, StoreShown, newestOf};
 ghost use Rattle.cover.specs.Cover.{Covers};
-ghost use Rattle.node.specs.Node.{isYes, Reads, goesUpOf, onwardOf, resolventOf, NextKind, Finished, Joined, LineTask, settledLines, SettledTo};
+ghost use Rattle.node.specs.Node.{isYes, Reads, Ended, Grown, goesUpOf, onwardOf, resolventOf, NextKind, Finished, Joined, LineTask, settledLines, SettledTo};
 
 mod cell; // a cell of a table by number or by place
 mod line; // one line more of the card
@@ -34,13 +35,14 @@ pub struct Answer {
     pub lines: usize,
 }
 
-// Where a visit stands: the node's length, the count of the free variables, the visits and lines so far, and whether it is the start.
+// Where a visit stands: the node's length, the count of the free variables, the visits and lines so far, and how many leading clauses
+// are known to be satisfied.
 pub struct Position {
     pub at: usize,
     pub free: usize,
     pub visits: u64,
     pub lines: usize,
-    pub start: bool,
+    pub satisfied: usize,
 }
 
 // The code of no quantifier.
@@ -74,20 +76,13 @@ pub fn number_at<'a>(numbers: &'a [u16; tables::BY_NUMBER], p: usize) -> usize
 }
 
 // Whether the off side's outcome goes up without a further visit.
-pub fn goes_up<'a>(
-    v: Verdict,
-    kind: u16,
-    up: &'a [i16; tables::AREA],
-    n: usize,
-    places: &'a [u16; tables::BY_NUMBER],
-    at: usize,
-) -> bool
-    requires { ⌜ n ≤ paper .numbers ⌝ }
+pub fn goes_up<'a>(v: Verdict, kind: u16, up: &'a [u8; tables::AREA], n: usize, at: usize) -> bool
+    requires { ⌜ (n ≤ paper .numbers) × (at < suc (paper .numbers)) ⌝ }
     ensures { λ r. ⌜
         ((D : Prefix) (κ : Quantifier) (o : Outcome Constraint)
-        → Places D (now (places .entry))
         → quantifierCode κ ≡ kind
-        → Reads v (take n (now (up .entry))) o
+        → Reads D v (take n (now (up .entry))) o
+        → Ended D (suc at) o
         → r ≡ goesUpOf D κ (suc at) o)
         ⌝ }
 {
@@ -97,19 +92,34 @@ pub fn goes_up<'a>(
     if side::is_enough(v, kind) {
         return true;
     }
-    !side::mentions_next(up, n, places, at)
+    !side::ends_next(up, n, at)
+}
+
+// The codes become the first cells.
+fn write<'a>(cells: &mut [u8], row: &'a [u8])
+    requires { ⌜ length (now row) ≤ length (now cells) ⌝ }
+    ensures { λ _. ⌜
+        (length (now (cells .exit)) ≡ length (now (cells .entry)))
+        × (take (length (now (row .entry))) (now (cells .exit)) ≡ now (row .entry))
+        ⌝ }
+{
+    let mut i: usize = 0;
+    while i < row.len() {
+        cells[i] = row[i];
+        i += 1;
+    }
 }
 
 // Puts the off side's constraint aside, so that it survives what is stored while the on side is visited.
-pub fn put_aside<'a>(saved: &mut [i16], up: &'a [i16; tables::AREA], n: usize)
-    requires { ⌜ (n ≤ paper .numbers) × (paper .numbers ≤ length (now saved)) ⌝ }
+pub fn put_aside<'a>(saved: &mut [u8], up: &'a [u8; tables::AREA], n: usize)
+    requires { ⌜ (n ≤ paper .numbers) × (n ≤ length (now saved)) ⌝ }
     ensures { λ _. ⌜
         (length (now (saved .exit)) ≡ length (now (saved .entry)))
         × (take n (now (saved .exit)) ≡ take n (now (up .entry)))
         ⌝ }
 {
-    let cells: &[i16] = up;
-    learned::cells::write(saved, 0, &cells[..n]);
+    let cells: &[u8] = up;
+    write(saved, &cells[..n]);
 }
 
 // Both sides done, where the off side did not go up: the on side's result, the resolvent of both, which is stored, or Mixed.
@@ -118,41 +128,49 @@ pub fn finish<'a>(
     n: usize,
     on: Answer,
     kind: u16,
-    saved: &'a [i16],
-    up: &mut [i16; tables::AREA],
-    learned: &mut [i16; tables::CONSTRAINT_CELLS],
-    learned_sizes: &mut [u16; tables::CONSTRAINT_SIZES],
-    cubes: &mut [i16; tables::CONSTRAINT_CELLS],
-    cube_sizes: &mut [u16; tables::CONSTRAINT_SIZES],
-    places: &'a [u16; tables::BY_NUMBER],
-    kinds: &'a [u16; tables::BY_NUMBER],
+    saved: &'a [u8],
+    up: &mut [u8; tables::AREA],
+    learned: &mut [u8; tables::CONSTRAINT_CODES],
+    learned_links: &mut [u64; tables::CONSTRAINT_LINKS],
+    cubes: &mut [u8; tables::CONSTRAINT_CODES],
+    cube_links: &mut [u64; tables::CONSTRAINT_LINKS],
+    quantifiers: &'a [u8; tables::CODES],
     at: usize,
 ) -> Answer
     requires { ⌜
         (n ≤ paper .numbers)
         × (on .len ≤ paper .numbers)
-        × (paper .numbers ≤ length (now saved))
+        × (n ≤ length (now saved))
         × (at < suc (paper .numbers))
-        × Stores (now learned) (now «learned_sizes») (now cubes) (now «cube_sizes»)
+        × Shelves (now learned) (now «learned_links») (now cubes) (now «cube_links»)
+        × (newestOf (now «learned_links») < 2 ^ 63)
+        × (newestOf (now «cube_links») < 2 ^ 63)
         ⌝ }
     ensures { λ r. ⌜
         Finished on r
-        × Stores (now (learned .exit)) (now («learned_sizes» .exit)) (now (cubes .exit)) (now («cube_sizes» .exit))
+        × Shelves (now (learned .exit)) (now («learned_links» .exit)) (now (cubes .exit)) (now («cube_links» .exit))
+        × Grown (now («learned_links» .entry)) (now («cube_links» .entry)) (now («learned_links» .exit)) (now («cube_links» .exit))
         ⌝ }
     ensures { λ r. ⌜
-        ((D : Prefix) (R : List Clause) (s : Node) (κ : Quantifier) (a o : Outcome Constraint) (k : ℕ)
-        → Places D (now (places .entry))
-        → Kinds D (now (kinds .entry))
+        ((D : Prefix) (R : List Clause) (s : Node) (κ : Quantifier) (a o : Outcome Constraint) (st : Store) (k : ℕ)
+        → Quantified D (now (quantifiers .entry))
         → length s ≡ at
         → quantifierCode κ ≡ kind
-        → Reads first (take n (now (saved .entry))) a
-        → Reads (on .verdict) (take (on .len) (now (up .entry))) o
+        → Reads D first (take n (now (saved .entry))) a
+        → Reads D (on .verdict) (take (on .len) (now (up .entry))) o
+        → Ended D (suc at) a
+        → Ended D (suc at) o
         → length (resolventOf D (suc at) a o) ≤ paper .numbers
+        → StoreShown D st (now (learned .entry)) (now («learned_links» .entry)) (now (cubes .entry)) (now («cube_links» .entry))
         → Joined
-        (onwardOf D R κ s a o (storeOf (now (learned .entry)) (now («learned_sizes» .entry)) (now (cubes .entry)) (now («cube_sizes» .entry))) k)
+        D
+        (onwardOf D R κ s a o st k)
         r
         (now (up .exit))
-        (storeOf (now (learned .exit)) (now («learned_sizes» .exit)) (now (cubes .exit)) (now («cube_sizes» .exit))))
+        (now (learned .exit))
+        (now («learned_links» .exit))
+        (now (cubes .exit))
+        (now («cube_links» .exit)))
         ⌝ }
 {
     let second = on.verdict;
@@ -167,24 +185,12 @@ pub fn finish<'a>(
             saved,
             n,
             at,
-            places,
-            kinds,
+            quantifiers,
             false,
             learned,
-            learned_sizes,
+            learned_links,
         ),
-        both::Step::Cubes => join::join(
-            on,
-            up,
-            saved,
-            n,
-            at,
-            places,
-            kinds,
-            true,
-            cubes,
-            cube_sizes,
-        ),
+        both::Step::Cubes => join::join(on, up, saved, n, at, quantifiers, true, cubes, cube_links),
     }
 }
 
@@ -249,27 +255,40 @@ pub fn settle_lines<'a>(
 // The position of the off side, where this visit is counted, and of the on side.
 pub fn to_off(p: Position) -> Position
     requires { ⌜ (p .at < suc (paper .numbers)) × (p .visits < 2 ^ 62) ⌝ }
-    ensures { λ r. ⌜ r ≡ record { at = p .at + 1; free = p .free; visits = p .visits + 1; lines = p .lines; start = false } ⌝ }
+    ensures { λ r. ⌜ r ≡ record { at = p .at + 1; free = p .free; visits = p .visits + 1; lines = p .lines; satisfied = p .satisfied } ⌝ }
 {
     Position {
         at: p.at + 1,
         free: p.free,
         visits: p.visits + 1,
         lines: p.lines,
-        start: false,
+        satisfied: p.satisfied,
     }
 }
 
 pub fn to_on(p: Position, visits: u64, lines: usize) -> Position
     requires { ⌜ p .at < suc (paper .numbers) ⌝ }
-    ensures { λ r. ⌜ r ≡ record { at = p .at + 1; free = p .free; visits = visits; lines = lines; start = false } ⌝ }
+    ensures { λ r. ⌜ r ≡ record { at = p .at + 1; free = p .free; visits = visits; lines = lines; satisfied = p .satisfied } ⌝ }
 {
     Position {
         at: p.at + 1,
         free: p.free,
         visits: visits,
         lines: lines,
-        start: false,
+        satisfied: p.satisfied,
+    }
+}
+
+// The position of an open node's sides: so many leading clauses are satisfied there.
+pub fn resumed(p: Position, satisfied: usize) -> Position
+    ensures { λ r. ⌜ r ≡ record { at = p .at; free = p .free; visits = p .visits; lines = p .lines; satisfied = satisfied } ⌝ }
+{
+    Position {
+        at: p.at,
+        free: p.free,
+        visits: p.visits,
+        lines: p.lines,
+        satisfied: satisfied,
     }
 }
 

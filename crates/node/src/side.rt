@@ -1,13 +1,16 @@
 // What the verdict and the constraint of one side say at a node.
 use super::Verdict;
-use literal::literal_place;
+use coding::code::place_of;
+use coding::list::last_code;
 ghost use mathlib.Core.Path.{_≡_};
-ghost use Prim.Native.Nat.{suc, _≤_};
+ghost use mathlib.Core.Bool.{true};
+ghost use Prim.Native.Nat.{suc, _≤_, _<_};
 ghost use lib.ListN.{length, take};
 ghost use lib.Dec.{eqb};
-ghost use Rattle.qbf.specs.Formula.{Prefix, Quantifier};
-ghost use Rattle.qbf.specs.Learning.{mentions};
-ghost use Rattle.tables.specs.Views.{Places, quantifierCode};
+ghost use Rattle.qbf.specs.Formula.{paper, Prefix, Quantifier};
+ghost use Rattle.qbf.specs.Learning.{Constraint, lastPlace};
+ghost use Rattle.tables.specs.Views.{quantifierCode};
+ghost use Rattle.tables.specs.Codes.{codes};
 ghost use Rattle.node.specs.Node.{isYes, isMixed};
 ghost use Rattle.node.specs.Step.{alone};
 
@@ -42,35 +45,15 @@ pub fn is_enough(v: Verdict, kind: u16) -> bool
     }
 }
 
-// Whether a place is the one after another, which could be the last number of a usize.
-fn is_after(place: usize, at: usize) -> bool
-    ensures { λ r. ⌜ r ≡ eqb place (suc at) ⌝ }
-{
-    if place == 0 {
-        return false;
-    }
-    place - 1 == at
-}
-
-// Whether the first n literals name the variable of the place after `at`.
-pub fn mentions_next<'a>(
-    lits: &'a [i16],
-    n: usize,
-    places: &'a [u16; tables::BY_NUMBER],
-    at: usize,
-) -> bool
-    requires { ⌜ n ≤ length (now lits) ⌝ }
+// Whether the last of the first n codes is of the place after `at`; then there is one.
+pub fn ends_next<'a>(cells: &'a [u8], n: usize, at: usize) -> bool
+    requires { ⌜ (n ≤ length (now cells)) × (at < suc (paper .numbers)) ⌝ }
     ensures { λ r. ⌜
-        ((D : Prefix) → Places D (now (places .entry)) → r ≡ mentions D (suc at) (take n (now (lits .entry))))
+        (r ≡ true → 1 ≤ n)
+        × ((D : Prefix) (e : Constraint)
+        → take n (now (cells .entry)) ≡ codes D e
+        → r ≡ eqb (lastPlace D e) (suc at))
         ⌝ }
 {
-    let mut i: usize = 0;
-    while i < n {
-        let lit = lits[i];
-        if is_after(literal_place(places, lit), at) {
-            return true;
-        }
-        i += 1;
-    }
-    false
+    place_of(last_code(cells, n)) == at + 1
 }

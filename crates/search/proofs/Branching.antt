@@ -1,12 +1,11 @@
 -- A branch of the search by what its sides gave: the off side's result goes up, or both are finished.
-use Prim.Native.Nat.{ℕ, zero, suc, _+_, _-_, _≤_, _<_, suc-le-suc, zero-le}
+use Prim.Native.Nat.{ℕ, zero, suc, _+_, _≤_, _<_, suc-le-suc, zero-le}
 use native.Mathlib.Omega.{arith}
 use native.Mathlib.Numerals.{add-one}
 use mathlib.Core.Path.{_≡_, refl, sym, ap, _∙_, subst}
 use mathlib.Core.Bool.{Bool, true, false, false≢true}
 use mathlib.Core.List.{List, [], _∷_}
 use lib.ListN.{length, drop, length-map}
-use lib.IntN.{ℤ}
 use lib.Dec.{eqb}
 use Rattle.qbf.specs.Formula.{paper, Quantifier, exists, forall, free, Prefix, Clause, Formula, Node, _▹_, quantifiers, quantifierAt}
 use Rattle.qbf.specs.Truth.{Outcome, decided, mixed, freeCount}
@@ -17,7 +16,9 @@ use Rattle.theory.proofs.Laws.{branch-up, branch-on, branch-mixed}
 use Rattle.theory.proofs.Rest.{Rest, nil-cons, rest-up, drop-cons}
 use Rattle.theory.proofs.Game.{Rising, rising-above}
 use Rattle.theory.proofs.Stores.{ShapedStore}
-use Rattle.theory.proofs.WellFormed.{FormulaFacts, clauses-rising, free-before, store-shaped, shaped-store}
+use Rattle.theory.proofs.Basics.{length-▹}
+use Rattle.theory.proofs.Shape.{last-held}
+use Rattle.theory.proofs.WellFormed.{FormulaFacts, clauses-rising, free-before, store-shaped, shaped-store, →rising}
 use Rattle.theory.proofs.ShapedSearch.{ShapedOutcome, shaped-visit, shaped-branch}
 use Rattle.theory.proofs.Verdict.{NoFree}
 use Rattle.theory.proofs.Search.{Below, FreeFirst}
@@ -26,11 +27,10 @@ use Rattle.theory.proofs.Constraints.{reduce-rising}
 use Rattle.theory.proofs.Sets.{without-rising, without-sub, union-rising}
 use Rattle.theory.proofs.Widths.{constraint-width}
 use Rattle.tables.specs.Formed.{Formed}
-use Rattle.node.specs.Node.{goesUpOf, onwardOf, resolventOf}
-use Rattle.search.specs.Search.{Task, Result, visitOf}
+use Rattle.node.specs.Node.{Ended, goesUpOf, onwardOf, resolventOf}
+use Rattle.search.specs.Search.{Result, visitOf}
 use Rattle.node.specs.declared.Position.{Position}
 use Rattle.node.specs.declared.Answer.{Answer}
-use Rattle.search.proofs.Counts as counts
 
 -- ---- a branch by its off side's outcome
 module _ (D : Prefix) (R : List Clause) (κ : Quantifier) (f : Node → Store → LearningResult) (s : Node) (st : Store) where
@@ -56,13 +56,9 @@ module _ (D : Prefix) (R : List Clause) (κ : Quantifier) (f : Node → Store �
 
 -- ---- a position below
 -- the result of a side at the position that the code made for it
-pub side-at : {ls : List Node} (D : Prefix) (R : List Clause) (s : Node) (st : Store) {st′ : Store} {r : Answer} {up : List ℤ} {table : List ℕ} {q q′ : Position} → q ≡ q′
-    → Result ls (visitOf D R q s st) q r up st′ table → Result ls (visitOf D R q′ s st) q′ r up st′ table
-side-at {ls} D R s st {st′} {r} {up} {table} e w = subst (λ (x : Position). Result ls (visitOf D R x s st) x r up st′ table) e w
-
-pub task-at : {D : Prefix} {s : Node} {ls : List Node} {R : List Clause} {st : Store} {ns ps ks vs tb : List ℕ} {k : ℕ} {q q′ : Position} → q ≡ q′
-    → Task D s ls R st ns ps ks vs tb k q → Task D s ls R st ns ps ks vs tb k q′
-task-at {D} {s} {ls} {R} {st} {ns} {ps} {ks} {vs} {tb} {k} e w = subst (Task D s ls R st ns ps ks vs tb k) e w
+pub side-at : {ls : List Node} (D : Prefix) (R : List Clause) (s : Node) (st : Store) {r : Answer} {up cs cl qs ql table : List ℕ} {q q′ : Position} → q ≡ q′
+    → Result D ls (visitOf D R q s st) q r up cs cl qs ql table → Result D ls (visitOf D R q′ s st) q′ r up cs cl qs ql table
+side-at {ls} D R s st {r} {up} {cs} {cl} {qs} {ql} {table} e w = subst (λ (x : Position). Result D ls (visitOf D R x s st) x r up cs cl qs ql table) e w
 
 -- ---- what is well formed
 abbrev formulaOf : Prefix → List Clause → Formula
@@ -121,6 +117,11 @@ pub resolvent-fits : (D : Prefix) (p : ℕ) (s t : Node) (a o : Outcome Constrai
 resolvent-fits D p s t (decided b E) (decided c F) ok g h = resolvent-short D p c E F ok (g .formed .rising) (h .formed .rising)
 resolvent-fits D p s t (decided b E) (mixed ds) ok g h = zero-le
 resolvent-fits D p s t (mixed ds) o ok g h = zero-le
+
+-- what comes up from a side is in place order, and within the side's node
+pub ended : (D : Prefix) (s : Node) (b : Bool) (k : ℕ) (o : Outcome Constraint) → length s ≡ k → ShapedOutcome D (s ▹ b) o → Ended D (suc k) o
+ended D s b k (decided v e) h g = (→rising D 0 e (g .formed .rising), omega (arith, h, length-▹ s b, last-held D v e (s ▹ b) (g .held)))
+ended D s b k (mixed ds) h g = tt
 
 module _ (D : Prefix) (R : List Clause) (κ : Quantifier) (s : Node) (k : ℕ) (long : length s ≡ k) (more : k < length D) (is : quantifierAt D (suc k) ≡ κ) where
   pub rest : Rest D s (κ ∷ drop (k + 1) (quantifiers D))

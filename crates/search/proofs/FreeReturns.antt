@@ -1,14 +1,14 @@
 -- What the visitor of a free variable returns: its lines are those of the two sides, and two Yes are one line above.
-use Prim.Native.Nat.{ℕ, suc, _+_, _-_, _<_}
+use Prim.Native.Nat.{ℕ, suc, _+_, _<_}
 use native.Mathlib.Omega.{arith}
 use mathlib.Core.Path.{_≡_, refl, sym, ap, _∙_, subst}
 use mathlib.Core.Bool.{Bool, true, false, cond}
 use mathlib.Core.List.{List, [], _∷_, _++_, append-nil, append-assoc}
+use mathlib.Core.Option.{none}
 use lib.ListN.{length, getD, take, drop, length-append, length-map}
-use lib.IntN.{ℤ}
 use Rattle.qbf.specs.Formula.{paper, free, Prefix, Clause, Node, _▹_, quantifiers, quantifierAt}
 use Rattle.qbf.specs.Truth.{Outcome, decided, mixed, DecidedNode, decidedNodes, select}
-use Rattle.qbf.specs.Learning.{Constraint, Store, LearningResult, mentions, resolve}
+use Rattle.qbf.specs.Learning.{Constraint, Store, LearningResult, mentions, resolve, firstDead}
 use Rattle.qbf.specs.Card.{byteOf}
 use Rattle.theory.proofs.Laws.{select-append}
 use Rattle.theory.proofs.WellFormed.{numbers-ok, free-before}
@@ -94,54 +94,57 @@ module _ (D : Prefix) (R : List Clause) (s : Node) (st : Store) (k : ℕ) where
     both-at : {v w : Verdict} {a a′ o o′ : Outcome Constraint} → a ≡ a′ → o ≡ o′ → Settles v w a′ o′ → Settles v w a o
     both-at {v} {w} {a} {a′} {o} {o′} p q h = subst (λ (x : Outcome Constraint). Settles v w x o) (sym p) (subst (λ (x : Outcome Constraint). Settles v w a′ x) (sym q) h)
 
-    pub settles : (v w : Verdict) (e g : List ℤ) (a o : Outcome Constraint) → Reads v e a → Reads w g o → Settles v w a o
-    settles Yes Yes e g a o p q = both-at p q (yes-yes e g)
-    settles Yes No e g a o p q = both-at p q (same-list Yes (decided true e) (decided false g) (yes-lines []) No (λ f tb x. x) (λ n. refl))
-    settles Yes Mixed e g a o p q = both-at p (q .1) (same-list Yes (decided true e) (mixed (q .0)) (yes-lines (select true (q .0))) Mixed (λ f tb x. x) (λ n. refl))
-    settles No Yes e g a o p q = both-at p q (more-list No (decided false e) (decided true g) (ap (λ (x : List Node). x ++ ((s ▹ true) ∷ [])) (no-lines [] ∙ append-nil ls)) (λ f tb x. x) (λ n. refl))
-    settles No No e g a o p q = both-at p q (same-list No (decided false e) (decided false g) (no-lines [] ∙ ap (λ (ms : List Node). ls ++ ms) (sym (alike false e g))) No (λ f tb x. x) (λ n. refl))
-    settles No Mixed e g a o p q = both-at p (q .1) (same-list No (decided false e) (mixed (q .0)) (no-lines (select true (q .0))) Mixed (λ f tb x. x) (λ n. refl))
+    pub settles : (v w : Verdict) (e g : List ℕ) (a o : Outcome Constraint) → Reads D v e a → Reads D w g o → Settles v w a o
+    settles Yes Yes e g a o p q = both-at (p .1) (q .1) (yes-yes (p .0) (q .0))
+    settles Yes No e g a o p q = both-at (p .1) (q .1) (same-list Yes (decided true (p .0)) (decided false (q .0)) (yes-lines []) No (λ f tb x. x) (λ n. refl))
+    settles Yes Mixed e g a o p q = both-at (p .1) (q .1) (same-list Yes (decided true (p .0)) (mixed (q .0)) (yes-lines (select true (q .0))) Mixed (λ f tb x. x) (λ n. refl))
+    settles No Yes e g a o p q = both-at (p .1) (q .1) (more-list No (decided false (p .0)) (decided true (q .0)) (ap (λ (x : List Node). x ++ ((s ▹ true) ∷ [])) (no-lines [] ∙ append-nil ls)) (λ f tb x. x) (λ n. refl))
+    settles No No e g a o p q = both-at (p .1) (q .1) (same-list No (decided false (p .0)) (decided false (q .0)) (no-lines [] ∙ ap (λ (ms : List Node). ls ++ ms) (sym (alike false (p .0) (q .0)))) No (λ f tb x. x) (λ n. refl))
+    settles No Mixed e g a o p q = both-at (p .1) (q .1) (same-list No (decided false (p .0)) (mixed (q .0)) (no-lines (select true (q .0))) Mixed (λ f tb x. x) (λ n. refl))
     settles Mixed Yes e g a o p q =
-        both-at (p .1) q
-        (more-list Mixed (mixed (p .0)) (decided true g)
-        (ap (λ (x : List Node). x ++ ((s ▹ true) ∷ [])) (mixed-lines (select true (p .0)) [] ∙ ap (λ (ms : List Node). ls ++ ms) (append-nil (select true (p .0)))) ∙ append-assoc ls (select true (p .0)) ((s ▹ true) ∷ []) ∙ ap (λ (ms : List Node). ls ++ ms) (sym (mixed-first (p .0) (decided true g))))
+        both-at (p .1) (q .1)
+        (more-list Mixed (mixed (p .0)) (decided true (q .0))
+        (ap (λ (x : List Node). x ++ ((s ▹ true) ∷ [])) (mixed-lines (select true (p .0)) [] ∙ ap (λ (ms : List Node). ls ++ ms) (append-nil (select true (p .0)))) ∙ append-assoc ls (select true (p .0)) ((s ▹ true) ∷ []) ∙ ap (λ (ms : List Node). ls ++ ms) (sym (mixed-first (p .0) (decided true (q .0)))))
         (λ f tb x. x) (λ n. refl))
     settles Mixed No e g a o p q =
-        both-at (p .1) q
-        (same-list Mixed (mixed (p .0)) (decided false g) (mixed-lines (select true (p .0)) [] ∙ ap (λ (ms : List Node). ls ++ ms) (sym (mixed-first (p .0) (decided false g)))) No (λ f tb x. x) (λ n. refl))
+        both-at (p .1) (q .1)
+        (same-list Mixed (mixed (p .0)) (decided false (q .0)) (mixed-lines (select true (p .0)) [] ∙ ap (λ (ms : List Node). ls ++ ms) (sym (mixed-first (p .0) (decided false (q .0))))) No (λ f tb x. x) (λ n. refl))
     settles Mixed Mixed e g a o p q =
         both-at (p .1) (q .1)
         (same-list Mixed (mixed (p .0)) (mixed (q .0)) (mixed-lines (select true (p .0)) (select true (q .0)) ∙ ap (λ (ms : List Node). ls ++ ms) (sym (mixed-first (p .0) (mixed (q .0))))) Mixed (λ f tb x. x) (λ n. refl))
 
 -- ---- the visitor
-module _ (R : List Clause) (ns ps ks : List ℕ) (p : Position) (more : p .at < getD ns 0 0) (vs tb : List ℕ) (st : Store) (q : Position)
-    (eq : q ≡ counts.below p (p .visits + 1) (p .lines)) (off : Answer) (up₁ : List ℤ) (st₁ : Store) (tb₁ : List ℕ) (offs : SideSays R ns ps ks q 1 vs tb st off up₁ st₁ tb₁) (t : Bool)
-    (ups : UpSays ps (off .verdict) 0 up₁ (off .len) (p .at) t) (vs₁ : List ℕ) (same : vs₁ ≡ vs) (tbₐ : List ℕ) (l : ℕ) (counted : l ≡ cond (isYes (off .verdict)) (off .lines + 1) (off .lines))
+module _ {cls szs dy dl ns ks kd mk vs ss cs cl qs ql tb : List ℕ} (p : Position) (more : p .at < getD ns 0 0) (q : Position) (eq : q ≡ counts.below p (p .visits + 1) (p .lines))
+    (off : Answer) {up₁ cs₁ cl₁ qs₁ ql₁ tb₁ : List ℕ} (offs : SideSays cls szs dy dl ns ks kd mk q 1 vs ss cs cl qs ql tb off up₁ cs₁ cl₁ qs₁ ql₁ tb₁) (t : Bool)
+    (ups : UpSays (off .verdict) 0 up₁ (off .len) (p .at) t) {vs₁ ss₁ : List ℕ} (same : vs₁ ≡ vs) (sames : ss₁ ≡ ss) {tbₐ : List ℕ} (l : ℕ)
+    (counted : l ≡ cond (isYes (off .verdict)) (off .lines + 1) (off .lines))
     (lined : (D : Prefix) (s : Node) (b : Bool) (ls : List Node) → LineTask D s ls ns vs₁ tb₁ p (off .lines) → 1 ≡ byteOf b → Covers (p .free) tbₐ (ls ++ cond (isYes (off .verdict)) ((s ▹ b) ∷ []) []))
-    (q′ : Position) (eq′ : q′ ≡ counts.below p (off .visits) l) (on : Answer) (up₂ : List ℤ) (st₂ : Store) (tb₂ : List ℕ) (ons : SideSays R ns ps ks q′ 2 vs₁ tbₐ st₁ on up₂ st₂ tb₂)
-    (saved : List ℤ) (aside : take (off .len) saved ≡ take (off .len) up₁) (r : Answer) (up₃ : List ℤ) (st₃ : Store)
-    (fins : FinishSays ps ks (off .verdict) (off .len) on 0 saved up₂ (p .at) st₂ r up₃ st₃) (unup : t ≡ false) (visits : r .visits ≡ on .visits)
-    (vs₂ : List ℕ) (same₂ : vs₂ ≡ vs) (tb₃ : List ℕ) (n : ℕ) (settled : n ≡ settledLines (off .verdict) (on .verdict) (on .lines))
+    (q′ : Position) (eq′ : q′ ≡ counts.below p (off .visits) l) (on : Answer) {up₂ cs₂ cl₂ qs₂ ql₂ tb₂ : List ℕ}
+    (ons : SideSays cls szs dy dl ns ks kd mk q′ 2 vs₁ ss₁ cs₁ cl₁ qs₁ ql₁ tbₐ on up₂ cs₂ cl₂ qs₂ ql₂ tb₂)
+    (saved : List ℕ) (aside : take (off .len) saved ≡ take (off .len) up₁) (r : Answer) {up₃ cs₃ cl₃ qs₃ ql₃ : List ℕ}
+    (fins : FinishSays kd (off .verdict) (off .len) on 0 saved up₂ (p .at) cs₂ cl₂ qs₂ ql₂ r up₃ cs₃ cl₃ qs₃ ql₃) (unup : t ≡ false) (visits : r .visits ≡ on .visits)
+    {vs₂ : List ℕ} (same₂ : vs₂ ≡ vs) (tb₃ : List ℕ) (n : ℕ) (settled : n ≡ settledLines (off .verdict) (on .verdict) (on .lines))
     (settling : (D : Prefix) (s : Node) (ls : List Node) → LineTask D s ls ns vs₂ tb₂ p (on .lines) → SettledTo (off .verdict) (on .verdict) s ls (p .free) tb₃) where
-  pub free-result : (D : Prefix) (s : Node) (ls : List Node) → Task D s ls R st ns ps ks vs tb (p .at) p → quantifierAt D (suc (p .at)) ≡ free
-      → Result ls (branchOf D R free p s st) p (counts.answered (r .verdict) (r .len) (r .visits) n) up₃ st₃ tb₃
-  free-result D s ls task is =
+  pub free-result : (D : Prefix) (s : Node) (ls : List Node) (R : List Clause) (st : Store) → Task D s ls R st cls szs dy dl ns ks kd vs ss cs cl qs ql tb mk (p .at) p
+      → firstDead D s R ≡ none → quantifierAt D (suc (p .at)) ≡ free
+      → Result D ls (branchOf D R free p s st) p (counts.answered (r .verdict) (r .len) (r .visits) n) up₃ cs₃ cl₃ qs₃ ql₃ tb₃
+  free-result D s ls R st task alive is =
       record {
         verdict = j .verdict;
         stored = j .stored;
-        visited = visits-both R ns ps ks free 0 refl p more vs tb st q eq off up₁ st₁ tb₁ offs t ups D s ls task is tbₐ l vs₁ same q′ eq′ on up₂ st₂ tb₂ ons ls₁ cov cnt saved aside r up₃ st₃ fins unup visits;
+        visited = visits-both free 0 refl p more q eq off offs t ups D s ls R st task alive is l same sames q′ eq′ on ons ls₁ cov cnt saved aside r fins unup visits;
         covers = subst (λ (x : LearningResult). Covers (p .free) tb₃ (ls ++ newLines (x .outcome))) (sym whole) (s₂ .covers (p .free) tb₃ (settling D s ls₂ (line-task vs₂ same₂ tb₂ ls₂ (on .lines) (z .covers) (z .counted))));
         counted = settled ∙ ap (settledLines (off .verdict) (on .verdict)) (z .counted) ∙ s₂ .counts ∙ ap (λ (x : LearningResult). length (ls ++ newLines (x .outcome))) (sym whole);
       }
     where
-      w : Result ls (offR R ns ps ks free 0 refl p more vs tb st q eq off up₁ st₁ tb₁ offs t ups D s ls task is) (counts.below p (p .visits + 1) (p .lines)) off up₁ st₁ tb₁
-      w = off-result R ns ps ks free 0 refl p more vs tb st q eq off up₁ st₁ tb₁ offs t ups D s ls task is
+      w : Result D ls (offR free 0 refl p more q eq off offs t ups D s ls R st task alive is) (counts.below p (p .visits + 1) (p .lines)) off up₁ cs₁ cl₁ qs₁ ql₁ tb₁
+      w = off-result free 0 refl p more q eq off offs t ups D s ls R st task alive is
 
       a : Outcome Constraint
-      a = offR R ns ps ks free 0 refl p more vs tb st q eq off up₁ st₁ tb₁ offs t ups D s ls task is .outcome
+      a = offR free 0 refl p more q eq off offs t ups D s ls R st task alive is .outcome
 
       inD : p .at < length D
-      inD = inside R ns ps ks free 0 refl p more vs tb st q eq off up₁ st₁ tb₁ offs t ups D s ls task is
+      inD = inside free 0 refl p more q eq off offs t ups D s ls R st task alive is
 
       -- the place is a free one
       among : p .at < p .free
@@ -180,26 +183,26 @@ module _ (R : List Clause) (ns ps ks : List ℕ) (p : Position) (more : p .at < 
           by No = omega (arith, w .counted)
           by Mixed = omega (arith, w .counted)
 
-      z : Result ls₁ (onR R ns ps ks free 0 refl p more vs tb st q eq off up₁ st₁ tb₁ offs t ups D s ls task is tbₐ l vs₁ same q′ eq′ on up₂ st₂ tb₂ ons ls₁ cov cnt) (counts.below p (off .visits) l) on up₂ st₂ tb₂
-      z = on-result R ns ps ks free 0 refl p more vs tb st q eq off up₁ st₁ tb₁ offs t ups D s ls task is tbₐ l vs₁ same q′ eq′ on up₂ st₂ tb₂ ons ls₁ cov cnt
+      z : Result D ls₁ (onR free 0 refl p more q eq off offs t ups D s ls R st task alive is l same sames q′ eq′ on ons ls₁ cov cnt) (counts.below p (off .visits) l) on up₂ cs₂ cl₂ qs₂ ql₂ tb₂
+      z = on-result free 0 refl p more q eq off offs t ups D s ls R st task alive is l same sames q′ eq′ on ons ls₁ cov cnt
 
       o : Outcome Constraint
-      o = onR R ns ps ks free 0 refl p more vs tb st q eq off up₁ st₁ tb₁ offs t ups D s ls task is tbₐ l vs₁ same q′ eq′ on up₂ st₂ tb₂ ons ls₁ cov cnt .outcome
+      o = onR free 0 refl p more q eq off offs t ups D s ls R st task alive is l same sames q′ eq′ on ons ls₁ cov cnt .outcome
 
-      j : Joined (branchOf D R free p s st) r up₃ st₃
-      j = joined R ns ps ks free 0 refl p more vs tb st q eq off up₁ st₁ tb₁ offs t ups D s ls task is tbₐ l vs₁ same q′ eq′ on up₂ st₂ tb₂ ons ls₁ cov cnt saved aside r up₃ st₃ fins unup
+      j : Joined D (branchOf D R free p s st) r up₃ cs₃ cl₃ qs₃ ql₃
+      j = joined free 0 refl p more q eq off offs t ups D s ls R st task alive is l same sames q′ eq′ on ons ls₁ cov cnt saved aside r fins unup
 
       ls₂ : List Node
       ls₂ = unsettled ls s (off .verdict) a o
 
       st′ : Store
-      st′ = onR R ns ps ks free 0 refl p more vs tb st q eq off up₁ st₁ tb₁ offs t ups D s ls task is tbₐ l vs₁ same q′ eq′ on up₂ st₂ tb₂ ons ls₁ cov cnt .store
+      st′ = onR free 0 refl p more q eq off offs t ups D s ls R st task alive is l same sames q′ eq′ on ons ls₁ cov cnt .store
 
       k : ℕ
-      k = suc (offR R ns ps ks free 0 refl p more vs tb st q eq off up₁ st₁ tb₁ offs t ups D s ls task is .visits + onR R ns ps ks free 0 refl p more vs tb st q eq off up₁ st₁ tb₁ offs t ups D s ls task is tbₐ l vs₁ same q′ eq′ on up₂ st₂ tb₂ ons ls₁ cov cnt .visits)
+      k = suc (offR free 0 refl p more q eq off offs t ups D s ls R st task alive is .visits + onR free 0 refl p more q eq off offs t ups D s ls R st task alive is l same sames q′ eq′ on ons ls₁ cov cnt .visits)
 
       whole : branchOf D R free p s st ≡ onwardOf D R free s a o st′ k
-      whole = onward-is R ns ps ks free 0 refl p more vs tb st q eq off up₁ st₁ tb₁ offs t ups D s ls task is tbₐ l vs₁ same q′ eq′ on up₂ st₂ tb₂ ons ls₁ cov cnt saved aside r up₃ st₃ fins unup
+      whole = onward-is free 0 refl p more q eq off offs t ups D s ls R st task alive is l same sames q′ eq′ on ons ls₁ cov cnt saved aside r fins unup
 
       s₂ : Settles D R s st′ k ls (off .verdict) (on .verdict) a o
       s₂ = settles D R s st′ k ls (off .verdict) (on .verdict) (take (off .len) up₁) (take (on .len) up₂) a o (w .verdict) (z .verdict)

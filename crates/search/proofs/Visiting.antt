@@ -1,28 +1,37 @@
--- A visit: it is decided by a leaf, or it branches on the variable of the next place; and the node below, one value longer.
-use Prim.Native.Nat.{ℕ, suc, _+_, _-_, _≤_, _<_}
+-- A visit: it is decided by a leaf, or the node is open and branches on the variable of the next place; and the node below, one value longer.
+use Prim.Native.Nat.{ℕ, suc, _+_, _≤_, _<_}
 use native.Mathlib.Omega.{arith}
 use mathlib.Core.Path.{_≡_, refl, sym, ap, _∙_, subst}
 use mathlib.Core.Logic.{_⊎_, inl, inr}
 use mathlib.Core.Bool.{Bool, true, false, cond}
-use mathlib.Core.List.{List, [], _∷_, _++_, map, append-nil}
+use mathlib.Core.List.{List, [], _∷_, map, append-nil}
 use mathlib.Core.Option.{Option, none, some}
 use lib.ListN.{length, getD, set, take, drop, length-map, length-set, drop-of-length-le}
 use lib.Seq.{getD-set-same, getD-set-other}
-use lib.IntN.{ℤ}
 use lib.Dec.{eqb}
 use Rattle.qbf.specs.Formula.{paper, Quantifier, free, exists, forall, Prefix, Clause, Node, _▹_, quantifiers, quantifierAt, placeOf, valueAt}
 use Rattle.qbf.specs.Truth.{Outcome, decided}
-use Rattle.qbf.specs.Learning.{Constraint, Store, LearningResult, below, leaf, settle}
-use Rattle.qbf.specs.Card.{byteOf}
+use Rattle.qbf.specs.Learning.{Constraint, Store, LearningResult, below, leaf, settle, firstDead, reducedFound, concludeBy}
+use Rattle.qbf.specs.Card.{byteOf, Mem}
 use Rattle.qbf.specs.Calls.{numbersOk}
 use Rattle.theory.proofs.Basics.{le-or-lt, length-▹, eqb-true, false-eqb, dichotomy}
 use Rattle.theory.proofs.WellFormed.{numbers-ok}
 use Rattle.theory.proofs.Prefixes.{place-of-number, number-range, value-step}
 use Rattle.theory.proofs.ShapedSearch.{raise-nothing}
-use Rattle.tables.specs.Views.{eligible, quantifierCode, valueCode}
+use Rattle.theory.proofs.Dying.{dying}
+use Rattle.theory.proofs.Game.{Rising}
+use Rattle.tables.specs.Views.{quantifierCode, valueCode}
+use Rattle.tables.specs.Codes.{codeAt, codes, given}
+use Rattle.tables.specs.Marks.{Fresh, Marked}
+use Rattle.coding.proofs.Given.{statuses-below}
+use Rattle.inner.proofs.Below.{marked-below}
+use Rattle.inner.specs.Inner.{Concluded, LeafCoded}
+use Rattle.inner.specs.declared.Step.{Step}
+use Rattle.leaf.specs.declared.Leaf.{Leaf}
+use Rattle.leaf.specs.declared.Leaf.the-variants as found
 use Rattle.cover.specs.Cover.{Covers}
-use Rattle.node.specs.Node.{Reads, Shown, newLines, NextKind}
-use Rattle.search.specs.Search.{Room, Task, Result, visitOf, branchOf}
+use Rattle.node.specs.Node.{Reads, Shown, NextKind}
+use Rattle.search.specs.Search.{Room, Task, Result, visitOf, belowOf, branchOf}
 use Rattle.node.specs.declared.Verdict.{Verdict}
 use Rattle.node.specs.declared.Verdict.the-variants.{No}
 use Rattle.node.specs.declared.Position.{Position}
@@ -58,7 +67,7 @@ more-places ns ks at k h low = by (le-or-lt (getD ns 0 0) at)
     by (inl le) = absurd (omega (arith, h .none le))
     by (inr lt) = lt
 
-module _ (D : Prefix) (s : Node) (ns ps ks vs : List ℕ) (at : ℕ) (shown : Shown D s ns ps ks vs at) (ok : numbersOk paper [] D ≡ true) where
+module _ (D : Prefix) (s : Node) (ns ks vs kd ss : List ℕ) (at : ℕ) (shown : Shown D s ns ks vs kd ss at) (ok : numbersOk paper [] D ≡ true) where
   pub kind-here : (k : ℕ) → NextKind ns ks at k → at < getD ns 0 0 → k ≡ quantifierCode (quantifierAt D (suc at))
   kind-here k h lt =
       let w : at < length D = omega (arith, lt, shown .numbered .count) in
@@ -67,29 +76,66 @@ module _ (D : Prefix) (s : Node) (ns ps ks vs : List ℕ) (at : ℕ) (shown : Sh
       ∙ shown .kinded .at (getD (map (λ d. d .number) D) at 0)
       ∙ ap (λ (p : ℕ). quantifierCode (quantifierAt D p)) (place-of-number paper D ok at w)
 
--- ---- results of a visit
-module _ (D : Prefix) (s : Node) (ls : List Node) (R : List Clause) (st : Store) (ns ps ks vs tb : List ℕ) (p : Position) (task : Task D s ls R st ns ps ks vs tb (p .at) p) where
-  lines-none : (o : Outcome Constraint) (v : Bool) (e : Constraint) → o ≡ decided v e → ls ++ newLines o ≡ ls
-  lines-none o v e q = ap (λ (x : Outcome Constraint). ls ++ newLines x) q ∙ append-nil ls
+-- ---- an open node
+none-found : (D : Prefix) (v : Bool) (o : Option Clause) (next : Option (Outcome Constraint)) → concludeBy v (reducedFound D v o) next ≡ none → o ≡ none
+none-found D v none next e = refl
+none-found D v (some r) next e = absurd (never e)
+  where
+    never : {x : Outcome Constraint} → some x ≡ none → ⊥
+    never {x} q = let z : _≡_ {A = ℕ} 0 1 = cc in omega arith
 
+-- no clause is dead at it
+pub open-alive : (D : Prefix) (R : List Clause) (eligible : ℕ → ℕ → Bool) (s : Node) (st : Store) → leaf D R eligible s st ≡ none → firstDead D s R ≡ none
+open-alive D R eligible s st e = none-found D false (firstDead D s R) _ e
+
+-- what steps 1 to 4 say, by what the code found
+module _ (D : Prefix) (R : List Clause) (s : Node) (st : Store) (n : ℕ) (r : Step) (up : List ℕ) where
+  pub said-no : r .leaf ≡ found.No n → Concluded D R s st r up → (e : Constraint) × (leaf D R eqb s st ≡ some (decided false e)) × (take n up ≡ codes D e)
+  said-no e w = subst (λ (l : Leaf). LeafCoded D l up (leaf D R eqb s st)) e (w .read)
+
+  pub said-yes : r .leaf ≡ found.Yes n → Concluded D R s st r up → (e : Constraint) × (leaf D R eqb s st ≡ some (decided true e)) × (take n up ≡ codes D e)
+  said-yes e w = subst (λ (l : Leaf). LeafCoded D l up (leaf D R eqb s st)) e (w .read)
+
+pub said-open : (D : Prefix) (R : List Clause) (s : Node) (st : Store) (r : Step) (up : List ℕ) → r .leaf ≡ found.Open → Concluded D R s st r up → leaf D R eqb s st ≡ none
+said-open D R s st r up e w = subst (λ (l : Leaf). LeafCoded D l up (leaf D R eqb s st)) e (w .read)
+
+-- ---- results of a visit
+module _ {D : Prefix} {s : Node} {ls : List Node} {R : List Clause} {st : Store} {cls szs dy dl ns ks kd vs ss cs cl qs ql tb mk : List ℕ} (p : Position)
+    (task : Task D s ls R st cls szs dy dl ns ks kd vs ss cs cl qs ql tb mk (p .at) p) where
   -- steps 1 to 4 decide
-  pub leaf-result : (w : Verdict) (v : Bool) (n : ℕ) (up : List ℤ) → some (decided v (take n up)) ≡ leaf D R (eligible (p .start)) s st → Reads w (take n up) (decided v (take n up))
-      → (r : Answer) → r ≡ counts.answered w n (p .visits + 1) (p .lines) → Result ls (visitOf D R p s st) p r up st tb
-  leaf-result w v n up e rd r q =
-      subst (λ (x : Answer). Result ls (visitOf D R p s st) p x up st tb) (sym q)
-      (subst (λ (x : Option (Outcome Constraint)). Result ls (settle x (below paper D R (drop (p .at) (quantifiers D))) s st) p (counts.answered w n (p .visits + 1) (p .lines)) up st tb) e
+  pub leaf-result : (w : Verdict) (v : Bool) (e : Constraint) (n : ℕ) (up : List ℕ) → leaf D R eqb s st ≡ some (decided v e) → Reads D w (take n up) (decided v e)
+      → (r : Answer) → r ≡ counts.answered w n (p .visits + 1) (p .lines) → Result D ls (visitOf D R p s st) p r up cs cl qs ql tb
+  leaf-result w v e n up is rd r q =
+      subst (λ (x : Answer). Result D ls (visitOf D R p s st) p x up cs cl qs ql tb) (sym q)
+      (subst (λ (x : Option (Outcome Constraint)). Result D ls (settle x (below paper D R (drop (p .at) (quantifiers D))) s st) p (counts.answered w n (p .visits + 1) (p .lines)) up cs cl qs ql tb) (sym is)
       (record {
         verdict = rd;
-        stored = refl;
+        stored = task .stored;
         visited = refl;
         covers = subst (Covers (p .free) tb) (sym (append-nil ls)) (task .covers);
         counted = task .counted ∙ ap length (sym (append-nil ls));
       }))
 
-  -- the visit goes on to the branch
-  pub branch-result : (κ : Quantifier) (up : List ℤ) (st′ : Store) (tb′ : List ℕ) (r : Answer) → none ≡ leaf D R (eligible (p .start)) s st → p .at < getD ns 0 0 → quantifierAt D (suc (p .at)) ≡ κ
-      → Result ls (branchOf D R κ p s st) p r up st′ tb′ → Result ls (visitOf D R p s st) p r up st′ tb′
-  branch-result κ up st′ tb′ r e lt is h = subst (λ (x : LearningResult). Result ls x p r up st′ tb′) (sym whole) h
+  -- the node is open: what follows is asked at the same position, but for what is known of the clauses
+  pub open-result : {up cs′ cl′ qs′ ql′ tb′ mk′ : List ℕ} (r : Answer) (q : Position) (n : ℕ) → q ≡ counts.resumedAt p n → Marked D s R n mk′ → leaf D R eqb s st ≡ none
+      → (Task D s ls R st cls szs dy dl ns ks kd vs ss cs cl qs ql tb mk′ (q .at) q → firstDead D s R ≡ none → Result D ls (belowOf D R q s st) q r up cs′ cl′ qs′ ql′ tb′)
+      → Result D ls (visitOf D R p s st) p r up cs′ cl′ qs′ ql′ tb′
+  open-result {up} {cs′} {cl′} {qs′} {ql′} {tb′} {mk′} r q n e marked is h =
+      subst (λ (x : Option (Outcome Constraint)). Result D ls (settle x (below paper D R (drop (p .at) (quantifiers D))) s st) p r up cs′ cl′ qs′ ql′ tb′) (sym is)
+      (record { verdict = w .verdict; stored = w .stored; visited = w .visited; covers = w .covers; counted = w .counted })
+    where
+      given-at : Task D s ls R st cls szs dy dl ns ks kd vs ss cs cl qs ql tb mk′ (q .at) q
+      given-at =
+          subst (λ (x : Position). Task D s ls R st cls szs dy dl ns ks kd vs ss cs cl qs ql tb mk′ (x .at) x) (sym e)
+          (record { shown = task .shown; formed = task .formed; matrix = task .matrix; stored = task .stored; marked = marked; frees = task .frees; covers = task .covers; counted = task .counted })
+
+      w : Result D ls (belowOf D R p s st) (counts.resumedAt p n) r up cs′ cl′ qs′ ql′ tb′
+      w = subst (λ (x : Position). Result D ls (belowOf D R x s st) x r up cs′ cl′ qs′ ql′ tb′) e (h given-at (open-alive D R eqb s st is))
+
+  -- it goes on to the branch
+  pub branch-result : (κ : Quantifier) {up cs′ cl′ qs′ ql′ tb′ : List ℕ} (r : Answer) → p .at < getD ns 0 0 → quantifierAt D (suc (p .at)) ≡ κ
+      → Result D ls (branchOf D R κ p s st) p r up cs′ cl′ qs′ ql′ tb′ → Result D ls (belowOf D R p s st) p r up cs′ cl′ qs′ ql′ tb′
+  branch-result κ {up} {cs′} {cl′} {qs′} {ql′} {tb′} r lt is h = subst (λ (x : LearningResult). Result D ls x p r up cs′ cl′ qs′ ql′ tb′) (sym whole) h
     where
       inD : p .at < length D
       inD = omega (arith, lt, task .shown .numbered .count)
@@ -97,67 +143,73 @@ module _ (D : Prefix) (s : Node) (ls : List Node) (R : List Clause) (st : Store)
       here : drop (p .at) (quantifiers D) ≡ κ ∷ drop (p .at + 1) (quantifiers D)
       here = ap (λ (i : ℕ). drop i (quantifiers D)) (sym (task .shown .long)) ∙ rest D R κ s (p .at) (task .shown .long) inD is
 
-      whole : visitOf D R p s st ≡ branchOf D R κ p s st
+      whole : belowOf D R p s st ≡ branchOf D R κ p s st
       whole =
-          ap (λ (x : Option (Outcome Constraint)). settle x (below paper D R (drop (p .at) (quantifiers D))) s st) (sym e)
-          ∙ ap (λ (x : List Quantifier). below paper D R x s st) here
+          ap (λ (x : List Quantifier). below paper D R x s st) here
           ∙ raise-nothing paper one D R (rising D R st (task .formed)) κ (drop (p .at + 1) (quantifiers D)) s st (rest D R κ s (p .at) (task .shown .long) inD is) (shaped D R st (task .formed))
 
-  module _ (up : List ℤ) (st′ : Store) (tb′ : List ℕ) (r : Answer) (k : ℕ) (next : NextKind ns ks (p .at) k) (e : none ≡ leaf D R (eligible (p .start)) s st) where
+  module _ (r : Answer) (k : ℕ) (next : NextKind ns ks (p .at) k) where
     at-kind : p .at < getD ns 0 0 → k ≡ quantifierCode (quantifierAt D (suc (p .at)))
-    at-kind lt = kind-here D s ns ps ks vs (p .at) (task .shown) (numbers-ok _ (facts D R st (task .formed))) k next lt
+    at-kind lt = kind-here D s ns ks vs kd ss (p .at) (task .shown) (numbers-ok _ (facts D R st (task .formed))) k next lt
 
-    pub exists-result : k ≡ 1 → (quantifierAt D (suc (p .at)) ≡ exists → Result ls (branchOf D R exists p s st) p r up st′ tb′) → Result ls (visitOf D R p s st) p r up st′ tb′
+    pub exists-result : {up cs′ cl′ qs′ ql′ tb′ : List ℕ} → k ≡ 1 → (quantifierAt D (suc (p .at)) ≡ exists → Result D ls (branchOf D R exists p s st) p r up cs′ cl′ qs′ ql′ tb′) → Result D ls (belowOf D R p s st) p r up cs′ cl′ qs′ ql′ tb′
     exists-result q h =
         let lt : p .at < getD ns 0 0 = more-places ns ks (p .at) k next (omega arith) in
         let is : quantifierAt D (suc (p .at)) ≡ exists = code-exists (quantifierAt D (suc (p .at))) (sym (at-kind lt) ∙ q) in
-        branch-result exists up st′ tb′ r e lt is (h is)
+        branch-result exists r lt is (h is)
 
-    pub forall-result : k ≡ 2 → (quantifierAt D (suc (p .at)) ≡ forall → Result ls (branchOf D R forall p s st) p r up st′ tb′) → Result ls (visitOf D R p s st) p r up st′ tb′
+    pub forall-result : {up cs′ cl′ qs′ ql′ tb′ : List ℕ} → k ≡ 2 → (quantifierAt D (suc (p .at)) ≡ forall → Result D ls (branchOf D R forall p s st) p r up cs′ cl′ qs′ ql′ tb′) → Result D ls (belowOf D R p s st) p r up cs′ cl′ qs′ ql′ tb′
     forall-result q h =
         let lt : p .at < getD ns 0 0 = more-places ns ks (p .at) k next (omega arith) in
         let is : quantifierAt D (suc (p .at)) ≡ forall = code-forall (quantifierAt D (suc (p .at))) (sym (at-kind lt) ∙ q) in
-        branch-result forall up st′ tb′ r e lt is (h is)
+        branch-result forall r lt is (h is)
 
-    pub free-visit-result : k ≡ 0 → (quantifierAt D (suc (p .at)) ≡ free → Result ls (branchOf D R free p s st) p r up st′ tb′) → Result ls (visitOf D R p s st) p r up st′ tb′
+    pub free-visit-result : {up cs′ cl′ qs′ ql′ tb′ : List ℕ} → k ≡ 0 → (quantifierAt D (suc (p .at)) ≡ free → Result D ls (branchOf D R free p s st) p r up cs′ cl′ qs′ ql′ tb′) → Result D ls (belowOf D R p s st) p r up cs′ cl′ qs′ ql′ tb′
     free-visit-result q h =
         let lt : p .at < getD ns 0 0 = more-places ns ks (p .at) k next (omega arith) in
         let is : quantifierAt D (suc (p .at)) ≡ free = code-free (quantifierAt D (suc (p .at))) (sym (at-kind lt) ∙ q) in
-        branch-result free up st′ tb′ r e lt is (h is)
+        branch-result free r lt is (h is)
 
   -- no place is left
-  pub end-result : (up : List ℤ) (r : Answer) (k : ℕ) → NextKind ns ks (p .at) k → none ≡ leaf D R (eligible (p .start)) s st → (k ≡ 1 → ⊥) → (k ≡ 2 → ⊥) → (k ≡ 0 → ⊥)
-      → r ≡ counts.answered No 0 (p .visits + 1) (p .lines) → Result ls (visitOf D R p s st) p r up st tb
-  end-result up r k next e a b c q = by (le-or-lt (getD ns 0 0) (p .at))
+  pub end-result : (up : List ℕ) (r : Answer) (k : ℕ) → NextKind ns ks (p .at) k → (k ≡ 1 → ⊥) → (k ≡ 2 → ⊥) → (k ≡ 0 → ⊥)
+      → r ≡ counts.answered No 0 (p .visits + 1) (p .lines) → Result D ls (belowOf D R p s st) p r up cs cl qs ql tb
+  end-result up r k next a b c q = by (le-or-lt (getD ns 0 0) (p .at))
     where
-      by : (getD ns 0 0 ≤ p .at) ⊎ (p .at < getD ns 0 0) → Result ls (visitOf D R p s st) p r up st tb
-      by (inr lt) = absurd (code-known (quantifierAt D (suc (p .at))) k (at-kind up st tb r k next e lt) a b c)
+      by : (getD ns 0 0 ≤ p .at) ⊎ (p .at < getD ns 0 0) → Result D ls (belowOf D R p s st) p r up cs cl qs ql tb
+      by (inr lt) =
+          absurd (code-known (quantifierAt D (suc (p .at))) k (kind-here D s ns ks vs kd ss (p .at) (task .shown) (numbers-ok _ (facts D R st (task .formed))) k next lt) a b c)
       by (inl le) =
-          subst (λ (x : Answer). Result ls (visitOf D R p s st) p x up st tb) (sym q)
-          (subst (λ (x : LearningResult). Result ls x p (counts.answered No 0 (p .visits + 1) (p .lines)) up st tb) (sym whole)
-          (record { verdict = refl; stored = refl; visited = refl; covers = subst (Covers (p .free) tb) (sym (append-nil ls)) (task .covers); counted = task .counted ∙ ap length (sym (append-nil ls)) }))
+          subst (λ (x : Answer). Result D ls (belowOf D R p s st) p x up cs cl qs ql tb) (sym q)
+          (subst (λ (x : LearningResult). Result D ls x p (counts.answered No 0 (p .visits + 1) (p .lines)) up cs cl qs ql tb) (sym whole)
+          (record {
+            verdict = ([], refl, refl);
+            stored = task .stored;
+            visited = refl;
+            covers = subst (Covers (p .free) tb) (sym (append-nil ls)) (task .covers);
+            counted = task .counted ∙ ap length (sym (append-nil ls));
+          }))
         where
-          whole : visitOf D R p s st ≡ record { outcome = decided false []; store = st; visits = 1 }
+          whole : belowOf D R p s st ≡ record { outcome = decided false []; store = st; visits = 1 }
           whole =
-              ap (λ (x : Option (Outcome Constraint)). settle x (below paper D R (drop (p .at) (quantifiers D))) s st) (sym e)
-              ∙ ap (λ (x : List Quantifier). below paper D R x s st) (drop-of-length-le (quantifiers D) {i = p .at} (omega (arith, le, task .shown .numbered .count, length-map D (λ d. d .quantifier))))
+              ap (λ (x : List Quantifier). below paper D R x s st) (drop-of-length-le (quantifiers D) {i = p .at} (omega (arith, le, task .shown .numbered .count, length-map D (λ d. d .quantifier))))
 
 -- ---- one value longer
 value-code : (b : Bool) → valueCode (some b) ≡ byteOf b
 value-code true = refl
 value-code false = refl
 
--- the table with the value of the next variable shows the node one place longer
-module _ (D : Prefix) (s : Node) (b : Bool) (ns ps ks vs : List ℕ) (k : ℕ) (shown : Shown D s ns ps ks vs k) (ok : numbersOk paper [] D ≡ true) (n value : ℕ) (inD : k < length D)
+-- the tables with the value of the next variable show the node one place longer
+module _ (D : Prefix) (s : Node) (b : Bool) (ns ks vs kd ss : List ℕ) (k : ℕ) (shown : Shown D s ns ks vs kd ss k) (ok : numbersOk paper [] D ≡ true) (n value : ℕ) (inD : k < length D)
     (is : n ≡ getD (map (λ d. d .number) D) k 0) (coded : value ≡ byteOf b) where
-  pub shown-below : (at : ℕ) → suc k ≡ at → Shown D (s ▹ b) ns ps ks (set vs n value) at
-  shown-below at e =
+  pub shown-below : (at : ℕ) → suc k ≡ at → codeAt at true < length ss → Shown D (s ▹ b) ns ks (set vs n value) kd (given at value ss) at
+  shown-below at e wide =
       record {
         numbered = shown .numbered;
-        placed = shown .placed;
         kinded = shown .kinded;
         valued = record { at = cell };
         wide = length-set vs n value ∙ shown .wide;
+        quantified = shown .quantified;
+        statused = statuses-below s b ss at value (shown .statused) (ap suc (shown .long) ∙ e) wide coded;
         long = length-▹ s b ∙ ap suc (shown .long) ∙ e;
       }
     where
@@ -183,13 +235,31 @@ module _ (D : Prefix) (s : Node) (b : Bool) (ns ps ks vs : List ℕ) (k : ℕ) (
               ∙ sym (ap valueCode (value-step paper D ok s b m within ∙ ap (λ (x : Bool). cond x (some b) (valueAt s (placeOf D m))) q))
 
 -- a side is the visit of the node one place longer
-pub side-result : (D : Prefix) (s : Node) (b : Bool) (ls : List Node) (k : ℕ) {R : List Clause} {st : Store} {ns ps ks vs tb : List ℕ} (p : Position) → Task D s ls R st ns ps ks vs tb k p → (value n saved : ℕ)
-    → (getD ns (p .at) 0 < 41 → n ≡ getD ns (p .at) 0) → suc k ≡ p .at → value ≡ byteOf b → Room ns saved p
-    → {o : LearningResult} {r : Answer} {up : List ℤ} {st′ : Store} {tb′ : List ℕ}
-    → (Task D (s ▹ b) ls R st ns ps ks (set vs n value) tb (p .at) p → Result ls o p r up st′ tb′) → Result ls o p r up st′ tb′
-side-result D s b ls k {R} {st} {ns} {ps} {ks} {vs} {tb} p task value n saved number e v room vis =
-    vis (record { shown = shown-below D s b ns ps ks vs k (task .shown) ok n value inD is v (p .at) e; formed = task .formed; frees = task .frees; covers = task .covers; counted = task .counted })
+pub side-result : (D : Prefix) (s : Node) (b : Bool) (ls : List Node) (R : List Clause) (st : Store) (k : ℕ) {cls szs dy dl ns ks kd vs ss cs cl qs ql tb mk : List ℕ} (p : Position)
+    → Task D s ls R st cls szs dy dl ns ks kd vs ss cs cl qs ql tb mk k p → firstDead D s R ≡ none → (value n saved : ℕ)
+    → (getD ns (p .at) 0 < 41 → n ≡ getD ns (p .at) 0) → suc k ≡ p .at → value ≡ byteOf b → {cl′ ql′ : List ℕ} → Room ns saved cl′ ql′ p → length ss ≡ 256
+    → (ss′ : List ℕ) → ss′ ≡ given (p .at) value ss → {o : LearningResult} {r : Answer} {up cs″ cl″ qs″ ql″ tb′ : List ℕ}
+    → (Task D (s ▹ b) ls R st cls szs dy dl ns ks kd (set vs n value) ss′ cs cl qs ql tb mk (p .at) p → Fresh D (s ▹ b) R → Result D ls o p r up cs″ cl″ qs″ ql″ tb′)
+    → Result D ls o p r up cs″ cl″ qs″ ql″ tb′
+side-result D s b ls R st k {cls} {szs} {dy} {dl} {ns} {ks} {kd} {vs} {ss} {cs} {cl} {qs} {ql} {tb} {mk} p task alive value n saved number e v room full ss′ changed vis =
+    vis
+    (record {
+      shown =
+          subst (λ (x : List ℕ). Shown D (s ▹ b) ns ks (set vs n value) kd x (p .at)) (sym changed)
+          (shown-below D s b ns ks vs kd ss k (task .shown) ok n value inD is v (p .at) e (omega (arith, full, room .within, room .few)));
+      formed = task .formed;
+      matrix = task .matrix;
+      stored = task .stored;
+      marked = marked-below D s R (p .satisfied) mk up (task .marked) b;
+      frees = task .frees;
+      covers = task .covers;
+      counted = task .counted;
+    })
+    (record { dying = dying D R up s b alive })
   where
+    up : (r : Clause) → Mem r R → Rising D 0 r
+    up = rising D R st (task .formed)
+
     ok : numbersOk paper [] D ≡ true
     ok = numbers-ok _ (facts D R st (task .formed))
 

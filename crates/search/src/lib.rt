@@ -1,17 +1,23 @@
-// The learning search: a visit of a node, and the visitors of its exists, forall and free variables, which call one another over lent
-// tables; the number of open places falls. Values, constraints, scratch space and the card's table are lent and handed back: no table
-// is copied. The count of visits goes down with the position and comes back with the answer.
+// The learning search below a start node that its own steps 1 to 4 leave open: a visit of a node, the branch on its next variable, and the
+// visitors of exists, forall and free variables, which call one another over lent tables; the number of open places falls. Values,
+// constraints, scratch space and the card's table are lent and handed back: no table is copied. The count of visits goes down with the
+// position and comes back with the answer.
 ghost use mathlib.Core.Path.{_≡_};
 ghost use mathlib.Core.Bool.{Bool};
 ghost use mathlib.Core.List.{List};
+ghost use mathlib.Core.Option.{none};
 ghost use Prim.Native.Nat.{ℕ, suc, _*_, _≤_, _<_};
 ghost use lib.ListN.{length, getD, take};
-ghost use Rattle.qbf.specs.Formula.{paper, exists, forall, free, Prefix, Node, _▹_, quantifierAt};
+ghost use Rattle.qbf.specs.Formula.{paper, exists, forall, free, Prefix, Clause, Node, _▹_, quantifierAt};
+ghost use Rattle.qbf.specs.Learning.{Store, firstDead};
 ghost use Rattle.qbf.specs.Card.{byteOf};
-ghost use Rattle.tables.specs.Formed.{Clauses, Stores, clausesOf, storeOf};
-ghost use Rattle.search.specs.Search.{left, Room, Counts, Kept, Task, Result, visitOf, branchOf};
+ghost use Rattle.tables.specs.Shelves.{Matrix, Shelves};
+ghost use Rattle.tables.specs.Marks.{Fresh};
+ghost use Rattle.search.specs.Search.{left, Room, Counts, Kept, Task, Result, visitOf, belowOf, branchOf};
+use coding::statuses::give;
+use coding::statuses::restore;
+use inner::conclude;
 use leaf::Leaf;
-use leaf::conclude;
 use node::Answer;
 use node::Position;
 use node::Verdict;
@@ -21,222 +27,316 @@ use node::line_if;
 use node::next_kind;
 use node::number_at;
 use node::put_aside;
+use node::resumed;
 use node::settle_lines;
 use node::settled;
 use node::to_off;
 use node::to_on;
 use node::with_lines;
 
-// Steps 1 to 4, else step 5 on the variable of the next place.
-pub fn visit<'a>(
-    clauses: &'a [i16; tables::CLAUSE_CELLS],
+// Steps 1 to 4 at an inner node, else step 5.
+fn visit<'a>(
+    clauses: &'a [u8; tables::CLAUSE_CELLS],
     sizes: &'a [u16; tables::CLAUSE_SIZES],
+    dying: &'a [u8; tables::CLAUSE_CODES],
+    dying_links: &'a [u64; tables::CLAUSE_LINKS],
     numbers: &'a [u16; tables::BY_NUMBER],
-    places: &'a [u16; tables::BY_NUMBER],
     kinds: &'a [u16; tables::BY_NUMBER],
+    quantifiers: &'a [u8; tables::CODES],
     values: &mut [u8; tables::BY_NUMBER],
-    learned: &mut [i16; tables::CONSTRAINT_CELLS],
-    learned_sizes: &mut [u16; tables::CONSTRAINT_SIZES],
-    cubes: &mut [i16; tables::CONSTRAINT_CELLS],
-    cube_sizes: &mut [u16; tables::CONSTRAINT_SIZES],
-    up: &mut [i16; tables::AREA],
-    saved: &mut [i16],
+    statuses: &mut [u8; tables::CODES],
+    learned: &mut [u8; tables::CONSTRAINT_CODES],
+    learned_links: &mut [u64; tables::CONSTRAINT_LINKS],
+    cubes: &mut [u8; tables::CONSTRAINT_CODES],
+    cube_links: &mut [u64; tables::CONSTRAINT_LINKS],
+    up: &mut [u8; tables::AREA],
+    saved: &mut [u8],
     table: &mut [u8],
+    marks: &'a [u8; tables::MARKS],
     p: Position,
 ) -> Answer
-    requires { ⌜ Clauses (now clauses) (now sizes) × Stores (now learned) (now «learned_sizes») (now cubes) (now «cube_sizes») × Room (now numbers) (length (now saved)) p ⌝ }
-    ensures { λ r. ⌜ Counts (now (numbers .entry)) p r ⌝ }
-    ensures { λ _. ⌜ Kept (now (values .entry)) (now (values .exit)) (now (table .entry)) (now (table .exit)) × Stores (now (learned .exit)) (now («learned_sizes» .exit)) (now (cubes .exit)) (now («cube_sizes» .exit)) ⌝ }
-    ensures { λ r. ⌜ ((D : Prefix) (s : Node) (ls : List Node) → Task D s ls (clausesOf (now (clauses .entry)) (now (sizes .entry))) (storeOf (now (learned .entry)) (now («learned_sizes» .entry)) (now (cubes .entry)) (now («cube_sizes» .entry))) (now (numbers .entry)) (now (places .entry)) (now (kinds .entry)) (now (values .entry)) (now (table .entry)) (p .at) p → Result ls (visitOf D (clausesOf (now (clauses .entry)) (now (sizes .entry))) p s (storeOf (now (learned .entry)) (now («learned_sizes» .entry)) (now (cubes .entry)) (now («cube_sizes» .entry)))) p r (now (up .exit)) (storeOf (now (learned .exit)) (now («learned_sizes» .exit)) (now (cubes .exit)) (now («cube_sizes» .exit))) (now (table .exit))) ⌝ }
+    requires { ⌜ Matrix (now clauses) (now sizes) (now dying) (now «dying_links») × Shelves (now learned) (now «learned_links») (now cubes) (now «cube_links») × Room (now numbers) (length (now saved)) (now «learned_links») (now «cube_links») p × (1 ≤ p .at) ⌝ }
+    ensures { λ r. ⌜ Counts (now (numbers .entry)) (now («learned_links» .entry)) (now («cube_links» .entry)) p r (now («learned_links» .exit)) (now («cube_links» .exit)) ⌝ }
+    ensures { λ _. ⌜ Kept (now (values .entry)) (now (values .exit)) (now (statuses .entry)) (now (statuses .exit)) (now (table .entry)) (now (table .exit)) × Shelves (now (learned .exit)) (now («learned_links» .exit)) (now (cubes .exit)) (now («cube_links» .exit)) ⌝ }
+    ensures { λ r. ⌜ ((D : Prefix) (s : Node) (ls : List Node) (R : List Clause) (st : Store) → Task D s ls R st (now (clauses .entry)) (now (sizes .entry)) (now (dying .entry)) (now («dying_links» .entry)) (now (numbers .entry)) (now (kinds .entry)) (now (quantifiers .entry)) (now (values .entry)) (now (statuses .entry)) (now (learned .entry)) (now («learned_links» .entry)) (now (cubes .entry)) (now («cube_links» .entry)) (now (table .entry)) (now (marks .entry)) (p .at) p → Fresh D s R → Result D ls (visitOf D R p s st) p r (now (up .exit)) (now (learned .exit)) (now («learned_links» .exit)) (now (cubes .exit)) (now («cube_links» .exit)) (now (table .exit))) ⌝ }
 {
     let at = p.at;
-    let start = p.start;
-    let leaf = conclude(
+    let satisfied = p.satisfied;
+    let step = conclude(
         clauses,
         sizes,
-        places,
-        kinds,
-        values,
+        dying,
+        dying_links,
+        quantifiers,
+        statuses,
         learned,
-        learned_sizes,
+        learned_links,
         cubes,
-        cube_sizes,
+        cube_links,
         up,
         at,
-        start,
+        satisfied,
+        marks,
     );
+    let leaf = step.leaf;
     match leaf {
         Leaf::No(len) => settled(Verdict::No, len, p),
         Leaf::Yes(len) => settled(Verdict::Yes, len, p),
         Leaf::Open => {
-            let kind = next_kind(numbers, kinds, at);
-            if kind == tables::EXISTS {
-                exists(
-                    clauses,
-                    sizes,
-                    numbers,
-                    places,
-                    kinds,
-                    values,
-                    learned,
-                    learned_sizes,
-                    cubes,
-                    cube_sizes,
-                    up,
-                    saved,
-                    table,
-                    p,
-                )
-            } else if kind == tables::FORALL {
-                forall(
-                    clauses,
-                    sizes,
-                    numbers,
-                    places,
-                    kinds,
-                    values,
-                    learned,
-                    learned_sizes,
-                    cubes,
-                    cube_sizes,
-                    up,
-                    saved,
-                    table,
-                    p,
-                )
-            } else if kind == tables::FREE {
-                free(
-                    clauses,
-                    sizes,
-                    numbers,
-                    places,
-                    kinds,
-                    values,
-                    learned,
-                    learned_sizes,
-                    cubes,
-                    cube_sizes,
-                    up,
-                    saved,
-                    table,
-                    p,
-                )
-            } else {
-                settled(Verdict::No, 0, p)
-            }
+            branch(
+                clauses,
+                sizes,
+                dying,
+                dying_links,
+                numbers,
+                kinds,
+                quantifiers,
+                values,
+                statuses,
+                learned,
+                learned_links,
+                cubes,
+                cube_links,
+                up,
+                saved,
+                table,
+                &step.marks,
+                resumed(p, step.satisfied),
+            )
         }
     }
 }
 
-// The node below at the position p, where the variable of its last place is given `value`, which is taken back. The first cells of `saved`
-// stay as they are.
-fn side<'a>(
-    clauses: &'a [i16; tables::CLAUSE_CELLS],
+// "5. Branch on the next variable v, off first": at a node that steps 1 to 4 leave open.
+pub fn branch<'a>(
+    clauses: &'a [u8; tables::CLAUSE_CELLS],
     sizes: &'a [u16; tables::CLAUSE_SIZES],
+    dying: &'a [u8; tables::CLAUSE_CODES],
+    dying_links: &'a [u64; tables::CLAUSE_LINKS],
     numbers: &'a [u16; tables::BY_NUMBER],
-    places: &'a [u16; tables::BY_NUMBER],
     kinds: &'a [u16; tables::BY_NUMBER],
+    quantifiers: &'a [u8; tables::CODES],
     values: &mut [u8; tables::BY_NUMBER],
-    learned: &mut [i16; tables::CONSTRAINT_CELLS],
-    learned_sizes: &mut [u16; tables::CONSTRAINT_SIZES],
-    cubes: &mut [i16; tables::CONSTRAINT_CELLS],
-    cube_sizes: &mut [u16; tables::CONSTRAINT_SIZES],
-    up: &mut [i16; tables::AREA],
-    saved: &mut [i16],
+    statuses: &mut [u8; tables::CODES],
+    learned: &mut [u8; tables::CONSTRAINT_CODES],
+    learned_links: &mut [u64; tables::CONSTRAINT_LINKS],
+    cubes: &mut [u8; tables::CONSTRAINT_CODES],
+    cube_links: &mut [u64; tables::CONSTRAINT_LINKS],
+    up: &mut [u8; tables::AREA],
+    saved: &mut [u8],
     table: &mut [u8],
+    marks: &'a [u8; tables::MARKS],
     p: Position,
+) -> Answer
+    requires { ⌜ Matrix (now clauses) (now sizes) (now dying) (now «dying_links») × Shelves (now learned) (now «learned_links») (now cubes) (now «cube_links») × Room (now numbers) (length (now saved)) (now «learned_links») (now «cube_links») p ⌝ }
+    ensures { λ r. ⌜ Counts (now (numbers .entry)) (now («learned_links» .entry)) (now («cube_links» .entry)) p r (now («learned_links» .exit)) (now («cube_links» .exit)) ⌝ }
+    ensures { λ _. ⌜ Kept (now (values .entry)) (now (values .exit)) (now (statuses .entry)) (now (statuses .exit)) (now (table .entry)) (now (table .exit)) × Shelves (now (learned .exit)) (now («learned_links» .exit)) (now (cubes .exit)) (now («cube_links» .exit)) ⌝ }
+    ensures { λ r. ⌜ ((D : Prefix) (s : Node) (ls : List Node) (R : List Clause) (st : Store) → Task D s ls R st (now (clauses .entry)) (now (sizes .entry)) (now (dying .entry)) (now («dying_links» .entry)) (now (numbers .entry)) (now (kinds .entry)) (now (quantifiers .entry)) (now (values .entry)) (now (statuses .entry)) (now (learned .entry)) (now («learned_links» .entry)) (now (cubes .entry)) (now («cube_links» .entry)) (now (table .entry)) (now (marks .entry)) (p .at) p → firstDead D s R ≡ none → Result D ls (belowOf D R p s st) p r (now (up .exit)) (now (learned .exit)) (now («learned_links» .exit)) (now (cubes .exit)) (now («cube_links» .exit)) (now (table .exit))) ⌝ }
+{
+    let kind = next_kind(numbers, kinds, p.at);
+    if kind == tables::EXISTS {
+        exists(
+            clauses,
+            sizes,
+            dying,
+            dying_links,
+            numbers,
+            kinds,
+            quantifiers,
+            values,
+            statuses,
+            learned,
+            learned_links,
+            cubes,
+            cube_links,
+            up,
+            saved,
+            table,
+            marks,
+            p,
+        )
+    } else if kind == tables::FORALL {
+        forall(
+            clauses,
+            sizes,
+            dying,
+            dying_links,
+            numbers,
+            kinds,
+            quantifiers,
+            values,
+            statuses,
+            learned,
+            learned_links,
+            cubes,
+            cube_links,
+            up,
+            saved,
+            table,
+            marks,
+            p,
+        )
+    } else if kind == tables::FREE {
+        free(
+            clauses,
+            sizes,
+            dying,
+            dying_links,
+            numbers,
+            kinds,
+            quantifiers,
+            values,
+            statuses,
+            learned,
+            learned_links,
+            cubes,
+            cube_links,
+            up,
+            saved,
+            table,
+            marks,
+            p,
+        )
+    } else {
+        settled(Verdict::No, 0, p)
+    }
+}
+
+// The node below at the position p, where the variable of its last place is given `value`, which is taken back. The first `aside` cells of
+// `saved` stay as they are.
+fn side<'a>(
+    clauses: &'a [u8; tables::CLAUSE_CELLS],
+    sizes: &'a [u16; tables::CLAUSE_SIZES],
+    dying: &'a [u8; tables::CLAUSE_CODES],
+    dying_links: &'a [u64; tables::CLAUSE_LINKS],
+    numbers: &'a [u16; tables::BY_NUMBER],
+    kinds: &'a [u16; tables::BY_NUMBER],
+    quantifiers: &'a [u8; tables::CODES],
+    values: &mut [u8; tables::BY_NUMBER],
+    statuses: &mut [u8; tables::CODES],
+    learned: &mut [u8; tables::CONSTRAINT_CODES],
+    learned_links: &mut [u64; tables::CONSTRAINT_LINKS],
+    cubes: &mut [u8; tables::CONSTRAINT_CODES],
+    cube_links: &mut [u64; tables::CONSTRAINT_LINKS],
+    up: &mut [u8; tables::AREA],
+    saved: &mut [u8],
+    table: &mut [u8],
+    marks: &'a [u8; tables::MARKS],
+    p: Position,
+    aside: usize,
     value: u8,
 ) -> Answer
-    requires { ⌜ Clauses (now clauses) (now sizes) × Stores (now learned) (now «learned_sizes») (now cubes) (now «cube_sizes») × Room (now numbers) (length (now saved)) p × (1 ≤ p .at) × ((suc (left (now numbers) p)) * paper .numbers ≤ length (now saved)) ⌝ }
-    ensures { λ r. ⌜ Counts (now (numbers .entry)) p r ⌝ }
-    ensures { λ _. ⌜ Kept (now (values .entry)) (now (values .exit)) (now (table .entry)) (now (table .exit)) × Stores (now (learned .exit)) (now («learned_sizes» .exit)) (now (cubes .exit)) (now («cube_sizes» .exit)) ⌝ }
-    ensures { λ _. ⌜ (length (now (saved .exit)) ≡ length (now (saved .entry))) × (take (paper .numbers) (now (saved .exit)) ≡ take (paper .numbers) (now (saved .entry))) ⌝ }
-    ensures { λ r. ⌜ ((D : Prefix) (s : Node) (b : Bool) (ls : List Node) (k : ℕ) → Task D s ls (clausesOf (now (clauses .entry)) (now (sizes .entry))) (storeOf (now (learned .entry)) (now («learned_sizes» .entry)) (now (cubes .entry)) (now («cube_sizes» .entry))) (now (numbers .entry)) (now (places .entry)) (now (kinds .entry)) (now (values .entry)) (now (table .entry)) (k) p → suc k ≡ p .at → value ≡ byteOf b → Result ls (visitOf D (clausesOf (now (clauses .entry)) (now (sizes .entry))) p (s ▹ b) (storeOf (now (learned .entry)) (now («learned_sizes» .entry)) (now (cubes .entry)) (now («cube_sizes» .entry)))) p r (now (up .exit)) (storeOf (now (learned .exit)) (now («learned_sizes» .exit)) (now (cubes .exit)) (now («cube_sizes» .exit))) (now (table .exit))) ⌝ }
+    requires { ⌜ Matrix (now clauses) (now sizes) (now dying) (now «dying_links») × Shelves (now learned) (now «learned_links») (now cubes) (now «cube_links») × Room (now numbers) (length (now saved)) (now «learned_links») (now «cube_links») p × (1 ≤ p .at) × (aside ≤ paper .numbers) × ((suc (left (now numbers) p)) * paper .numbers ≤ length (now saved)) ⌝ }
+    ensures { λ r. ⌜ Counts (now (numbers .entry)) (now («learned_links» .entry)) (now («cube_links» .entry)) p r (now («learned_links» .exit)) (now («cube_links» .exit)) ⌝ }
+    ensures { λ _. ⌜ Kept (now (values .entry)) (now (values .exit)) (now (statuses .entry)) (now (statuses .exit)) (now (table .entry)) (now (table .exit)) × Shelves (now (learned .exit)) (now («learned_links» .exit)) (now (cubes .exit)) (now («cube_links» .exit)) ⌝ }
+    ensures { λ _. ⌜ (length (now (saved .exit)) ≡ length (now (saved .entry))) × (take aside (now (saved .exit)) ≡ take aside (now (saved .entry))) ⌝ }
+    ensures { λ r. ⌜ ((D : Prefix) (s : Node) (b : Bool) (ls : List Node) (R : List Clause) (st : Store) (k : ℕ) → Task D s ls R st (now (clauses .entry)) (now (sizes .entry)) (now (dying .entry)) (now («dying_links» .entry)) (now (numbers .entry)) (now (kinds .entry)) (now (quantifiers .entry)) (now (values .entry)) (now (statuses .entry)) (now (learned .entry)) (now («learned_links» .entry)) (now (cubes .entry)) (now («cube_links» .entry)) (now (table .entry)) (now (marks .entry)) k p → firstDead D s R ≡ none → suc k ≡ p .at → value ≡ byteOf b → Result D ls (visitOf D R p (s ▹ b) st) p r (now (up .exit)) (now (learned .exit)) (now («learned_links» .exit)) (now (cubes .exit)) (now («cube_links» .exit)) (now (table .exit))) ⌝ }
 {
     let n = number_at(numbers, p.at);
     let was = values[n];
     values[n] = value;
+    let cells: &[u8] = statuses; // one for every code
+    let above = give(statuses, p.at, value);
     let below = visit(
         clauses,
         sizes,
+        dying,
+        dying_links,
         numbers,
-        places,
         kinds,
+        quantifiers,
         values,
+        statuses,
         learned,
-        learned_sizes,
+        learned_links,
         cubes,
-        cube_sizes,
+        cube_links,
         up,
-        &mut saved[tables::NUMBERS..],
+        &mut saved[aside..],
         table,
+        marks,
         p,
     );
+    restore(statuses, p.at, above);
     values[n] = was;
     below
 }
 
 // "An exists node visits the off side and stops on Yes".
 fn exists<'a>(
-    clauses: &'a [i16; tables::CLAUSE_CELLS],
+    clauses: &'a [u8; tables::CLAUSE_CELLS],
     sizes: &'a [u16; tables::CLAUSE_SIZES],
+    dying: &'a [u8; tables::CLAUSE_CODES],
+    dying_links: &'a [u64; tables::CLAUSE_LINKS],
     numbers: &'a [u16; tables::BY_NUMBER],
-    places: &'a [u16; tables::BY_NUMBER],
     kinds: &'a [u16; tables::BY_NUMBER],
+    quantifiers: &'a [u8; tables::CODES],
     values: &mut [u8; tables::BY_NUMBER],
-    learned: &mut [i16; tables::CONSTRAINT_CELLS],
-    learned_sizes: &mut [u16; tables::CONSTRAINT_SIZES],
-    cubes: &mut [i16; tables::CONSTRAINT_CELLS],
-    cube_sizes: &mut [u16; tables::CONSTRAINT_SIZES],
-    up: &mut [i16; tables::AREA],
-    saved: &mut [i16],
+    statuses: &mut [u8; tables::CODES],
+    learned: &mut [u8; tables::CONSTRAINT_CODES],
+    learned_links: &mut [u64; tables::CONSTRAINT_LINKS],
+    cubes: &mut [u8; tables::CONSTRAINT_CODES],
+    cube_links: &mut [u64; tables::CONSTRAINT_LINKS],
+    up: &mut [u8; tables::AREA],
+    saved: &mut [u8],
     table: &mut [u8],
+    marks: &'a [u8; tables::MARKS],
     p: Position,
 ) -> Answer
-    requires { ⌜ Clauses (now clauses) (now sizes) × Stores (now learned) (now «learned_sizes») (now cubes) (now «cube_sizes») × Room (now numbers) (length (now saved)) p × (p .at < getD (now numbers) 0 0) ⌝ }
-    ensures { λ r. ⌜ Counts (now (numbers .entry)) p r ⌝ }
-    ensures { λ _. ⌜ Kept (now (values .entry)) (now (values .exit)) (now (table .entry)) (now (table .exit)) × Stores (now (learned .exit)) (now («learned_sizes» .exit)) (now (cubes .exit)) (now («cube_sizes» .exit)) ⌝ }
-    ensures { λ r. ⌜ ((D : Prefix) (s : Node) (ls : List Node) → Task D s ls (clausesOf (now (clauses .entry)) (now (sizes .entry))) (storeOf (now (learned .entry)) (now («learned_sizes» .entry)) (now (cubes .entry)) (now («cube_sizes» .entry))) (now (numbers .entry)) (now (places .entry)) (now (kinds .entry)) (now (values .entry)) (now (table .entry)) (p .at) p → quantifierAt D (suc (p .at)) ≡ exists → Result ls (branchOf D (clausesOf (now (clauses .entry)) (now (sizes .entry))) exists p s (storeOf (now (learned .entry)) (now («learned_sizes» .entry)) (now (cubes .entry)) (now («cube_sizes» .entry)))) p r (now (up .exit)) (storeOf (now (learned .exit)) (now («learned_sizes» .exit)) (now (cubes .exit)) (now («cube_sizes» .exit))) (now (table .exit))) ⌝ }
+    requires { ⌜ Matrix (now clauses) (now sizes) (now dying) (now «dying_links») × Shelves (now learned) (now «learned_links») (now cubes) (now «cube_links») × Room (now numbers) (length (now saved)) (now «learned_links») (now «cube_links») p × (p .at < getD (now numbers) 0 0) ⌝ }
+    ensures { λ r. ⌜ Counts (now (numbers .entry)) (now («learned_links» .entry)) (now («cube_links» .entry)) p r (now («learned_links» .exit)) (now («cube_links» .exit)) ⌝ }
+    ensures { λ _. ⌜ Kept (now (values .entry)) (now (values .exit)) (now (statuses .entry)) (now (statuses .exit)) (now (table .entry)) (now (table .exit)) × Shelves (now (learned .exit)) (now («learned_links» .exit)) (now (cubes .exit)) (now («cube_links» .exit)) ⌝ }
+    ensures { λ r. ⌜ ((D : Prefix) (s : Node) (ls : List Node) (R : List Clause) (st : Store) → Task D s ls R st (now (clauses .entry)) (now (sizes .entry)) (now (dying .entry)) (now («dying_links» .entry)) (now (numbers .entry)) (now (kinds .entry)) (now (quantifiers .entry)) (now (values .entry)) (now (statuses .entry)) (now (learned .entry)) (now («learned_links» .entry)) (now (cubes .entry)) (now («cube_links» .entry)) (now (table .entry)) (now (marks .entry)) (p .at) p → firstDead D s R ≡ none → quantifierAt D (suc (p .at)) ≡ exists → Result D ls (branchOf D R exists p s st) p r (now (up .exit)) (now (learned .exit)) (now («learned_links» .exit)) (now (cubes .exit)) (now («cube_links» .exit)) (now (table .exit))) ⌝ }
 {
     let off = side(
         clauses,
         sizes,
+        dying,
+        dying_links,
         numbers,
-        places,
         kinds,
+        quantifiers,
         values,
+        statuses,
         learned,
-        learned_sizes,
+        learned_links,
         cubes,
-        cube_sizes,
+        cube_links,
         up,
         saved,
         table,
+        marks,
         to_off(p),
+        0,
         tables::OFF,
     );
     let first = off.verdict;
     let n = off.len;
     let at = p.at;
-    if goes_up(first, tables::EXISTS, up, n, places, at) {
+    if goes_up(first, tables::EXISTS, up, n, at) {
         return off;
     }
     put_aside(saved, up, n);
     let on = side(
         clauses,
         sizes,
+        dying,
+        dying_links,
         numbers,
-        places,
         kinds,
+        quantifiers,
         values,
+        statuses,
         learned,
-        learned_sizes,
+        learned_links,
         cubes,
-        cube_sizes,
+        cube_links,
         up,
         saved,
         table,
+        marks,
         to_on(p, off.visits, off.lines),
+        n,
         tables::ON,
     );
     finish(
@@ -247,76 +347,89 @@ fn exists<'a>(
         saved,
         up,
         learned,
-        learned_sizes,
+        learned_links,
         cubes,
-        cube_sizes,
-        places,
-        kinds,
+        cube_links,
+        quantifiers,
         at,
     )
 }
 
 // "A forall node visits the off side and stops on No".
 fn forall<'a>(
-    clauses: &'a [i16; tables::CLAUSE_CELLS],
+    clauses: &'a [u8; tables::CLAUSE_CELLS],
     sizes: &'a [u16; tables::CLAUSE_SIZES],
+    dying: &'a [u8; tables::CLAUSE_CODES],
+    dying_links: &'a [u64; tables::CLAUSE_LINKS],
     numbers: &'a [u16; tables::BY_NUMBER],
-    places: &'a [u16; tables::BY_NUMBER],
     kinds: &'a [u16; tables::BY_NUMBER],
+    quantifiers: &'a [u8; tables::CODES],
     values: &mut [u8; tables::BY_NUMBER],
-    learned: &mut [i16; tables::CONSTRAINT_CELLS],
-    learned_sizes: &mut [u16; tables::CONSTRAINT_SIZES],
-    cubes: &mut [i16; tables::CONSTRAINT_CELLS],
-    cube_sizes: &mut [u16; tables::CONSTRAINT_SIZES],
-    up: &mut [i16; tables::AREA],
-    saved: &mut [i16],
+    statuses: &mut [u8; tables::CODES],
+    learned: &mut [u8; tables::CONSTRAINT_CODES],
+    learned_links: &mut [u64; tables::CONSTRAINT_LINKS],
+    cubes: &mut [u8; tables::CONSTRAINT_CODES],
+    cube_links: &mut [u64; tables::CONSTRAINT_LINKS],
+    up: &mut [u8; tables::AREA],
+    saved: &mut [u8],
     table: &mut [u8],
+    marks: &'a [u8; tables::MARKS],
     p: Position,
 ) -> Answer
-    requires { ⌜ Clauses (now clauses) (now sizes) × Stores (now learned) (now «learned_sizes») (now cubes) (now «cube_sizes») × Room (now numbers) (length (now saved)) p × (p .at < getD (now numbers) 0 0) ⌝ }
-    ensures { λ r. ⌜ Counts (now (numbers .entry)) p r ⌝ }
-    ensures { λ _. ⌜ Kept (now (values .entry)) (now (values .exit)) (now (table .entry)) (now (table .exit)) × Stores (now (learned .exit)) (now («learned_sizes» .exit)) (now (cubes .exit)) (now («cube_sizes» .exit)) ⌝ }
-    ensures { λ r. ⌜ ((D : Prefix) (s : Node) (ls : List Node) → Task D s ls (clausesOf (now (clauses .entry)) (now (sizes .entry))) (storeOf (now (learned .entry)) (now («learned_sizes» .entry)) (now (cubes .entry)) (now («cube_sizes» .entry))) (now (numbers .entry)) (now (places .entry)) (now (kinds .entry)) (now (values .entry)) (now (table .entry)) (p .at) p → quantifierAt D (suc (p .at)) ≡ forall → Result ls (branchOf D (clausesOf (now (clauses .entry)) (now (sizes .entry))) forall p s (storeOf (now (learned .entry)) (now («learned_sizes» .entry)) (now (cubes .entry)) (now («cube_sizes» .entry)))) p r (now (up .exit)) (storeOf (now (learned .exit)) (now («learned_sizes» .exit)) (now (cubes .exit)) (now («cube_sizes» .exit))) (now (table .exit))) ⌝ }
+    requires { ⌜ Matrix (now clauses) (now sizes) (now dying) (now «dying_links») × Shelves (now learned) (now «learned_links») (now cubes) (now «cube_links») × Room (now numbers) (length (now saved)) (now «learned_links») (now «cube_links») p × (p .at < getD (now numbers) 0 0) ⌝ }
+    ensures { λ r. ⌜ Counts (now (numbers .entry)) (now («learned_links» .entry)) (now («cube_links» .entry)) p r (now («learned_links» .exit)) (now («cube_links» .exit)) ⌝ }
+    ensures { λ _. ⌜ Kept (now (values .entry)) (now (values .exit)) (now (statuses .entry)) (now (statuses .exit)) (now (table .entry)) (now (table .exit)) × Shelves (now (learned .exit)) (now («learned_links» .exit)) (now (cubes .exit)) (now («cube_links» .exit)) ⌝ }
+    ensures { λ r. ⌜ ((D : Prefix) (s : Node) (ls : List Node) (R : List Clause) (st : Store) → Task D s ls R st (now (clauses .entry)) (now (sizes .entry)) (now (dying .entry)) (now («dying_links» .entry)) (now (numbers .entry)) (now (kinds .entry)) (now (quantifiers .entry)) (now (values .entry)) (now (statuses .entry)) (now (learned .entry)) (now («learned_links» .entry)) (now (cubes .entry)) (now («cube_links» .entry)) (now (table .entry)) (now (marks .entry)) (p .at) p → firstDead D s R ≡ none → quantifierAt D (suc (p .at)) ≡ forall → Result D ls (branchOf D R forall p s st) p r (now (up .exit)) (now (learned .exit)) (now («learned_links» .exit)) (now (cubes .exit)) (now («cube_links» .exit)) (now (table .exit))) ⌝ }
 {
     let off = side(
         clauses,
         sizes,
+        dying,
+        dying_links,
         numbers,
-        places,
         kinds,
+        quantifiers,
         values,
+        statuses,
         learned,
-        learned_sizes,
+        learned_links,
         cubes,
-        cube_sizes,
+        cube_links,
         up,
         saved,
         table,
+        marks,
         to_off(p),
+        0,
         tables::OFF,
     );
     let first = off.verdict;
     let n = off.len;
     let at = p.at;
-    if goes_up(first, tables::FORALL, up, n, places, at) {
+    if goes_up(first, tables::FORALL, up, n, at) {
         return off;
     }
     put_aside(saved, up, n);
     let on = side(
         clauses,
         sizes,
+        dying,
+        dying_links,
         numbers,
-        places,
         kinds,
+        quantifiers,
         values,
+        statuses,
         learned,
-        learned_sizes,
+        learned_links,
         cubes,
-        cube_sizes,
+        cube_links,
         up,
         saved,
         table,
+        marks,
         to_on(p, off.visits, off.lines),
+        n,
         tables::ON,
     );
     finish(
@@ -327,58 +440,66 @@ fn forall<'a>(
         saved,
         up,
         learned,
-        learned_sizes,
+        learned_links,
         cubes,
-        cube_sizes,
-        places,
-        kinds,
+        cube_links,
+        quantifiers,
         at,
     )
 }
 
 // "Flag: an off side of No or Yes whose bar or pass lacks v goes up. Else visit on."
 fn free<'a>(
-    clauses: &'a [i16; tables::CLAUSE_CELLS],
+    clauses: &'a [u8; tables::CLAUSE_CELLS],
     sizes: &'a [u16; tables::CLAUSE_SIZES],
+    dying: &'a [u8; tables::CLAUSE_CODES],
+    dying_links: &'a [u64; tables::CLAUSE_LINKS],
     numbers: &'a [u16; tables::BY_NUMBER],
-    places: &'a [u16; tables::BY_NUMBER],
     kinds: &'a [u16; tables::BY_NUMBER],
+    quantifiers: &'a [u8; tables::CODES],
     values: &mut [u8; tables::BY_NUMBER],
-    learned: &mut [i16; tables::CONSTRAINT_CELLS],
-    learned_sizes: &mut [u16; tables::CONSTRAINT_SIZES],
-    cubes: &mut [i16; tables::CONSTRAINT_CELLS],
-    cube_sizes: &mut [u16; tables::CONSTRAINT_SIZES],
-    up: &mut [i16; tables::AREA],
-    saved: &mut [i16],
+    statuses: &mut [u8; tables::CODES],
+    learned: &mut [u8; tables::CONSTRAINT_CODES],
+    learned_links: &mut [u64; tables::CONSTRAINT_LINKS],
+    cubes: &mut [u8; tables::CONSTRAINT_CODES],
+    cube_links: &mut [u64; tables::CONSTRAINT_LINKS],
+    up: &mut [u8; tables::AREA],
+    saved: &mut [u8],
     table: &mut [u8],
+    marks: &'a [u8; tables::MARKS],
     p: Position,
 ) -> Answer
-    requires { ⌜ Clauses (now clauses) (now sizes) × Stores (now learned) (now «learned_sizes») (now cubes) (now «cube_sizes») × Room (now numbers) (length (now saved)) p × (p .at < getD (now numbers) 0 0) ⌝ }
-    ensures { λ r. ⌜ Counts (now (numbers .entry)) p r ⌝ }
-    ensures { λ _. ⌜ Kept (now (values .entry)) (now (values .exit)) (now (table .entry)) (now (table .exit)) × Stores (now (learned .exit)) (now («learned_sizes» .exit)) (now (cubes .exit)) (now («cube_sizes» .exit)) ⌝ }
-    ensures { λ r. ⌜ ((D : Prefix) (s : Node) (ls : List Node) → Task D s ls (clausesOf (now (clauses .entry)) (now (sizes .entry))) (storeOf (now (learned .entry)) (now («learned_sizes» .entry)) (now (cubes .entry)) (now («cube_sizes» .entry))) (now (numbers .entry)) (now (places .entry)) (now (kinds .entry)) (now (values .entry)) (now (table .entry)) (p .at) p → quantifierAt D (suc (p .at)) ≡ free → Result ls (branchOf D (clausesOf (now (clauses .entry)) (now (sizes .entry))) free p s (storeOf (now (learned .entry)) (now («learned_sizes» .entry)) (now (cubes .entry)) (now («cube_sizes» .entry)))) p r (now (up .exit)) (storeOf (now (learned .exit)) (now («learned_sizes» .exit)) (now (cubes .exit)) (now («cube_sizes» .exit))) (now (table .exit))) ⌝ }
+    requires { ⌜ Matrix (now clauses) (now sizes) (now dying) (now «dying_links») × Shelves (now learned) (now «learned_links») (now cubes) (now «cube_links») × Room (now numbers) (length (now saved)) (now «learned_links») (now «cube_links») p × (p .at < getD (now numbers) 0 0) ⌝ }
+    ensures { λ r. ⌜ Counts (now (numbers .entry)) (now («learned_links» .entry)) (now («cube_links» .entry)) p r (now («learned_links» .exit)) (now («cube_links» .exit)) ⌝ }
+    ensures { λ _. ⌜ Kept (now (values .entry)) (now (values .exit)) (now (statuses .entry)) (now (statuses .exit)) (now (table .entry)) (now (table .exit)) × Shelves (now (learned .exit)) (now («learned_links» .exit)) (now (cubes .exit)) (now («cube_links» .exit)) ⌝ }
+    ensures { λ r. ⌜ ((D : Prefix) (s : Node) (ls : List Node) (R : List Clause) (st : Store) → Task D s ls R st (now (clauses .entry)) (now (sizes .entry)) (now (dying .entry)) (now («dying_links» .entry)) (now (numbers .entry)) (now (kinds .entry)) (now (quantifiers .entry)) (now (values .entry)) (now (statuses .entry)) (now (learned .entry)) (now («learned_links» .entry)) (now (cubes .entry)) (now («cube_links» .entry)) (now (table .entry)) (now (marks .entry)) (p .at) p → firstDead D s R ≡ none → quantifierAt D (suc (p .at)) ≡ free → Result D ls (branchOf D R free p s st) p r (now (up .exit)) (now (learned .exit)) (now («learned_links» .exit)) (now (cubes .exit)) (now («cube_links» .exit)) (now (table .exit))) ⌝ }
 {
     let off = side(
         clauses,
         sizes,
+        dying,
+        dying_links,
         numbers,
-        places,
         kinds,
+        quantifiers,
         values,
+        statuses,
         learned,
-        learned_sizes,
+        learned_links,
         cubes,
-        cube_sizes,
+        cube_links,
         up,
         saved,
         table,
+        marks,
         to_off(p),
+        0,
         tables::OFF,
     );
     let first = off.verdict;
     let n = off.len;
     let at = p.at;
-    if goes_up(first, tables::FREE, up, n, places, at) {
+    if goes_up(first, tables::FREE, up, n, at) {
         return off;
     }
     put_aside(saved, up, n);
@@ -386,18 +507,23 @@ fn free<'a>(
     let on = side(
         clauses,
         sizes,
+        dying,
+        dying_links,
         numbers,
-        places,
         kinds,
+        quantifiers,
         values,
+        statuses,
         learned,
-        learned_sizes,
+        learned_links,
         cubes,
-        cube_sizes,
+        cube_links,
         up,
         saved,
         table,
+        marks,
         to_on(p, off.visits, lines),
+        n,
         tables::ON,
     );
     let second = on.verdict;
@@ -409,11 +535,10 @@ fn free<'a>(
         saved,
         up,
         learned,
-        learned_sizes,
+        learned_links,
         cubes,
-        cube_sizes,
-        places,
-        kinds,
+        cube_links,
+        quantifiers,
         at,
     );
     with_lines(

@@ -58,26 +58,29 @@ pub fn empty() -> State
 pub fn check(x: State) -> bool
     ensures { λ r. ⌜ r ≡ valid x ⌝ }
 {
-    let numbers = x.numbers;
-    let levels = x.levels;
-    let kinds = x.kinds;
-    let prefix = prefix::read_prefix(&numbers, &levels, &kinds);
+    let prefix = prefix::read_prefix(&x.numbers, &x.levels, &x.kinds);
     if !prefix.ok {
         return false;
     }
     let places = prefix.places;
-    let clauses = x.clauses;
-    let sizes = x.clause_sizes;
-    if !rows::clauses_ok(&places, &clauses, &sizes) {
+    if !rows::clauses_ok(&places, &x.clauses, &x.clause_sizes) {
         return false;
     }
     let by_number = prefix.kinds;
-    let learned = x.learned_clauses;
-    let learned_sizes = x.learned_clause_sizes;
-    if !rows::constraints_ok(&places, &by_number, &learned, &learned_sizes, false) {
+    if !rows::constraints_ok(
+        &places,
+        &by_number,
+        &x.learned_clauses,
+        &x.learned_clause_sizes,
+        false,
+    ) {
         return false;
     }
-    let cubes = x.learned_cubes;
-    let cube_sizes = x.learned_cube_sizes;
-    rows::constraints_ok(&places, &by_number, &cubes, &cube_sizes, true)
+    rows::constraints_ok(
+        &places,
+        &by_number,
+        &x.learned_cubes,
+        &x.learned_cube_sizes,
+        true,
+    )
 }

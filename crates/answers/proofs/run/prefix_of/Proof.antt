@@ -1,10 +1,7 @@
+-- `answers::run::prefix_of` meets its contract.
 use borrow.Author.Needs.{needs}
 use Rattle.answers.proofs.run.prefix_of.Statement.{statement}
 use Rattle.answers.proofs.run.prefix_of.Tie as tie
-use Rattle.answers.proofs.run.prefix_of.Reads as reads
-use Rattle.answers.proofs.run.prefix_of.Lts as lts
-use Rattle.state.proofs.kinds.free_count.Reads as free-count-reads
-use Rattle.state.proofs.prefix.read_prefix.Reads as read-prefix-reads
 use Rattle.state.proofs.Valid.{valid-numbers, valid-quantified, valid-places, valid-kinds}
 
 read-prefix-requires : tie.Need-read-prefix-requires

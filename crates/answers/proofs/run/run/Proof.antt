@@ -1,33 +1,54 @@
+-- `answers::run::run` meets its contract.
 use borrow.Author.Needs.{needs}
 use Rattle.answers.proofs.run.run.Statement.{statement}
 use Rattle.answers.proofs.run.run.Tie as tie
-use Rattle.answers.proofs.run.run.Reads as reads
-use Rattle.answers.proofs.run.run.Lts as lts
-use Rattle.search.proofs.visit.Reads as visit-reads
-use Rattle.state.proofs.Valid.{valid-tables}
-use Rattle.answers.proofs.Running.{room, few-lines, few-variables, found}
+use Rattle.answers.proofs.Running.{start-no, start-yes, start-open}
 
-slice-aggregate-visit : tie.Need-slice-aggregate-visit
-slice-aggregate-visit c = search needs
+at-start-requires : tie.Need-at-start-requires
+at-start-requires c κs = search needs
 
-visit-requires : tie.Need-visit-requires
-visit-requires c κs =
-    let t = valid-tables (c .before .before .before .before .before .before .before .before .before .before .before .before .before .before .before .before .before .before .before .before .before .args .x) (c .before .before .before .before .before .before .before .before .before .before .before .before .before .before .before .before .before .before .before .before .before .pre .0) (c .before .before .before .before .before .before .before .before .before .before .before .before .before .before .before .before .before .before .before .before .before .pre .1) in (
-      t .clauses,
-      record { clauses = t .learned-clauses; cubes = t .learned-cubes },
-      room (c .before .before .before .before .before .before .before .before .before .before .before .before .before .before .before .before .before .before .before .before .before .args .x .numbers) (c .before .before .before .before .before .before .before .before .before .before .before .before .before .before .before .before .before .before .before .before .before .args .at) (c .before .before .before .before .before .before .before .before .before .before .before .before .before .before .before .before .before .before .before .before .before .args .free) (few-variables (c .before .before .before .before .before .before .before .before .before .before .before .before .before .before .before .before .before .before .before .before .before .args .x) (c .before .before .before .before .before .before .before .before .before .before .before .before .before .before .before .before .before .before .before .before .before .pre .0)) (c .before .before .before .before .before .before .before .before .before .before .before .before .before .before .before .before .before .before .before .before .before .pre .2) (c .before .before .before .before .before .before .before .before .before .before .before .before .before .before .before .before .before .before .before .before .before .pre .3),
-    )
+enum-known-start : tie.Need-enum-known-start
+enum-known-start c = search needs
+
+decided-requires : tie.Need-decided-requires
+decided-requires c κs = search needs
+
+enum-known-start-2 : tie.Need-enum-known-start-2
+enum-known-start-2 c = search needs
+
+decided-requires-2 : tie.Need-decided-requires-2
+decided-requires-2 c κs = search needs
+
+enum-told : tie.Need-enum-told
+enum-told c = search needs
+
+searched-requires : tie.Need-searched-requires
+searched-requires c κs = search needs
+
+returns : tie.Need-returns
+returns c = start-no (c .before .before .before .before .before .before .args .x) (c .before .before .before .before .before .before .pre .0) _ _ _ (c .before .before .before .before .before .before .args .at) (c .before .before .before .before .before .before .args .free) _ (c .before .before .before .before .at-start .result) (c .before .before .before .before .at-start .ensures) _ (c .before .before .start .given .1) (c .decided .ensures)
+
+returns-2 : tie.Need-returns-2
+returns-2 c = start-yes (c .before .before .before .before .before .before .args .x) (c .before .before .before .before .before .before .pre .0) _ _ _ (c .before .before .before .before .before .before .args .at) (c .before .before .before .before .before .before .args .free) _ (c .before .before .before .before .at-start .result) (c .before .before .before .before .at-start .ensures) _ (c .before .before .start2 .given .1) (c .decided2 .ensures)
 
 same-length : tie.Need-same-length
 same-length c = search needs
 
-returns : tie.Need-returns
-returns c =
-    record {
-      size = c .before .before .before .visit .ensures .1 .0 .0 .size;
-      few = few-lines (c .before .before .before .before .before .before .before .before .before .before .before .before .before .before .before .before .before .before .before .before .before .before .before .before .before .args .x .numbers) (c .before .before .before .before .before .before .before .before .before .before .before .before .before .before .before .before .before .before .before .before .before .before .before .before .before .args .at) (c .before .before .before .before .before .before .before .before .before .before .before .before .before .before .before .before .before .before .before .before .before .before .before .before .before .args .free) (c .before .before .before .visit .result) (few-variables (c .before .before .before .before .before .before .before .before .before .before .before .before .before .before .before .before .before .before .before .before .before .before .before .before .before .args .x) (c .before .before .before .before .before .before .before .before .before .before .before .before .before .before .before .before .before .before .before .before .before .before .before .before .before .pre .0)) (c .before .before .before .visit .ensures .0);
-      found = λ s ps ks vs wide long frees cov. found (c .before .before .before .before .before .before .before .before .before .before .before .before .before .before .before .before .before .before .before .before .before .before .before .before .before .args .x) (c .before .before .before .before .before .before .before .before .before .before .before .before .before .before .before .before .before .before .before .before .before .before .before .before .before .pre .0) _ _ _ (c .before .before .before .before .before .before .before .before .before .before .before .before .before .before .before .before .before .before .before .before .before .before .before .before .before .args .at) (c .before .before .before .before .before .before .before .before .before .before .before .before .before .before .before .before .before .before .before .before .before .before .before .before .before .args .free) _ (c .before .before .before .visit .result) _ _ _ _ _ _ wide (c .before .before .before .visit .ensures .1 .0 .1) (c .before .before .before .visit .ensures .1 .1) s ps ks vs long frees cov;
-    }
+returns-3 : tie.Need-returns-3
+returns-3 c = start-open (c .before .before .before .before .before .before .before .before .args .x) (c .before .before .before .before .before .before .before .before .pre .0) _ _ _ (c .before .before .before .before .before .before .before .before .args .at) (c .before .before .before .before .before .before .before .before .args .free) _ (c .before .before .before .before .before .before .at-start .result) (c .before .before .before .before .before .before .at-start .ensures) (c .before .before .before .before .enum-told .given .1) _ _ (c .before .before .searched .ensures)
 
 pub run-spec : {M : Type 1} → statement M
-run-spec = tie.close (tie.spec slice-aggregate-visit visit-requires same-length returns)
+run-spec =
+    tie.close
+    (tie.spec
+    at-start-requires
+    enum-known-start
+    decided-requires
+    enum-known-start-2
+    decided-requires-2
+    enum-told
+    searched-requires
+    returns
+    returns-2
+    same-length
+    returns-3)

@@ -1,40 +1,47 @@
--- `node::join::join` meets its contract. By whether the on side's constraint names the place.
+-- `node::join::join` meets its contract. By whether the on side's constraint ends at the place.
 use borrow.Author.Needs.{needs}
 use Rattle.node.proofs.join.join.Statement.{statement}
 use Rattle.node.proofs.join.join.Tie as tie
-use denote.Ref.{now}
-use lib.ListN.{take}
+use native.Mathlib.Omega.{arith}
 use borrow.Author.Tests.{not-true, not-false}
-use Rattle.qbf.specs.Formula.{paper}
-use Rattle.tables.specs.Views.{rowsOf}
 use Rattle.node.proofs.Joins.{joined-lacking, joined-named}
 use Rattle.node.proofs.Steps.{side-same, side-len}
 
-mentions-next-requires : tie.Need-mentions-next-requires
-mentions-next-requires c κs = search needs
+ends-next-requires : tie.Need-ends-next-requires
+ends-next-requires c κs = search needs
 
 returns : tie.Need-returns
-returns c =
-    let t = c .before .before .before .before .args in
-    (side-same (t .on) (c .before .before .before .before .pre .0), c .before .before .before .before .pre .4, λ D ps ks h. joined-lacking (t .cube) (take (t .n) (now (t .saved))) (take (t .on .len) (now (t .up))) (c .before .mentions-next .ensures D ps) (not-true _ (c .if1 .taken)) (rowsOf (paper .numbers) (now (t .cells)) (now (t .sizes))))
+returns c = (
+  side-same (c .before .before .before .before .before .args .on) (c .before .before .before .before .before .pre .0),
+  c .before .before .before .before .before .pre .4,
+  omega arith,
+  λ D e f es q he hf oe of le lf sh hs. joined-lacking D (c .before .before .before .before .before .args .at) (c .before .before .before .before .before .args .cube) e f of lf (c .before .ends-next .ensures .1 D f hf) (not-true _ (c .if1 .taken)) es hf hs,
+)
 
-resolve-and-store-requires : tie.Need-resolve-and-store-requires
-resolve-and-store-requires c κs = search needs
+resolve-requires : tie.Need-resolve-requires
+resolve-requires c κs = search needs
+
+store-first-requires : tie.Need-store-first-requires
+store-first-requires c κs = search needs
 
 with-len-requires : tie.Need-with-len-requires
 with-len-requires c κs = search needs
 
 returns-2 : tie.Need-returns-2
-returns-2 c =
-    let t = c .before .before .before .before .before .before .before .before .before .args in
-    (rw (c .with-len .ensures) (side-len (t .on) _ (c .before .resolve-and-store .ensures .0)), c .before .resolve-and-store .ensures .1, λ D ps ks h. rw (c .with-len .ensures) (joined-named (t .cube) (take (t .n) (now (t .saved))) (take (t .on .len) (now (t .up))) (c .before .before .before .before .before .before .mentions-next .ensures D ps) (not-false _ (c .before .before .before .before .before .if1 .left)) (c .before .resolve-and-store .ensures .2 D ps ks h)))
+returns-2 c = (
+  rw (c .with-len .ensures) (side-len (c .before .before .before .before .before .before .before .before .before .before .before .before .before .args .on) _ (c .before .store-first .ensures .0)),
+  c .before .store-first .ensures .1,
+  c .before .store-first .ensures .2,
+  λ D e f es q he hf oe of le lf sh hs. rw (c .with-len .ensures) (joined-named D (c .before .before .before .before .before .before .before .before .before .before .before .before .before .args .at) (c .before .before .before .before .before .before .before .before .before .before .before .before .before .args .cube) e f of lf (c .before .before .before .before .before .before .before .before .before .ends-next .ensures .1 D f hf) (not-false _ (c .before .before .before .before .before .before .before .before .if1 .left)) es (c .before .before .before .before .before .before .resolve .last .0) (c .before .before .before .before .before .before .resolve .result) (c .before .before .before .before .before .before .resolve .ensures .0) (c .before .before .before .before .before .before .resolve .ensures .1 D e f q he hf oe of le lf) sh hs (c .before .store-first .ensures .3)),
+)
 
 pub join-spec : {M : Type 1} → statement M
 join-spec =
     tie.close
     (tie.spec
-    mentions-next-requires
+    ends-next-requires
     returns
-    resolve-and-store-requires
+    resolve-requires
+    store-first-requires
     with-len-requires
     returns-2)

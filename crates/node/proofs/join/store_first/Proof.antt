@@ -6,13 +6,13 @@ use native.Mathlib.Omega.{arith}
 use lib.ListN.{length-take}
 
 returns : tie.Need-returns
-returns c = (omega arith, c .before .pre .0, λ h. absurd (omega (arith, h, c .if1 .taken)))
+returns c = (omega arith, c .before .before .pre .0, omega arith, λ h. absurd (omega (arith, h, c .if1 .taken)))
 
 slice-aggregate-push : tie.Need-slice-aggregate-push
 slice-aggregate-push c = simp length-take (omega arith)
 
 push-requires : tie.Need-push-requires
-push-requires c κs = (c .before .before .before .before .pre .0, simp length-take (omega arith))
+push-requires c κs = (c .before .before .before .before .before .pre .0, omega arith, omega arith, omega arith, simp length-take (omega arith), c .before .before .before .before .before .pre .2)
 
 returns-2 : tie.Need-returns-2
 returns-2 c = search needs

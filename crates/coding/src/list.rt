@@ -1,0 +1,73 @@
+// Lists of codes: the last one, the first true one, and reduction.
+ghost use mathlib.Core.Path.{_≡_};
+ghost use Prim.Native.Nat.{_≤_};
+ghost use lib.ListN.{length, take};
+ghost use Rattle.qbf.specs.Formula.{Quantifier, Prefix};
+ghost use Rattle.qbf.specs.Learning.{Constraint, dropped, reduce};
+ghost use Rattle.tables.specs.Views.{quantifierCode};
+ghost use Rattle.tables.specs.Codes.{lastCode, codes, Quantified};
+ghost use Rattle.coding.specs.FirstTrue.{firstOf};
+
+// The last of the first n codes; 0 where there is none.
+pub fn last_code<'a>(cells: &'a [u8], n: usize) -> u8
+    requires { ⌜ n ≤ length (now cells) ⌝ }
+    ensures { λ r. ⌜ r ≡ lastCode (take n (now (cells .entry))) ⌝ }
+{
+    if n == 0 {
+        return 0;
+    }
+    cells[n - 1]
+}
+
+// The first code that has a status; 0 where none has it.
+pub fn first_with<'a>(cells: &'a [u8], statuses: &'a [u8; tables::CODES], want: u8) -> u8
+    ensures { λ r. ⌜ r ≡ firstOf (now (statuses .entry)) want (now (cells .entry)) ⌝ }
+{
+    let mut i: usize = 0;
+    while i < cells.len() {
+        let code = cells[i];
+        if statuses[code as usize] == want {
+            return code;
+        }
+        i += 1;
+    }
+    0
+}
+
+// Whether reduction drops a literal whose variable has the quantifier of this code.
+fn drops(kind: u8, cube: bool) -> bool
+    ensures { λ r. ⌜ ((κ : Quantifier) → kind ≡ quantifierCode κ → r ≡ dropped cube κ) ⌝ }
+{
+    if cube {
+        kind == tables::EXISTS as u8
+    } else {
+        kind == tables::FORALL as u8
+    }
+}
+
+// How many of the first n codes are left under reduction.
+pub fn reduced_first<'a>(
+    cells: &'a [u8],
+    n: usize,
+    quantifiers: &'a [u8; tables::CODES],
+    cube: bool,
+) -> usize
+    requires { ⌜ n ≤ length (now cells) ⌝ }
+    ensures { λ r. ⌜
+        (r ≤ n)
+        × ((D : Prefix) (e : Constraint)
+        → Quantified D (now (quantifiers .entry))
+        → take n (now (cells .entry)) ≡ codes D e
+        → take r (now (cells .entry)) ≡ codes D (reduce D cube e))
+        ⌝ }
+{
+    let mut left = n;
+    while 0 < left {
+        let last = cells[left - 1];
+        if !drops(quantifiers[last as usize], cube) {
+            return left;
+        }
+        left -= 1;
+    }
+    left
+}

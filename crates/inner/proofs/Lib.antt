@@ -1,0 +1,8 @@
+pub mod Marking
+pub mod Below
+pub mod Advancing
+pub mod Gathering
+pub mod LastLiteral
+pub mod Cells
+pub mod Lookups
+pub mod Conclusions

@@ -1,0 +1,71 @@
+-- The code that is looked up at an inner node, and what the lookup found.
+use Prim.Native.Nat.{ℕ, _+_, _*_, _≤_, _<_}
+use native.Mathlib.Omega.{arith}
+use mathlib.Core.Path.{_≡_, refl, sym, ap, _∙_}
+use mathlib.Core.Bool.{Bool, true, false, cond, Bool·beq}
+use mathlib.Core.List.{List, map}
+use mathlib.Core.Option.{Option, none, some}
+use borrow.Author.Tests.{lt-ltb, le-ltb}
+use lib.Dec.{eqb}
+use lib.ListN.{length, getD}
+use Rattle.qbf.specs.Formula.{Prefix, Node, valueAt}
+use Rattle.qbf.specs.Learning.{Constraint, eligibleMatch}
+use Rattle.tables.specs.Codes.{sign, codeAt, codes, statusOf, wanted, Statuses}
+use Rattle.tables.specs.Shelves.{shelfRows, rowAt, foundAt, firstMatch}
+use Rattle.inner.proofs.LastLiteral.{coded, last-value, last-literal}
+
+-- ---- the literal of a place by the status of its positive literal
+value-is : (b : Bool) → eqb (statusOf true (some b)) 2 ≡ b
+value-is true = refl
+value-is false = refl
+
+module _ {s : Node} {t : List ℕ} (shown : Statuses s t) (p : ℕ) {b : Bool} (value : valueAt s p ≡ some b) {n : ℕ} (read : n ≡ getD t (p * 2 + 1) 0) (holds : Bool) where
+  on-is : eqb n 2 ≡ b
+  on-is = ap (λ (m : ℕ). eqb m 2) (read ∙ shown .at p true ∙ ap (statusOf true) value) ∙ value-is b
+
+  sign-of : (x : Bool) → Bool·beq (eqb n 2) holds ≡ x → sign x ≡ sign (Bool·beq b holds)
+  sign-of x e = ap sign (sym e ∙ ap (λ (a : Bool). Bool·beq a holds) on-is)
+
+  pub code-positive : Bool·beq (eqb n 2) holds ≡ true → p * 2 + 1 ≡ codeAt p (Bool·beq b holds)
+  code-positive e = ap (λ (m : ℕ). p * 2 + m) (sign-of true e)
+
+  pub code-negative : Bool·beq (eqb n 2) holds ≡ false → p * 2 ≡ codeAt p (Bool·beq b holds)
+  code-negative e =
+      let z : sign (Bool·beq b holds) ≡ 0 = sym (sign-of false e) in
+      omega (arith, z)
+
+-- ---- the constraint of the codes that were found
+uncoded : (D : Prefix) (o : Option Constraint) {row : List ℕ} → some row ≡ coded D o → (e : Constraint) × (o ≡ some e) × (row ≡ codes D e)
+uncoded D none h = absurd (let z : _≡_ {A = ℕ} 0 1 = cc in omega arith)
+uncoded D (some e) h = (e, refl, cc)
+
+uncoded-none : (D : Prefix) (o : Option Constraint) → none ≡ coded D o → o ≡ none
+uncoded-none D none h = refl
+uncoded-none D (some e) h = absurd (let z : _≡_ {A = ℕ} 0 1 = cc in omega arith)
+
+module _ (stride slots : ℕ) (cells links t : List ℕ) (v : Bool) (r k : ℕ) {code want : ℕ}
+    (code-is : (s : Node) (b : Bool) → Statuses s t → valueAt s k ≡ some b → code ≡ codeAt k (Bool·beq b v)) (want-is : want ≡ wanted v)
+    (found : foundAt stride slots cells r ≡ firstMatch code t want (shelfRows stride slots cells links))
+    (D : Prefix) (s : Node) (es : List Constraint) (shown : Statuses s t) (long : length s ≡ k) (inner : 1 ≤ k)
+    (rows : shelfRows stride slots cells links ≡ map (codes D) es) where
+  looked-up : foundAt stride slots cells r ≡ coded D (eligibleMatch D eqb v s es)
+  looked-up =
+      let far : 1 ≤ length s = omega (arith, long) in
+      let value = last-value s far in
+      let is : code ≡ codeAt (length s) (Bool·beq (value .0) v) =
+      code-is s (value .0) shown (ap (valueAt s) (sym long) ∙ value .1) ∙ ap (λ (p : ℕ). codeAt p (Bool·beq (value .0) v)) (sym long) in
+      found
+      ∙ ap (firstMatch code t want) rows
+      ∙ ap (λ (w : ℕ). firstMatch code t w (map (codes D) es)) want-is
+      ∙ ap (λ (c : ℕ). firstMatch c t (wanted v) (map (codes D) es)) is
+      ∙ last-literal D s v (value .0) (value .1) far t shown es
+
+  pub found-row : r < slots → {row : List ℕ} → row ≡ rowAt stride cells r → (e : Constraint) × (eligibleMatch D eqb v s es ≡ some e) × (row ≡ codes D e)
+  found-row low is =
+      uncoded D (eligibleMatch D eqb v s es)
+      (ap some is ∙ sym (ap (λ (b : Bool). cond b (some (rowAt stride cells r)) none) (lt-ltb r slots low)) ∙ looked-up)
+
+  pub found-nothing : slots ≤ r → eligibleMatch D eqb v s es ≡ none
+  found-nothing high =
+      uncoded-none D (eligibleMatch D eqb v s es)
+      (sym (ap (λ (b : Bool). cond b (some (rowAt stride cells r)) none) (le-ltb r slots high)) ∙ looked-up)

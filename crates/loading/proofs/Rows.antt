@@ -1,0 +1,111 @@
+-- The rows of a flat table of which the cells before a row stay, and rows put behind others.
+use Prim.Native.Nat.{ℕ, zero, suc, _+_, _*_, _-_, _≤_, _<_}
+use native.Mathlib.Omega.{arith}
+use native.Mathlib.Nat.{zero-add, suc-add, suc-mul, mul-le-mul-right, le-refl}
+use native.Mathlib.Numerals.{add-one}
+use mathlib.Core.Path.{_≡_, sym, ap, subst, _∙_}
+use mathlib.Core.List.{List, [], _∷_, _++_, map, map-append}
+use borrow.Rule.Slice.PartMut.{putMid, postOf}
+use lib.IntN.{ℤ}
+use lib.ListN.{length, getD, take, drop, length-map, length-drop}
+use lib.Seq.{take-nil, take-take, drop-at, length-take-le, take-append-le}
+use Rattle.qbf.specs.Formula.{Prefix}
+use Rattle.qbf.specs.Learning.{push}
+use Rattle.tables.specs.Views.{row, rows, Table}
+use Rattle.tables.specs.Codes.{codes}
+use Rattle.tables.proofs.Laws.{rows-suc, rows-zero}
+
+-- row k ends before row n begins
+pub before : (w k n : ℕ) → k < n → k * w + w ≤ n * w
+before w k n h = subst (λ (m : ℕ). m ≤ n * w) (suc-mul k w) (mul-le-mul-right w h)
+
+module _ {A : Type 0} where
+  -- a part, cut the other way round
+  take-drop : (s n : ℕ) (l : List A) → take n (drop s l) ≡ drop s (take (s + n) l)
+  take-drop zero n l = ap (λ (k : ℕ). take k l) (sym (zero-add n))
+  take-drop (suc s) n [] = take-nil n ∙ sym (ap (drop (suc s)) (take-nil (suc s + n)))
+  take-drop (suc s) n (x ∷ xs) = take-drop s n xs ∙ ap (λ (k : ℕ). drop (suc s) (take k (x ∷ xs))) (sym (suc-add s n))
+
+  -- a part that ends within the first m elements
+  pub part-kept : (s n m : ℕ) (l l′ : List A) → s + n ≤ m → take m l′ ≡ take m l → take n (drop s l′) ≡ take n (drop s l)
+  part-kept s n m l l′ h e =
+      take-drop s n l′
+      ∙ ap (drop s) (sym (take-take (s + n) m l′ h) ∙ ap (take (s + n)) e ∙ take-take (s + n) m l h)
+      ∙ sym (take-drop s n l)
+
+  -- the rows before row k, of which the cells and the sizes stay
+  module _ (w k : ℕ) (f f′ : List A) (l l′ : List ℕ) (cells : take (k * w) f′ ≡ take (k * w) f) (sizes : (j : ℕ) → j < k → getD l′ (suc j) 0 ≡ getD l (suc j) 0)
+      (short : (j : ℕ) → j < k → getD l (suc j) 0 ≤ w) where
+    -- the first n of them
+    kept : (n : ℕ) → n ≤ k → rows w f′ l′ n ≡ rows w f l n
+    kept zero h = rows-zero w f′ l′ ∙ sym (rows-zero w f l)
+    kept (suc n) h =
+        rows-suc w f′ l′ n
+        ∙ ap (λ (x : List A). rows w f′ l′ n ++ (x ∷ []))
+        (ap (λ (m : ℕ). take m (drop (n * w) f′)) (sizes n h)
+        ∙ part-kept (n * w) (getD l (suc n) 0) (k * w) f f′ (omega (arith, short n h, before w n k h)) cells)
+        ∙ ap (λ (xs : List (List A)). xs ++ (row w f l n ∷ [])) (kept n (omega arith))
+        ∙ sym (rows-suc w f l n)
+
+    -- all of them
+    pub rows-kept : rows w f′ l′ k ≡ rows w f l k
+    rows-kept = kept k (le-refl k)
+
+-- a row put behind others that leave room
+pub push-room : {A : Type 0} (n : ℕ) (e : A) (es : List A) → length es < n → push n e es ≡ es ++ (e ∷ [])
+push-room n e es h = let z : suc (length es) - n ≡ 0 = omega arith in ap (λ (k : ℕ). drop k es ++ (e ∷ [])) z
+
+-- .. where they are the images of a list
+pub push-map : {A B : Type 0} (f : A → B) (n : ℕ) (e : A) (es : List A) {r : List B} → r ≡ map f es → length es < n → push n (f e) r ≡ map f (es ++ (e ∷ []))
+push-map f n e es {r} p h =
+    ap (push n (f e)) p
+    ∙ push-room n (f e) (map f es) (omega (arith, length-map es f))
+    ∙ sym (map-append f es (e ∷ []))
+
+-- ---- a part of a list that was lent and written
+module _ {A : Type 0} where
+  -- what was written into the part
+  pub put-part : (a k n : ℕ) (xs ys : List A) → a ≤ length xs → n ≤ length ys → take n (drop a (putMid a k xs ys)) ≡ take n ys
+  put-part a k n xs ys h m =
+      ap (take n) (drop-at (take a xs) (ys ++ postOf a k xs) a (length-take-le a xs h))
+      ∙ take-append-le n ys (postOf a k xs) m
+
+  -- a part within the list is as long as it says
+  pub part-long : (a n : ℕ) (l : List A) → a + n ≤ length l → length (take n (drop a l)) ≡ n
+  part-long a n l h = length-take-le n (drop a l) (simp length-drop (omega arith))
+
+-- the codes of a part, which the code cuts as m elements
+pub coded : (a n m : ℕ) (ys : List ℕ) (f : List ℤ) (D : Prefix) → m ≡ n → a + n ≤ length f
+    → take (length (take m (drop a f))) ys ≡ codes D (take m (drop a f)) → take n ys ≡ codes D (take n (drop a f))
+coded a n m ys f D e h g =
+    let x : take (length (take n (drop a f))) ys ≡ codes D (take n (drop a f)) =
+    subst (λ (j : ℕ). take (length (take j (drop a f))) ys ≡ codes D (take j (drop a f))) e g
+    in
+    ap (λ (j : ℕ). take j ys) (sym (part-long a n f h)) ∙ x
+
+-- ---- row k, as the code reads it
+-- its size
+pub size-small : (w k : ℕ) (l : List ℕ) → getD l (suc k) 0 ≤ w → getD l (k + 1) 0 ≤ w
+size-small w k l h = subst (λ (j : ℕ). getD l j 0 ≤ w) (sym (add-one k)) h
+
+-- its elements
+pub row-is : {A : Type 0} (w k : ℕ) (f : List A) (l : List ℕ) → take (getD l (k + 1) 0) (drop (k * w) f) ≡ row w f l k
+row-is w k f l = ap (λ (j : ℕ). take (getD l j 0) (drop (k * w) f)) (add-one k)
+
+-- .. of a part of m elements from where it begins
+pub row-cut : {A : Type 0} (w k m : ℕ) (f : List A) (l : List ℕ) → m ≡ getD l (k + 1) 0 → take (getD l (k + 1) 0) (take m (drop (k * w) f)) ≡ row w f l k
+row-cut w k m f l e = take-take (getD l (k + 1) 0) m (drop (k * w) f) (omega arith) ∙ row-is w k f l
+
+module _ {A : Type 0} {w cap : ℕ} {f : List A} {l : List ℕ} (t : Table w cap f l) (k : ℕ) (low : k < getD l 0 0) where
+  -- the size of a row that stands
+  pub table-size : getD l (k + 1) 0 ≤ w
+  table-size = size-small w k l (t .short k low)
+
+  -- a row that stands ends within the table
+  pub table-within : k * w + getD l (k + 1) 0 ≤ cap * w
+  table-within = let lt : k < cap = omega (arith, t .few) in omega (arith, table-size, before w k cap lt)
+
+-- the first r elements of a part, which the code cuts as m elements
+pub cut-long : {A : Type 0} (a n m r : ℕ) (l : List A) → m ≡ n → r ≤ n → a + n ≤ length l → length (take r (take m (drop a l))) ≡ r
+cut-long a n m r l e h k =
+    length-take-le r (take m (drop a l)) (subst (λ (j : ℕ). r ≤ length (take j (drop a l))) (sym e) (omega (arith, part-long a n l k)))

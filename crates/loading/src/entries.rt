@@ -1,0 +1,223 @@
+// The learned constraints of one polarity: from the state's table, the oldest first, onto a shelf, and back.
+use coding::code::encode;
+use coding::code::literal_of;
+use shelf::find::row_in;
+use shelf::store::push;
+ghost use mathlib.Core.Path.{_≡_};
+ghost use mathlib.Core.Bool.{true};
+ghost use mathlib.Core.List.{List, [], map};
+ghost use Prim.Native.Nat.{suc, _+_, _-_, _*_, _%_, _≤_, _<_};
+ghost use lib.ListN.{length, getD, take, drop};
+ghost use Rattle.qbf.specs.Formula.{paper, Prefix, Literal, place};
+ghost use Rattle.qbf.specs.Learning.{Constraint, push};
+ghost use Rattle.qbf.specs.Card.{Mem};
+ghost use Rattle.qbf.specs.Calls.{numbersOk};
+ghost use Rattle.tables.specs.Views.{Places, Numbers, row, rowsOf};
+ghost use Rattle.tables.specs.Formed.{Constraints};
+ghost use Rattle.tables.specs.Codes.{codes};
+ghost use Rattle.tables.specs.Shelves.{Entries, entriesOf, newestOf, baseOf};
+ghost use Rattle.loading.specs.Written.{entryAt, Unloaded};
+
+// Row k of the table goes onto the shelf.
+fn load_row<'a>(
+    store: &'a [i16; tables::CONSTRAINT_CELLS],
+    sizes: &'a [u16; tables::CONSTRAINT_SIZES],
+    places: &'a [u16; tables::BY_NUMBER],
+    cells: &mut [u8; tables::CONSTRAINT_CODES],
+    links: &mut [u64; tables::CONSTRAINT_LINKS],
+    k: usize,
+)
+    requires { ⌜
+        Constraints (now store) (now sizes)
+        × Entries (now cells) (now links)
+        × (newestOf (now links) ≡ k)
+        × (k < getD (now sizes) 0 0)
+        ⌝ }
+    ensures { λ _. ⌜
+        Entries (now (cells .exit)) (now (links .exit))
+        × (newestOf (now (links .exit)) ≡ suc k)
+        × ((D : Prefix)
+        → Places D (now (places .entry))
+        → length D ≤ paper .numbers
+        → entriesOf (now (cells .exit)) (now (links .exit))
+        ≡ push
+        (paper .constraints)
+        (codes D (row (paper .numbers) (now (store .entry)) (now (sizes .entry)) k))
+        (entriesOf (now (cells .entry)) (now (links .entry))))
+        ⌝ }
+{
+    let from = k * tables::NUMBERS;
+    let len = sizes[k + 1] as usize;
+    let flat: &[i16] = store;
+    let mut row = [0u8; tables::NUMBERS];
+    encode(&mut row, &flat[from..from + len], places);
+    push(
+        cells,
+        links,
+        tables::NUMBERS,
+        tables::CONSTRAINTS,
+        &row[..len],
+    );
+}
+
+// Every row of the table goes onto an empty shelf.
+pub fn load<'a>(
+    store: &'a [i16; tables::CONSTRAINT_CELLS],
+    sizes: &'a [u16; tables::CONSTRAINT_SIZES],
+    places: &'a [u16; tables::BY_NUMBER],
+    cells: &mut [u8; tables::CONSTRAINT_CODES],
+    links: &mut [u64; tables::CONSTRAINT_LINKS],
+)
+    requires { ⌜ Constraints (now store) (now sizes) × Entries (now cells) (now links) × (newestOf (now links) ≡ 0) ⌝ }
+    ensures { λ _. ⌜
+        Entries (now (cells .exit)) (now (links .exit))
+        × (newestOf (now (links .exit)) ≤ paper .constraints)
+        × ((D : Prefix)
+        → Places D (now (places .entry))
+        → length D ≤ paper .numbers
+        → entriesOf (now (cells .exit)) (now (links .exit))
+        ≡ map (codes D) (rowsOf (paper .numbers) (now (store .entry)) (now (sizes .entry))))
+        ⌝ }
+{
+    let count = sizes[0] as usize;
+    let mut k: usize = 0;
+    while k < count {
+        load_row(store, sizes, places, cells, links, k);
+        k += 1;
+    }
+}
+
+// How many rows stand.
+fn standing<'a>(links: &'a [u64; tables::CONSTRAINT_LINKS]) -> usize
+    ensures { λ r. ⌜
+        r ≡ newestOf (now (links .entry)) - baseOf (paper .constraints) (now (links .entry))
+        ⌝ }
+{
+    let newest = links[tables::CODES];
+    if newest < tables::CONSTRAINTS as u64 {
+        return newest as usize;
+    }
+    tables::CONSTRAINTS
+}
+
+// The slot of the row that stands at index k, from the oldest.
+fn slot_at(newest: u64, k: usize) -> usize
+    requires { ⌜ k < newest - (newest - paper .constraints) ⌝ }
+    ensures { λ r. ⌜
+        (r ≡ (newest - paper .constraints + k) % paper .constraints) × (r < paper .constraints)
+        ⌝ }
+{
+    let slots = tables::CONSTRAINTS as u64;
+    if newest < slots {
+        return k % tables::CONSTRAINTS;
+    }
+    let slot = (newest - slots + k as u64) % slots;
+    slot as usize
+}
+
+// The literals of a row's codes, from a cell on; the cells before it stay.
+fn decode<'a>(store: &mut [i16], at: usize, row: &'a [u8], numbers: &'a [u16; tables::BY_NUMBER])
+    requires { ⌜ at + length (now row) ≤ length (now store) ⌝ }
+    ensures { λ _. ⌜
+        (length (now (store .exit)) ≡ length (now (store .entry)))
+        × (take at (now (store .exit)) ≡ take at (now (store .entry)))
+        × ((D : Prefix) (e : Constraint)
+        → Numbers D (now (numbers .entry))
+        → numbersOk paper [] D ≡ true
+        → now (row .entry) ≡ codes D e
+        → ((l : Literal) → Mem l e → 1 ≤ place D l)
+        → take (length (now (row .entry))) (drop at (now (store .exit))) ≡ e)
+        ⌝ }
+{
+    let mut i: usize = 0;
+    while i < row.len() {
+        store[at + i] = literal_of(numbers, row[i]);
+        i += 1;
+    }
+}
+
+// The row that stands at index k is written into row k of the table; the rows before it stay.
+fn unload_row<'a>(
+    cells: &'a [u8; tables::CONSTRAINT_CODES],
+    links: &'a [u64; tables::CONSTRAINT_LINKS],
+    numbers: &'a [u16; tables::BY_NUMBER],
+    store: &mut [i16],
+    sizes: &mut [u16],
+    k: usize,
+)
+    requires { ⌜
+        Entries (now cells) (now links)
+        × (k < newestOf (now links) - baseOf (paper .constraints) (now links))
+        × (length (now store) ≡ paper .constraints * paper .numbers)
+        × (length (now sizes) ≡ suc (paper .constraints))
+        ⌝ }
+    ensures { λ _. ⌜
+        Unloaded
+        (now (numbers .entry))
+        (entryAt (now (cells .entry)) (now (links .entry)) k)
+        k
+        (now (store .entry))
+        (now (sizes .entry))
+        (now (store .exit))
+        (now (sizes .exit))
+        ⌝ }
+{
+    let slot = slot_at(links[tables::CODES], k);
+    let row = row_in(cells, links, tables::NUMBERS, tables::CONSTRAINTS, slot);
+    decode(store, k * tables::NUMBERS, row, numbers);
+    sizes[k + 1] = row.len() as u16;
+}
+
+// The rows one after the other, from the oldest.
+fn unload_rows<'a>(
+    cells: &'a [u8; tables::CONSTRAINT_CODES],
+    links: &'a [u64; tables::CONSTRAINT_LINKS],
+    numbers: &'a [u16; tables::BY_NUMBER],
+    store: &mut [i16],
+    sizes: &mut [u16],
+)
+    requires { ⌜
+        Entries (now cells) (now links)
+        × (length (now store) ≡ paper .constraints * paper .numbers)
+        × (length (now sizes) ≡ suc (paper .constraints))
+        ⌝ }
+    ensures { λ _. ⌜
+        Constraints (now (store .exit)) (now (sizes .exit))
+        × ((D : Prefix) (es : List Constraint)
+        → Numbers D (now (numbers .entry))
+        → numbersOk paper [] D ≡ true
+        → entriesOf (now (cells .entry)) (now (links .entry)) ≡ map (codes D) es
+        → ((e : Constraint) → Mem e es → (l : Literal) → Mem l e → 1 ≤ place D l)
+        → rowsOf (paper .numbers) (now (store .exit)) (now (sizes .exit)) ≡ es)
+        ⌝ }
+{
+    let count = standing(links);
+    let mut k: usize = 0;
+    while k < count {
+        unload_row(cells, links, numbers, store, sizes, k);
+        k += 1;
+    }
+    sizes[0] = count as u16;
+}
+
+// The rows that stand are the table's, from the oldest.
+pub fn unload<'a>(
+    cells: &'a [u8; tables::CONSTRAINT_CODES],
+    links: &'a [u64; tables::CONSTRAINT_LINKS],
+    numbers: &'a [u16; tables::BY_NUMBER],
+    store: &mut [i16; tables::CONSTRAINT_CELLS],
+    sizes: &mut [u16; tables::CONSTRAINT_SIZES],
+)
+    requires { ⌜ Entries (now cells) (now links) ⌝ }
+    ensures { λ _. ⌜
+        Constraints (now (store .exit)) (now (sizes .exit))
+        × ((D : Prefix) (es : List Constraint)
+        → Numbers D (now (numbers .entry))
+        → numbersOk paper [] D ≡ true
+        → entriesOf (now (cells .entry)) (now (links .entry)) ≡ map (codes D) es
+        → ((e : Constraint) → Mem e es → (l : Literal) → Mem l e → 1 ≤ place D l)
+        → rowsOf (paper .numbers) (now (store .exit)) (now (sizes .exit)) ≡ es)
+        ⌝ }
+{
+    unload_rows(cells, links, numbers, store, sizes);
+}

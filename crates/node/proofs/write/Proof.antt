@@ -1,0 +1,60 @@
+-- `node::write` meets its contract: after i turns the first i codes are copied.
+use borrow.Author.Needs.{needs}
+use Rattle.node.proofs.write.Statement.{statement}
+use Rattle.node.proofs.write.Tie as tie
+use Prim.Native.Nat.{_-_, _≤_}
+use mathlib.Core.Path.{_≡_, refl, _∙_}
+use native.Mathlib.Omega.{arith}
+use denote.Ref.{now}
+use lib.ListN.{length, getD, take, length-set}
+use Rattle.node.proofs.Aside.{copied-more, copied-all}
+
+abbrev Inv-loop : tie.InvT-loop
+Inv-loop cells₀ row i₀ cells i = (i ≤ length row) × (length row ≤ length cells₀) × (length cells ≡ length cells₀) × (take i cells ≡ take i row)
+
+abbrev μ-loop : tie.MeasureT-loop
+μ-loop cells₀ row i₀ cells i = length row - i
+
+loop-holds : tie.Need-loop-holds Inv-loop μ-loop
+loop-holds c = (search needs, c .pre, refl, refl)
+
+shared-slice-read-cells : tie.Need-shared-slice-read-cells Inv-loop μ-loop
+shared-slice-read-cells c = search needs
+
+slice-write-cells : tie.Need-slice-write-cells Inv-loop μ-loop
+slice-write-cells c = omega arith
+
+add-i : tie.Need-add-i Inv-loop μ-loop
+add-i c = search needs
+
+loop-less : tie.Need-loop-less Inv-loop μ-loop
+loop-less c = search needs
+
+loop-again : tie.Need-loop-again Inv-loop μ-loop
+loop-again c = (
+  omega arith,
+  c .before .before .before .pre,
+  length-set (c .before .before .loop .cells) (c .before .before .loop .i) (getD (now (c .before .before .before .args .row)) (c .before .before .loop .i) 0) ∙ c .before .before .loop .inv .2,
+  copied-more (c .before .before .loop .cells) (now (c .before .before .before .args .row)) (c .before .before .loop .i) (omega arith) (omega arith) (c .before .before .loop .inv .3),
+)
+
+same-length : tie.Need-same-length Inv-loop μ-loop
+same-length c = c .before .loop .inv .2
+
+returns : tie.Need-returns Inv-loop μ-loop
+returns c = (c .before .loop .inv .2, copied-all (c .before .loop .cells) (now (c .before .before .args .row)) (c .before .loop .i) (omega arith) (omega arith) (c .before .loop .inv .3))
+
+pub write-spec : {M : Type 1} → statement M
+write-spec =
+    tie.close
+    (tie.spec
+    Inv-loop
+    μ-loop
+    loop-holds
+    shared-slice-read-cells
+    slice-write-cells
+    add-i
+    loop-less
+    loop-again
+    same-length
+    returns)
