@@ -1,12 +1,12 @@
 //! `bench`: measures and writes docs/BENCHMARKS.md and docs/benchmarks.svg. `bench --card NAME`
-//! makes one card of an example by the library alone, `bench --card NAME rust` by the search in
-//! Rust alone, for a tool that counts instructions.
+//! makes one card of an example by the library alone, `bench --card NAME scan` or `index` by a design
+//! in Rust alone, for a tool that counts instructions.
 
 use bench::books::{self, formula, Book, Order, Plan};
 use bench::measure::{call_time, measure, Task, Times};
 use bench::plot::{svg, Panel, Series};
 use bench::report::{self, HEADS};
-use bench::search::Solver;
+use bench::search::{card, Design};
 use compare::{State, Store};
 use native::library::bare;
 use native::reading;
@@ -16,23 +16,31 @@ fn main() -> io::Result<()> {
     let arguments: Vec<String> = std::env::args().skip(1).collect();
     match &arguments[..] {
         [] => run(),
-        [flag, name] if flag == "--card" => one_card(name, false),
-        [flag, name, side] if flag == "--card" && side == "rust" => one_card(name, true),
-        _ => Err(io::Error::other("bench [--card NAME [rust]]")),
+        [flag, name] if flag == "--card" => one_card(name, None),
+        [flag, name, side] if flag == "--card" && side == "scan" => {
+            one_card(name, Some(Design::Scan))
+        }
+        [flag, name, side] if flag == "--card" && side == "index" => {
+            one_card(name, Some(Design::Index))
+        }
+        _ => Err(io::Error::other("bench [--card NAME [scan|index]]")),
     }
 }
 
-fn one_card(name: &str, rust: bool) -> io::Result<()> {
+fn one_card(name: &str, rust: Option<Design>) -> io::Result<()> {
     let book = books::examples()?.into_iter().find(|book| book.name.contains(name));
     let formula = book.ok_or(io::Error::other("no such example"))?.formula;
     let mut table = [0; 65_536];
-    let (lines, visits) = if rust {
-        let (lines, visits) = Solver::new(&formula).card(&mut table);
-        (lines.unwrap_or(0), visits)
-    } else {
-        let mut raw = reading::write(&State { formula, store: Store::default() });
-        let (_, lines, visits) = bare::card(&mut raw, &mut table);
-        (lines, visits)
+    let mut raw = reading::write(&State { formula, store: Store::default() });
+    let (lines, visits) = match rust {
+        Some(design) => {
+            let (lines, visits) = card(&mut raw, &mut table, design);
+            (lines.unwrap_or(0), visits)
+        }
+        None => {
+            let (_, lines, visits) = bare::card(&mut raw, &mut table);
+            (lines, visits)
+        }
     };
     println!("lines {lines}, visits {visits}");
     Ok(())
@@ -63,7 +71,9 @@ fn run() -> io::Result<()> {
         }
         panels.push(panel(&sweep, &measured));
     }
-    let (cards, queries) = (report::ratios(&all, Task::Card), report::ratios(&all, Task::Queries));
+    let ratios = |task, of| report::ratios(&all, task, of);
+    let gains = (ratios(Task::Card, Times::gain), ratios(Task::Queries, Times::gain));
+    let designs = (ratios(Task::Card, Times::ratio), ratios(Task::Queries, Times::ratio));
     let examples = books::examples()?;
     let calls: Vec<f64> =
         examples.iter().map(|book| call_time(&book.formula).as_nanos() as f64 / 1e3).collect();
@@ -71,10 +81,12 @@ fn run() -> io::Result<()> {
     let after = report::load();
     let words = format!(
         "Times of the thread, the shortest of at least 3 runs; {load} before, {after} after.\n\
-         Library to Rust, geometric mean with the least and the largest: cards {cards}, lists of \
-         200 queries {queries}.\n\
+         Times faster than the straightforward design in Rust, geometric mean with the least and the \
+         largest: cards {}, lists of 200 queries {}.\n\
+         Library to the same design in Rust: cards {}, lists of 200 queries {}.\n\
          A call that searches nothing (forget) takes {small:.1} \u{b5}s on `a.book` and {large:.1} \
-         \u{b5}s on `parlour_board.book`: the state is checked and copied.\n\n"
+         \u{b5}s on `parlour_board.book`: the state is checked and copied.\n\n",
+        gains.0, gains.1, designs.0, designs.1
     );
     print!("{words}");
     report::write(&(words + &table), &svg(&panels))
@@ -93,6 +105,8 @@ fn workshop() -> Vec<Book> {
         plan(12, 7, 9, 120, (4, 8)),
         plan(14, 8, 11, 180, (5, 8)),
         plan(16, 10, 14, 255, (5, 9)),
+        plan(16, 8, 8, 120, (5, 8)),
+        plan(16, 8, 9, 150, (5, 8)),
         plan(12, 6, 10, 100, (16, 16)),
         plan(14, 6, 9, 255, (16, 16)),
     ];
@@ -169,7 +183,8 @@ fn panel(sweep: &Sweep, measured: &[(f64, Times)]) -> Panel {
     let series = match sweep.visits {
         false => vec![
             series("library", "#1f77b4", Times::library_ns),
-            series("Rust", "#d62728", Times::rust_ns),
+            series("straightforward Rust", "#d62728", Times::scan_ns),
+            series("same design in Rust", "#2ca02c", Times::index_ns),
         ],
         true => vec![
             series("learning", "#1f77b4", |times| times.visits as f64),

@@ -1,6 +1,6 @@
-//! Times of one book: both sides by turns, the shortest run of each.
+//! Times of one book: the three sides by turns, the shortest run of each.
 
-use crate::search::Solver;
+use crate::search::{card, query, Design};
 use compare::random::Random;
 use compare::solver::start_node;
 use compare::{Formula, State, Store};
@@ -30,25 +30,41 @@ pub struct Times {
     pub lines: usize,
     pub visits: u64,
     pub plain_visits: Option<u64>,
-    pub rust: Duration,
     pub library: Duration,
+    /// The straightforward design in Rust, and the library's.
+    pub scan: Duration,
+    pub index: Duration,
 }
 
 impl Times {
+    /// How many times faster than the straightforward design.
+    pub fn gain(&self) -> f64 {
+        self.scan.as_secs_f64() / self.library.as_secs_f64()
+    }
+
+    /// The library's time to that of its own design in Rust.
     pub fn ratio(&self) -> f64 {
-        self.library.as_secs_f64() / self.rust.as_secs_f64()
+        self.library.as_secs_f64() / self.index.as_secs_f64()
     }
 
     pub fn library_ns(&self) -> f64 {
-        self.library.as_nanos() as f64 / self.visits as f64
+        self.a_visit(self.library)
     }
 
-    pub fn rust_ns(&self) -> f64 {
-        self.rust.as_nanos() as f64 / self.visits as f64
+    pub fn scan_ns(&self) -> f64 {
+        self.a_visit(self.scan)
+    }
+
+    pub fn index_ns(&self) -> f64 {
+        self.a_visit(self.index)
+    }
+
+    fn a_visit(&self, time: Duration) -> f64 {
+        time.as_nanos() as f64 / self.visits as f64
     }
 }
 
-/// What a run found. Both sides have to find the same.
+/// What a run found. All sides have to find the same.
 #[derive(PartialEq, Eq, Debug)]
 struct Found {
     lines: usize,
@@ -59,40 +75,42 @@ struct Found {
 
 pub fn measure(formula: &Formula, task: Task) -> Times {
     let raw = reading::write(&State { formula: formula.clone(), store: Store::default() });
-    let solver = Solver::new(formula);
     let readings = readings(formula);
-    let (mut rust, mut library) = (Duration::MAX, Duration::MAX);
+    let (mut library, mut scan, mut index) = (Duration::MAX, Duration::MAX, Duration::MAX);
     let mut spent = Duration::ZERO;
     let mut runs = 0;
     let found = loop {
-        let (expected, time) = run_rust(&solver, task, &readings);
-        rust = rust.min(time);
+        let (expected, time) = run_rust(&raw, task, &readings, Design::Scan);
+        scan = scan.min(time);
+        spent += time;
+        let (same, time) = run_rust(&raw, task, &readings, Design::Index);
+        index = index.min(time);
         spent += time;
         let (found, time) = run_library(&raw, task, &readings);
         library = library.min(time);
         spent += time;
         runs += 1;
-        assert!(found == expected, "the two sides differ");
+        assert!(found == expected && found == same, "the sides differ");
         if runs >= 3 && spent > Duration::from_secs(1) || runs == 500 {
             break found;
         }
     };
     let plain_visits = plain_visits(formula, task, &readings);
-    Times { task, lines: found.lines, visits: found.visits, plain_visits, rust, library }
+    Times { task, lines: found.lines, visits: found.visits, plain_visits, library, scan, index }
 }
 
-fn run_rust(solver: &Solver, task: Task, readings: &[Vec<i16>]) -> (Found, Duration) {
-    let mut solver = solver.clone();
+fn run_rust(raw: &Raw, task: Task, readings: &[Vec<i16>], design: Design) -> (Found, Duration) {
+    let mut raw = Box::new(*raw);
     let mut found = Found { lines: 0, visits: 0, table: vec![9; TABLE], verdicts: vec![] };
     let start = cpu_time();
     match task {
         Task::Card => {
-            let (lines, visits) = solver.card(&mut found.table);
+            let (lines, visits) = card(&mut raw, &mut found.table, design);
             (found.lines, found.visits) = (lines.expect("the table is large enough"), visits);
         }
         Task::Queries => {
             for on in readings {
-                let (yes, visits) = solver.query(on);
+                let (yes, visits) = query(&mut raw, on, design);
                 found.verdicts.push(yes);
                 found.visits += visits;
             }

@@ -10,8 +10,8 @@ use std::{fs, io};
 const BEGIN: &str = "<!-- times: begin -->\n";
 const END: &str = "<!-- times: end -->\n";
 
-pub const HEADS: &str = "| Book | Rules | Call | Lines | Visits | Plain visits | Library | Rust | Ratio | ns a visit, library | Rust |\n\
-                         |---|---|---|---|---|---|---|---|---|---|---|\n";
+pub const HEADS: &str = "| Book | Rules | Call | Lines | Visits | Plain visits | Library | ns a visit | Straightforward Rust | Times faster | Same design in Rust | Ratio |\n\
+                         |---|---|---|---|---|---|---|---|---|---|---|---|\n";
 
 pub fn row(book: &Book, times: &Times) -> String {
     let (call, lines) = match times.task {
@@ -21,9 +21,9 @@ pub fn row(book: &Book, times: &Times) -> String {
     let plain = times.plain_visits.map_or("over 150,000,000".into(), grouped);
     let mut row = format!("| {} | {} | {call} | {lines} ", book.name, book.formula.clauses.len());
     let _ = write!(row, "| {} | {plain} ", grouped(times.visits));
-    let _ = write!(row, "| {} | {} ", milliseconds(times.library), milliseconds(times.rust));
-    let (library, rust) = (times.library_ns(), times.rust_ns());
-    let _ = writeln!(row, "| {:.2} | {library:.0} | {rust:.0} |", times.ratio());
+    let _ = write!(row, "| {} | {:.0} ", milliseconds(times.library), times.library_ns());
+    let _ = write!(row, "| {} | {:.1} ", milliseconds(times.scan), times.gain());
+    let _ = writeln!(row, "| {} | {:.2} |", milliseconds(times.index), times.ratio());
     row
 }
 
@@ -41,8 +41,8 @@ fn docs() -> PathBuf {
 }
 
 /// The geometric mean of a task's ratios, with the least and the largest.
-pub fn ratios(times: &[Times], task: Task) -> String {
-    let ratios: Vec<f64> = times.iter().filter(|t| t.task == task).map(Times::ratio).collect();
+pub fn ratios(times: &[Times], task: Task, of: fn(&Times) -> f64) -> String {
+    let ratios: Vec<f64> = times.iter().filter(|t| t.task == task).map(of).collect();
     let mean = (ratios.iter().map(|ratio| ratio.ln()).sum::<f64>() / ratios.len() as f64).exp();
     let least = ratios.iter().copied().fold(f64::MAX, f64::min);
     let most = ratios.iter().copied().fold(f64::MIN, f64::max);
