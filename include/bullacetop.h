@@ -11,8 +11,8 @@
  * writable) for n items. Where n is 0 nothing is read or written, and the pointer may be NULL. Lent lists are not written. A table must
  * not overlap another argument.
  *
- * Stack: the deepest call, a card on 40 variables, was seen to take 138 KiB, with the state handed over and the answer (19 KiB each) in it:
- * have 256 KiB. The functions on texts were seen to take up to 257 KiB: have 512 KiB.
+ * Stack: the deepest call, a query on 40 variables, was seen to take 248 KiB, with the state handed over, the answer (19 KiB each) and the
+ * tables of its search in it; the functions on texts up to 312 KiB: have 512 KiB.
  */
 #ifndef BULLACETOP_H
 #define BULLACETOP_H

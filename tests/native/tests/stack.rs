@@ -1,4 +1,4 @@
-//! The calls run on a stack of 256 KiB and the functions on texts on 512 KiB, as the C header says.
+//! The calls and the functions on texts run on a stack of 512 KiB, as the C header says.
 
 use compare::{Call, Formula, Quantifier, Said, Subject, Variable};
 use native::library::Native;
@@ -17,8 +17,8 @@ fn on_a_stack_of(size: usize, run: impl FnOnce() + Send + 'static) {
 }
 
 #[test]
-fn a_call_needs_less_than_256_kib() {
-    on_a_stack_of(256 << 10, || {
+fn a_call_needs_less_than_512_kib() {
+    on_a_stack_of(512 << 10, || {
         let mut native = Native::opened(deepest());
         let card = native.call(&Call::Card(65_536));
         assert_eq!((card.said, card.visits), (Said::Lines(1), 42));
