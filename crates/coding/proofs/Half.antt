@@ -2,7 +2,7 @@
 use Prim.Native.Nat.{ℕ, _+_, _/_, _%_}
 use native.Mathlib.Omega.{arith}
 use native.Mathlib.Nat.{mul-add-div-right, mul-add-mod-self-right}
-use mathlib.Core.Path.{_≡_, _∙_}
+use mathlib.Core.Path.{_≡_, sym, ap, _∙_}
 use mathlib.Core.Bool.{Bool, true, false}
 use Rattle.tables.specs.Codes.{sign, codeAt}
 
@@ -10,6 +10,10 @@ use Rattle.tables.specs.Codes.{sign, codeAt}
 pub half-code : (p : ℕ) (b : Bool) → codeAt p b / 2 ≡ p
 half-code p true = mul-add-div-right {m = 2} (omega arith) p 1 ∙ (let e : p + 0 ≡ p = omega arith in e)
 half-code p false = mul-add-div-right {m = 2} (omega arith) p 0 ∙ (let e : p + 0 ≡ p = omega arith in e)
+
+-- a code has one place
+pub code-place : (p q : ℕ) (a b : Bool) → codeAt p a ≡ codeAt q b → p ≡ q
+code-place p q a b e = sym (half-code p a) ∙ ap (λ (c : ℕ). c / 2) e ∙ half-code q b
 
 -- a code is odd where its literal is positive
 pub odd-code : (p : ℕ) (b : Bool) → codeAt p b % 2 ≡ sign b

@@ -4,27 +4,29 @@ use native.Mathlib.Omega.{arith}
 use native.Mathlib.Numerals.{add-one}
 use native.Mathlib.Nat.{le-trans, suc-mul, mul-le-mul-right}
 use mathlib.Core.Path.{_≡_, refl, sym, ap, _∙_}
-use mathlib.Core.Logic.{_⊎_, inl, inr}
+use mathlib.Core.Logic.{inl, inr}
 use mathlib.Core.Bool.{Bool, true, false, cond}
-use mathlib.Core.List.{List, [], _∷_, _++_, map}
+use mathlib.Core.List.{List, [], _∷_, map}
 use mathlib.Core.Option.{Option, none, some}
-use lib.ListN.{length, getD, take, drop, set, length-append, length-map, List·getD-append, List·getD-map}
-use lib.Seq.{getD-append-seam, take-all}
+use lib.ListN.{length, getD, take, drop, set, length-map, List·getD-map}
+use lib.Seq.{take-all}
 use lib.Dec.{eqb}
 use borrow.Author.Tests.{eq-eqb, ne-eqb}
 use Rattle.qbf.specs.Formula.{paper, Clause, Literal, Node, Prefix, all, has, place, positive, quantifiers, satisfied}
 use Rattle.qbf.specs.Learning.{first}
 use Rattle.qbf.specs.Card.{Mem}
 use Rattle.qbf.specs.Calls.{prefixOk, clausesOk, numbersOk, freeFirst}
-use Rattle.theory.proofs.Basics.{and-left, all-false, le-or-lt}
+use Rattle.theory.proofs.Basics.{and-left, all-false}
 use Rattle.theory.proofs.Sets.{Found, found}
 use Rattle.theory.proofs.WellFormed.{inside}
 use Rattle.theory.proofs.Widths.{prefix-width}
-use Rattle.tables.specs.Codes.{codeAt, codeOf, codes, Statuses}
+use Rattle.tables.specs.Codes.{codeOf, codes, Statuses}
 use Rattle.tables.specs.Views.{Table, row, rows, rowsOf}
 use Rattle.tables.specs.Marks.{Marked}
+use Rattle.tables.proofs.Laws.{rows-length, rows-at}
 use Rattle.coding.specs.FirstTrue.{firstOf}
 use Rattle.coding.proofs.Given.{has-status}
+use Rattle.coding.proofs.Half.{half-code}
 use Rattle.inner.proofs.Marking.{true-value, marked-more}
 
 -- ---- the rows of a table, as the code reads them
@@ -45,42 +47,17 @@ module _ {A : Type 0} {w n : ℕ} {flat : List A} {sizes : List ℕ} (t : Table 
   row-is = let z : k * w + getD sizes (suc k) 0 - k * w ≡ getD sizes (suc k) 0 = omega arith in rw (add-one, z)
 
 -- ---- the rows are the codes of the clauses
-module _ (w : ℕ) (flat sizes : List ℕ) where
-  rows-long : (n : ℕ) → length (rows w flat sizes n) ≡ n
-  unfolding rows
-  rows-long zero = refl
-  rows-long (suc n) = omega (arith, length-append (rows w flat sizes n) (row w flat sizes n ∷ []), rows-long n)
+module _ (w : ℕ) (flat sizes : List ℕ) (D : Prefix) (R : List Clause) (same : rowsOf w flat sizes ≡ map (codes D) R) where
+  -- as many rows as clauses
+  pub clause-count : length R ≡ getD sizes 0 0
+  clause-count = sym (length-map R (codes D)) ∙ sym (ap length same) ∙ rows-length w flat sizes (getD sizes 0 0)
 
-  row-among : (n k : ℕ) → k < n → getD (rows w flat sizes n) k [] ≡ row w flat sizes k
-  unfolding rows
-  row-among zero k h = absurd (omega arith)
-  row-among (suc n) k h = by (le-or-lt n k) (row-among n k)
-    where
-      by : (n ≤ k) ⊎ (k < n) → (k < n → getD (rows w flat sizes n) k [] ≡ row w flat sizes k)
-          → getD (rows w flat sizes n ++ (row w flat sizes n ∷ [])) k [] ≡ row w flat sizes k
-      by (inl a) ih =
-          let e : k ≡ n = omega arith in
-          ap (λ (i : ℕ). getD (rows w flat sizes n ++ (row w flat sizes n ∷ [])) i []) (e ∙ sym (rows-long n))
-          ∙ getD-append-seam (rows w flat sizes n) (row w flat sizes n) [] []
-          ∙ ap (row w flat sizes) (sym e)
-      by (inr a) ih = List·getD-append (rows w flat sizes n) (row w flat sizes n ∷ []) [] k (omega (arith, rows-long n)) ∙ ih a
-
-  module _ (D : Prefix) (R : List Clause) (same : rowsOf w flat sizes ≡ map (codes D) R) where
-    -- as many rows as clauses
-    clause-count : length R ≡ getD sizes 0 0
-    clause-count = sym (length-map R (codes D)) ∙ sym (ap length same) ∙ rows-long (getD sizes 0 0)
-
-    -- row k has the codes of clause k
-    clause-row : (k : ℕ) → k < getD sizes 0 0 → row w flat sizes k ≡ codes D (getD R k [])
-    clause-row k h =
-        sym (row-among (getD sizes 0 0) k h) ∙ ap (λ (rs : List (List ℕ)). getD rs k []) same ∙ List·getD-map (codes D) R k []
+  -- row k has the codes of clause k
+  clause-row : (k : ℕ) → k < getD sizes 0 0 → row w flat sizes k ≡ codes D (getD R k [])
+  clause-row k h =
+      sym (rows-at w flat sizes (getD sizes 0 0) k h) ∙ ap (λ (rs : List (List ℕ)). getD rs k []) same ∙ List·getD-map (codes D) R k []
 
 -- ---- the first true literal by its code
--- half of a code is its place
-half-code : (p : ℕ) (b : Bool) → codeAt p b / 2 ≡ p
-half-code p true = omega arith
-half-code p false = omega arith
-
 -- 0 where there is none
 abbrev codeFound : Prefix → Option Literal → ℕ
 codeFound D none = 0

@@ -1,17 +1,15 @@
 -- The steps one after the other, as `leaf` of qbf has them, with the constraint as codes.
-use Prim.Native.Nat.{ℕ, zero, suc, _≤_}
-use native.Mathlib.Omega.{arith}
+use Prim.Native.Nat.{ℕ, _≤_}
 use mathlib.Core.Path.{_≡_, refl, sym, ap, _∙_, subst}
 use mathlib.Core.Bool.{Bool, true, false, cond}
-use mathlib.Core.List.{List, [], _∷_, map}
+use mathlib.Core.List.{List, [], map}
 use mathlib.Core.Option.{Option, none, some}
 use borrow.Author.Tests.{eq-eqb, ne-eqb}
 use lib.Dec.{eqb}
-use lib.ListN.{length, getD, take, length-append, length-map}
+use lib.ListN.{length, take}
 use Rattle.qbf.specs.Formula.{paper, Prefix, Clause, Node, all, satisfied}
 use Rattle.qbf.specs.Truth.{Verdict, Outcome}
 use Rattle.qbf.specs.Learning.{Constraint, Store, concludeBy, reduce, firstDead, reducedFound, eligibleMatch, implicant, leaf}
-use Rattle.tables.specs.Views.{row, rows, rowsOf}
 use Rattle.tables.specs.Codes.{codes}
 use Rattle.tables.specs.Marks.{Marked, Fresh}
 use Rattle.leaf.specs.Conflict.{firstOf}
@@ -22,15 +20,6 @@ use Rattle.leaf.specs.declared.Leaf.the-variants.{No, Yes, Open}
 use Rattle.inner.specs.Inner.{FoundCoded, foundLength, LeafCoded}
 use Rattle.inner.specs.declared.found.Found.{Found}
 use Rattle.inner.specs.declared.found.Found.the-variants.{At, Nothing}
-
--- ---- as many rows as the table's count are as many clauses
-rows-count : (w : ℕ) (flat sizes : List ℕ) (n : ℕ) → length (rows w flat sizes n) ≡ n
-unfolding rows
-rows-count w flat sizes zero = refl
-rows-count w flat sizes (suc n) = omega (arith, length-append (rows w flat sizes n) (row w flat sizes n ∷ []), rows-count w flat sizes n)
-
-pub clauses-counted : (D : Prefix) (R : List Clause) (w : ℕ) (flat sizes : List ℕ) → rowsOf w flat sizes ≡ map (codes D) R → length R ≡ getD sizes 0 0
-clauses-counted D R w flat sizes e = sym (length-map R (codes D)) ∙ sym (ap length e) ∙ rows-count w flat sizes (getD sizes 0 0)
 
 -- ---- steps 1 and 2
 module _ {D : Prefix} {R : List Clause} {s : Node} (fresh : Fresh D s R) (next : Option Constraint) where

@@ -16,6 +16,7 @@ use Rattle.theory.proofs.Basics.{dichotomy, and-left, and-right, eqb-true, fals
 use Rattle.tables.specs.Codes.{sign, codeAt, codeOf, codes, lastFrom, wanted, allAre, Statuses}
 use Rattle.tables.specs.Shelves.{endsIn, firstMatch}
 use Rattle.coding.proofs.Given.{all-status}
+use Rattle.coding.proofs.Half.{code-place}
 
 -- the codes of a constraint that was found
 abbrev pub coded : Prefix → Option Constraint → Option (List ℕ)
@@ -54,14 +55,6 @@ found-same D e false true o q p = absurd (false≢true q)
 found-same D e false false o q p = p
 
 -- ---- codes and places
-sign-small : (b : Bool) → sign b ≤ 1
-sign-small true = omega arith
-sign-small false = omega arith
-
--- a code has one place
-code-place : (p q : ℕ) (a b : Bool) → codeAt p a ≡ codeAt q b → p ≡ q
-code-place p q a b e = omega (arith, e, sign-small a, sign-small b)
-
 -- the sign of a literal whose value is b and whose truth value is v
 sign-is : (b v x : Bool) → Bool·beq b (Bool·beq v x) ≡ true → x ≡ Bool·beq b v
 sign-is true true true e = refl

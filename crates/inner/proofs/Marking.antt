@@ -15,17 +15,9 @@ use Rattle.qbf.specs.Learning.{Constraint, first, implicant, insert, insertFoun
 use Rattle.theory.proofs.Basics.{and-both, has-le, le-or-lt, →any}
 use Rattle.theory.proofs.Sets.{Found, found}
 use Rattle.theory.proofs.Resumed.{implicant-append}
-use Rattle.tables.specs.Codes.{sign, codeAt, codeOf, codes}
+use Rattle.tables.specs.Codes.{codeAt, codeOf, codes}
+use Rattle.coding.proofs.Half.{code-place}
 use Rattle.tables.specs.Marks.{markedFrom, Marked}
-
--- ---- codes and places
-sign-low : (b : Bool) → sign b ≤ 1
-sign-low true = omega arith
-sign-low false = omega arith
-
--- one code is of one place
-code-place : (p q : ℕ) (a b : Bool) → codeAt p a ≡ codeAt q b → p ≡ q
-code-place p q a b e = omega (arith, sign-low a, sign-low b)
 
 -- ---- insertion by the place of the first literal
 module _ (D : Prefix) (l k : Literal) (E : Constraint) where

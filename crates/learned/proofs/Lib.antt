@@ -1,4 +1,3 @@
-pub mod Pasting
 pub mod Rows
 pub mod Search
 pub mod Matches

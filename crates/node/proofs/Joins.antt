@@ -11,7 +11,7 @@ use Rattle.qbf.specs.Formula.{paper, Prefix}
 use Rattle.qbf.specs.Learning.{Polarity, Constraint, push, mentions, resolvent, lastPlace}
 use Rattle.qbf.specs.Calls.{inOrder}
 use Rattle.tables.specs.Codes.{codeOf, codes}
-use Rattle.theory.proofs.Uniting.{mentions-last}
+use Rattle.theory.proofs.Sets.{mentions-last}
 use Rattle.theory.proofs.WellFormed.{rising→}
 use Rattle.node.specs.Step.{JoinedSides}
 use Rattle.node.proofs.Coded.{map-push}
@@ -20,7 +20,7 @@ use Rattle.node.proofs.Coded.{map-push}
 module _ (D : Prefix) (at : ℕ) (v : Polarity) (e f : Constraint) (ordered : inOrder D 0 f ≡ true) (ends : lastPlace D f ≤ suc at) {b : Bool} (named : b ≡ eqb (lastPlace D f) (suc at)) where
   -- that is whether it names that place
   is-named : mentions D (suc at) f ≡ b
-  is-named = mentions-last D (suc at) f (rising→ D 0 f ordered) (omega arith) ends ∙ sym named
+  is-named = mentions-last D (suc at) f (rising→ D 0 f ordered) ends (omega arith) ∙ sym named
 
   -- it does not: it goes up, and nothing is stored
   pub joined-lacking : b ≡ false → (es : List Constraint) {cs : List ℕ} {rows : List (List ℕ)} → cs ≡ codes D f → rows ≡ map (codes D) es → JoinedSides D (suc at) v e f es cs rows

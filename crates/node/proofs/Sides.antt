@@ -10,7 +10,7 @@ use Rattle.qbf.specs.Plain.{decides}
 use Rattle.qbf.specs.Learning.{Constraint, lastPlace}
 use Rattle.tables.specs.Views.{quantifierCode}
 use Rattle.tables.specs.Codes.{codes}
-use Rattle.theory.proofs.Uniting.{mentions-last}
+use Rattle.theory.proofs.Sets.{mentions-last}
 use Rattle.theory.proofs.WellFormed.{rising→}
 use Rattle.node.specs.declared.Verdict.{Verdict}
 use Rattle.node.specs.declared.Verdict.the-variants.{Yes, No, Mixed}
@@ -53,8 +53,8 @@ module _ (D : Prefix) (κ : Quantifier) (p : ℕ) (cs : List ℕ) (o : Outcome C
   pub up-lacking : (v : Verdict) → isMixed v ≡ false → alone v κ ≡ false → {m : Bool} → ((e : Constraint) → cs ≡ codes D e → m ≡ eqb (lastPlace D e) p) → 1 ≤ p → Reads D v cs o → Ended D p o → not m ≡ goesUpOf D κ p o
   up-lacking Yes d h n z (e, r, k) w =
       let x = rw r at w in
-      rw (r, h) (ap not (n e k ∙ sym (mentions-last D p e (rising→ D 0 e (x .0)) z (x .1))))
+      rw (r, h) (ap not (n e k ∙ sym (mentions-last D p e (rising→ D 0 e (x .0)) (x .1) z)))
   up-lacking No d h n z (e, r, k) w =
       let x = rw r at w in
-      rw (r, h) (ap not (n e k ∙ sym (mentions-last D p e (rising→ D 0 e (x .0)) z (x .1))))
+      rw (r, h) (ap not (n e k ∙ sym (mentions-last D p e (rising→ D 0 e (x .0)) (x .1) z)))
   up-lacking Mixed d h n z r w = absurd (true≢false d)

@@ -3,36 +3,14 @@ use Prim.Native.Nat.{ℕ, zero, suc, _+_, _-_, _*_, _≤_, _<_}
 use native.Mathlib.Omega.{arith}
 use native.Mathlib.Numerals.{add-one}
 use native.Mathlib.Nat.{zero-add, suc-add}
-use mathlib.Core.Path.{_≡_, refl, sym, ap, _∙_}
+use mathlib.Core.Path.{_≡_, sym, ap, _∙_}
 use mathlib.Core.Logic.{_⊎_, inl, inr, ⊎-elim}
 use mathlib.Core.List.{List, [], _∷_, _++_, append-assoc}
 use lib.ListN.{length, getD, take, drop, set, length-set}
-use lib.Seq.{paste, paste-zero, paste-suc, length-paste, drop-paste, length-take-le, take-all, take-at, drop-at, take-take, take-nil, drop-drop, drop-set-lt, take-set-le, getD-take, getD-drop, getD-set-same}
+use lib.Seq.{paste, length-paste, drop-paste, length-take-le, take-all, take-at, drop-at, take-take, take-nil, drop-drop, drop-set-lt, take-set-le, getD-take, getD-drop, getD-set-same}
 use Rattle.theory.proofs.Basics.{le-or-lt}
 use Rattle.tables.specs.Shelves.{lengthAt, rowAt}
 use Rattle.shelf.proofs.Slots.{slot-end}
-
--- ---- the loop that copies: d is d₀ with the first i elements of l from at on
-pub record Pasting (d₀ : List ℕ) (at : ℕ) (l : List ℕ) (i : ℕ) (d : List ℕ) : Type 0 where
-  pub size : length d ≡ length d₀
-  pub is : d ≡ paste d₀ at l i
-
--- at the start, one turn more, and at the end
-pub paste-none : (d₀ : List ℕ) (at : ℕ) (l : List ℕ) → Pasting d₀ at l 0 d₀
-paste-none d₀ at l = record { size = refl; is = paste-zero d₀ at l }
-
-pub paste-more : {d₀ : List ℕ} {at : ℕ} {l : List ℕ} {i : ℕ} {d : List ℕ} → Pasting d₀ at l i d
-    → at + i < length d₀ → i < length l → Pasting d₀ at l (i + 1) (set d (at + i) (getD l i 0))
-paste-more {d₀} {at} {l} {i} {d} inv h k = record {
-  size = length-set d (at + i) (getD l i 0) ∙ inv .size;
-  is =
-      ap (λ (x : List ℕ). set x (at + i) (getD l i 0)) (inv .is)
-      ∙ paste-suc d₀ at l i 0 h k
-      ∙ ap (λ (m : ℕ). paste d₀ at l m) (sym (add-one i));
-}
-
-pub paste-end : {d₀ : List ℕ} {at : ℕ} {l : List ℕ} {i : ℕ} {d : List ℕ} → Pasting d₀ at l i d → i ≡ length l → d ≡ paste d₀ at l (length l)
-paste-end {d₀} {at} {l} inv e = inv .is ∙ ap (λ (m : ℕ). paste d₀ at l m) e
 
 -- ---- parts of a list in which elements were written
 -- a part of a list is the end of a front

@@ -6,7 +6,8 @@ use denote.Ref.{now}
 use lib.Dec.{eqb}
 use Rattle.qbf.specs.Formula.{paper}
 use Rattle.qbf.specs.Learning.{leaf}
-use Rattle.inner.proofs.Conclusions.{clauses-counted, found-short, leaf-short, leaf-coded, marked-same, conflict-no, conflict-none}
+use Rattle.inner.proofs.Advancing.{clause-count}
+use Rattle.inner.proofs.Conclusions.{found-short, leaf-short, leaf-coded, marked-same, conflict-no, conflict-none}
 
 conflict-requires : tie.Need-conflict-requires
 conflict-requires c κs = search needs
@@ -48,7 +49,7 @@ returns-2 c =
       c .solution .ensures .0,
       λ D R s st quantified shown long inner matrix store formed fresh marked.
           let reached = c .before .before .advance .ensures D R s (matrix .rows) shown (formed .prefix-ok) (formed .clauses-ok) marked in
-          let counted = clauses-counted D R (paper .literals) (now (a .table)) (now (a .sizes)) (matrix .rows) in
+          let counted = clause-count (paper .literals) (now (a .table)) (now (a .sizes)) D R (matrix .rows) in
           let answer = c .solution .ensures .1 D R s (st .cubes) quantified shown long inner counted (store .cubes) (reached .0) (reached .1) in
           record {
             read =

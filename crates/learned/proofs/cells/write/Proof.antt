@@ -8,7 +8,7 @@ use borrow.Author.Needs.{sfits-of}
 use lib.IntN.{pos}
 use lib.ListN.{length}
 use Rattle.literal.proofs.Signed.{back}
-use Rattle.learned.proofs.Pasting.{Pasting, paste-none, paste-more, paste-end}
+use Rattle.tables.proofs.Pasting.{Pasting, paste-none, paste-more, paste-end}
 
 abbrev Inv-loop : tie.InvT-loop
 Inv-loop cells₀ at lits i₀ cells i = (i ≤ length lits) × (at + length lits ≤ length cells₀) × Pasting cells₀ at lits i cells

@@ -4,8 +4,9 @@ use Rattle.shelf.proofs.store.write_codes.Tie as tie
 use borrow.Author.Needs.{needs}
 use Prim.Native.Nat.{_+_, _-_, _≤_}
 use native.Mathlib.Omega.{arith}
+use mathlib.Core.Path.{refl}
 use lib.ListN.{length}
-use Rattle.shelf.proofs.Writing.{Pasting, paste-none, paste-more, paste-end}
+use Rattle.tables.proofs.Pasting.{Pasting, paste-none, paste-more, paste-end}
 
 abbrev Inv-loop : tie.InvT-loop
 Inv-loop cells₀ at row i₀ cells i = (i ≤ length row) × (at + length row ≤ length cells₀) × Pasting cells₀ at row i cells
@@ -32,7 +33,7 @@ loop-less : tie.Need-loop-less Inv-loop μ-loop
 loop-less c = omega arith
 
 loop-again : tie.Need-loop-again Inv-loop μ-loop
-loop-again c = (omega arith, c .before .before .before .pre, paste-more (c .before .before .loop .inv .2) (omega (arith, c .before .before .before .pre)) (omega arith))
+loop-again c = (omega arith, c .before .before .before .pre, paste-more (c .before .before .loop .inv .2) 0 (omega (arith, c .before .before .before .pre)) (omega arith) refl)
 
 same-length : tie.Need-same-length Inv-loop μ-loop
 same-length c = c .before .loop .inv .2 .size
