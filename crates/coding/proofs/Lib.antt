@@ -6,3 +6,4 @@ pub mod Placewise
 pub mod Half
 pub mod Merging
 pub mod Decoded
+pub mod Copied

@@ -1,4 +1,4 @@
-// Lists of codes: the last one, the first true one, and reduction.
+// Lists of codes: the last one, the first true one, reduction, and a copy.
 ghost use mathlib.Core.Path.{_≡_};
 ghost use Prim.Native.Nat.{_≤_};
 ghost use lib.ListN.{length, take};
@@ -70,4 +70,19 @@ pub fn reduced_first<'a>(
         left -= 1;
     }
     left
+}
+
+// The codes become the first cells.
+pub fn write<'a>(cells: &mut [u8], row: &'a [u8])
+    requires { ⌜ length (now row) ≤ length (now cells) ⌝ }
+    ensures { λ _. ⌜
+        (length (now (cells .exit)) ≡ length (now (cells .entry)))
+        × (take (length (now (row .entry))) (now (cells .exit)) ≡ now (row .entry))
+        ⌝ }
+{
+    let mut i: usize = 0;
+    while i < row.len() {
+        cells[i] = row[i];
+        i += 1;
+    }
 }

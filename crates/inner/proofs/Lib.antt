@@ -3,6 +3,5 @@ pub mod Below
 pub mod Advancing
 pub mod Gathering
 pub mod LastLiteral
-pub mod Cells
 pub mod Lookups
 pub mod Conclusions

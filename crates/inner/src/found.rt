@@ -1,5 +1,6 @@
 // Steps 1, 2 and 4: the oldest constraint on a shelf that ends in the literal of the node's last place which has the truth value asked for,
 // and all of whose literals have it. It is copied to the area in which a constraint goes up.
+use coding::list::write;
 use shelf::find::find;
 use shelf::find::row_in;
 ghost use mathlib.Core.Path.{_≡_};
@@ -43,18 +44,6 @@ fn wanted(cube: bool) -> u8
     ensures { λ r. ⌜ r ≡ wanted cube ⌝ }
 {
     if cube { tables::ON } else { tables::OFF }
-}
-
-// The row becomes the first cells.
-fn write(cells: &mut [u8], row: &[u8])
-    requires { ⌜ length (now row) ≤ length (now cells) ⌝ }
-    ensures { λ _. ⌜ take (length (now (row .entry))) (now (cells .exit)) ≡ now (row .entry) ⌝ }
-{
-    let mut i: usize = 0;
-    while i < row.len() {
-        cells[i] = row[i];
-        i += 1;
-    }
 }
 
 // The row becomes the first cells of the area.

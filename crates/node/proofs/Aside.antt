@@ -1,21 +1,9 @@
 -- A constraint put aside: codes copied into the first cells of another area.
-use Prim.Native.Nat.{ℕ, _+_, _≤_, _<_}
-use native.Mathlib.Omega.{arith}
-use native.Mathlib.Numerals.{add-one}
+use Prim.Native.Nat.{ℕ, _≤_}
 use mathlib.Core.Path.{_≡_, sym, ap, _∙_}
-use mathlib.Core.List.{List, [], _∷_, _++_}
-use lib.ListN.{length, getD, take, set}
-use lib.Seq.{length-take-le, take-all, take-suc, take-suc-set}
-
--- one code more is copied
-pub copied-more : (cells row : List ℕ) (i : ℕ) → i < length row → i < length cells → take i cells ≡ take i row → take (i + 1) (set cells i (getD row i 0)) ≡ take (i + 1) row
-copied-more cells row i h k e = rw add-one (take-suc-set cells i (getD row i 0) k ∙ ap (λ (l : List ℕ). l ++ (getD row i 0 ∷ [])) e ∙ sym (take-suc row i 0 h))
-
--- all are
-pub copied-all : (cells row : List ℕ) (i : ℕ) → i ≤ length row → length row ≤ i → take i cells ≡ take i row → take (length row) cells ≡ row
-copied-all cells row i h k e =
-    let z : i ≡ length row = omega arith in
-    ap (λ (n : ℕ). take n cells) (sym z) ∙ e ∙ take-all i row k
+use mathlib.Core.List.{List}
+use lib.ListN.{length, take}
+use lib.Seq.{length-take-le}
 
 -- a part copied is the first cells of the other area
 pub part-copied : (cells up : List ℕ) (n : ℕ) → n ≤ length up → take (length (take n up)) cells ≡ take n up → take n cells ≡ take n up

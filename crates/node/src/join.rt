@@ -1,8 +1,8 @@
 // "Joining unites the two without v, reduces, stores the result and sends it up."
 use super::Answer;
 use super::side::ends_next;
-use super::write;
 use coding::list::reduced_first;
+use coding::list::write;
 use coding::union::unite;
 ghost use mathlib.Core.Path.{_≡_};
 ghost use mathlib.Core.Bool.{true};

@@ -1,4 +1,5 @@
 // Step 5 of a visit: what a node's two sides give, without the sides themselves; and the lines of a card that they add or take back.
+use coding::list::write;
 ghost use mathlib.Core.Path.{_≡_};
 ghost use mathlib.Core.Bool.{Bool, true, false, cond};
 ghost use mathlib.Core.List.{List, [], _∷_, _++_};
@@ -93,21 +94,6 @@ pub fn goes_up<'a>(v: Verdict, kind: u16, up: &'a [u8; tables::AREA], n: usize, 
         return true;
     }
     !side::ends_next(up, n, at)
-}
-
-// The codes become the first cells.
-fn write<'a>(cells: &mut [u8], row: &'a [u8])
-    requires { ⌜ length (now row) ≤ length (now cells) ⌝ }
-    ensures { λ _. ⌜
-        (length (now (cells .exit)) ≡ length (now (cells .entry)))
-        × (take (length (now (row .entry))) (now (cells .exit)) ≡ now (row .entry))
-        ⌝ }
-{
-    let mut i: usize = 0;
-    while i < row.len() {
-        cells[i] = row[i];
-        i += 1;
-    }
 }
 
 // Puts the off side's constraint aside, so that it survives what is stored while the on side is visited.

@@ -1,13 +1,13 @@
--- `node::write` meets its contract: after i turns the first i codes are copied.
+-- `coding::list::write` meets its contract: after i turns the first i codes are copied.
 use borrow.Author.Needs.{needs}
-use Rattle.node.proofs.write.Statement.{statement}
-use Rattle.node.proofs.write.Tie as tie
+use Rattle.coding.proofs.list.write.Statement.{statement}
+use Rattle.coding.proofs.list.write.Tie as tie
 use Prim.Native.Nat.{_-_, _≤_}
 use mathlib.Core.Path.{_≡_, refl, _∙_}
 use native.Mathlib.Omega.{arith}
 use denote.Ref.{now}
 use lib.ListN.{length, getD, take, length-set}
-use Rattle.node.proofs.Aside.{copied-more, copied-all}
+use Rattle.coding.proofs.Copied.{copied-more, copied-all}
 
 abbrev Inv-loop : tie.InvT-loop
 Inv-loop cells₀ row i₀ cells i = (i ≤ length row) × (length row ≤ length cells₀) × (length cells ≡ length cells₀) × (take i cells ≡ take i row)
