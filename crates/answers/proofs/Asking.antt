@@ -1,4 +1,4 @@
--- The answers of query and card, from what the search on the state found.
+-- The answers of query and card, from what the search on the state found and the next state that it left.
 use Prim.Native.Nat.{ℕ, _*_}
 use native.Mathlib.Omega.{arith}
 use mathlib.Core.Path.{_≡_, refl, sym, ap, _∙_, subst}
@@ -14,24 +14,27 @@ use Rattle.qbf.specs.Card.{tableOf, zeroTable}
 use Rattle.qbf.specs.Calls.{Call, query, card, lines, cardRefused, Answer, answer, queryFault, startNode, queryReply, learningQuery, guarded}
 use Rattle.qbf.specs.Demands.{refusalOf}
 use Rattle.theory.proofs.Starting.{free-rest, start-length}
+use Rattle.tables.specs.Views.{Places, Kinds}
 use Rattle.cover.specs.Cover.{Covers}
 use Rattle.cover.proofs.Laws.{covers-none, covers-open, covers-fits}
 use Rattle.node.specs.Node.{newLines}
+use Rattle.node.specs.declared.Answer.{Answer as Found}
 use Rattle.node.specs.declared.Verdict.{Verdict}
 use Rattle.node.specs.declared.Verdict.the-variants.{Yes, No, Mixed}
 use Rattle.state.specs.declared.State.{State}
 use Rattle.state.specs.Reading.{valid, prefixIn, formulaIn, storeIn, stateIn}
+use Rattle.reading.specs.Reading.{QueryRead}
 use Rattle.serving.specs.Serves.{Said, said, saidReply, saidOf, Serves}
 use Rattle.serving.proofs.Calls.{Passes, malformed, moved-on, unchanged}
 use Rattle.answers.specs.Answers.{rulingSaid, cardSaid, rulingFor, total}
 use Rattle.answers.specs.declared.Printed.the-variants as shown
 use Rattle.answers.specs.declared.Ruling.{Ruling}
-use Rattle.answers.specs.Run.{Ends, FoundBy}
-use Rattle.answers.specs.declared.run.Found.{Found}
+use Rattle.answers.specs.Run.{Ends, FoundBy, Ran}
+use Rattle.answers.proofs.Running.{formed}
 
--- a call served with an answer and a state that are equal to those
-pub served-as : (x : State) (c : Call) {a q : Said} {y z : State} → a ≡ q → y ≡ z → Serves x c q z → Serves x c a y
-served-as x c {a} {q} {y} {z} p e s = subst (λ (u : Said). Serves x c u y) (sym p) (subst (λ (u : State). Serves x c q u) (sym e) s)
+-- a call served with an answer that is equal to that
+pub served-as : (x : State) (c : Call) {a q : Said} {y : State} → a ≡ q → Serves x c q y → Serves x c a y
+served-as x c {a} {q} {y} p s = subst (λ (u : Said). Serves x c u y) (sym p) s
 
 -- ---- query
 -- swap or keep, by the verdict
@@ -60,10 +63,10 @@ module _ (x : State) (v : valid x ≡ true) where
   abbrev searchFrom : ℕ → Node → LearningResult
   searchFrom at s = learningSearch paper (prefixIn x) (b .clauses) (drop at (quantifiers (prefixIn x))) s (storeIn x)
 
-  pub asked : (ls : List Literal) (free : ℕ) (r : Found) (table : List ℕ) → free ≡ freeVariables (prefixIn x) → queryFault b [] ls ≡ none
-      → FoundBy x (searchFrom free (startNode ls (prefixIn x))) free r table → Serves x (query ls) (rulingSaid (rulingFor (r .verdict)) (r .visits)) (r .state)
-  asked ls free r table frees fine f =
-      subst (λ (a : Said). Serves x (query ls) a (r .state)) whole (moved-on x (query ls) v (r .state) (f .state ∙ ap some state-is) passes)
+  asked : (ls : List Literal) (free : ℕ) (r : Found) (y : State) (table : List ℕ) → free ≡ freeVariables (prefixIn x) → queryFault b [] ls ≡ none
+      → FoundBy x (searchFrom free (startNode ls (prefixIn x))) free r y table → Serves x (query ls) (rulingSaid (rulingFor (r .verdict)) (r .visits)) y
+  asked ls free r y table frees fine f =
+      subst (λ (a : Said). Serves x (query ls) a y) whole (moved-on x (query ls) v y (f .state ∙ ap some state-is) passes)
     where
       w : LearningResult
       w = learningSearch paper (prefixIn x) (b .clauses) (bound (quantifiers (prefixIn x))) (startNode ls (prefixIn x)) (storeIn x)
@@ -89,19 +92,25 @@ module _ (x : State) (v : valid x ≡ true) where
           ∙ sym (ruling-is (r .verdict) (searchFrom free (startNode ls (prefixIn x)) .outcome) (searchFrom free (startNode ls (prefixIn x)) .visits) (f .verdict))
           ∙ ap (rulingSaid (rulingFor (r .verdict))) (sym (f .visits))
 
-  -- the same from what the code has at hand: the ruling, and the search where the start node is long enough and no line stands
-  pub asked-by : (ls : List Literal) (free : ℕ) (r : Found) (table : List ℕ) → free ≡ freeVariables (prefixIn x) → queryFault b [] ls ≡ none → (q : Ruling) → q ≡ rulingFor (r .verdict)
-      → (length (startNode ls (prefixIn x)) ≡ free → Covers free (0 ∷ []) [] → FoundBy x (searchFrom free (startNode ls (prefixIn x))) free r table)
-      → Serves x (query ls) (rulingSaid q (r .visits)) (r .state)
-  asked-by ls free r table frees fine q is f =
-      subst (λ (z : Ruling). Serves x (query ls) (rulingSaid z (r .visits)) (r .state)) (sym is)
-      (asked ls free r table frees fine (f (start-length ls (prefixIn x) ∙ sym frees) (covers-none free 1 (0 ∷ []) refl)))
+  -- from what the code has at hand: its reading of the arguments, the search from the start node, and the ruling
+  module _ {ls : List Literal} {free : ℕ} {ok : Bool} {values : List ℕ} (frees : free ≡ freeVariables (prefixIn x)) (read : QueryRead (prefixIn x) free ls ok values) where
+    pub asked-by : {places kinds : List ℕ} {at : ℕ} (r : Found) (y : State) (table : List ℕ) → Places (prefixIn x) places → Kinds (prefixIn x) kinds → ok ≡ true
+        → Ran x places kinds values at free (0 ∷ []) r y table → at ≡ free → {q : Ruling} → q ≡ rulingFor (r .verdict) → Serves x (query ls) (rulingSaid q (r .visits)) y
+    asked-by {places} {kinds} {at} r y table ps ks fine ran here {q} is =
+        let good = formed x v .prefix-ok in
+        subst (λ (z : Ruling). Serves x (query ls) (rulingSaid z (r .visits)) y) (sym is)
+        (asked ls free r y table frees (read .fine b refl good frees fine)
+        (subst (λ (i : ℕ). FoundBy x (searchFrom i (startNode ls (prefixIn x))) free r y table) here
+        (ran .found (startNode ls (prefixIn x)) ps ks (read .shown good frees fine) (start-length ls (prefixIn x) ∙ sym frees ∙ sym here) frees (covers-none free 1 (0 ∷ []) refl))))
 
-  -- refused with 8: the state is as given
-  pub refused-query : (ls : List Literal) → queryFault b [] ls ≡ some 8 → Serves x (query ls) (said 8 0 0 0 []) x
-  refused-query ls e =
-      subst (λ (a : Said). Serves x (query ls) a x) (ap (λ (o : Option ℕ). saidOf (learningQuery o b (storeIn x) ls .out)) e)
-      (unchanged x (query ls) v (ap (λ (o : Option ℕ). record { formula = b; store = learningQuery o b (storeIn x) ls .store }) e))
+    -- refused with 8: the state is as given
+    pub refused-query : ok ≡ false → Serves x (query ls) (said 8 0 0 0 []) x
+    refused-query bad =
+        subst (λ (a : Said). Serves x (query ls) a x) (ap (λ (o : Option ℕ). saidOf (learningQuery o b (storeIn x) ls .out)) e)
+        (unchanged x (query ls) v (ap (λ (o : Option ℕ). record { formula = b; store = learningQuery o b (storeIn x) ls .store }) e))
+      where
+        e : queryFault b [] ls ≡ some 8
+        e = read .fault b refl (formed x v .prefix-ok) frees bad
 
   -- ---- card
   -- all lines: those below the empty node, and its own where it is Yes
@@ -122,7 +131,7 @@ module _ (x : State) (v : valid x ≡ true) where
     omega (arith, h, ap (λ (z : Outcome Constraint). length (newLines z)) p, ap (λ (z : Outcome Constraint). length (allLines z)) p),
   )
 
-  module _ (size free : ℕ) (r : Found) (table : List ℕ) (frees : free ≡ freeVariables (prefixIn x)) (sized : length table ≡ size) (f : FoundBy x (searchFrom 0 []) free r table) (n : ℕ) (counted : n ≡ total (r .verdict) (r .lines)) where
+  module _ (size free : ℕ) (r : Found) (y : State) (table : List ℕ) (frees : free ≡ freeVariables (prefixIn x)) (sized : length table ≡ size) (f : FoundBy x (searchFrom 0 []) free r y table) (n : ℕ) (counted : n ≡ total (r .verdict) (r .lines)) where
     abbrev w : LearningResult
     w = searchFrom 0 []
 
@@ -140,10 +149,10 @@ module _ (x : State) (v : valid x ≡ true) where
     out-by t e = ap (λ (z : Bool). answer (cond z (lines ls (tableOf (freeVariables (prefixIn x)) size ls)) (cardRefused 21 (zeroTable size))) (w .visits)) (sym test ∙ e)
 
     -- the lines fit
-    pub shown-card : leb (n * free) size ≡ true → Serves x (card size) (cardSaid (shown.Lines n) (r .visits) table) (r .state)
+    pub shown-card : leb (n * free) size ≡ true → Serves x (card size) (cardSaid (shown.Lines n) (r .visits) table) y
     shown-card e =
-        subst (λ (a : Said). Serves x (card size) a (r .state)) whole
-        (moved-on x (card size) v (r .state) (f .state) (subst (λ (a : Answer). Passes (refusalOf (a .reply))) (sym (out-by true e)) tt))
+        subst (λ (a : Said). Serves x (card size) a y) whole
+        (moved-on x (card size) v y (f .state) (subst (λ (a : Answer). Passes (refusalOf (a .reply))) (sym (out-by true e)) tt))
       where
         table-is : table ≡ tableOf (freeVariables (prefixIn x)) size ls
         table-is =
@@ -154,10 +163,10 @@ module _ (x : State) (v : valid x ≡ true) where
         whole = ap saidOf (out-by true e) ∙ sym (λ i. said 0 0 ((counted ∙ both .1) i) (f .visits i) (table-is i))
 
     -- they do not: 21, with the visits and the store of the search
-    pub full-card : (zeros : List ℕ) → zeros ≡ zeroTable size → leb (n * free) size ≡ false → Serves x (card size) (cardSaid (shown.Refused 21) (r .visits) zeros) (r .state)
+    pub full-card : (zeros : List ℕ) → zeros ≡ zeroTable size → leb (n * free) size ≡ false → Serves x (card size) (cardSaid (shown.Refused 21) (r .visits) zeros) y
     full-card zeros z e =
-        subst (λ (a : Said). Serves x (card size) a (r .state)) whole
-        (moved-on x (card size) v (r .state) (f .state) (subst (λ (a : Answer). Passes (refusalOf (a .reply))) (sym (out-by false e)) refl))
+        subst (λ (a : Said). Serves x (card size) a y) whole
+        (moved-on x (card size) v y (f .state) (subst (λ (a : Answer). Passes (refusalOf (a .reply))) (sym (out-by false e)) refl))
       where
         whole : saidOf (guarded true (stateIn x) (card size) .out) ≡ cardSaid (shown.Refused 21) (r .visits) zeros
         whole = ap saidOf (out-by false e) ∙ sym (λ i. said 21 0 0 (f .visits i) (z i))

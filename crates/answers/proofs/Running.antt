@@ -1,4 +1,4 @@
--- The search on a state by value: what it needs of the state, and what its result says of the next one.
+-- The search on the tables of a state: what it needs of the state, and what its result says of the next one.
 use Prim.Native.Nat.{ℕ, zero, suc, _-_, _^_, _≤_, _<_}
 use native.Mathlib.Omega.{arith}
 use native.Mathlib.Nat.{pow-le-pow-right}
@@ -12,7 +12,7 @@ use lib.Dec.{leb}
 use borrow.Author.Tests.{leb-true}
 use Rattle.qbf.specs.Formula.{paper, Prefix, Literal, Clause, Node, quantifiers, place, placeOf, valueAt}
 use Rattle.qbf.specs.Truth.{Outcome, decided, freeVariables}
-use Rattle.qbf.specs.Learning.{Constraint, Store, constraints, leaf, settle, below, firstDead, learningSearch}
+use Rattle.qbf.specs.Learning.{Constraint, Store, LearningResult, constraints, leaf, settle, below, firstDead}
 use Rattle.qbf.specs.Card.{Mem}
 use Rattle.qbf.specs.Calls.{numbersOk}
 use Rattle.theory.proofs.Basics.{and-both, and-left}
@@ -24,46 +24,55 @@ use Rattle.theory.proofs.WellFormed.{state-facts, shaped-store, clauses-rising,
 use Rattle.tables.specs.Views.{Numbers, Places, Kinds, Values, valueCode, rowsOf}
 use Rattle.tables.specs.Formed.{Stores, Formed, storeOf}
 use Rattle.tables.specs.Codes.{codes, Statuses, Quantified}
-use Rattle.tables.specs.Shelves.{MatrixShown, StoreShown, entriesOf, newestOf}
+use Rattle.tables.specs.Shelves.{StoreShown, entriesOf, newestOf}
+use Rattle.tables.specs.Matrices.{MatrixShown}
+use Rattle.coding.proofs.Placewise.{zeros}
 use Rattle.cover.specs.Cover.{Covers}
 use Rattle.node.specs.Node.{Reads}
 use Rattle.node.specs.declared.Verdict.{Verdict}
 use Rattle.node.specs.declared.Verdict.the-variants.{Yes, No, Mixed}
 use Rattle.node.specs.declared.Position.{Position}
 use Rattle.node.specs.declared.Answer.{Answer}
-use Rattle.inner.proofs.Below.{marked-none}
+use Rattle.inner.proofs.Below.{passed-none}
 use Rattle.search.proofs.Visiting.{open-alive}
-use Rattle.search.specs.Search.{Room, Counts, Task, Result, belowOf}
+use Rattle.inner.specs.Inner.{Entered}
+use Rattle.search.specs.Search.{Room, Counts, Task, Result, visitOf}
 use Rattle.state.specs.declared.State.{State}
-use Rattle.state.specs.Reading.{rowsFit, prefixFits, readState, valid, prefixIn, formulaIn, storeIn, stateIn}
-use Rattle.state.proofs.Valid.{ValidFacts, valid-facts, table-rows, valid-numbers}
+use Rattle.state.specs.Reading.{stateOf, rowsFit, prefixFits, readState, valid, prefixIn, formulaIn, storeIn, stateIn}
+use Rattle.state.specs.Derived.{Sized}
+use Rattle.state.proofs.Valid.{ValidFacts, valid-facts, table-rows, valid-tables, valid-numbers}
 use Rattle.leaf.specs.Leaf.{leafRead}
 use Rattle.leaf.specs.declared.Leaf.{Leaf}
 use Rattle.leaf.specs.declared.Leaf.the-variants.{No as NoLeaf, Yes as YesLeaf, Open}
-use Rattle.answers.specs.Run.{Starts, AtStart, Ends, FoundBy, belowStart, BelowBy, Below, Searched, Ran}
-use Rattle.answers.specs.declared.run.Found.{Found}
+use Rattle.answers.specs.Run.{Ready, Starts, AtStart, Ends, FoundBy, belowStart, BelowBy, Below, Over, Searched, Ran}
+
+-- a start node that is decided without branching
+abbrev decidedAt : Verdict → Answer
+decidedAt w = record { verdict = w; len = 0; visits = 1; lines = 0 }
+
+pub decided-few : {w : Verdict} {r : Answer} → r ≡ decidedAt w → r .lines < 2 ^ 63
+decided-few {w} {r} e = omega (arith, ap (λ (a : Answer). a .lines) e)
 
 -- where a search on a state starts
 abbrev pub startAt : ℕ → ℕ → Position
 startAt at free = record { at = at; free = free; visits = 0; lines = 0; satisfied = 0 }
 
-pub room : (numbers cl ql : List ℕ) (at free : ℕ) → getD numbers 0 0 ≤ paper .numbers → at ≤ getD numbers 0 0 → free ≤ paper .numbers → newestOf cl ≤ paper .constraints → newestOf ql ≤ paper .constraints
-    → Room numbers 1600 cl ql (startAt at free)
-room numbers cl ql at free few within small learned cubes =
+pub room : (cl ql : List ℕ) (at free : ℕ) → at ≤ paper .numbers → free ≤ paper .numbers → newestOf cl ≤ paper .constraints → newestOf ql ≤ paper .constraints
+    → Room 1600 cl ql (startAt at free)
+room cl ql at free within small learned cubes =
     record {
-      few = few;
       within = within;
       free = small;
       aside = omega arith;
-      visits = omega (arith, pow-le-pow-right {n = 2} (omega arith) {i = suc (getD numbers 0 0 - at)} {j = 62} (omega arith));
+      visits = omega (arith, pow-le-pow-right {n = 2} (omega arith) {i = suc (40 - at)} {j = 62} (omega arith));
       lines = omega arith;
       clauses = learned;
       cubes = cubes;
     }
 
-pub few-lines : (numbers cl ql : List ℕ) (at free : ℕ) (r : Answer) (cl′ ql′ : List ℕ) → getD numbers 0 0 ≤ paper .numbers → Counts numbers cl ql (startAt at free) r cl′ ql′ → r .lines < 2 ^ 63
-few-lines numbers cl ql at free r cl′ ql′ few c =
-    omega (arith, c .fewer, c .lines-fewer, pow-le-pow-right {n = 2} (omega arith) {i = suc (getD numbers 0 0 - at)} {j = 41} (omega arith))
+pub few-lines : (cl ql : List ℕ) (at free : ℕ) (r : Answer) (cl′ ql′ : List ℕ) → Counts cl ql (startAt at free) r cl′ ql′ → r .lines < 2 ^ 63
+few-lines cl ql at free r cl′ ql′ c =
+    omega (arith, c .fewer, c .lines-fewer, pow-le-pow-right {n = 2} (omega arith) {i = suc (40 - at)} {j = 41} (omega arith))
 
 ends : (D : Prefix) (w : Verdict) (cs : List ℕ) (o : Outcome Constraint) → Reads D w cs o → Ends w o
 ends D Yes cs o h = (h .0, h .1)
@@ -76,21 +85,21 @@ starts (NoLeaf n) up o e = (take n up, sym e)
 starts (YesLeaf n) up o e = (take n up, sym e)
 starts Open up o e = sym e
 
--- the search below an open start node, from what the branch there gives
-pub below-shown : (clauses sizes dying links numbers kinds quantifiers values statuses cs cl qs ql table : List ℕ) (at free : ℕ) (a : Answer) (up cs′ cl′ qs′ ql′ table′ : List ℕ)
+-- the search below an open start node, from what the visit there gives
+pub below-shown : (rows links numbers quantifiers values statuses cs cl qs ql table firsts : List ℕ) (at free : ℕ) (a : Answer) (up cs′ cl′ qs′ ql′ table′ : List ℕ)
     → at ≤ getD numbers 0 0
     → ((D : Prefix) (s : Node) → Numbers D numbers → Values D s values → numbersOk paper [] D ≡ true → length s ≡ at → length s ≤ length D → Statuses s statuses)
     → ((D : Prefix) (s : Node) (ls : List Node) (R : List Clause) (st : Store)
-    → Task D s ls R st clauses sizes dying links numbers kinds quantifiers values statuses cs cl qs ql table (replicate 48 0) at (startAt at free)
-    → firstDead D s R ≡ none → Result D ls (belowOf D R (startAt at free) s st) (startAt at free) a up cs′ cl′ qs′ ql′ table′)
-    → Below clauses sizes dying links numbers kinds quantifiers values cs cl qs ql table at free a cs′ cl′ qs′ ql′ table′
-below-shown clauses sizes dying links numbers kinds quantifiers values statuses cs cl qs ql table at free a up cs′ cl′ qs′ ql′ table′ within coded branch = record { by = shown }
+    → Task D s ls R st rows links quantifiers statuses cs cl qs ql table firsts at (startAt at free)
+    → Entered D s R true → Result D ls (visitOf D R (startAt at free) s st true) (startAt at free) a up cs′ cl′ qs′ ql′ table′)
+    → Below rows links numbers quantifiers values cs cl qs ql table at free a cs′ cl′ qs′ ql′ table′
+below-shown rows links numbers quantifiers values statuses cs cl qs ql table firsts at free a up cs′ cl′ qs′ ql′ table′ within coded visit = record { by = shown }
   where
     shown : (D : Prefix) (R : List Clause) (s : Node) (st : Store)
-        → Numbers D numbers → Kinds D kinds → Values D s values → length values ≡ suc (paper .numbers) → Quantified D quantifiers → MatrixShown D R clauses sizes dying links → StoreShown D st cs cl qs ql
+        → Numbers D numbers → Values D s values → Quantified D quantifiers → MatrixShown D R rows links → StoreShown D st cs cl qs ql
         → Formed D R st → length s ≡ at → free ≡ freeVariables D → Covers free table [] → firstDead D s R ≡ none
         → BelowBy D (belowStart D R at s st) free a cs′ cl′ qs′ ql′ table′
-    shown D R s st ns ks vs wide qs-shown matrix stored form long frees cov alive =
+    shown D R s st ns vs qs-shown matrix stored form long frees cov alive =
         record {
           verdict = ends D (a .verdict) (take (a .len) up) _ (r .verdict);
           visits = omega (arith, r .visited);
@@ -104,14 +113,10 @@ below-shown clauses sizes dying links numbers kinds quantifiers values statuses 
 
         r : Result D [] (belowStart D R at s st) (startAt at free) a up cs′ cl′ qs′ ql′ table′
         r =
-            branch D s [] R st
+            visit D s [] R st
             (record {
               shown =
                   record {
-                    numbered = ns;
-                    kinded = ks;
-                    valued = vs;
-                    wide = wide;
                     quantified = qs-shown;
                     statused = coded D s ns vs ok long (omega (arith, within, long, ns .count));
                     long = long;
@@ -119,7 +124,7 @@ below-shown clauses sizes dying links numbers kinds quantifiers values statuses 
               formed = form;
               matrix = matrix;
               stored = stored;
-              marked = marked-none D s R;
+              passed = passed-none D s R firsts;
               frees = frees;
               covers = cov;
               counted = refl;
@@ -127,18 +132,7 @@ below-shown clauses sizes dying links numbers kinds quantifiers values statuses 
 
 -- ---- the next state
 abbrev pub withStore : State → List ℤ → List ℕ → List ℤ → List ℕ → State
-withStore x cs css qs qss =
-    record {
-      numbers = x .numbers;
-      levels = x .levels;
-      kinds = x .kinds;
-      clauses = x .clauses;
-      «clause_sizes» = x .«clause_sizes»;
-      «learned_clauses» = cs;
-      «learned_clause_sizes» = css;
-      «learned_cubes» = qs;
-      «learned_cube_sizes» = qss;
-    }
+withStore x cs css qs qss = stateOf (x .numbers) (x .levels) (x .kinds) (x .clauses) (x .«clause_sizes») cs css qs qss
 
 module _ (x : State) (v : valid x ≡ true) where
   f : ValidFacts x
@@ -151,6 +145,13 @@ module _ (x : State) (v : valid x ≡ true) where
 
   pub few-variables : getD (x .numbers) 0 0 ≤ paper .numbers
   few-variables = leb-true (getD (x .numbers) 0 0) (paper .numbers) (and-left (leb (getD (x .numbers) 0 0) (paper .numbers)) _ (f .prefix-fits))
+
+  -- what a search asks of its tables
+  pub ready : Sized x → (at free : ℕ) → at ≤ getD (x .numbers) 0 0 → free ≤ paper .numbers
+      → Ready (x .numbers) (x .clauses) (x .«clause_sizes») (x .«learned_clauses») (x .«learned_clause_sizes») (x .«learned_cubes») (x .«learned_cube_sizes») at free
+  ready sized at free within small =
+      let t = valid-tables x v sized in
+      record { few = few-variables; within = within; frees = small; clauses-in = t .clauses; learned-in = record { clauses = t .learned-clauses; cubes = t .learned-cubes } }
 
   pub variables-numbered : numbersOk paper [] (prefixIn x) ≡ true
   variables-numbered = numbers-ok (formulaIn x) (state-facts (stateIn x) (f .formed) .formula-ok)
@@ -182,91 +183,86 @@ module _ (x : State) (v : valid x ≡ true) where
           (ap (λ (i : ℕ). drop i (quantifiers (prefixIn x))) long) (state-facts (stateIn x) (f .formed) .store-ok) .store-ok
 
   -- the search on the state, over derived tables of its clauses
-  module _ (clauses dying links quantifiers places kinds values : List ℕ) (at free : ℕ) (table table′ : List ℕ) (a : Answer)
+  module _ (rows links quantifiers places values : List ℕ) (at free : ℕ) (table table′ : List ℕ) (a : Answer)
       (cs cl qs ql cs′ cl′ qs′ ql′ : List ℕ) (lc : List ℤ) (lcs : List ℕ) (lq : List ℤ) (lqs : List ℕ)
       (within : at ≤ getD (x .numbers) 0 0)
       (loaded : (D : Prefix) → Places D places → length D ≤ paper .numbers → entriesOf cs cl ≡ map (codes D) (rowsOf (paper .numbers) (x .«learned_clauses») (x .«learned_clause_sizes»)))
       (loaded-cubes : (D : Prefix) → Places D places → length D ≤ paper .numbers → entriesOf qs ql ≡ map (codes D) (rowsOf (paper .numbers) (x .«learned_cubes») (x .«learned_cube_sizes»)))
-      (run : Below clauses (x .«clause_sizes») dying links (x .numbers) kinds quantifiers values cs cl qs ql table at free a cs′ cl′ qs′ ql′ table′)
+      (run : Below rows links (x .numbers) quantifiers values cs cl qs ql table at free a cs′ cl′ qs′ ql′ table′)
       (stores : Stores lc lcs lq lqs)
       (unloaded : (D : Prefix) (es : List Constraint) → Numbers D (x .numbers) → numbersOk paper [] D ≡ true → entriesOf cs′ cl′ ≡ map (codes D) es
       → ((e : Constraint) → Mem e es → (l : Literal) → Mem l e → 1 ≤ place D l) → rowsOf (paper .numbers) lc lcs ≡ es)
       (unloaded-cubes : (D : Prefix) (es : List Constraint) → Numbers D (x .numbers) → numbersOk paper [] D ≡ true → entriesOf qs′ ql′ ≡ map (codes D) es
       → ((e : Constraint) → Mem e es → (l : Literal) → Mem l e → 1 ≤ place D l) → rowsOf (paper .numbers) lq lqs ≡ es)
     where
-      pub over-found : (s : Node) → MatrixShown (prefixIn x) (formulaIn x .clauses) clauses (x .«clause_sizes») dying links → Quantified (prefixIn x) quantifiers
-          → Places (prefixIn x) places → Kinds (prefixIn x) kinds → Values (prefixIn x) s values → length values ≡ suc (paper .numbers) → length s ≡ at → free ≡ freeVariables (prefixIn x) → Covers free table []
-          → firstDead (prefixIn x) s (formulaIn x .clauses) ≡ none
-          → FoundBy x (belowStart (prefixIn x) (formulaIn x .clauses) at s (storeIn x)) free
-          (record { verdict = a .verdict; visits = a .visits; lines = a .lines; state = withStore x lc lcs lq lqs }) table′
-      over-found s matrix quantified ps ks vs wide long frees cov alive =
-          record {
-            verdict = r .verdict;
-            visits = r .visits;
-            state = next-reads lc lcs lq lqs stores ∙ ap (λ (st : Store). some (record { formula = formulaIn x; store = st })) same;
-            covers = r .covers;
-            lines = r .lines;
-          }
+      module _ (s : Node) (matrix : MatrixShown (prefixIn x) (formulaIn x .clauses) rows links) (quantified : Quantified (prefixIn x) quantifiers) (ps : Places (prefixIn x) places) (vs : Values (prefixIn x) s values)
+          (long : length s ≡ at) (frees : free ≡ freeVariables (prefixIn x)) (cov : Covers free table []) (alive : firstDead (prefixIn x) s (formulaIn x .clauses) ≡ none)
         where
-          r : BelowBy (prefixIn x) (belowStart (prefixIn x) (formulaIn x .clauses) at s (storeIn x)) free a cs′ cl′ qs′ ql′ table′
+          abbrev o : LearningResult
+          o = belowStart (prefixIn x) (formulaIn x .clauses) at s (storeIn x)
+
+          r : BelowBy (prefixIn x) o free a cs′ cl′ qs′ ql′ table′
           r =
-              run .by (prefixIn x) (formulaIn x .clauses) s (storeIn x) (valid-numbers x v) ks vs wide quantified matrix
+              run .by (prefixIn x) (formulaIn x .clauses) s (storeIn x) (valid-numbers x v) vs quantified matrix
               (record { clauses = loaded (prefixIn x) ps variables-small; cubes = loaded-cubes (prefixIn x) ps variables-small }) formed long frees cov alive
 
-          same : storeOf lc lcs lq lqs ≡ belowStart (prefixIn x) (formulaIn x .clauses) at s (storeIn x) .store
+          same : storeOf lc lcs lq lqs ≡ o .store
           same i =
               record {
-                clauses = unloaded (prefixIn x) (belowStart (prefixIn x) (formulaIn x .clauses) at s (storeIn x) .store .clauses) (valid-numbers x v) variables-numbered (r .stored .clauses) (learned-declared at s long within false) i;
-                cubes = unloaded-cubes (prefixIn x) (belowStart (prefixIn x) (formulaIn x .clauses) at s (storeIn x) .store .cubes) (valid-numbers x v) variables-numbered (r .stored .cubes) (learned-declared at s long within true) i;
+                clauses = unloaded (prefixIn x) (o .store .clauses) (valid-numbers x v) variables-numbered (r .stored .clauses) (learned-declared at s long within false) i;
+                cubes = unloaded-cubes (prefixIn x) (o .store .cubes) (valid-numbers x v) variables-numbered (r .stored .cubes) (learned-declared at s long within true) i;
               }
 
+          found-over : FoundBy x o free a (withStore x lc lcs lq lqs) table′
+          found-over =
+              record {
+                verdict = r .verdict;
+                visits = r .visits;
+                state = next-reads lc lcs lq lqs stores ∙ ap (λ (st : Store). some (record { formula = formulaIn x; store = st })) same;
+                covers = r .covers;
+                lines = r .lines;
+              }
+
+      pub over-found : Over x rows links quantifiers places values at free table a (withStore x lc lcs lq lqs) table′
+      over-found = record { found = found-over }
+
   -- ---- the whole search
-  -- a start node that is decided
-  decided-found : (places kinds values : List ℕ) (at free : ℕ) (table : List ℕ) (w : Verdict) (b : Bool) → ((e : Constraint) → Ends w (decided b e))
-      → ((s : Node) → Places (prefixIn x) places → Kinds (prefixIn x) kinds → Values (prefixIn x) s values → length s ≡ at
-      → (e : Constraint) × (leaf (prefixIn x) (formulaIn x .clauses) leb s (storeIn x) ≡ some (decided b e)))
-      → Ran x places kinds values at free table (record { verdict = w; visits = 1; lines = 0; state = x }) table
-  decided-found places kinds values at free table w b is start =
-      record { size = refl; few = omega arith; found = found }
-    where
-      found : (s : Node) → Places (prefixIn x) places → Kinds (prefixIn x) kinds → Values (prefixIn x) s values → length values ≡ suc (paper .numbers) → length s ≡ at → free ≡ freeVariables (prefixIn x) → Covers free table []
-          → FoundBy x (learningSearch paper (prefixIn x) (formulaIn x .clauses) (drop at (quantifiers (prefixIn x))) s (storeIn x)) free (record { verdict = w; visits = 1; lines = 0; state = x }) table
-      found s ps ks vs wide long frees cov =
-          subst (λ (o : Option (Outcome Constraint)). FoundBy x (settle o (below paper (prefixIn x) (formulaIn x .clauses) (drop at (quantifiers (prefixIn x)))) s (storeIn x)) free (record { verdict = w; visits = 1; lines = 0; state = x }) table)
-          (sym (start s ps ks vs long .1))
-          (record { verdict = is (start s ps ks vs long .0); visits = refl; state = f .read; covers = cov; lines = refl })
+  module _ (places kinds values : List ℕ) (at free : ℕ) (table : List ℕ) where
+    -- a start node that is decided
+    decided-found : (w : Verdict) (b : Bool) → ((e : Constraint) → Ends w (decided b e))
+        → ((s : Node) → Places (prefixIn x) places → Kinds (prefixIn x) kinds → Values (prefixIn x) s values → length s ≡ at
+        → (e : Constraint) × (leaf (prefixIn x) (formulaIn x .clauses) leb s (storeIn x) ≡ some (decided b e)))
+        → {y : Answer} → y ≡ decidedAt w → Ran x places kinds values at free table y x table
+    decided-found w b is start {y} q =
+        subst (λ (z : Answer). Ran x places kinds values at free table z x table) (sym q)
+        (record {
+          found = λ s ps ks vs long frees cov.
+              subst (λ (o : Option (Outcome Constraint)). FoundBy x (settle o (below paper (prefixIn x) (formulaIn x .clauses) (drop at (quantifiers (prefixIn x)))) s (storeIn x)) free (decidedAt w) x table)
+              (sym (start s ps ks vs long .1))
+              (record { verdict = is (start s ps ks vs long .0); visits = refl; state = f .read; covers = cov; lines = refl });
+        })
 
-  -- one that is open
-  open-found : (places kinds values : List ℕ) (at free : ℕ) (table : List ℕ) (r : Found) (table′ : List ℕ)
-      → ((s : Node) → Places (prefixIn x) places → Kinds (prefixIn x) kinds → Values (prefixIn x) s values → length s ≡ at → leaf (prefixIn x) (formulaIn x .clauses) leb s (storeIn x) ≡ none)
-      → Searched x places kinds values at free table r table′ → Ran x places kinds values at free table r table′
-  open-found places kinds values at free table r table′ start h =
-      record {
-        size = h .size;
-        few = h .few;
-        found = λ s ps ks vs wide long frees cov.
-            subst (λ (o : Option (Outcome Constraint)). FoundBy x (settle o (below paper (prefixIn x) (formulaIn x .clauses) (drop at (quantifiers (prefixIn x)))) s (storeIn x)) free r table′)
-            (sym (start s ps ks vs long))
-            (h .found s ps ks vs wide long frees cov (open-alive (prefixIn x) (formulaIn x .clauses) leb s (storeIn x) (start s ps ks vs long)));
-      }
+    module _ (r : Leaf) (start : AtStart x places kinds values at r) where
+      by-leaf : {l : Leaf} → r ≡ l → (s : Node) → Places (prefixIn x) places → Kinds (prefixIn x) kinds → Values (prefixIn x) s values → length s ≡ at
+          → Starts l (leaf (prefixIn x) (formulaIn x .clauses) leb s (storeIn x))
+      by-leaf e s ps ks vs long = subst (λ (l : Leaf). Starts l (leaf (prefixIn x) (formulaIn x .clauses) leb s (storeIn x))) e (start .read s ps ks vs long)
 
-  module _ (places kinds values : List ℕ) (at free : ℕ) (table : List ℕ) (r : Leaf) (start : AtStart x places kinds values at r) where
-    pub start-no : (n : ℕ) → r ≡ NoLeaf n → {y : Found} → y ≡ record { verdict = No; visits = 1; lines = 0; state = x } → Ran x places kinds values at free table y table
-    start-no n e q =
-        subst (λ (y : Found). Ran x places kinds values at free table y table) (sym q)
-        (decided-found places kinds values at free table No false (λ c. (c, refl))
-        (λ s ps ks vs long. subst (λ (l : Leaf). Starts l (leaf (prefixIn x) (formulaIn x .clauses) leb s (storeIn x))) e (start .read s ps ks vs long)))
+      pub start-no : (n : ℕ) → r ≡ NoLeaf n → {y : Answer} → y ≡ decidedAt No → Ran x places kinds values at free table y x table
+      start-no n e q = decided-found No false (λ c. (c, refl)) (by-leaf e) q
 
-    pub start-yes : (n : ℕ) → r ≡ YesLeaf n → {y : Found} → y ≡ record { verdict = Yes; visits = 1; lines = 0; state = x } → Ran x places kinds values at free table y table
-    start-yes n e q =
-        subst (λ (y : Found). Ran x places kinds values at free table y table) (sym q)
-        (decided-found places kinds values at free table Yes true (λ c. (c, refl))
-        (λ s ps ks vs long. subst (λ (l : Leaf). Starts l (leaf (prefixIn x) (formulaIn x .clauses) leb s (storeIn x))) e (start .read s ps ks vs long)))
+      pub start-yes : (n : ℕ) → r ≡ YesLeaf n → {y : Answer} → y ≡ decidedAt Yes → Ran x places kinds values at free table y x table
+      start-yes n e q = decided-found Yes true (λ c. (c, refl)) (by-leaf e) q
 
-    pub start-open : r ≡ Open → (y : Found) (table′ : List ℕ) → Searched x places kinds values at free table y table′ → Ran x places kinds values at free table y table′
-    start-open e y table′ h =
-        open-found places kinds values at free table y table′
-        (λ s ps ks vs long. subst (λ (l : Leaf). Starts l (leaf (prefixIn x) (formulaIn x .clauses) leb s (storeIn x))) e (start .read s ps ks vs long)) h
+      -- one that is open
+      pub start-open : r ≡ Open → (a : Answer) (y : State) (table′ : List ℕ) → Searched x places kinds values at free table a y table′ → Ran x places kinds values at free table a y table′
+      start-open e a y table′ h =
+          record {
+            found = λ s ps ks vs long frees cov.
+                let none-yet = by-leaf e s ps ks vs long in
+                subst (λ (o : Option (Outcome Constraint)). FoundBy x (settle o (below paper (prefixIn x) (formulaIn x .clauses) (drop at (quantifiers (prefixIn x)))) s (storeIn x)) free a y table′)
+                (sym none-yet)
+                (h .found s ps ks vs long frees cov (open-alive (prefixIn x) (formulaIn x .clauses) leb s (storeIn x) none-yet));
+          }
 
   -- the free variables are among the declared ones
   pub free-within : (free : ℕ) → free ≡ freeVariables (prefixIn x) → free ≤ getD (x .numbers) 0 0
@@ -279,11 +275,6 @@ module _ (x : State) (v : valid x ≡ true) where
 pub open-values : (D : Prefix) → Values D [] (replicate 41 0)
 open-values D = record { at = λ n. cell n (placeOf D n) }
   where
-    zeros : (k n : ℕ) → _≡_ {A = ℕ} (getD (replicate k 0) n 0) 0
-    zeros zero n = refl
-    zeros (suc k) zero = refl
-    zeros (suc k) (suc n) = zeros k n
-
     cell : (n p : ℕ) → _≡_ {A = ℕ} (getD (replicate 41 0) n 0) (valueCode (valueAt [] p))
     cell n zero = zeros 41 n
     cell n (suc i) = zeros 41 n

@@ -1,18 +1,21 @@
--- What the search on a state by value gives: the learning search from the node that the values show.
-use Prim.Native.Nat.{ℕ, suc, _^_, _<_}
+-- What the search on the tables of a state gives: the learning search from the node that the values show. Where a state y is named beside the
+-- state x, it is the next one: x with the learned constraints that the search leaves.
+use Prim.Native.Nat.{ℕ, _≤_}
 use mathlib.Core.Path.{_≡_}
 use mathlib.Core.Bool.{true, false}
 use mathlib.Core.List.{List, []}
 use mathlib.Core.Option.{Option, none, some}
-use lib.ListN.{length, drop}
+use lib.ListN.{length, getD, drop}
+use lib.IntN.{ℤ}
 use Rattle.qbf.specs.Formula.{paper, Prefix, Clause, Node, quantifiers}
 use Rattle.qbf.specs.Truth.{Outcome, decided, mixed, DecidedNode, freeVariables}
 use Rattle.qbf.specs.Learning.{Constraint, Store, LearningResult, leaf, firstDead, below, learningSearch}
 use lib.Dec.{leb}
 use Rattle.tables.specs.Views.{Numbers, Places, Kinds, Values}
-use Rattle.tables.specs.Formed.{Formed}
+use Rattle.tables.specs.Formed.{Clauses, Stores, Formed}
 use Rattle.tables.specs.Codes.{Quantified}
-use Rattle.tables.specs.Shelves.{MatrixShown, StoreShown}
+use Rattle.tables.specs.Shelves.{StoreShown}
+use Rattle.tables.specs.Matrices.{MatrixShown}
 use Rattle.leaf.specs.declared.Leaf.{Leaf}
 use Rattle.leaf.specs.declared.Leaf.the-variants.{No as NoLeaf, Yes as YesLeaf, Open}
 use Rattle.node.specs.declared.Answer.{Answer}
@@ -22,7 +25,6 @@ use Rattle.node.specs.declared.Verdict.{Verdict}
 use Rattle.node.specs.declared.Verdict.the-variants.{Yes, No, Mixed}
 use Rattle.state.specs.declared.State.{State}
 use Rattle.state.specs.Reading.{readState, prefixIn, formulaIn, storeIn}
-use Rattle.answers.specs.declared.run.Found.{Found}
 
 -- the outcome o has that verdict
 abbrev pub Ends : Verdict → Outcome Constraint → Type 0
@@ -30,19 +32,21 @@ Ends Yes o = (e : Constraint) × (o ≡ decided true e)
 Ends No o = (e : Constraint) × (o ≡ decided false e)
 Ends Mixed o = (ds : List DecidedNode) × (o ≡ mixed ds)
 
--- the answer r and the table are the result o
-pub record FoundBy (x : State) (o : LearningResult) (free : ℕ) (r : Found) (table : List ℕ) : Type 0 where
+-- the answer r, the next state and the table are the result o
+pub record FoundBy (x : State) (o : LearningResult) (free : ℕ) (r : Answer) (y : State) (table : List ℕ) : Type 0 where
   pub verdict : Ends (r .verdict) (o .outcome)
   pub visits : r .visits ≡ o .visits
-  pub state : readState (r .state) ≡ some (record { formula = formulaIn x; store = o .store })
+  pub state : readState y ≡ some (record { formula = formulaIn x; store = o .store })
   pub covers : Covers free table (newLines (o .outcome))
   pub lines : r .lines ≡ length (newLines (o .outcome))
 
--- the tables by number of the state's prefix, and the count of its free variables
-pub record Prefixed (x : State) (places kinds : List ℕ) (free : ℕ) : Type 0 where
-  pub placed : Places (prefixIn x) places
-  pub kinded : Kinds (prefixIn x) kinds
-  pub frees : free ≡ freeVariables (prefixIn x)
+-- what a search asks of the tables of a state, which a valid one has: rows within their tables, and a start among the variables
+pub record Ready (numbers : List ℕ) (clauses : List ℤ) (sizes : List ℕ) (lc : List ℤ) (lcs : List ℕ) (lq : List ℤ) (lqs : List ℕ) (at free : ℕ) : Type 0 where
+  pub few : getD numbers 0 0 ≤ paper .numbers
+  pub within : at ≤ getD numbers 0 0
+  pub frees : free ≤ paper .numbers
+  pub clauses-in : Clauses clauses sizes
+  pub learned-in : Stores lc lcs lq lqs
 
 -- steps 1 to 4 at the start node: a verdict, or the node is open
 abbrev pub Starts : Leaf → Option (Outcome Constraint) → Type 0
@@ -66,32 +70,26 @@ pub record BelowBy (D : Prefix) (o : LearningResult) (free : ℕ) (r : Answer) (
   pub covers : Covers free table (newLines (o .outcome))
   pub lines : r .lines ≡ length (newLines (o .outcome))
 
-pub record Below (clauses sizes dying links numbers kinds quantifiers values cs cl qs ql table : List ℕ) (at free : ℕ) (r : Answer) (cs′ cl′ qs′ ql′ table′ : List ℕ) : Type 0 where
+pub record Below (rows links numbers quantifiers values cs cl qs ql table : List ℕ) (at free : ℕ) (r : Answer) (cs′ cl′ qs′ ql′ table′ : List ℕ) : Type 0 where
   pub by : (D : Prefix) (R : List Clause) (s : Node) (st : Store)
-      → Numbers D numbers → Kinds D kinds → Values D s values → length values ≡ suc (paper .numbers) → Quantified D quantifiers → MatrixShown D R clauses sizes dying links → StoreShown D st cs cl qs ql
+      → Numbers D numbers → Values D s values → Quantified D quantifiers → MatrixShown D R rows links → StoreShown D st cs cl qs ql
       → Formed D R st → length s ≡ at → free ≡ freeVariables D → Covers free table [] → firstDead D s R ≡ none
       → BelowBy D (belowStart D R at s st) free r cs′ cl′ qs′ ql′ table′
 
 -- on a state, over derived tables of its clauses
-pub record Over (x : State) (clauses dying links quantifiers places kinds values : List ℕ) (at free : ℕ) (table : List ℕ) (r : Found) (table′ : List ℕ) : Type 0 where
-  pub size : length table′ ≡ length table
-  pub few : r .lines < 2 ^ 63
-  pub found : (s : Node) → MatrixShown (prefixIn x) (formulaIn x .clauses) clauses (x .«clause_sizes») dying links → Quantified (prefixIn x) quantifiers
-      → Places (prefixIn x) places → Kinds (prefixIn x) kinds → Values (prefixIn x) s values → length values ≡ suc (paper .numbers) → length s ≡ at → free ≡ freeVariables (prefixIn x) → Covers free table []
+pub record Over (x : State) (rows links quantifiers places values : List ℕ) (at free : ℕ) (table : List ℕ) (r : Answer) (y : State) (table′ : List ℕ) : Type 0 where
+  pub found : (s : Node) → MatrixShown (prefixIn x) (formulaIn x .clauses) rows links → Quantified (prefixIn x) quantifiers
+      → Places (prefixIn x) places → Values (prefixIn x) s values → length s ≡ at → free ≡ freeVariables (prefixIn x) → Covers free table []
       → firstDead (prefixIn x) s (formulaIn x .clauses) ≡ none
-      → FoundBy x (belowStart (prefixIn x) (formulaIn x .clauses) at s (storeIn x)) free r table′
+      → FoundBy x (belowStart (prefixIn x) (formulaIn x .clauses) at s (storeIn x)) free r y table′
 
 -- on a state
-pub record Searched (x : State) (places kinds values : List ℕ) (at free : ℕ) (table : List ℕ) (r : Found) (table′ : List ℕ) : Type 0 where
-  pub size : length table′ ≡ length table
-  pub few : r .lines < 2 ^ 63
-  pub found : (s : Node) → Places (prefixIn x) places → Kinds (prefixIn x) kinds → Values (prefixIn x) s values → length values ≡ suc (paper .numbers) → length s ≡ at → free ≡ freeVariables (prefixIn x) → Covers free table []
+pub record Searched (x : State) (places kinds values : List ℕ) (at free : ℕ) (table : List ℕ) (r : Answer) (y : State) (table′ : List ℕ) : Type 0 where
+  pub found : (s : Node) → Places (prefixIn x) places → Kinds (prefixIn x) kinds → Values (prefixIn x) s values → length s ≡ at → free ≡ freeVariables (prefixIn x) → Covers free table []
       → firstDead (prefixIn x) s (formulaIn x .clauses) ≡ none
-      → FoundBy x (belowStart (prefixIn x) (formulaIn x .clauses) at s (storeIn x)) free r table′
+      → FoundBy x (belowStart (prefixIn x) (formulaIn x .clauses) at s (storeIn x)) free r y table′
 
 -- the whole search, with the start node
-pub record Ran (x : State) (places kinds values : List ℕ) (at free : ℕ) (table : List ℕ) (r : Found) (table′ : List ℕ) : Type 0 where
-  pub size : length table′ ≡ length table
-  pub few : r .lines < 2 ^ 63
-  pub found : (s : Node) → Places (prefixIn x) places → Kinds (prefixIn x) kinds → Values (prefixIn x) s values → length values ≡ suc (paper .numbers) → length s ≡ at → free ≡ freeVariables (prefixIn x) → Covers free table []
-      → FoundBy x (learningSearch paper (prefixIn x) (formulaIn x .clauses) (drop at (quantifiers (prefixIn x))) s (storeIn x)) free r table′
+pub record Ran (x : State) (places kinds values : List ℕ) (at free : ℕ) (table : List ℕ) (r : Answer) (y : State) (table′ : List ℕ) : Type 0 where
+  pub found : (s : Node) → Places (prefixIn x) places → Kinds (prefixIn x) kinds → Values (prefixIn x) s values → length s ≡ at → free ≡ freeVariables (prefixIn x) → Covers free table []
+      → FoundBy x (learningSearch paper (prefixIn x) (formulaIn x .clauses) (drop at (quantifiers (prefixIn x))) s (storeIn x)) free r y table′

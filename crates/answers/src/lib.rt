@@ -1,16 +1,16 @@
-// The calls query and card, open to outsiders: a search on a state by value, and its answer in the paper's words.
+// The calls query and card, open to outsiders, on a state by value and on lent tables; and their answers in the paper's words.
 ghost use mathlib.Core.Path.{_≡_};
 ghost use mathlib.Core.List.{[]};
-ghost use Prim.Native.Nat.{ℕ, _<_, _^_};
-ghost use mathlib.Core.List.{List, []};
+ghost use Prim.Native.Nat.{_<_, _^_};
 ghost use lib.ListN.{length};
 ghost use Rattle.qbf.specs.Calls.{query, card};
-ghost use Rattle.serving.specs.Serves.{said, Serves};
+ghost use Rattle.serving.specs.Serves.{Serves};
 ghost use Rattle.answers.specs.Answers.{rulingSaid, cardSaid, rulingFor, total};
 use node::Verdict;
 use state::State;
 
-mod run; // the search on a state by value
+pub mod in_place; // the calls on lent tables
+mod run; // the search on lent tables
 
 // "22 the state is malformed", "8 a query names a non-flag, or a flag twice", "21 the card has more lines than the table holds"
 pub const MALFORMED: u16 = 22;
@@ -85,54 +85,34 @@ fn total_lines(v: Verdict, below: usize) -> usize
     }
 }
 
-// "A refusal returns its number, 0 lines, 0 visits and the state as given": a query's.
-fn not_asked(number: u16, x: State) -> Asked
-    ensures { λ r. ⌜ (rulingSaid (r .ruling) (r .visits) ≡ said number 0 0 0 []) × (r .state ≡ x) ⌝ }
-{
-    Asked {
-        ruling: Ruling::Refused(number),
-        visits: 0,
-        state: x,
-    }
-}
-
-// A card's: "Only 21 differs: the walk runs to its end first, its visits are returned and its store is kept."
-fn not_shown(number: u16, visits: u64, x: State) -> Shown
-    ensures { λ r. ⌜
-        ((tb : List ℕ) → cardSaid (r .printed) (r .visits) tb ≡ said number 0 0 visits tb)
-        × (r .state ≡ x)
-        ⌝ }
-{
-    Shown {
-        printed: Printed::Refused(number),
-        visits: visits,
-        state: x,
-    }
-}
-
 // "Query takes the numbers of the flags that are on; a flag not named is off. It returns swap or keep, and the visits."
 pub fn query(x: State, on: &[i16]) -> Asked
     ensures { λ r. ⌜ Serves x (query (now (on .entry))) (rulingSaid (r .ruling) (r .visits)) (r .state) ⌝ }
 {
-    if !run::admits(x) {
-        return not_asked(MALFORMED, x);
-    }
-    let prefix = run::prefix_of(x);
-    let places = prefix.places;
-    let kinds = prefix.kinds;
-    let free = prefix.free;
-    let numbers = x.numbers;
-    let reading = reading::read(&numbers, &places, free, on);
-    if !reading.ok {
-        return not_asked(NOT_FREE, x);
-    }
-    let values = reading.values;
-    let mut no_table = [0u8; 1];
-    let found = run::run(x, places, kinds, values, free, free, &mut no_table);
-    let verdict = found.verdict;
-    let next = found.state;
+    let mut learned_clauses = x.learned_clauses;
+    let mut learned_clause_sizes = x.learned_clause_sizes;
+    let mut learned_cubes = x.learned_cubes;
+    let mut learned_cube_sizes = x.learned_cube_sizes;
+    let found = in_place::query(
+        &x.numbers,
+        &x.levels,
+        &x.kinds,
+        &x.clauses,
+        &x.clause_sizes,
+        &mut learned_clauses,
+        &mut learned_clause_sizes,
+        &mut learned_cubes,
+        &mut learned_cube_sizes,
+        on,
+    );
+    let mut next = x;
+    next.learned_clauses = learned_clauses;
+    next.learned_clause_sizes = learned_clause_sizes;
+    next.learned_cubes = learned_cubes;
+    next.learned_cube_sizes = learned_cube_sizes;
+    let ruling = found.ruling;
     Asked {
-        ruling: ruling_for(verdict),
+        ruling: ruling,
         visits: found.visits,
         state: next,
     }
@@ -142,27 +122,31 @@ pub fn query(x: State, on: &[i16]) -> Asked
 pub fn card(x: State, table: &mut [u8]) -> Shown
     ensures { λ r. ⌜ Serves x (card (length (now (table .entry)))) (cardSaid (r .printed) (r .visits) (now (table .exit))) (r .state) ⌝ }
 {
-    cover::clear(table);
-    if !run::admits(x) {
-        return not_shown(MALFORMED, 0, x);
+    let mut learned_clauses = x.learned_clauses;
+    let mut learned_clause_sizes = x.learned_clause_sizes;
+    let mut learned_cubes = x.learned_cubes;
+    let mut learned_cube_sizes = x.learned_cube_sizes;
+    let found = in_place::card(
+        &x.numbers,
+        &x.levels,
+        &x.kinds,
+        &x.clauses,
+        &x.clause_sizes,
+        &mut learned_clauses,
+        &mut learned_clause_sizes,
+        &mut learned_cubes,
+        &mut learned_cube_sizes,
+        table,
+    );
+    let mut next = x;
+    next.learned_clauses = learned_clauses;
+    next.learned_clause_sizes = learned_clause_sizes;
+    next.learned_cubes = learned_cubes;
+    next.learned_cube_sizes = learned_cube_sizes;
+    let printed = found.printed;
+    Shown {
+        printed: printed,
+        visits: found.visits,
+        state: next,
     }
-    let prefix = run::prefix_of(x);
-    let places = prefix.places;
-    let kinds = prefix.kinds;
-    let free = prefix.free;
-    let values = [tables::OPEN; tables::BY_NUMBER];
-    let found = run::run(x, places, kinds, values, 0, free, table);
-    let verdict = found.verdict;
-    let lines = total_lines(verdict, found.lines);
-    let visits = found.visits;
-    let searched = found.state;
-    if cover::fits(table.len(), free, lines) {
-        return Shown {
-            printed: Printed::Lines(lines),
-            visits: visits,
-            state: searched,
-        };
-    }
-    cover::clear(table);
-    not_shown(TOO_MANY_LINES, visits, searched)
 }

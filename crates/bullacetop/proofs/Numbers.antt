@@ -15,6 +15,10 @@ use Rattle.answers.proofs.Told.{card-said}
 pub serves-as : (x : State) (c : Call) {a b : Said} {y z : State} → Serves x c a y → b ≡ a → z ≡ y → Serves x c b z
 serves-as x c {a} {b} {y} {z} s p q = subst (λ (w : State). Serves x c b w) (sym q) (subst (λ (r : Said). Serves x c r y) (sym p) s)
 
+-- .. where the state stays with the caller
+pub says-as : {x : State} {c : Call} {a b : Said} {y : State} → Serves x c a y → b ≡ a → Serves x c b y
+says-as {x} {c} {a} {b} {y} s p = subst (λ (r : Said). Serves x c r y) (sym p) s
+
 ruling-said : (r : Ruling) (k : ℕ) → said (rulingSaid r 0 .refusal) (rulingSaid r 0 .verdict) 0 k [] ≡ rulingSaid r k
 ruling-said ruling.Swap k = refl
 ruling-said ruling.Keep k = refl

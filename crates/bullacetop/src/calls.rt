@@ -1,4 +1,4 @@
-// The four calls. A refusal of 0 is none; a verdict is 1 for keep and 2 for swap, 0 where the call is no query.
+// The four calls on a state by value. A refusal of 0 is none; a verdict is 1 for keep and 2 for swap, 0 where the call is no query.
 use answers::Ruling;
 use rules::Changed;
 use state::State;
@@ -20,13 +20,13 @@ pub struct Answer {
     pub state: State,
 }
 
-const NONE: u16 = 0;
+pub const NONE: u16 = 0;
 
 const KEEP: u16 = 1;
 
 const SWAP: u16 = 2;
 
-fn ruling_refusal(r: Ruling) -> u16
+pub fn ruling_refusal(r: Ruling) -> u16
     ensures { λ n. ⌜ n ≡ rulingSaid r 0 .refusal ⌝ }
 {
     match r {
@@ -36,7 +36,7 @@ fn ruling_refusal(r: Ruling) -> u16
     }
 }
 
-fn verdict_of(r: Ruling) -> u16
+pub fn verdict_of(r: Ruling) -> u16
     ensures { λ n. ⌜ n ≡ rulingSaid r 0 .verdict ⌝ }
 {
     match r {

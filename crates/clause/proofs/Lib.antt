@@ -1,4 +1,3 @@
-pub mod Lists
 pub mod Rows
 pub mod RowSearch
 pub mod Scan

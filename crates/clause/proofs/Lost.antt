@@ -11,7 +11,7 @@ use lib.ListN.{getD}
 use Rattle.qbf.specs.Formula.{isForall, Prefix, Literal, Clause, Node, numberOf, positive, place, quantifierAt, valueAt, equals, isOpen, has, all, dead}
 use Rattle.tables.specs.Views.{valueCode, Kinds, Values, signed, status, indexOf}
 use Rattle.tables.proofs.Laws.{kinds-dropped}
-use Rattle.clause.proofs.Lists.{all-same, index-same}
+use Rattle.tables.proofs.Lists.{all-same, index-same}
 
 -- not true, and forall where it is open
 unfoldable pub lost : List ℕ → List ℕ → Literal → Bool

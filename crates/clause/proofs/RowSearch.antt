@@ -13,7 +13,7 @@ use lib.ListN.{length, getD}
 use Rattle.qbf.specs.Formula.{any}
 use Rattle.qbf.specs.Learning.{first}
 use Rattle.tables.specs.Views.{row, Table, indexOf}
-use Rattle.clause.proofs.Lists.{index-at, index-none, any-index, first-at, first-none}
+use Rattle.tables.proofs.Lists.{index-at, index-none, any-index, first-at, first-none}
 use Rattle.clause.proofs.Rows.{row-fits, row-length, row-at}
 
 -- the cells before i do not pass

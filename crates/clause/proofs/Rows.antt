@@ -14,7 +14,7 @@ use Rattle.qbf.specs.Formula.{all}
 use Rattle.qbf.specs.Learning.{first}
 use Rattle.tables.specs.Views.{row, rowsOf, Table, indexOf}
 use Rattle.tables.proofs.Laws.{rows-length, rows-at}
-use Rattle.clause.proofs.Lists.{all-each, all-fails, index-at, index-none, first-at, first-none}
+use Rattle.tables.proofs.Lists.{all-each, all-fails, index-at, index-none, first-at, first-none}
 
 module _ {w n : ℕ} {flat : List ℤ} {sizes : List ℕ} (t : Table w n flat sizes) where
   -- row k ends within the table

@@ -10,7 +10,7 @@ use lib.IntN.{ℤ, pos}
 use lib.ListN.{length, getD}
 use Rattle.qbf.specs.Formula.{all}
 use Rattle.tables.specs.Views.{row, rowsOf, Table, indexOf}
-use Rattle.clause.proofs.Lists.{all-each, all-fails}
+use Rattle.tables.proofs.Lists.{all-each, all-fails}
 use Rattle.clause.proofs.Rows.{row-fits, row-length, row-at, rows-first, rows-none}
 
 -- the rows before k are passed: none of them is sought

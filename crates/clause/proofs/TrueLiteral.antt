@@ -14,7 +14,7 @@ use Rattle.tables.specs.Views.{Values, status, indexOf}
 use Rattle.tables.proofs.Laws.{status-true}
 use Rattle.clause.specs.Found.{found}
 use Rattle.literal.proofs.Signed.{back}
-use Rattle.clause.proofs.Lists.{index-same, found-passes}
+use Rattle.tables.proofs.Lists.{index-same, found-passes}
 
 abbrev pub isTrue : List ℕ → Literal → Bool
 isTrue vs l = eqb (status vs l) 2

@@ -2,17 +2,22 @@
 use Prim.Native.Nat.{ℕ, _+_, _-_, _≤_, _<_}
 use native.Mathlib.Omega.{arith}
 use mathlib.Core.Path.{_≡_, refl, sym, ap, _∙_}
-use mathlib.Core.Bool.{Bool, cond}
+use mathlib.Core.Logic.{_⊎_, inl, inr}
+use mathlib.Core.Bool.{false}
 use mathlib.Core.List.{List, [], _∷_, _++_}
-use lib.ListN.{length, getD, take, drop, length-map}
+use lib.ListN.{length, getD, take, length-map}
 use lib.Seq.{length-take-le, take-take, getD-take}
 use lib.Dec.{eqb}
 use borrow.Author.Tests.{eq-eqb, ne-eqb}
 use Rattle.qbf.specs.Formula.{Prefix, Literal}
 use Rattle.qbf.specs.Learning.{Constraint}
+use Rattle.theory.proofs.Basics.{le-or-lt}
+use Rattle.tables.specs.Views.{indexOf}
+use Rattle.tables.specs.Shelves.{codeCount}
+use Rattle.tables.proofs.Lists.{index-at, index-none}
 use Rattle.tables.specs.Codes.{codeOf, codes, lastFrom, lastCode}
-use Rattle.coding.specs.FirstTrue.{firstOf}
-use Rattle.coding.proofs.Ends.{take-last, drop-more, drop-end, take-image, getD-image}
+use Rattle.coding.specs.First.{FirstWith}
+use Rattle.coding.proofs.Ends.{take-last, take-image, getD-image}
 
 -- ---- the last code
 last-of : (q : ℕ) (cs : List ℕ) (c : ℕ) → lastFrom q (cs ++ (c ∷ [])) ≡ c
@@ -24,24 +29,38 @@ pub last-cell : (cs : List ℕ) (n : ℕ) → (n ≡ 0 → ⊥) → n ≤ length
 last-cell cs n h k =
     sym (ap lastCode (take-last cs n 0 (omega (arith, h)) k) ∙ last-of 0 (take (n - 1) cs) (getD cs (n - 1) 0))
 
--- ---- the first code with a status, from the code at i
-module _ (t : List ℕ) (w : ℕ) (cs : List ℕ) (i : ℕ) (within : i < length cs) where
-  split : firstOf t w (drop i cs) ≡ cond (eqb (getD t (getD cs i 0) 0) w) (getD cs i 0) (firstOf t w (drop (i + 1) cs))
-  split = ap (firstOf t w) (drop-more cs i 0 within)
+-- ---- the codes before i have not the status
+pub record Without (t : List ℕ) (w : ℕ) (cs : List ℕ) (i : ℕ) : Type 0 where
+  pub within : i ≤ length cs
+  pub none : (j : ℕ) → j < i → eqb (getD t (getD cs j 0) 0) w ≡ false
 
-  -- it has the status
-  pub first-here : getD t (getD cs i 0) 0 ≡ w → firstOf t w (drop i cs) ≡ getD cs i 0
-  first-here h =
-      split ∙ ap (λ (b : Bool). cond b (getD cs i 0) (firstOf t w (drop (i + 1) cs))) (eq-eqb (getD t (getD cs i 0) 0) w h)
+module _ {t : List ℕ} {w : ℕ} {cs : List ℕ} {i : ℕ} (before : Without t w cs i) where
+  -- nor has the next
+  pub without-more : i < length cs → (getD t (getD cs i 0) 0 ≡ w → ⊥) → Without t w cs (i + 1)
+  without-more low h = record { within = omega arith; none = λ j m. by j m (le-or-lt i j) }
+    where
+      by : (j : ℕ) → j < i + 1 → (i ≤ j) ⊎ (j < i) → eqb (getD t (getD cs j 0) 0) w ≡ false
+      by j m (inl q) =
+          let e : j ≡ i = omega arith in
+          ap (λ (k : ℕ). eqb (getD t (getD cs k 0) 0) w) e ∙ ne-eqb (getD t (getD cs i 0) 0) w h
+      by j m (inr q) = before .none j q
 
-  -- it has not
-  pub first-next : (getD t (getD cs i 0) 0 ≡ w → ⊥) → firstOf t w (drop i cs) ≡ firstOf t w (drop (i + 1) cs)
-  first-next h =
-      split ∙ ap (λ (b : Bool). cond b (getD cs i 0) (firstOf t w (drop (i + 1) cs))) (ne-eqb (getD t (getD cs i 0) 0) w h)
+  -- the next has it
+  pub first-here : i < length cs → getD t (getD cs i 0) 0 ≡ w → {r : ℕ} → r ≡ getD cs i 0 → r < codeCount → FirstWith (λ (c : ℕ). eqb (getD t c 0) w) cs r
+  first-here low h {r} e small =
+      let is : indexOf (λ (c : ℕ). eqb (getD t c 0) w) cs ≡ i =
+      index-at (λ (c : ℕ). eqb (getD t c 0) w) 0 cs i low (before .none) (eq-eqb (getD t (getD cs i 0) 0) w h) in
+      record {
+        found = λ q. (omega (arith, is), e ∙ ap (λ (j : ℕ). getD cs j 0) (sym is));
+        none = λ q. absurd (omega arith);
+      }
 
--- none is left
-pub first-end : (t : List ℕ) (w : ℕ) (cs : List ℕ) (i : ℕ) → length cs ≤ i → firstOf t w (drop i cs) ≡ 0
-first-end t w cs i h = ap (firstOf t w) (drop-end cs i h)
+  -- there is no next
+  pub first-none : length cs ≤ i → FirstWith (λ (c : ℕ). eqb (getD t c 0) w) cs codeCount
+  first-none high = record {
+    found = λ q. absurd (omega arith);
+    none = λ q. index-none (λ (c : ℕ). eqb (getD t c 0) w) 0 cs (λ j m. before .none j (omega arith));
+  }
 
 -- ---- the first n cells are the codes of e
 module _ (D : Prefix) (e : Constraint) (cs : List ℕ) (n : ℕ) (within : n ≤ length cs) (coded : take n cs ≡ codes D e) where

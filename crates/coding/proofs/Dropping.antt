@@ -4,11 +4,12 @@ use native.Mathlib.Omega.{arith}
 use mathlib.Core.Path.{_≡_, refl, sym, ap, _∙_}
 use mathlib.Core.Bool.{Bool, true, false, cond}
 use mathlib.Core.List.{List, [], _∷_, _++_}
-use lib.ListN.{length, getD, take}
+use lib.ListN.{length, getD, take, length-map}
 use lib.Seq.{take-length}
 use lib.IntN.{pos}
 use Rattle.qbf.specs.Formula.{Quantifier, Prefix, Literal, place, positive, quantifierAt}
 use Rattle.qbf.specs.Learning.{Polarity, Constraint, dropped, keepOrDrop, reduce}
+use Rattle.theory.proofs.WellFormed.{inside}
 use Rattle.tables.specs.Views.{quantifierCode}
 use Rattle.tables.specs.Codes.{codes, Quantified}
 use Rattle.coding.proofs.Ends.{take-last}
@@ -43,7 +44,7 @@ module _ (D : Prefix) (v : Polarity) (e : Constraint) (t cs : List ℕ) (n : ℕ
   is : b ≡ dropped v (quantifierAt D (place D last))
   is =
       decided (quantifierAt D (place D last))
-      (ap (λ (c : ℕ). getD t c 0) (coded-cell D e cs n within coded (left - 1) (pos 0) (omega arith)) ∙ shown .at (place D last) (positive last))
+      (ap (λ (c : ℕ). getD t c 0) (coded-cell D e cs n within coded (left - 1) (pos 0) (omega arith)) ∙ shown .at (place D last) (positive last) (omega (arith, inside D last, length-map D (λ d. d .quantifier))))
 
   apart : take left e ≡ take (left - 1) e ++ (last ∷ [])
   apart = take-last e left (pos 0) some (omega (arith, coded-length D e cs n within coded))

@@ -61,18 +61,26 @@ pub statuses-all : (s : Node) (t : List ℕ) (p : ℕ) → Statuses (take p s) t
 statuses-all s t p shown e = subst (λ (u : Node). Statuses u t) (ap (λ (m : ℕ). take m s) (sym e) ∙ take-length s) shown
 
 -- ---- quantifiers
--- the quantifiers of the first p places
+-- the quantifiers of the first p places, and none after them
 pub record Filled (D : Prefix) (p : ℕ) (t : List ℕ) : Type 0 where
   pub low : (q : ℕ) (b : Bool) → q ≤ p → getD t (codeAt q b) 0 ≡ quantifierCode (quantifierAt D q)
-  pub high : (q : ℕ) (b : Bool) → p < q → getD t (codeAt q b) 0 ≡ 0
+  pub high : (q : ℕ) (b : Bool) → p < q → q ≤ paper .numbers → getD t (codeAt q b) 0 ≡ 3
 
--- of no place
-pub filled-none : (D : Prefix) (n : ℕ) → Filled D 0 (replicate n 0)
-filled-none D n = record { low = λ q b h. zeros n (codeAt q b) ∙ at-zero q h; high = λ q b h. zeros n (codeAt q b) }
+-- of no place: only the place of no variable counts as free
+pub filled-none : (D : Prefix) → Filled D 0 (set (set (replicate 256 3) (codeAt 0 false) 0) (codeAt 0 true) 0)
+filled-none D = record {
+  low = λ q b h. zero-at q b h;
+  high = λ q b h k. stored-other 0 0 0 (replicate 256 3) q b (λ e. omega (arith, e, h)) ∙ getD-replicate 256 (codeAt q b) 3 0 (in-table q b k);
+}
   where
-    at-zero : (q : ℕ) → q ≤ 0 → 0 ≡ quantifierCode (quantifierAt D q)
-    at-zero zero h = refl
-    at-zero (suc q) h = absurd (omega (arith, h))
+    in-table : (q : ℕ) (b : Bool) → q ≤ paper .numbers → codeAt q b < 256
+    in-table q true k = omega (arith, k)
+    in-table q false k = omega (arith, k)
+
+    zero-at : (q : ℕ) (b : Bool) → q ≤ 0 → getD (set (set (replicate 256 3) (codeAt 0 false) 0) (codeAt 0 true) 0) (codeAt q b) 0 ≡ quantifierCode (quantifierAt D q)
+    zero-at zero true h = refl
+    zero-at zero false h = refl
+    zero-at (suc q) b h = absurd (omega (arith, h))
 
 -- the quantifier of the place after p, by its number
 pub kind-by-number : (D : Prefix) (ns ks : List ℕ) → Numbers D ns → Kinds D ks → numbersOk paper [] D ≡ true
@@ -95,7 +103,7 @@ pub filled-more : (D : Prefix) (ns ks : List ℕ) → Numbers D ns → Kinds D k
     → Filled D (p + 1) (set (set t (codeAt (p + 1) false) r) (codeAt (p + 1) true) r)
 filled-more D ns ks numbered shown ok p t was h within {r} read = record {
   low = λ q b k. low q b k (le-or-lt q p);
-  high = λ q b k. stored-other (p + 1) r r t q b (λ e. omega (arith, e, k)) ∙ was .high q b (omega (arith, k));
+  high = λ q b k m. stored-other (p + 1) r r t q b (λ e. omega (arith, e, k)) ∙ was .high q b (omega (arith, k)) m;
 }
   where
     is : r ≡ quantifierCode (quantifierAt D (p + 1))
@@ -114,14 +122,6 @@ filled-more D ns ks numbered shown ok p t was h within {r} read = record {
         subst (λ (z : ℕ). getD (set (set t (codeAt (p + 1) false) r) (codeAt (p + 1) true) r) (codeAt z b) 0 ≡ quantifierCode (quantifierAt D z)) (let e : p + 1 ≡ q = omega (arith, k, m) in e)
         (here b)
 
--- of all places: one that is not declared counts as free
+-- of all places
 pub filled-all : (D : Prefix) (p : ℕ) (t : List ℕ) → Filled D p t → length D ≡ p → Quantified D t
-filled-all D p t was e = record { at = λ q b. at q b (le-or-lt q p) }
-  where
-    beyond : (q : ℕ) → p < q → 0 ≡ quantifierCode (quantifierAt D q)
-    beyond zero h = refl
-    beyond (suc i) h = sym (ap quantifierCode (List·getD-eq-default (quantifiers D) free (omega (arith, h, e, length-map D (λ d. d .quantifier)))))
-
-    at : (q : ℕ) (b : Bool) → (q ≤ p) ⊎ (p < q) → getD t (codeAt q b) 0 ≡ quantifierCode (quantifierAt D q)
-    at q b (inl h) = was .low q b h
-    at q b (inr h) = was .high q b h ∙ beyond q h
+filled-all D p t was e = record { at = λ q b h. was .low q b (omega arith); end = λ q b h k. was .high q b (omega arith) k }

@@ -1,1 +1,1 @@
-pub mod FirstTrue
+pub mod First

@@ -1,12 +1,14 @@
 // Lists of codes: the last one, the first true one, reduction, and a copy.
 ghost use mathlib.Core.Path.{_≡_};
-ghost use Prim.Native.Nat.{_≤_};
-ghost use lib.ListN.{length, take};
+ghost use Prim.Native.Nat.{_≤_, _<_};
+ghost use lib.ListN.{length, getD, take};
+ghost use lib.Dec.{eqb};
 ghost use Rattle.qbf.specs.Formula.{Quantifier, Prefix};
 ghost use Rattle.qbf.specs.Learning.{Constraint, dropped, reduce};
 ghost use Rattle.tables.specs.Views.{quantifierCode};
 ghost use Rattle.tables.specs.Codes.{lastCode, codes, Quantified};
-ghost use Rattle.coding.specs.FirstTrue.{firstOf};
+ghost use Rattle.tables.specs.Shelves.{codeCount};
+ghost use Rattle.coding.specs.First.{FirstWith};
 
 // The last of the first n codes; 0 where there is none.
 pub fn last_code<'a>(cells: &'a [u8], n: usize) -> u8
@@ -19,19 +21,28 @@ pub fn last_code<'a>(cells: &'a [u8], n: usize) -> u8
     cells[n - 1]
 }
 
-// The first code that has a status; 0 where none has it.
-pub fn first_with<'a>(cells: &'a [u8], statuses: &'a [u8; tables::CODES], want: u8) -> u8
-    ensures { λ r. ⌜ r ≡ firstOf (now (statuses .entry)) want (now (cells .entry)) ⌝ }
+// No code: codes are bytes.
+pub const NO_CODE: u16 = tables::CODES as u16;
+
+fn wide(code: u8) -> u16
+    ensures { λ r. ⌜ (r ≡ code) × (r < codeCount) ⌝ }
+{
+    code as u16
+}
+
+// The first code that has a status, or NO_CODE.
+pub fn first_with<'a>(cells: &'a [u8], statuses: &'a [u8; tables::CODES], want: u8) -> u16
+    ensures { λ r. ⌜ FirstWith (λ c. eqb (getD (now (statuses .entry)) c 0) want) (now (cells .entry)) r ⌝ }
 {
     let mut i: usize = 0;
     while i < cells.len() {
         let code = cells[i];
         if statuses[code as usize] == want {
-            return code;
+            return wide(code);
         }
         i += 1;
     }
-    0
+    NO_CODE
 }
 
 // Whether reduction drops a literal whose variable has the quantifier of this code.

@@ -40,7 +40,7 @@ fn put(table: &mut [u8; tables::CODES], place: usize, kind: u8)
     table[place * 2 + 1] = kind;
 }
 
-// The quantifiers of the first places, as many as there are variables; all other codes are of free ones.
+// The quantifiers of the first places, as many as there are variables; the places after them have none.
 pub fn quantifiers_of<'a>(
     numbers: &'a [u16; tables::BY_NUMBER],
     kinds: &'a [u16; tables::BY_NUMBER],
@@ -55,7 +55,8 @@ pub fn quantifiers_of<'a>(
         ⌝ }
 {
     let count = cell_at(numbers, 0) as usize;
-    let mut table = [0u8; tables::CODES];
+    let mut table = [tables::END; tables::CODES];
+    put(&mut table, 0, tables::FREE as u8); // no variable's place
     let mut place: usize = 0;
     while place < count {
         place += 1;

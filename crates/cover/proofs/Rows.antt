@@ -3,10 +3,12 @@ use Prim.Native.Nat.{ℕ, zero, suc, _+_, _<_}
 use native.Mathlib.Numerals.{add-one}
 use native.Mathlib.Omega.{arith}
 use mathlib.Core.Path.{_≡_, refl, sym, ap, _∙_}
+use mathlib.Core.Bool.{true}
 use mathlib.Core.List.{List, [], _∷_, _++_, append-assoc, append-nil}
 use lib.ListN.{length, getD, set, drop, replicate, length-append, length-replicate, replicate-append-replicate}
 use lib.Seq.{set-at, drop-cons, drop-length}
-use Rattle.cover.specs.Cover.{firstValues}
+use Rattle.tables.specs.Codes.{codeAt}
+use Rattle.cover.specs.Cover.{firstBytes}
 
 -- one more byte in front of what stands
 extended : (row xs : List ℕ) (i v : ℕ) → length xs ≡ i → i < length row → set (xs ++ drop i row) i v ≡ (xs ++ (v ∷ [])) ++ drop (i + 1) row
@@ -30,29 +32,29 @@ zeros-all row now i z e =
     e ∙ ap (λ (n : ℕ). replicate n 0 ++ drop n row) z ∙ ap (λ (l : List ℕ). replicate (length row) 0 ++ l) (drop-length row) ∙ append-nil (replicate (length row) 0)
 
 -- ---- values
-module _ (ns vs : List ℕ) where
-  first-length : (k : ℕ) → length (firstValues ns vs k) ≡ k
-  unfolding firstValues
+module _ (t : List ℕ) where
+  first-length : (k : ℕ) → length (firstBytes t k) ≡ k
+  unfolding firstBytes
   first-length zero = refl
-  first-length (suc k) = omega (arith, length-append (firstValues ns vs k) (getD vs (getD ns (suc k) 0) 0 ∷ []), first-length k)
+  first-length (suc k) = omega (arith, length-append (firstBytes t k) (getD t (codeAt (suc k) true) 0 ∷ []), first-length k)
 
-  pub values-none : (row : List ℕ) → row ≡ firstValues ns vs 0 ++ drop 0 row
-  unfolding firstValues
+  pub values-none : (row : List ℕ) → row ≡ firstBytes t 0 ++ drop 0 row
+  unfolding firstBytes
   values-none row = refl
 
-  next : (k v : ℕ) → v ≡ getD vs (getD ns (k + 1) 0) 0 → firstValues ns vs k ++ (v ∷ []) ≡ firstValues ns vs (k + 1)
-  unfolding firstValues
+  next : (k v : ℕ) → v ≡ getD t (codeAt (k + 1) true) 0 → firstBytes t k ++ (v ∷ []) ≡ firstBytes t (k + 1)
+  unfolding firstBytes
   next k v e =
-      ap (λ (x : ℕ). firstValues ns vs k ++ (x ∷ [])) (e ∙ ap (λ (n : ℕ). getD vs (getD ns n 0) 0) (add-one k)) ∙ ap (firstValues ns vs) (sym (add-one k))
+      ap (λ (x : ℕ). firstBytes t k ++ (x ∷ [])) (e ∙ ap (λ (n : ℕ). getD t (codeAt n true) 0) (add-one k)) ∙ ap (firstBytes t) (sym (add-one k))
 
-  pub values-more : (row now : List ℕ) (i v : ℕ) → i < length row → v ≡ getD vs (getD ns (i + 1) 0) 0 → now ≡ firstValues ns vs i ++ drop i row → set now i v ≡ firstValues ns vs (i + 1) ++ drop (i + 1) row
+  pub values-more : (row now : List ℕ) (i v : ℕ) → i < length row → v ≡ getD t (codeAt (i + 1) true) 0 → now ≡ firstBytes t i ++ drop i row → set now i v ≡ firstBytes t (i + 1) ++ drop (i + 1) row
   values-more row now i v h w e =
       ap (λ (l : List ℕ). set l i v) e
-      ∙ extended row (firstValues ns vs i) i v (first-length i) h
+      ∙ extended row (firstBytes t i) i v (first-length i) h
       ∙ ap (λ (xs : List ℕ). xs ++ drop (i + 1) row) (next i v w)
 
-  pub values-last : (row now : List ℕ) (i k v : ℕ) → i ≡ k → k < length row → now ≡ firstValues ns vs i ++ drop i row → set now k v ≡ firstValues ns vs k ++ (v ∷ drop (suc k) row)
+  pub values-last : (row now : List ℕ) (i k v : ℕ) → i ≡ k → k < length row → now ≡ firstBytes t i ++ drop i row → set now k v ≡ firstBytes t k ++ (v ∷ drop (suc k) row)
   values-last row now i k v z h e =
-      ap (λ (l : List ℕ). set l k v) (e ∙ ap (λ (n : ℕ). firstValues ns vs n ++ drop n row) z)
-      ∙ ap (λ (ys : List ℕ). set (firstValues ns vs k ++ ys) k v) (drop-cons row k 0 h)
-      ∙ set-at (firstValues ns vs k) (getD row k 0) (drop (suc k) row) v k (first-length k)
+      ap (λ (l : List ℕ). set l k v) (e ∙ ap (λ (n : ℕ). firstBytes t n ++ drop n row) z)
+      ∙ ap (λ (ys : List ℕ). set (firstBytes t k ++ ys) k v) (drop-cons row k 0 h)
+      ∙ set-at (firstBytes t k) (getD row k 0) (drop (suc k) row) v k (first-length k)

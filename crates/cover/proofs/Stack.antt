@@ -7,12 +7,11 @@ use mathlib.Core.List.{List, [], _∷_, _++_}
 use lib.ListN.{length, take, drop, length-drop}
 use lib.Dec.{leb}
 use lib.Seq.{length-take-le}
-use Rattle.qbf.specs.Formula.{Prefix, Node, _▹_, paper}
+use Rattle.qbf.specs.Formula.{Node, _▹_}
 use Rattle.qbf.specs.Card.{byteOf, zeroTable}
-use Rattle.qbf.specs.Calls.{numbersOk}
 use Rattle.theory.proofs.Basics.{length-▹}
-use Rattle.tables.specs.Views.{Numbers, Values}
-use Rattle.cover.specs.Cover.{Covers, firstValues}
+use Rattle.tables.specs.Codes.{Statuses}
+use Rattle.cover.specs.Cover.{Covers, firstBytes}
 use Rattle.cover.proofs.Lines.{line-written}
 use Rattle.cover.proofs.Count.{row-fits, no-row, last-none}
 use Rattle.cover.proofs.Laws.{full-more, full-less, free-part, row-pushed, row-popped}
@@ -49,23 +48,23 @@ pop-full lines f table r n q ls s e cov =
 pub push-room : (lines f k : ℕ) (table : List ℕ) → k < f → lines < length table / f → lines * f + f ≤ length table
 push-room lines f k table low h = row-fits f (length table) lines (omega arith) h
 
-module _ (lines f : ℕ) (table ns vs : List ℕ) (k v : ℕ) (low : k < f) where
-  pub push-full : length table / f ≤ lines → (D : Prefix) (s : Node) (b : Bool) (ls : List Node)
-      → Numbers D ns → Values D s vs → length s ≡ k → f ≤ length D → numbersOk paper [] D ≡ true → v ≡ byteOf b → length ls ≡ lines
+module _ (lines f : ℕ) (table t : List ℕ) (k v : ℕ) (low : k < f) where
+  pub push-full : length table / f ≤ lines → (s : Node) (b : Bool) (ls : List Node)
+      → Statuses s t → length s ≡ k → v ≡ byteOf b → length ls ≡ lines
       → Covers f table ls → Covers f table (ls ++ ((s ▹ b) ∷ []))
-  push-full n D s b ls shown valued z w ok q e cov = full-more f table ls (s ▹ b) (omega arith) (omega (arith, length-▹ s b)) cov
+  push-full n s b ls shown z q e cov = full-more f table ls (s ▹ b) (omega arith) (omega (arith, length-▹ s b)) cov
 
   abbrev start : ℕ
   start = lines * f
 
-  pub pushed : (row : List ℕ) → lines < length table / f → row ≡ firstValues ns vs k ++ (v ∷ drop (suc k) (take (start + f - start) (drop start table)))
-      → (D : Prefix) (s : Node) (b : Bool) (ls : List Node)
-      → Numbers D ns → Values D s vs → length s ≡ k → f ≤ length D → numbersOk paper [] D ≡ true → v ≡ byteOf b → length ls ≡ lines
+  pub pushed : (row : List ℕ) → lines < length table / f → row ≡ firstBytes t k ++ (v ∷ drop (suc k) (take (start + f - start) (drop start table)))
+      → (s : Node) (b : Bool) (ls : List Node)
+      → Statuses s t → length s ≡ k → v ≡ byteOf b → length ls ≡ lines
       → Covers f table ls → Covers f (take start table ++ (row ++ drop (start + f - start) (drop start table))) (ls ++ ((s ▹ b) ∷ []))
-  pushed row h r D s b ls shown valued z w ok q e cov =
+  pushed row h r s b ls shown z q e cov =
       row-pushed f table ls start (start + f - start) here (omega arith) room (s ▹ b)
       (take start table ++ (row ++ drop (start + f - start) (drop start table))) row cov (omega (arith, length-▹ s b))
-      (line-written D s b ns vs shown valued ok f k v (take (start + f - start) (drop start table)) row z low w q
+      (line-written s b t shown f k v (take (start + f - start) (drop start table)) row z low q
       (free-part f table ls start (start + f - start) here (omega arith) room cov) r)
       refl
     where

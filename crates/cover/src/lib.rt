@@ -2,16 +2,15 @@
 // and taken back where the other side is Yes too. A push past the table's end only counts, and the bytes after the last line are
 // always zero, so that the count alone decides refusal 21 at the end.
 ghost use mathlib.Core.Path.{_≡_};
-ghost use mathlib.Core.Bool.{Bool, true};
+ghost use mathlib.Core.Bool.{Bool};
 ghost use mathlib.Core.List.{List, [], _∷_, _++_};
-ghost use Prim.Native.Nat.{ℕ, suc, _+_, _*_, _≤_, _<_};
-ghost use lib.ListN.{length, getD, drop};
+ghost use Prim.Native.Nat.{suc, _+_, _*_, _≤_, _<_};
+ghost use lib.ListN.{length, drop};
 ghost use lib.Dec.{leb};
-ghost use Rattle.qbf.specs.Formula.{Prefix, Node, _▹_, paper};
+ghost use Rattle.qbf.specs.Formula.{Node, _▹_, paper};
 ghost use Rattle.qbf.specs.Card.{byteOf, zeroTable};
-ghost use Rattle.qbf.specs.Calls.{numbersOk};
-ghost use Rattle.tables.specs.Views.{Numbers, Values};
-ghost use Rattle.cover.specs.Cover.{Covers, firstValues};
+ghost use Rattle.tables.specs.Codes.{Statuses};
+ghost use Rattle.cover.specs.Cover.{Covers, firstBytes};
 
 // "A refusal .. zeroes the card table."
 pub fn clear(table: &mut [u8])
@@ -35,57 +34,36 @@ pub fn fits(size: usize, free: usize, lines: usize) -> bool
     lines <= size / free
 }
 
-// A number that is not in the table has no value.
-fn value_of(values: &[u8], number: u16) -> u8
-    ensures { λ r. ⌜ r ≡ getD (now (values .entry)) number 0 ⌝ }
-{
-    let n = number as usize;
-    if n < values.len() {
-        return values[n];
-    }
-    tables::OPEN
-}
-
-// "A line is f bytes in place order": the values of the first k places, then the value of the next. The later places are open, and
-// the free row has zeros there.
-fn write_line<'a>(
-    row: &mut [u8],
-    numbers: &'a [u16; tables::BY_NUMBER],
-    values: &'a [u8; tables::BY_NUMBER],
-    k: usize,
-    value: u8,
-)
+// "A line is f bytes in place order": the statuses of the positive literals of the first k places are their bytes, then comes the value of the
+// next. The later places are open, and the free row has zeros there.
+fn write_line<'a>(row: &mut [u8], statuses: &'a [u8; tables::CODES], k: usize, value: u8)
     requires { ⌜ k < length (now row) ⌝ }
     requires { ⌜ k < paper .numbers ⌝ }
-    ensures { λ _. ⌜ now (row .exit) ≡ firstValues (now (numbers .entry)) (now (values .entry)) k ++ (value ∷ drop (suc k) (now (row .entry))) ⌝ }
+    ensures { λ _. ⌜ now (row .exit) ≡ firstBytes (now (statuses .entry)) k ++ (value ∷ drop (suc k) (now (row .entry))) ⌝ }
 {
     let mut i: usize = 0;
     while i < k {
-        row[i] = value_of(values, numbers[i + 1]);
+        row[i] = statuses[i * 2 + 3];
         i += 1;
     }
     row[k] = value;
 }
 
-// One line more: the node of k places that the tables show, and the value of the next place.
+// One line more: the node of k places whose statuses are given, and the value of the next place.
 pub fn push_line<'a>(
     table: &mut [u8],
     lines: usize,
     free: usize,
-    numbers: &'a [u16; tables::BY_NUMBER],
-    values: &'a [u8; tables::BY_NUMBER],
+    statuses: &'a [u8; tables::CODES],
     k: usize,
     value: u8,
 )
     requires { ⌜ free ≤ paper .numbers ⌝ }
     requires { ⌜ k < free ⌝ }
     ensures { λ _. ⌜ length (now (table .exit)) ≡ length (now (table .entry)) ⌝ }
-    ensures { λ _. ⌜ ((D : Prefix) (s : Node) (b : Bool) (ls : List Node)
-        → Numbers D (now (numbers .entry))
-        → Values D s (now (values .entry))
+    ensures { λ _. ⌜ ((s : Node) (b : Bool) (ls : List Node)
+        → Statuses s (now (statuses .entry))
         → length s ≡ k
-        → free ≤ length D
-        → numbersOk paper [] D ≡ true
         → value ≡ byteOf b
         → length ls ≡ lines
         → Covers free (now (table .entry)) ls
@@ -94,7 +72,7 @@ pub fn push_line<'a>(
     if lines < table.len() / free {
         let at = lines * free;
         let end = at + free;
-        write_line(&mut table[at..end], numbers, values, k, value);
+        write_line(&mut table[at..end], statuses, k, value);
     }
 }
 

@@ -1,19 +1,20 @@
--- The marks at the start node, and one place below a node.
-use Prim.Native.Nat.{ℕ, zero, suc, _+_, _≤_, _<_}
+-- The clauses that the test of satisfied clauses has passed, at the start node and one place below a node; the marks of one place more.
+use Prim.Native.Nat.{ℕ, zero, suc, _+_}
 use native.Mathlib.Omega.{arith}
 use mathlib.Core.Path.{_≡_, refl, sym, ap, _∙_}
-use mathlib.Core.Logic.{_⊎_, inl, inr}
+use mathlib.Core.Logic.{inl, inr}
 use mathlib.Core.Bool.{Bool, true, false, cond}
-use mathlib.Core.List.{List, [], _∷_, _++_, append-nil}
-use lib.ListN.{length, getD, take, replicate, getD-replicate, List·getD-eq-default, length-replicate}
+use mathlib.Core.List.{List, [], _∷_, _++_, map}
+use mathlib.Core.Option.{Option}
+use lib.ListN.{length, getD, take}
 use lib.Dec.{eqb}
-use Rattle.qbf.specs.Formula.{Clause, Node, Prefix, _▹_}
+use Rattle.qbf.specs.Formula.{Clause, Literal, Node, Prefix, _▹_, all, satisfied}
 use Rattle.qbf.specs.Card.{Mem}
-use Rattle.theory.proofs.Basics.{le-or-lt, length-▹}
+use Rattle.theory.proofs.Basics.{and-left, and-right}
 use Rattle.theory.proofs.Game.{Rising}
-use Rattle.theory.proofs.Resumed.{satisfied-stays, implicant-stays}
-use Rattle.tables.specs.Codes.{codeAt, codes}
-use Rattle.tables.specs.Marks.{markedFrom, Marked}
+use Rattle.theory.proofs.Resumed.{satisfied-stays, first-stays}
+use Rattle.tables.specs.Codes.{codeAt}
+use Rattle.tables.specs.Marks.{markedFrom, codeFound, firstCode, Passed}
 
 -- what is marked where the node has one place more
 pub marked-snoc : (p : ℕ) (s : Node) (b : Bool) (marks : List ℕ)
@@ -28,30 +29,16 @@ marked-snoc p (x ∷ s) b marks =
     by true end e = ap (λ (cs : List ℕ). codeAt p x ∷ cs) e
     by false end e = e
 
--- ---- no mark
--- nothing is gathered where no place is marked
-none-marked : (p : ℕ) (s : Node) (marks : List ℕ) → ((q : ℕ) → getD marks q 0 ≡ 0) → markedFrom p s marks ≡ []
-none-marked p [] marks h = refl
-none-marked p (b ∷ s) marks h = rw (h p) (none-marked (suc p) s marks h)
+-- ---- clauses passed
+-- where no clause is asked yet
+pub passed-none : (D : Prefix) (s : Node) (R : List Clause) (firsts : List ℕ) → Passed D s R 0 firsts
+passed-none D s R firsts = record { within = omega arith; all-satisfied = refl; chosen = refl }
 
--- a table of zeros
-zeros : (n q : ℕ) → getD {A = ℕ} (replicate n 0) q 0 ≡ 0
-zeros n q = by (le-or-lt n q)
-  where
-    by : (n ≤ q) ⊎ (q < n) → getD {A = ℕ} (replicate n 0) q 0 ≡ 0
-    by (inl h) = List·getD-eq-default (replicate n 0) 0 (omega (arith, length-replicate {A = ℕ} n 0))
-    by (inr h) = getD-replicate n q 0 0 h
+-- a table with the same first cells
+pub passed-kept : {D : Prefix} {s : Node} {R : List Clause} {k : ℕ} {firsts after : List ℕ}
+    → Passed D s R k firsts → take k after ≡ take k firsts → Passed D s R k after
+passed-kept m e = record { within = m .within; all-satisfied = m .all-satisfied; chosen = e ∙ m .chosen }
 
--- where no clause is asked yet, no place is marked
-pub marked-none : (D : Prefix) (s : Node) (R : List Clause) → Marked D s R 0 (replicate 48 0)
-marked-none D s R = record {
-  within = omega arith;
-  all-satisfied = refl;
-  chosen = sym (none-marked 1 s (replicate 48 0) (zeros 48));
-  beyond = λ p h. zeros 48 p;
-}
-
--- ---- one place below
 -- the first k clauses are clauses
 take-mem : (k : ℕ) (R : List Clause) (r : Clause) → Mem r (take k R) → Mem r R
 take-mem zero R r m = absurd m
@@ -59,17 +46,20 @@ take-mem (suc k) [] r m = absurd m
 take-mem (suc k) (x ∷ R) r (inl p) = inl p
 take-mem (suc k) (x ∷ R) r (inr m) = inr (take-mem k R r m)
 
--- the clauses that are satisfied at a node, and the marks, are those of each node one place below
-pub marked-below : (D : Prefix) (s : Node) (R : List Clause) (k : ℕ) (marks : List ℕ) → ((r : Clause) → Mem r R → Rising D 0 r)
-    → Marked D s R k marks → (b : Bool) → Marked D (s ▹ b) R k marks
-marked-below D s R k marks up m b =
-    let clear : getD marks (1 + length s) 0 ≡ 0 = m .beyond (1 + length s) (omega arith) in
-    record {
-      within = m .within;
-      all-satisfied = satisfied-stays D s b (take k R) (m .all-satisfied);
-      chosen =
-          ap (codes D) (implicant-stays D s b (take k R) (λ r n. up r (take-mem k R r n)) (m .all-satisfied) [])
-          ∙ m .chosen
-          ∙ sym (marked-snoc 1 s b marks ∙ ap (λ (x : ℕ). markedFrom 1 s marks ++ cond (eqb x 1) (codeAt (1 + length s) b ∷ []) []) clear ∙ append-nil (markedFrom 1 s marks));
-      beyond = λ p h. m .beyond p (omega (arith, length-▹ s b));
-    }
+-- the first true literals of satisfied clauses are the same one place below
+firsts-stay : (D : Prefix) (s : Node) (b : Bool) (R : List Clause) → ((r : Clause) → Mem r R → Rising D 0 r) → all (satisfied D s) R ≡ true
+    → map (firstCode D (s ▹ b)) R ≡ map (firstCode D s) R
+firsts-stay D s b [] up e = refl
+firsts-stay D s b (r ∷ R) up e =
+    ap (λ (o : Option Literal). codeFound D o ∷ map (firstCode D (s ▹ b)) R)
+    (first-stays D s b 0 r (up r (inl refl)) (and-left (satisfied D s r) (all (satisfied D s) R) e))
+    ∙ ap (λ (cs : List ℕ). firstCode D s r ∷ cs) (firsts-stay D s b R (λ x m. up x (inr m)) (and-right (satisfied D s r) (all (satisfied D s) R) e))
+
+-- what is passed at a node is passed at each node one place below
+pub passed-below : (D : Prefix) (s : Node) (R : List Clause) (k : ℕ) (firsts : List ℕ) → ((r : Clause) → Mem r R → Rising D 0 r)
+    → Passed D s R k firsts → (b : Bool) → Passed D (s ▹ b) R k firsts
+passed-below D s R k firsts up m b = record {
+  within = m .within;
+  all-satisfied = satisfied-stays D s b (take k R) (m .all-satisfied);
+  chosen = m .chosen ∙ sym (firsts-stay D s b (take k R) (λ r n. up r (take-mem k R r n)) (m .all-satisfied));
+}

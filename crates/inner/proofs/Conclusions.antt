@@ -11,15 +11,16 @@ use Rattle.qbf.specs.Formula.{paper, Prefix, Clause, Node, all, satisfied}
 use Rattle.qbf.specs.Truth.{Verdict, Outcome}
 use Rattle.qbf.specs.Learning.{Constraint, Store, concludeBy, reduce, firstDead, reducedFound, eligibleMatch, implicant, leaf}
 use Rattle.tables.specs.Codes.{codes}
-use Rattle.tables.specs.Marks.{Marked, Fresh}
+use Rattle.tables.specs.Marks.{Passed, Fresh}
 use Rattle.leaf.specs.Conflict.{firstOf}
 use Rattle.leaf.specs.Leaf.{leafLength}
 use Rattle.leaf.specs.Solution.{matched, satisfiedOr}
 use Rattle.leaf.specs.declared.Leaf.{Leaf}
 use Rattle.leaf.specs.declared.Leaf.the-variants.{No, Yes, Open}
-use Rattle.inner.specs.Inner.{FoundCoded, foundLength, LeafCoded}
+use Rattle.inner.specs.Inner.{FoundCoded, foundLength, LeafCoded, Entered, steps, Concluded}
 use Rattle.inner.specs.declared.found.Found.{Found}
 use Rattle.inner.specs.declared.found.Found.the-variants.{At, Nothing}
+use Rattle.inner.specs.declared.Step.{Step}
 
 -- ---- steps 1 and 2
 module _ {D : Prefix} {R : List Clause} {s : Node} (fresh : Fresh D s R) (next : Option Constraint) where
@@ -63,20 +64,8 @@ module _ (D : Prefix) (R : List Clause) (s : Node) (next : Option (Outcome Const
   pub reached-some : (k ≡ length R → ⊥) → (x : Leaf) (up : List ℕ) → LeafCoded D x up next → LeafCoded D x up (satisfiedOr D R s next)
   reached-some e x up h = subst (LeafCoded D x up) (sym (tested false (ne-eqb k (length R) e))) h
 
-pub marked-all : {D : Prefix} {R : List Clause} {s : Node} {k : ℕ} {marks : List ℕ} → k ≡ length R → Marked D s R k marks → Marked D s R (length R) marks
-marked-all {D} {R} {s} {k} {marks} e m = subst (λ (n : ℕ). Marked D s R n marks) e m
-
--- ---- the answer as it was put together
-module _ {x y : Leaf} (made : x ≡ y) where
-  pub leaf-short : leafLength y ≤ paper .numbers → leafLength x ≤ paper .numbers
-  leaf-short h = subst (λ (z : Leaf). leafLength z ≤ paper .numbers) (sym made) h
-
-  pub leaf-coded : (D : Prefix) (up : List ℕ) (o : Option (Outcome Constraint)) → LeafCoded D y up o → LeafCoded D x up o
-  leaf-coded D up o h = subst (λ (z : Leaf). LeafCoded D z up o) (sym made) h
-
-pub marked-same : {D : Prefix} {R : List Clause} {s : Node} {k j : ℕ} {marks given : List ℕ} → j ≡ k → given ≡ marks → Marked D s R k marks → Marked D s R j given
-marked-same {D} {R} {s} {k} {j} {marks} {given} e q m =
-    subst (λ (n : ℕ). Marked D s R n given) (sym e) (subst (Marked D s R k) (sym q) m)
+pub passed-all : {D : Prefix} {R : List Clause} {s : Node} {k n : ℕ} {firsts : List ℕ} → k ≡ n → Passed D s R k firsts → Passed D s R n firsts
+passed-all {D} {R} {s} {k} {n} {firsts} e m = subst (λ (j : ℕ). Passed D s R j firsts) e m
 
 -- ---- the steps in order
 first-then : (v : Verdict) (a b : Option Constraint) (next : Option (Outcome Constraint)) → concludeBy v (firstOf a b) next ≡ concludeBy v a (concludeBy v b next)
@@ -105,3 +94,21 @@ module _ (D : Prefix) (R : List Clause) (s : Node) (st : Store) where
     conflict-none q y up h =
         let g = subst (λ (z : Found). FoundCoded D z before conflictOf) q f in
         subst (LeafCoded D y up) (sym (in-order none g)) h
+
+-- ---- the answer as it was put together, where `start` is known
+module _ {r : Step} {x : Leaf} {n : ℕ} (made : r ≡ record { leaf = x; satisfied = n }) where
+  pub step-short : leafLength x ≤ paper .numbers → leafLength (r .leaf) ≤ paper .numbers
+  step-short h = subst (λ (q : Step). leafLength (q .leaf) ≤ paper .numbers) (sym made) h
+
+  pub step-grown : {k : ℕ} → k ≤ n → k ≤ r .satisfied
+  step-grown {k} h = subst (λ (q : Step). k ≤ q .satisfied) (sym made) h
+
+  pub concluded : {start b : Bool} → start ≡ b → {D : Prefix} {R : List Clause} {s : Node} {st : Store} (up : List ℕ) {firsts : List ℕ}
+      → LeafCoded D x up (steps D R s st b) → Passed D s R n firsts → Concluded D R s st start r up firsts
+  concluded {start} {b} is {D} {R} {s} {st} up {firsts} h passed =
+      subst (λ (a : Bool). Concluded D R s st a r up firsts) (sym is)
+      (subst (λ (q : Step). Concluded D R s st b q up firsts) (sym made) (record { read = h; passed = passed }))
+
+-- an inner node has a value, and no clause was dead above it
+pub entered-inner : {D : Prefix} {s : Node} {R : List Clause} {start : Bool} → start ≡ false → Entered D s R start → Fresh D s R × (1 ≤ length s)
+entered-inner {D} {s} {R} is entered = subst (Entered D s R) is entered

@@ -13,7 +13,7 @@ use lib.ListN.{length, getElem?}
 use Rattle.qbf.specs.Formula.{Prefix, Literal, Node, positive, place, valueAt, equals, all, has}
 use Rattle.qbf.specs.Learning.{Constraint, lastPlaceFrom, lastPlace, eligibleMatch}
 use Rattle.theory.proofs.Basics.{dichotomy, and-left, and-right, eqb-true, false-eqb}
-use Rattle.tables.specs.Codes.{sign, codeAt, codeOf, codes, lastFrom, wanted, allAre, Statuses}
+use Rattle.tables.specs.Codes.{codeAt, codeOf, codes, lastFrom, wanted, allAre, Statuses}
 use Rattle.tables.specs.Shelves.{endsIn, firstMatch}
 use Rattle.coding.proofs.Given.{all-status}
 use Rattle.coding.proofs.Half.{code-place}

@@ -1,5 +1,7 @@
 pub mod Marking
 pub mod Below
+pub mod Rows
+pub mod Linked
 pub mod Advancing
 pub mod Gathering
 pub mod LastLiteral

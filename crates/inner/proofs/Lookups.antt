@@ -1,5 +1,5 @@
 -- The code that is looked up at an inner node, and what the lookup found.
-use Prim.Native.Nat.{ℕ, _+_, _*_, _≤_, _<_}
+use Prim.Native.Nat.{ℕ, suc, _+_, _*_, _-_, _≤_, _<_}
 use native.Mathlib.Omega.{arith}
 use mathlib.Core.Path.{_≡_, refl, sym, ap, _∙_}
 use mathlib.Core.Bool.{Bool, true, false, cond, Bool·beq}
@@ -11,7 +11,8 @@ use lib.ListN.{length, getD}
 use Rattle.qbf.specs.Formula.{Prefix, Node, valueAt}
 use Rattle.qbf.specs.Learning.{Constraint, eligibleMatch}
 use Rattle.tables.specs.Codes.{sign, codeAt, codes, statusOf, wanted, Statuses}
-use Rattle.tables.specs.Shelves.{shelfRows, rowAt, foundAt, firstMatch}
+use Rattle.tables.specs.Shelves.{rowAt, foundAt, firstMatch}
+use Rattle.tables.specs.Matrices.{dyingAt, numbered}
 use Rattle.inner.proofs.LastLiteral.{coded, last-value, last-literal}
 
 -- ---- the literal of a place by the status of its positive literal
@@ -43,29 +44,41 @@ uncoded-none : (D : Prefix) (o : Option Constraint) → none ≡ coded D o → o
 uncoded-none D none h = refl
 uncoded-none D (some e) h = absurd (let z : _≡_ {A = ℕ} 0 1 = cc in omega arith)
 
-module _ (stride slots : ℕ) (cells links t : List ℕ) (v : Bool) (r k : ℕ) {code want : ℕ}
+-- what was found among the rows of the constraints is what is eligible
+module _ {t : List ℕ} (v : Bool) {k code want : ℕ}
     (code-is : (s : Node) (b : Bool) → Statuses s t → valueAt s k ≡ some b → code ≡ codeAt k (Bool·beq b v)) (want-is : want ≡ wanted v)
-    (found : foundAt stride slots cells r ≡ firstMatch code t want (shelfRows stride slots cells links))
+    {rows : List (List ℕ)} {result : Option (List ℕ)} (found : result ≡ firstMatch code t want rows)
     (D : Prefix) (s : Node) (es : List Constraint) (shown : Statuses s t) (long : length s ≡ k) (inner : 1 ≤ k)
-    (rows : shelfRows stride slots cells links ≡ map (codes D) es) where
-  looked-up : foundAt stride slots cells r ≡ coded D (eligibleMatch D eqb v s es)
+    (same : rows ≡ map (codes D) es) where
+  looked-up : result ≡ coded D (eligibleMatch D eqb v s es)
   looked-up =
       let far : 1 ≤ length s = omega (arith, long) in
       let value = last-value s far in
       let is : code ≡ codeAt (length s) (Bool·beq (value .0) v) =
       code-is s (value .0) shown (ap (valueAt s) (sym long) ∙ value .1) ∙ ap (λ (p : ℕ). codeAt p (Bool·beq (value .0) v)) (sym long) in
       found
-      ∙ ap (firstMatch code t want) rows
+      ∙ ap (firstMatch code t want) same
       ∙ ap (λ (w : ℕ). firstMatch code t w (map (codes D) es)) want-is
       ∙ ap (λ (c : ℕ). firstMatch c t (wanted v) (map (codes D) es)) is
       ∙ last-literal D s v (value .0) (value .1) far t shown es
 
-  pub found-row : r < slots → {row : List ℕ} → row ≡ rowAt stride cells r → (e : Constraint) × (eligibleMatch D eqb v s es ≡ some e) × (row ≡ codes D e)
-  found-row low is =
-      uncoded D (eligibleMatch D eqb v s es)
-      (ap some is ∙ sym (ap (λ (b : Bool). cond b (some (rowAt stride cells r)) none) (lt-ltb r slots low)) ∙ looked-up)
+  pub found-row : {row : List ℕ} → result ≡ some row → (e : Constraint) × (eligibleMatch D eqb v s es ≡ some e) × (row ≡ codes D e)
+  found-row is = uncoded D (eligibleMatch D eqb v s es) (sym is ∙ looked-up)
 
-  pub found-nothing : slots ≤ r → eligibleMatch D eqb v s es ≡ none
-  found-nothing high =
-      uncoded-none D (eligibleMatch D eqb v s es)
-      (sym (ap (λ (b : Bool). cond b (some (rowAt stride cells r)) none) (le-ltb r slots high)) ∙ looked-up)
+  pub found-nothing : result ≡ none → eligibleMatch D eqb v s es ≡ none
+  found-nothing is = uncoded-none D (eligibleMatch D eqb v s es) (sym is ∙ looked-up)
+
+-- ---- what is in a slot, and what has a number
+module _ (stride slots : ℕ) (cells : List ℕ) (r : ℕ) where
+  pub slot-row : r < slots → {row : List ℕ} → row ≡ rowAt stride cells r → foundAt stride slots cells r ≡ some row
+  slot-row low is = ap (λ (b : Bool). cond b (some (rowAt stride cells r)) none) (lt-ltb r slots low) ∙ ap some (sym is)
+
+  pub slot-none : slots ≤ r → foundAt stride slots cells r ≡ none
+  slot-none high = ap (λ (b : Bool). cond b (some (rowAt stride cells r)) none) (le-ltb r slots high)
+
+module _ (cells : List ℕ) (number : ℕ) where
+  pub number-row : (number ≡ 0 → ⊥) → {row : List ℕ} → row ≡ dyingAt cells (number - 1) → numbered cells number ≡ some row
+  number-row h is = let z : number ≡ suc (number - 1) = omega (arith, h) in ap (numbered cells) z ∙ ap some (sym is)
+
+  pub number-none : number ≡ 0 → numbered cells number ≡ none
+  number-none h = ap (numbered cells) h

@@ -1,23 +1,27 @@
 -- The marked places as a constraint: a true literal put in marks its place.
-use Prim.Native.Nat.{ℕ, zero, suc, _-_, _≤_, _<_}
+use Prim.Native.Nat.{ℕ, zero, suc, _+_, _-_, _/_, _≤_, _<_}
 use native.Mathlib.Omega.{arith}
+use native.Mathlib.Numerals.{add-one}
 use mathlib.Core.Path.{_≡_, refl, sym, ap, _∙_, subst}
 use mathlib.Core.Logic.{_⊎_, inl, inr}
 use mathlib.Core.Bool.{Bool, true, false, cond, _&&_, Bool·beq, false≢true}
 use mathlib.Core.List.{List, [], _∷_, _++_}
 use mathlib.Core.Option.{Option, none, some}
-use lib.ListN.{length, getD, take, set, getElem?}
-use lib.Seq.{getD-set-same, getD-set-other, take-suc}
+use lib.ListN.{length, getD, take, set, getElem?, replicate, getD-replicate, List·getD-eq-default, List·getD-map, length-replicate, length-set}
+use lib.Seq.{getD-set-same, getD-set-other, getD-take, take-suc, take-all}
 use lib.Dec.{eqb}
 use borrow.Author.Tests.{lt-ltb, le-ltb, eq-eqb, ne-eqb}
-use Rattle.qbf.specs.Formula.{Clause, Literal, Node, Prefix, all, equals, has, place, positive, satisfied, valueAt}
+use Rattle.qbf.specs.Formula.{paper, Clause, Literal, Node, Prefix, all, equals, has, place, positive, quantifiers, satisfied, valueAt}
 use Rattle.qbf.specs.Learning.{Constraint, first, implicant, insert, insertFound}
-use Rattle.theory.proofs.Basics.{and-both, has-le, le-or-lt, →any}
+use Rattle.qbf.specs.Calls.{prefixOk, numbersOk, freeFirst}
+use Rattle.theory.proofs.Basics.{and-left, and-right, and-both, has-le, le-or-lt, →any}
 use Rattle.theory.proofs.Sets.{Found, found}
 use Rattle.theory.proofs.Resumed.{implicant-append}
+use Rattle.theory.proofs.WellFormed.{inside}
+use Rattle.theory.proofs.Widths.{prefix-width}
 use Rattle.tables.specs.Codes.{codeAt, codeOf, codes}
-use Rattle.coding.proofs.Half.{code-place}
-use Rattle.tables.specs.Marks.{markedFrom, Marked}
+use Rattle.tables.specs.Marks.{markedFrom, codeFound, firstCode, Marked, Passed}
+use Rattle.coding.proofs.Half.{code-place, half-code}
 
 -- ---- insertion by the place of the first literal
 module _ (D : Prefix) (l k : Literal) (E : Constraint) where
@@ -106,7 +110,7 @@ module _ (D : Prefix) (l : Literal) (marks after : List ℕ) (new : getD after (
 
 -- ---- a true literal
 -- its place, and the value there
-pub true-value : (D : Prefix) (s : Node) (l : Literal) → has D true s l ≡ true → (1 ≤ place D l) × (getElem? s (place D l - 1) ≡ some (positive l))
+true-value : (D : Prefix) (s : Node) (l : Literal) → has D true s l ≡ true → (1 ≤ place D l) × (getElem? s (place D l - 1) ≡ some (positive l))
 true-value D s l e = by (place D l) e
   where
     sure : (o : Option Bool) (b : Bool) → equals o (Bool·beq true b) ≡ true → o ≡ some b
@@ -121,7 +125,7 @@ true-value D s l e = by (place D l) e
     by (suc i) h = let z : suc i - 1 ≡ i = omega arith in (omega arith, ap (getElem? s) z ∙ sure (getElem? s i) (positive l) h)
 
 -- a true literal put into the literals of the marked places: its place is marked
-pub mark-first : (D : Prefix) (s : Node) (marks : List ℕ) (E : Constraint) (l : Literal) → has D true s l ≡ true → place D l < length marks
+mark-first : (D : Prefix) (s : Node) (marks : List ℕ) (E : Constraint) (l : Literal) → has D true s l ≡ true → place D l < length marks
     → codes D E ≡ markedFrom 1 s marks → codes D (insert D l E) ≡ markedFrom 1 s (set marks (place D l) 1)
 mark-first D s marks E l t h e =
     let w = true-value D s l t in
@@ -129,7 +133,7 @@ mark-first D s marks E l t h e =
 
 -- ---- one clause more
 -- a test that passes at every element and at one more
-all-append : {A : Type 0} (f : A → Bool) (xs : List A) (y : A) → all f xs ≡ true → f y ≡ true → all f (xs ++ (y ∷ [])) ≡ true
+pub all-append : {A : Type 0} (f : A → Bool) (xs : List A) (y : A) → all f xs ≡ true → f y ≡ true → all f (xs ++ (y ∷ [])) ≡ true
 all-append f [] y e h = and-both (f y) true h refl
 all-append f (x ∷ xs) y e h = by (f x) e (λ r. all-append f xs y r h)
   where
@@ -138,7 +142,7 @@ all-append f (x ∷ xs) y e h = by (f x) e (λ r. all-append f xs y r h)
     by false q ih = absurd (false≢true q)
 
 -- a clause with a first true literal: it is satisfied, and the literal's place is marked
-pub marked-more : (D : Prefix) (s : Node) (R : List Clause) (k : ℕ) (marks : List ℕ) → Marked D s R k marks
+marked-more : (D : Prefix) (s : Node) (R : List Clause) (k : ℕ) (marks : List ℕ) → Marked D s R k marks
     → (l : Literal) → first (has D true s) (getD R k []) ≡ some l → k < length R → place D l < length marks
     → Marked D s R (suc k) (set marks (place D l) 1)
 marked-more D s R k marks m l e low room =
@@ -156,3 +160,82 @@ marked-more D s R k marks m l e low room =
           ∙ mark-first D s marks (implicant D s (take k R) []) l (w .1) room (m .chosen);
       beyond = λ p h. getD-set-other marks (place D l) p 1 0 (λ q. omega (arith, has-le D true s l (w .1))) ∙ m .beyond p h;
     }
+
+-- ---- no mark
+-- nothing is gathered where no place is marked
+none-marked : (p : ℕ) (s : Node) (marks : List ℕ) → ((q : ℕ) → getD marks q 0 ≡ 0) → markedFrom p s marks ≡ []
+none-marked p [] marks h = refl
+none-marked p (b ∷ s) marks h = rw (h p) (none-marked (suc p) s marks h)
+
+-- a table of zeros
+zeros : (n q : ℕ) → getD {A = ℕ} (replicate n 0) q 0 ≡ 0
+zeros n q = by (le-or-lt n q)
+  where
+    by : (n ≤ q) ⊎ (q < n) → getD {A = ℕ} (replicate n 0) q 0 ≡ 0
+    by (inl h) = List·getD-eq-default (replicate n 0) 0 (omega (arith, length-replicate {A = ℕ} n 0))
+    by (inr h) = getD-replicate n q 0 0 h
+
+-- ---- the marks of the clauses passed: of the first k so far
+pub record Marks (firsts : List ℕ) (count k : ℕ) (marks : List ℕ) : Type 0 where
+  pub within : k ≤ count
+  pub long : length marks ≡ suc (paper .numbers)
+  pub is : (D : Prefix) (R : List Clause) (s : Node) → prefixOk paper D ≡ true → length R ≡ count → Passed D s R count firsts → Marked D s R k marks
+
+pub marks-none : (firsts : List ℕ) (count : ℕ) → Marks firsts count 0 (replicate (suc (paper .numbers)) 0)
+marks-none firsts count = record {
+  within = omega arith;
+  long = length-replicate {A = ℕ} (suc (paper .numbers)) 0;
+  is = λ D R s ok counted passed. record {
+    within = omega arith;
+    all-satisfied = refl;
+    chosen = sym (none-marked 1 s (replicate (suc (paper .numbers)) 0) (zeros (suc (paper .numbers))));
+    beyond = λ p h. zeros (suc (paper .numbers)) p;
+  };
+}
+
+-- a test that passes at every element passes at an index
+all-at : {A : Type 0} (f : A → Bool) (xs : List A) (i : ℕ) (d : A) → i < length xs → all f xs ≡ true → f (getD xs i d) ≡ true
+all-at f [] i d h e = absurd (omega arith)
+all-at f (x ∷ xs) zero d h e = and-left (f x) (all f xs) e
+all-at f (x ∷ xs) (suc i) d h e = all-at f xs i d (omega arith) (and-right (f x) (all f xs) e)
+
+-- a satisfied clause has a first true literal, whose place is half of the code
+first-place : (D : Prefix) (s : Node) (r : Clause) (code : ℕ) → satisfied D s r ≡ true → code ≡ firstCode D s r
+    → (l : Literal) × (first (has D true s) r ≡ some l) × (code / 2 ≡ place D l)
+first-place D s r code sat is = by (first (has D true s) r) refl (found (has D true s) r) is
+  where
+    by : (o : Option Literal) → first (has D true s) r ≡ o → Found (has D true s) r o → code ≡ codeFound D o
+        → (l : Literal) × (first (has D true s) r ≡ some l) × (code / 2 ≡ place D l)
+    by none e w c = absurd (false≢true (sym w ∙ sat))
+    by (some l) e w c = (l, e, ap (λ (x : ℕ). x / 2) c ∙ half-code (place D l) (positive l))
+
+-- a place is that of a table by place
+place-small : (D : Prefix) (l : Literal) → prefixOk paper D ≡ true → place D l < suc (paper .numbers)
+place-small D l ok =
+    omega (arith, inside D l, prefix-width paper D (and-left (numbersOk paper [] D) (freeFirst (quantifiers D)) ok))
+
+module _ {firsts : List ℕ} {count k : ℕ} {marks : List ℕ} (g : Marks firsts count k marks) where
+  -- of one clause more
+  pub marks-more : k < count → {after : List ℕ} → after ≡ set marks (getD firsts k 0 / 2) 1 → Marks firsts count (k + 1) after
+  marks-more low {after} put = record {
+    within = omega arith;
+    long = ap length put ∙ length-set marks (getD firsts k 0 / 2) 1 ∙ g .long;
+    is = λ D R s ok counted passed.
+        let here : k < length R = omega (arith, counted) in
+        let code-is : getD firsts k 0 ≡ firstCode D s (getD R k []) =
+        sym (getD-take count firsts k 0 low)
+        ∙ ap (λ (cs : List ℕ). getD cs k 0) (passed .chosen)
+        ∙ List·getD-map (firstCode D s) (take count R) k []
+        ∙ ap (firstCode D s) (getD-take count R k [] low) in
+        let sat : satisfied D s (getD R k []) ≡ true =
+        all-at (satisfied D s) R k [] here (ap (all (satisfied D s)) (sym (take-all count R (omega arith))) ∙ passed .all-satisfied) in
+        let w = first-place D s (getD R k []) (getD firsts k 0) sat code-is in
+        rw (put, add-one, w .2) (marked-more D s R k marks (g .is D R s ok counted passed) (w .0) (w .1) here (omega (arith, g .long, place-small D (w .0) ok)));
+  }
+
+  -- of all of them
+  pub marks-all : count ≤ k → (D : Prefix) (R : List Clause) (s : Node) → prefixOk paper D ≡ true → length R ≡ count → Passed D s R count firsts
+      → Marked D s R (length R) marks
+  marks-all h D R s ok counted passed =
+      let e : k ≡ length R = omega (arith, g .within) in
+      subst (λ (n : ℕ). Marked D s R n marks) e (g .is D R s ok counted passed)

@@ -1,16 +1,16 @@
 -- What steps 1 to 4 say at an inner node, with the constraint as codes in the first cells of the area.
-use Prim.Native.Nat.{ℕ}
+use Prim.Native.Nat.{ℕ, _≤_}
 use mathlib.Core.Path.{_≡_}
-use mathlib.Core.Bool.{true, false}
+use mathlib.Core.Bool.{Bool, true, false}
 use mathlib.Core.List.{List}
 use mathlib.Core.Option.{Option, none, some}
-use lib.ListN.{take}
+use lib.ListN.{length, take}
 use lib.Dec.{eqb}
 use Rattle.qbf.specs.Formula.{Prefix, Clause, Node}
 use Rattle.qbf.specs.Truth.{Outcome, decided}
-use Rattle.qbf.specs.Learning.{Constraint, Store, leaf}
+use Rattle.qbf.specs.Learning.{Constraint, Store, leaf, firstDead}
 use Rattle.tables.specs.Codes.{codes}
-use Rattle.tables.specs.Marks.{Marked}
+use Rattle.tables.specs.Marks.{Passed, Fresh}
 use Rattle.leaf.specs.declared.Leaf.{Leaf}
 use Rattle.leaf.specs.declared.Leaf.the-variants.{No, Yes, Open}
 use Rattle.inner.specs.declared.found.Found.{Found}
@@ -31,7 +31,17 @@ LeafCoded D (No n) up o = (e : Constraint) × (o ≡ some (decided false e)) × 
 LeafCoded D (Yes n) up o = (e : Constraint) × (o ≡ some (decided true e)) × (take n up ≡ codes D e)
 LeafCoded D Open up o = o ≡ none
 
+-- how a node is come to: at the start steps 1 to 4 have been taken, and no clause is dead; an inner node has a value, and none was dead above
+abbrev pub Entered : Prefix → Node → List Clause → Bool → Type 0
+Entered D s R true = firstDead D s R ≡ none
+Entered D s R false = Fresh D s R × (1 ≤ length s)
+
+-- what steps 1 to 4 give there
+abbrev pub steps : Prefix → List Clause → Node → Store → Bool → Option (Outcome Constraint)
+steps D R s st true = none
+steps D R s st false = leaf D R eqb s st
+
 -- what is known of the node after the steps
-pub record Concluded (D : Prefix) (R : List Clause) (s : Node) (st : Store) (r : Step) (up : List ℕ) : Type 0 where
-  pub read : LeafCoded D (r .leaf) up (leaf D R eqb s st)
-  pub marked : Marked D s R (r .satisfied) (r .marks)
+pub record Concluded (D : Prefix) (R : List Clause) (s : Node) (st : Store) (start : Bool) (r : Step) (up firsts : List ℕ) : Type 0 where
+  pub read : LeafCoded D (r .leaf) up (steps D R s st start)
+  pub passed : Passed D s R (r .satisfied) firsts

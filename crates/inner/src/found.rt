@@ -1,4 +1,4 @@
-// Steps 1, 2 and 4: the oldest constraint on a shelf that ends in the literal of the node's last place which has the truth value asked for,
+// Steps 2 and 4: the oldest constraint on a shelf that ends in the literal of the node's last place which has the truth value asked for,
 // and all of whose literals have it. It is copied to the area in which a constraint goes up.
 use coding::list::write;
 use shelf::find::find;
@@ -23,7 +23,7 @@ pub enum Found {
 }
 
 // The code of the literal of the place `at` that has the truth value `holds`.
-fn code_here<'a>(statuses: &'a [u8; tables::CODES], at: usize, holds: bool) -> u8
+pub fn code_here<'a>(statuses: &'a [u8; tables::CODES], at: usize, holds: bool) -> u8
     requires { ⌜ at ≤ paper .numbers ⌝ }
     ensures { λ r. ⌜
         ((s : Node) (b : Bool)
@@ -47,7 +47,7 @@ fn wanted(cube: bool) -> u8
 }
 
 // The row becomes the first cells of the area.
-fn copy(up: &mut [u8; tables::AREA], row: &[u8])
+pub fn copy(up: &mut [u8; tables::AREA], row: &[u8])
     requires { ⌜ length (now row) ≤ paper .numbers ⌝ }
     ensures { λ _. ⌜ take (length (now (row .entry))) (now (up .exit)) ≡ now (row .entry) ⌝ }
 {

@@ -1,91 +1,70 @@
-// Step 3: "A clause that was satisfied above stays satisfied": the test goes on with the first clause that was not. The place of a clause's
-// first true literal is marked once the clause is satisfied; it is the same at every node below.
+// Step 3: "A clause that was satisfied above stays satisfied": the test goes on with the first clause that was not. The code of a clause's
+// first true literal is noted once the clause is satisfied; it is the same at every node below.
+use coding::list::NO_CODE;
 use coding::list::first_with;
 ghost use mathlib.Core.Path.{_≡_};
-ghost use mathlib.Core.Bool.{true};
-ghost use mathlib.Core.List.{List, map};
-ghost use Prim.Native.Nat.{suc, _/_, _≤_, _<_};
-ghost use lib.ListN.{length, getD, set};
+ghost use mathlib.Core.List.{List};
+ghost use Prim.Native.Nat.{_≤_, _<_};
 ghost use lib.Dec.{eqb};
+ghost use lib.ListN.{length, getD, take, set};
 ghost use Rattle.qbf.specs.Formula.{paper, Prefix, Clause, Node, all, satisfied};
-ghost use Rattle.qbf.specs.Calls.{prefixOk, clausesOk};
-ghost use Rattle.tables.specs.Views.{Table, row, rowsOf};
-ghost use Rattle.tables.specs.Codes.{codes, Statuses};
-ghost use Rattle.tables.specs.Marks.{Marked};
-ghost use Rattle.coding.specs.FirstTrue.{firstOf};
+ghost use Rattle.tables.specs.Codes.{Statuses};
+ghost use Rattle.tables.specs.Matrices.{Matrix, MatrixShown, countOf, clauseAt};
+ghost use Rattle.tables.specs.Marks.{Passed};
+ghost use Rattle.coding.specs.First.{FirstWith};
 
-// How many leading clauses are satisfied, and the places of their first true literals.
-pub struct Progress {
-    pub satisfied: usize,
-    pub marks: [u8; tables::MARKS],
-}
-
-// The code of the first true literal of clause k; 0 where none is.
+// The code of the first true literal of clause k, or NO_CODE.
 fn true_code<'a>(
-    table: &'a [u8; tables::CLAUSE_CELLS],
-    sizes: &'a [u16; tables::CLAUSE_SIZES],
+    clauses: &'a [u8; tables::CLAUSE_ROWS],
+    links: &'a [u16; tables::CLAUSE_LINKS],
     statuses: &'a [u8; tables::CODES],
     k: usize,
-) -> u8
-    requires { ⌜ Table (paper .literals) (paper .clauses) (now table) (now sizes) ⌝ }
-    requires { ⌜ k < getD (now sizes) 0 0 ⌝ }
-    ensures { λ r. ⌜ r ≡ firstOf (now (statuses .entry)) 2 (row (paper .literals) (now (table .entry)) (now (sizes .entry)) k) ⌝ }
+) -> u16
+    requires { ⌜ Matrix (now clauses) (now links) × (k < countOf (now links)) ⌝ }
+    ensures { λ r. ⌜ FirstWith (λ c. eqb (getD (now (statuses .entry)) c 0) 2) (clauseAt (now (clauses .entry)) k) r ⌝ }
 {
-    let cells: &[u8] = table;
-    let from = k * tables::LITERALS;
-    let size = sizes[k + 1] as usize;
+    let cells: &[u8] = clauses;
+    let from = k * tables::CLAUSE_ROW + 2;
+    let size = clauses[from - 1] as usize;
     first_with(&cells[from..from + size], statuses, tables::ON)
 }
 
-// Marks the place of a code.
-fn mark(marked: &mut [u8; tables::MARKS], code: u8)
-    ensures { λ _. ⌜
-        (now (marked .exit) ≡ set (now (marked .entry)) (code / 2) 1)
-        × (suc (paper .numbers) ≤ length (now (marked .entry)))
-        ⌝ }
+// Notes the code of clause k's first true literal.
+fn note(firsts: &mut [u8; tables::CLAUSES], k: usize, code: u8)
+    requires { ⌜ k < paper .clauses ⌝ }
+    ensures { λ _. ⌜ (now (firsts .exit) ≡ set (now (firsts .entry)) k code) × (paper .clauses ≤ length (now (firsts .entry))) ⌝ }
 {
-    let cells: &mut [u8] = marked;
-    let place = (code / 2) as usize;
-    if place < cells.len() {
-        cells[place] = 1;
-    }
+    let cells: &mut [u8] = firsts;
+    cells[k] = code;
 }
 
-// Goes on with the clause after those that the test has passed, up to the first that is not satisfied.
+// Goes on with the clause after those that the test has passed, up to the first that is not satisfied; how many are passed then.
 pub fn advance<'a>(
-    table: &'a [u8; tables::CLAUSE_CELLS],
-    sizes: &'a [u16; tables::CLAUSE_SIZES],
+    clauses: &'a [u8; tables::CLAUSE_ROWS],
+    links: &'a [u16; tables::CLAUSE_LINKS],
     statuses: &'a [u8; tables::CODES],
     passed: usize,
-    marks: &'a [u8; tables::MARKS],
-) -> Progress
-    requires { ⌜ Table (paper .literals) (paper .clauses) (now table) (now sizes) ⌝ }
+    firsts: &mut [u8; tables::CLAUSES],
+) -> usize
+    requires { ⌜ Matrix (now clauses) (now links) ⌝ }
+    ensures { λ r. ⌜ (passed ≤ r) × (take passed (now (firsts .exit)) ≡ take passed (now (firsts .entry))) ⌝ }
     ensures { λ r. ⌜
         ((D : Prefix) (R : List Clause) (s : Node)
-        → rowsOf (paper .literals) (now (table .entry)) (now (sizes .entry)) ≡ map (codes D) R
+        → MatrixShown D R (now (clauses .entry)) (now (links .entry))
         → Statuses s (now (statuses .entry))
-        → prefixOk paper D ≡ true
-        → clausesOk paper D R ≡ true
-        → Marked D s R passed (now (marks .entry))
-        → Marked D s R (r .satisfied) (r .marks) × (all (satisfied D s) R ≡ eqb (r .satisfied) (length R)))
+        → Passed D s R passed (now (firsts .entry))
+        → Passed D s R r (now (firsts .exit)) × (all (satisfied D s) R ≡ eqb r (length R)))
         ⌝ }
 {
-    let count = sizes[0] as usize;
+    let count = links[tables::CODES] as usize;
     let mut reached = passed;
-    let mut marked = *marks;
     while reached < count {
-        let code = true_code(table, sizes, statuses, reached);
-        if code == 0 {
-            return Progress {
-                satisfied: reached,
-                marks: marked,
-            };
+        let code = true_code(clauses, links, statuses, reached);
+        if NO_CODE <= code {
+            return reached;
         }
-        mark(&mut marked, code);
+        note(firsts, reached, code as u8);
         reached += 1;
     }
-    Progress {
-        satisfied: reached,
-        marks: marked,
-    }
+    reached
 }

@@ -92,9 +92,11 @@ size-small w k l h = subst (λ (j : ℕ). getD l j 0 ≤ w) (sym (add-one k)) h
 pub row-is : {A : Type 0} (w k : ℕ) (f : List A) (l : List ℕ) → take (getD l (k + 1) 0) (drop (k * w) f) ≡ row w f l k
 row-is w k f l = ap (λ (j : ℕ). take (getD l j 0) (drop (k * w) f)) (add-one k)
 
--- .. of a part of m elements from where it begins
-pub row-cut : {A : Type 0} (w k m : ℕ) (f : List A) (l : List ℕ) → m ≡ getD l (k + 1) 0 → take (getD l (k + 1) 0) (take m (drop (k * w) f)) ≡ row w f l k
-row-cut w k m f l e = take-take (getD l (k + 1) 0) m (drop (k * w) f) (omega arith) ∙ row-is w k f l
+-- .. as a part from where it begins to where it ends
+pub row-part : {A : Type 0} (w k : ℕ) (f : List A) (l : List ℕ) → take ((k * w + getD l (k + 1) 0) - k * w) (drop (k * w) f) ≡ row w f l k
+row-part w k f l =
+    let e : (k * w + getD l (k + 1) 0) - k * w ≡ getD l (k + 1) 0 = omega arith in
+    ap (λ (n : ℕ). take n (drop (k * w) f)) e ∙ row-is w k f l
 
 module _ {A : Type 0} {w cap : ℕ} {f : List A} {l : List ℕ} (t : Table w cap f l) (k : ℕ) (low : k < getD l 0 0) where
   -- the size of a row that stands
@@ -104,8 +106,3 @@ module _ {A : Type 0} {w cap : ℕ} {f : List A} {l : List ℕ} (t : Table w cap
   -- a row that stands ends within the table
   pub table-within : k * w + getD l (k + 1) 0 ≤ cap * w
   table-within = let lt : k < cap = omega (arith, t .few) in omega (arith, table-size, before w k cap lt)
-
--- the first r elements of a part, which the code cuts as m elements
-pub cut-long : {A : Type 0} (a n m r : ℕ) (l : List A) → m ≡ n → r ≤ n → a + n ≤ length l → length (take r (take m (drop a l))) ≡ r
-cut-long a n m r l e h k =
-    length-take-le r (take m (drop a l)) (subst (λ (j : ℕ). r ≤ length (take j (drop a l))) (sym e) (omega (arith, part-long a n l k)))

@@ -1,106 +1,74 @@
-// The codes of the clauses, and a shelf of the same clauses under universal reduction, in the order of adding.
+// The rows of the clauses, each with its codes and its length under universal reduction, and the links by the last code that is left.
 use coding::code::encode;
+use coding::list::last_code;
 use coding::list::reduced_first;
-use shelf::store::push;
 ghost use mathlib.Core.Path.{_≡_};
-ghost use mathlib.Core.Bool.{false};
-ghost use Prim.Native.Nat.{suc, _+_, _*_, _≤_, _<_};
-ghost use lib.ListN.{length, getD, take, drop};
+ghost use Prim.Native.Nat.{ℕ, suc, _+_, _*_, _≤_, _<_};
+ghost use lib.ListN.{length, getD, take, set};
 ghost use Rattle.qbf.specs.Formula.{paper, Prefix};
-ghost use Rattle.qbf.specs.Learning.{Constraint, push, reduce};
 ghost use Rattle.tables.specs.Views.{Places, row};
 ghost use Rattle.tables.specs.Formed.{Clauses, clausesOf};
-ghost use Rattle.tables.specs.Codes.{codes, Quantified};
-ghost use Rattle.tables.specs.Shelves.{Shelf, shelfRows, clauseSlots, Matrix, MatrixShown, newestOf};
+ghost use Rattle.tables.specs.Codes.{lastCode, Quantified};
+ghost use Rattle.tables.specs.Shelves.{codeCount};
+ghost use Rattle.tables.specs.Matrices.{clauseRow, reducedAt, dyingAt, Matrix, MatrixShown};
+ghost use Rattle.loading.specs.Coded.{Coded, Linked};
 
-// The codes of a part of the literals, in the same cells; the cells before it stay.
-fn encode_part<'a>(
-    table: &mut [u8],
+// A clause's row, from a cell on; the cells before it stay.
+fn code_row<'a>(
+    rows: &mut [u8],
+    at: usize,
     lits: &'a [i16],
-    from: usize,
-    len: usize,
     places: &'a [u16; tables::BY_NUMBER],
+    quantifiers: &'a [u8; tables::CODES],
 )
-    requires { ⌜ (from + len ≤ length (now lits)) × (from + len ≤ length (now table)) ⌝ }
+    requires { ⌜ (at + 2 + length (now lits) ≤ length (now rows)) × (length (now lits) ≤ paper .literals) ⌝ }
     ensures { λ _. ⌜
-        (length (now (table .exit)) ≡ length (now (table .entry)))
-        × (take from (now (table .exit)) ≡ take from (now (table .entry)))
-        × ((D : Prefix)
-        → Places D (now (places .entry))
-        → length D ≤ paper .numbers
-        → take len (drop from (now (table .exit))) ≡ codes D (take len (drop from (now (lits .entry)))))
+        (length (now (rows .exit)) ≡ length (now (rows .entry)))
+        × (take at (now (rows .exit)) ≡ take at (now (rows .entry)))
+        × Coded (now (lits .entry)) (now (places .entry)) (now (quantifiers .entry)) at (now (rows .exit))
         ⌝ }
 {
-    encode(&mut table[from..], &lits[from..from + len], places);
+    let len = lits.len();
+    encode(&mut rows[at + 2..], lits, places);
+    let left = reduced_first(&rows[at + 2..], len, quantifiers, false);
+    rows[at] = left as u8;
+    rows[at + 1] = len as u8;
 }
 
-// The codes of clause k into row k of the table; the cells before it stay.
-fn encode_clause<'a>(
+// Clause k in row k; the rows before it stay.
+fn code_clause<'a>(
     clauses: &'a [i16; tables::CLAUSE_CELLS],
     sizes: &'a [u16; tables::CLAUSE_SIZES],
     places: &'a [u16; tables::BY_NUMBER],
-    table: &mut [u8],
+    quantifiers: &'a [u8; tables::CODES],
+    rows: &mut [u8],
     k: usize,
 )
     requires { ⌜
         Clauses (now clauses) (now sizes)
         × (k < getD (now sizes) 0 0)
-        × (length (now table) ≡ paper .clauses * paper .literals)
+        × (length (now rows) ≡ paper .clauses * clauseRow)
         ⌝ }
     ensures { λ _. ⌜
-        (length (now (table .exit)) ≡ paper .clauses * paper .literals)
-        × (take (k * paper .literals) (now (table .exit)) ≡ take (k * paper .literals) (now (table .entry)))
-        × ((D : Prefix)
-        → Places D (now (places .entry))
-        → length D ≤ paper .numbers
-        → row (paper .literals) (now (table .exit)) (now (sizes .entry)) k
-        ≡ codes D (row (paper .literals) (now (clauses .entry)) (now (sizes .entry)) k))
+        (length (now (rows .exit)) ≡ paper .clauses * clauseRow)
+        × (take (k * clauseRow) (now (rows .exit)) ≡ take (k * clauseRow) (now (rows .entry)))
+        × Coded
+        (row (paper .literals) (now (clauses .entry)) (now (sizes .entry)) k)
+        (now (places .entry))
+        (now (quantifiers .entry))
+        (k * clauseRow)
+        (now (rows .exit))
         ⌝ }
 {
     let from = k * tables::LITERALS;
     let len = sizes[k + 1] as usize;
-    encode_part(table, clauses, from, len, places);
-}
-
-// Row k of the table, under universal reduction, onto the shelf.
-fn shelve_reduced<'a>(
-    table: &'a [u8],
-    sizes: &'a [u16; tables::CLAUSE_SIZES],
-    quantifiers: &'a [u8; tables::CODES],
-    dying: &mut [u8; tables::CLAUSE_CODES],
-    dying_links: &mut [u64; tables::CLAUSE_LINKS],
-    k: usize,
-)
-    requires { ⌜
-        (length (now table) ≡ paper .clauses * paper .literals)
-        × (k < paper .clauses)
-        × (getD (now sizes) (suc k) 0 ≤ paper .literals)
-        × Shelf (paper .literals) clauseSlots (now dying) (now «dying_links»)
-        × (newestOf (now «dying_links») ≡ k)
-        ⌝ }
-    ensures { λ _. ⌜
-        Shelf (paper .literals) clauseSlots (now (dying .exit)) (now («dying_links» .exit))
-        × (newestOf (now («dying_links» .exit)) ≡ suc k)
-        × ((D : Prefix) (e : Constraint)
-        → Quantified D (now (quantifiers .entry))
-        → row (paper .literals) (now (table .entry)) (now (sizes .entry)) k ≡ codes D e
-        → shelfRows (paper .literals) clauseSlots (now (dying .exit)) (now («dying_links» .exit))
-        ≡ push
-        clauseSlots
-        (codes D (reduce D false e))
-        (shelfRows (paper .literals) clauseSlots (now (dying .entry)) (now («dying_links» .entry))))
-        ⌝ }
-{
-    let from = k * tables::LITERALS;
-    let len = sizes[k + 1] as usize;
-    let row = &table[from..from + len];
-    let left = reduced_first(row, len, quantifiers, false);
-    push(
-        dying,
-        dying_links,
-        tables::LITERALS,
-        tables::CLAUSE_SLOTS,
-        &row[..left],
+    let flat: &[i16] = clauses;
+    code_row(
+        rows,
+        k * tables::CLAUSE_ROW,
+        &flat[from..from + len],
+        places,
+        quantifiers,
     );
 }
 
@@ -110,77 +78,99 @@ fn code_clauses<'a>(
     sizes: &'a [u16; tables::CLAUSE_SIZES],
     places: &'a [u16; tables::BY_NUMBER],
     quantifiers: &'a [u8; tables::CODES],
-    table: &mut [u8],
-    dying: &mut [u8; tables::CLAUSE_CODES],
-    dying_links: &mut [u64; tables::CLAUSE_LINKS],
+    rows: &mut [u8],
 )
-    requires { ⌜
-        Clauses (now clauses) (now sizes)
-        × Shelf (paper .literals) clauseSlots (now dying) (now «dying_links»)
-        × (newestOf (now «dying_links») ≡ 0)
-        × (length (now table) ≡ paper .clauses * paper .literals)
-        ⌝ }
+    requires { ⌜ Clauses (now clauses) (now sizes) × (length (now rows) ≡ paper .clauses * clauseRow) ⌝ }
     ensures { λ _. ⌜
-        Matrix (now (table .exit)) (now (sizes .entry)) (now (dying .exit)) (now («dying_links» .exit))
-        × ((D : Prefix)
-        → Places D (now (places .entry))
-        → Quantified D (now (quantifiers .entry))
-        → length D ≤ paper .numbers
-        → MatrixShown
-        D
-        (clausesOf (now (clauses .entry)) (now (sizes .entry)))
-        (now (table .exit))
-        (now (sizes .entry))
-        (now (dying .exit))
-        (now («dying_links» .exit)))
+        (length (now (rows .exit)) ≡ paper .clauses * clauseRow)
+        × ((k : ℕ)
+        → k < getD (now (sizes .entry)) 0 0
+        → Coded
+        (row (paper .literals) (now (clauses .entry)) (now (sizes .entry)) k)
+        (now (places .entry))
+        (now (quantifiers .entry))
+        (k * clauseRow)
+        (now (rows .exit)))
         ⌝ }
 {
     let count = sizes[0] as usize;
     let mut k: usize = 0;
     while k < count {
-        encode_clause(clauses, sizes, places, table, k);
-        shelve_reduced(table, sizes, quantifiers, dying, dying_links, k);
+        code_clause(clauses, sizes, places, quantifiers, rows, k);
         k += 1;
     }
 }
 
-// The table of codes, and the shelf of the reduced clauses, which is empty before.
+// The last code of clause k under universal reduction; 0 where none is left.
+fn last_left<'a>(rows: &'a [u8], k: usize) -> u8
+    requires { ⌜
+        (length (now rows) ≡ paper .clauses * clauseRow)
+        × (k < paper .clauses)
+        × (reducedAt (now rows) k ≤ paper .literals)
+        ⌝ }
+    ensures { λ r. ⌜ r ≡ lastCode (dyingAt (now (rows .entry)) k) ⌝ }
+{
+    let at = k * tables::CLAUSE_ROW;
+    let left = rows[at] as usize;
+    last_code(&rows[at + 2..], left)
+}
+
+// Clause k is the first that ends in its last code; the one that was is the next.
+fn link(links: &mut [u16], code: u8, k: usize)
+    requires { ⌜ (length (now links) ≡ suc codeCount + paper .clauses) × (k < paper .clauses) ⌝ }
+    ensures { λ _. ⌜
+        now (links .exit)
+        ≡ set (set (now (links .entry)) (suc codeCount + k) (getD (now (links .entry)) code 0)) code (suc k)
+        ⌝ }
+{
+    let next = links[code as usize];
+    let number = (k + 1) as u16;
+    links[tables::CODES + 1 + k] = next;
+    links[code as usize] = number;
+}
+
+// The clauses are linked from the last to the first, so that of each code the first is found first.
+fn link_clauses<'a>(rows: &'a [u8], count: usize, links: &mut [u16])
+    requires { ⌜
+        (length (now rows) ≡ paper .clauses * clauseRow)
+        × (count ≤ paper .clauses)
+        × ((k : ℕ) → k < count → reducedAt (now rows) k ≤ paper .literals)
+        × (length (now links) ≡ suc codeCount + paper .clauses)
+        × ((c : ℕ) → c < codeCount → getD (now links) c 0 ≡ 0)
+        ⌝ }
+    ensures { λ _. ⌜ Linked (now (rows .entry)) count 0 (now (links .exit)) ⌝ }
+{
+    links[tables::CODES] = count as u16;
+    let mut k = count;
+    while 0 < k {
+        k -= 1;
+        let code = last_left(rows, k);
+        link(links, code, k);
+    }
+}
+
+// The rows, and the links, in which no code has a clause before.
 pub fn load_clauses<'a>(
     clauses: &'a [i16; tables::CLAUSE_CELLS],
     sizes: &'a [u16; tables::CLAUSE_SIZES],
     places: &'a [u16; tables::BY_NUMBER],
     quantifiers: &'a [u8; tables::CODES],
-    table: &mut [u8; tables::CLAUSE_CELLS],
-    dying: &mut [u8; tables::CLAUSE_CODES],
-    dying_links: &mut [u64; tables::CLAUSE_LINKS],
+    rows: &mut [u8; tables::CLAUSE_ROWS],
+    links: &mut [u16; tables::CLAUSE_LINKS],
 )
     requires { ⌜
         Clauses (now clauses) (now sizes)
-        × Shelf (paper .literals) clauseSlots (now dying) (now «dying_links»)
-        × (newestOf (now «dying_links») ≡ 0)
+        × ((c : ℕ) → c < codeCount → getD (now links) c 0 ≡ 0)
         ⌝ }
     ensures { λ _. ⌜
-        Matrix (now (table .exit)) (now (sizes .entry)) (now (dying .exit)) (now («dying_links» .exit))
+        Matrix (now (rows .exit)) (now (links .exit))
         × ((D : Prefix)
         → Places D (now (places .entry))
         → Quantified D (now (quantifiers .entry))
         → length D ≤ paper .numbers
-        → MatrixShown
-        D
-        (clausesOf (now (clauses .entry)) (now (sizes .entry)))
-        (now (table .exit))
-        (now (sizes .entry))
-        (now (dying .exit))
-        (now («dying_links» .exit)))
+        → MatrixShown D (clausesOf (now (clauses .entry)) (now (sizes .entry))) (now (rows .exit)) (now (links .exit)))
         ⌝ }
 {
-    code_clauses(
-        clauses,
-        sizes,
-        places,
-        quantifiers,
-        table,
-        dying,
-        dying_links,
-    );
+    code_clauses(clauses, sizes, places, quantifiers, rows);
+    link_clauses(rows, sizes[0] as usize, links);
 }

@@ -5,7 +5,7 @@ use mathlib.Core.Path.{_≡_, refl, sym, ap, _∙_}
 use mathlib.Core.Bool.{Bool, true, false, cond, true≢false, false≢true}
 use mathlib.Core.List.{List, [], _∷_, _++_, append-nil}
 use lib.ListN.{length, length-append}
-use Rattle.qbf.specs.Formula.{Prefix, Node, _▹_}
+use Rattle.qbf.specs.Formula.{Node, _▹_}
 use Rattle.cover.specs.Cover.{Covers}
 use Rattle.node.specs.declared.Verdict.{Verdict}
 use Rattle.node.specs.declared.Verdict.the-variants.{Yes, No, Mixed}
@@ -41,7 +41,7 @@ count-less a Yes n h g = rw h
 count-less a No n h g = absurd (false≢true g)
 count-less a Mixed n h g = absurd (false≢true g)
 
-module _ {D : Prefix} {s : Node} {ls : List Node} {numbers values before after : List ℕ} {p : Position} {lines : ℕ} (task : LineTask D s ls numbers values before p lines) (popped : (ms : List Node) (x : Node) → length ms + 1 ≡ lines → Covers (p .free) before (ms ++ (x ∷ [])) → Covers (p .free) after ms) where
+module _ {s : Node} {ls : List Node} {statuses before after : List ℕ} {p : Position} {lines : ℕ} (task : LineTask s ls statuses before p lines) (popped : (ms : List Node) (x : Node) → length ms + 1 ≡ lines → Covers (p .free) before (ms ++ (x ∷ [])) → Covers (p .free) after ms) where
   back : (ms : List Node) (x : Node) → ls ≡ ms ++ (x ∷ []) → Covers (p .free) after ms
   back ms x e = popped ms x (omega (arith, ap length e, length-append ms (x ∷ []), task .counted)) (rw e at (task .covers))
 

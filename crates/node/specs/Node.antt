@@ -8,9 +8,8 @@ use lib.ListN.{length, getD, take}
 use Rattle.qbf.specs.Formula.{paper, Quantifier, Prefix, Clause, Node, _▹_}
 use Rattle.qbf.specs.Truth.{Outcome, DecidedNode, decided, mixed, decidedNodes, select}
 use Rattle.qbf.specs.Learning.{Constraint, Store, goesUp, afterBoth, resolvent, lastPlace, LearningResult}
-use Rattle.qbf.specs.Calls.{numbersOk, inOrder}
-use Rattle.tables.specs.Views.{Kinds, Values, Numbers}
-use Rattle.tables.specs.Codes.{codes, Statuses, Quantified}
+use Rattle.qbf.specs.Calls.{inOrder}
+use Rattle.tables.specs.Codes.{codeAt, codes, Statuses, Quantified}
 use Rattle.tables.specs.Shelves.{StoreShown, newestOf}
 use Rattle.cover.specs.Cover.{Covers}
 use Rattle.node.specs.declared.Verdict.{Verdict}
@@ -47,11 +46,7 @@ Ended D p (mixed ds) = Unit {0}
 
 -- ---- the tables
 -- the tables show the prefix D and the node s of length k
-pub record Shown (D : Prefix) (s : Node) (numbers kinds values quantifiers statuses : List ℕ) (k : ℕ) : Type 0 where
-  pub numbered : Numbers D numbers
-  pub kinded : Kinds D kinds
-  pub valued : Values D s values
-  pub wide : length values ≡ suc (paper .numbers)
+pub record Shown (D : Prefix) (s : Node) (quantifiers statuses : List ℕ) (k : ℕ) : Type 0 where
   pub quantified : Quantified D quantifiers
   pub statused : Statuses s statuses
   pub long : length s ≡ k
@@ -74,10 +69,10 @@ newLines (decided v e) = []
 newLines (mixed ds) = select true ds
 
 -- ---- what the small functions of step 5 say
--- the quantifier of the next place, by the tables; 3 where none is left
-pub record NextKind (numbers kinds : List ℕ) (at r : ℕ) : Type 0 where
-  pub more : at < getD numbers 0 0 → r ≡ getD kinds (getD numbers (suc at) 0) 0
-  pub none : getD numbers 0 0 ≤ at → r ≡ 3
+-- the quantifier of the next place, by the table; 3 where none is left
+pub record NextKind (quantifiers : List ℕ) (at r : ℕ) : Type 0 where
+  pub more : at < paper .numbers → r ≡ getD quantifiers (codeAt (suc at) false) 0
+  pub none : paper .numbers ≤ at → r ≡ 3
 
 -- the resolvent of the two sides' constraints, where both are decided
 abbrev pub resolventOf : Prefix → ℕ → Outcome Constraint → Outcome Constraint → Constraint
@@ -101,13 +96,10 @@ pub record Grown (cl ql cl′ ql′ : List ℕ) : Type 0 where
   pub cubes : newestOf ql′ ≤ suc (newestOf ql)
 
 -- the tables show what a line is written from
-pub record LineTask (D : Prefix) (s : Node) (ls : List Node) (numbers values table : List ℕ) (p : Position) (lines : ℕ) : Type 0 where
-  pub numbered : Numbers D numbers
-  pub valued : Values D s values
+pub record LineTask (s : Node) (ls : List Node) (statuses table : List ℕ) (p : Position) (lines : ℕ) : Type 0 where
+  pub statused : Statuses s statuses
   pub long : length s ≡ p .at
   pub inside : p .at < p .free
-  pub frees : p .free ≤ length D
-  pub numbers-ok : numbersOk paper [] D ≡ true
   pub covers : Covers (p .free) table ls
   pub counted : lines ≡ length ls
 

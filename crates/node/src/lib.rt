@@ -15,7 +15,6 @@ ghost use Rattle.tables.specs.Shelves.{Shelves, StoreShown, newestOf};
 ghost use Rattle.cover.specs.Cover.{Covers};
 ghost use Rattle.node.specs.Node.{isYes, Reads, Ended, Grown, goesUpOf, onwardOf, resolventOf, NextKind, Finished, Joined, LineTask, settledLines, SettledTo};
 
-mod cell; // a cell of a table by number or by place
 mod line; // one line more of the card
 mod side; // what the verdict and the constraint of one side say
 mod both; // what the verdicts of both sides ask for
@@ -46,34 +45,20 @@ pub struct Position {
     pub satisfied: usize,
 }
 
-// The code of no quantifier.
-pub const END: u16 = 3;
-
-// The quantifier of the next place; END where none is left.
-pub fn next_kind<'a>(
-    numbers: &'a [u16; tables::BY_NUMBER],
-    kinds: &'a [u16; tables::BY_NUMBER],
-    at: usize,
-) -> u16
-    ensures { λ r. ⌜ NextKind (now (numbers .entry)) (now (kinds .entry)) at r ⌝ }
+fn wide(kind: u8) -> u16
+    ensures { λ r. ⌜ r ≡ kind ⌝ }
 {
-    let count = cell::cell_at(numbers, 0);
-    if at < count {
-        let number = cell::cell_at(numbers, at + 1);
-        return cell::kind_at(kinds, number);
-    }
-    END
+    kind as u16
 }
 
-// The number of the variable at a place; 0 where that is past a table by number.
-pub fn number_at<'a>(numbers: &'a [u16; tables::BY_NUMBER], p: usize) -> usize
-    ensures { λ r. ⌜ (r < suc (paper .numbers)) × (getD (now (numbers .entry)) p 0 < suc (paper .numbers) → r ≡ getD (now (numbers .entry)) p 0) ⌝ }
+// The quantifier of the next place; END where none is left.
+pub fn next_kind<'a>(quantifiers: &'a [u8; tables::CODES], at: usize) -> u16
+    ensures { λ r. ⌜ NextKind (now (quantifiers .entry)) at r ⌝ }
 {
-    let number = cell::cell_at(numbers, p);
-    if number < tables::BY_NUMBER {
-        return number;
+    if at < tables::NUMBERS {
+        return wide(quantifiers[at * 2 + 2]);
     }
-    0
+    wide(tables::END)
 }
 
 // Whether the off side's outcome goes up without a further visit.
@@ -187,21 +172,20 @@ pub fn line_if<'a>(
     table: &mut [u8],
     lines: usize,
     p: Position,
-    numbers: &'a [u16; tables::BY_NUMBER],
-    values: &'a [u8; tables::BY_NUMBER],
+    statuses: &'a [u8; tables::CODES],
 ) -> usize
     requires { ⌜ (p .free ≤ paper .numbers) × (lines < 2 ^ 63) ⌝ }
     ensures { λ r. ⌜ (length (now (table .exit)) ≡ length (now (table .entry))) × (r ≡ cond (isYes v) (lines + 1) lines) ⌝ }
     ensures { λ _. ⌜
-        ((D : Prefix) (s : Node) (b : Bool) (ls : List Node)
-        → LineTask D s ls (now (numbers .entry)) (now (values .entry)) (now (table .entry)) p lines
+        ((s : Node) (b : Bool) (ls : List Node)
+        → LineTask s ls (now (statuses .entry)) (now (table .entry)) p lines
         → value ≡ byteOf b
         → Covers (p .free) (now (table .exit)) (ls ++ cond (isYes v) ((s ▹ b) ∷ []) []))
         ⌝ }
 {
     match v {
         Verdict::Yes => {
-            line::add_line(table, value, lines, p, numbers, values);
+            line::add_line(table, value, lines, p, statuses);
             lines + 1
         }
         Verdict::No => lines,
@@ -216,14 +200,13 @@ pub fn settle_lines<'a>(
     table: &mut [u8],
     lines: usize,
     p: Position,
-    numbers: &'a [u16; tables::BY_NUMBER],
-    values: &'a [u8; tables::BY_NUMBER],
+    statuses: &'a [u8; tables::CODES],
 ) -> usize
     requires { ⌜ (p .free ≤ paper .numbers) × (lines < 2 ^ 63) × (isYes first ≡ true → isYes second ≡ true → 1 ≤ lines) ⌝ }
     ensures { λ r. ⌜ (length (now (table .exit)) ≡ length (now (table .entry))) × (r ≡ settledLines first second lines) ⌝ }
     ensures { λ _. ⌜
-        ((D : Prefix) (s : Node) (ls : List Node)
-        → LineTask D s ls (now (numbers .entry)) (now (values .entry)) (now (table .entry)) p lines
+        ((s : Node) (ls : List Node)
+        → LineTask s ls (now (statuses .entry)) (now (table .entry)) p lines
         → SettledTo first second s ls (p .free) (now (table .exit)))
         ⌝ }
 {
@@ -235,7 +218,7 @@ pub fn settle_lines<'a>(
         cover::pop_line(table, lines, free);
         return lines - 1;
     }
-    line_if(second, tables::ON, table, lines, p, numbers, values)
+    line_if(second, tables::ON, table, lines, p, statuses)
 }
 
 // The position of the off side, where this visit is counted, and of the on side.

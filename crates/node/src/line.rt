@@ -5,7 +5,7 @@ ghost use mathlib.Core.Bool.{Bool};
 ghost use mathlib.Core.List.{List, [], _∷_, _++_};
 ghost use Prim.Native.Nat.{_≤_};
 ghost use lib.ListN.{length};
-ghost use Rattle.qbf.specs.Formula.{paper, Prefix, Node, _▹_};
+ghost use Rattle.qbf.specs.Formula.{paper, Node, _▹_};
 ghost use Rattle.qbf.specs.Card.{byteOf};
 ghost use Rattle.cover.specs.Cover.{Covers};
 ghost use Rattle.node.specs.Node.{LineTask};
@@ -16,14 +16,13 @@ pub fn add_line<'a>(
     value: u8,
     lines: usize,
     p: Position,
-    numbers: &'a [u16; tables::BY_NUMBER],
-    values: &'a [u8; tables::BY_NUMBER],
+    statuses: &'a [u8; tables::CODES],
 )
     requires { ⌜ p .free ≤ paper .numbers ⌝ }
     ensures { λ _. ⌜
         (length (now (table .exit)) ≡ length (now (table .entry)))
-        × ((D : Prefix) (s : Node) (b : Bool) (ls : List Node)
-        → LineTask D s ls (now (numbers .entry)) (now (values .entry)) (now (table .entry)) p lines
+        × ((s : Node) (b : Bool) (ls : List Node)
+        → LineTask s ls (now (statuses .entry)) (now (table .entry)) p lines
         → value ≡ byteOf b
         → Covers (p .free) (now (table .exit)) (ls ++ ((s ▹ b) ∷ [])))
         ⌝ }
@@ -33,5 +32,5 @@ pub fn add_line<'a>(
     if free <= at {
         return;
     }
-    cover::push_line(table, lines, free, numbers, values, at, value);
+    cover::push_line(table, lines, free, statuses, at, value);
 }

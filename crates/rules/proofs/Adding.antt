@@ -12,22 +12,22 @@ use lib.ListN.{length, getD, drop, set}
 use lib.Seq.{paste}
 use Rattle.qbf.specs.Formula.{paper, Prefix, Literal, Clause}
 use Rattle.qbf.specs.Learning.{insert, union}
-use Rattle.qbf.specs.Calls.{State as Read, numbersOk, rule, answer, ruleReply, _orElse_, given, literalFault, ruleFault, withRule, storeAfterRule}
+use Rattle.qbf.specs.Calls.{State as Read, rule, answer, ruleReply, _orElse_, given, literalFault, ruleFault, withRule, storeAfterRule}
 use Rattle.qbf.specs.Demands.{refusalOf}
-use Rattle.theory.proofs.Basics.{and-right, and-both, dichotomy}
-use Rattle.tables.specs.Views.{Numbers, Places, Table, rowsOf}
+use Rattle.theory.proofs.Basics.{and-both, dichotomy}
+use Rattle.tables.specs.Views.{Table, rowsOf}
 use Rattle.tables.proofs.Laws.{rows-length}
 use Rattle.constraint.proofs.Lists.{drop-more, drop-end}
 use Rattle.learned.proofs.Rows.{appended-rows, appended-table}
 use Rattle.state.specs.declared.State.{State}
-use Rattle.state.specs.Reading.{rowsFit, prefixOf, prefixFits, prefixIn, formulaIn, storeIn, stateIn, fits, valid}
-use Rattle.state.specs.Derived.{Sized}
-use Rattle.state.proofs.Valid.{valid-facts, table-rows, valid-tables, valid-numbers, valid-numbered}
+use Rattle.state.specs.Reading.{rowsFit, prefixFits, stateOf, prefixIn, formulaIn, storeIn, stateIn, fits, valid}
+use Rattle.state.specs.Derived.{Checked}
+use Rattle.state.proofs.Valid.{valid-facts, table-rows, valid-tables}
 use Rattle.serving.specs.Serves.{Said, said, saidOf, Serves}
 use Rattle.rules.specs.Faults.{faultOf, faultAfter, Judged}
 use Rattle.rules.specs.Accepted.{Appended, Accepted}
 use Rattle.serving.proofs.Calls.{malformed, served, unchanged}
-use Rattle.rules.proofs.Emptied.{none-fit, none-stand}
+use Rattle.rules.proofs.Emptied.{none-left, none-fit, none-stand}
 use Rattle.rules.proofs.Refusing.{fine-room, fine-length, judged-fine}
 
 -- ---- in place order: the literals left are still to be put into w
@@ -59,13 +59,10 @@ module _ (x : State) (ls : List Literal) where
   abbrev after : Option ℕ → Read
   after o = record { formula = withRule o (formulaIn x) ls; store = storeAfterRule o (storeIn x) }
 
-  -- the places are derived from the state's numbers, and r is the first refusal
-  module _ {places : List ℕ} (derived : (D : Prefix) → Numbers D (x .numbers) → numbersOk paper [] D ≡ true → Places D places) {r : ℕ} (j : Judged x ls places r) where
-    shown : valid x ≡ true → Places (prefixIn x) places
-    shown v = derived (prefixIn x) (valid-numbers x v) (and-right (leb (length (prefixIn x)) 40) (numbersOk paper [] (prefixIn x)) (valid-numbered x v))
-
+  -- the check says whether the state is valid, and the places are those of its prefix; r is the first refusal
+  module _ {ok : Bool} {places kinds : List ℕ} (checked : Checked x ok places kinds) {r : ℕ} (j : Judged ok (getD (x .«clause_sizes») 0 0) ls places r) where
     judged : valid x ≡ true → ruleFault (formulaIn x) ls ≡ faultOf r
-    judged v = sym (j .fault v (prefixIn x) (shown v) ∙ fault-is)
+    judged v = sym (j .fault (checked .said ∙ v) (prefixIn x) (checked .placed v) ∙ fault-is)
 
     pub rule-refused : (r ≡ 0 → ⊥) → Serves x (rule ls) (said r 0 0 0 []) x
     rule-refused h = by-test (dichotomy (valid x))
@@ -75,51 +72,55 @@ module _ (x : State) (ls : List Literal) where
         some-fault (suc n) e = refl
 
         by-test : (valid x ≡ true) ⊎ (valid x ≡ false) → Serves x (rule ls) (said r 0 0 0 []) x
-        by-test (inr e) = subst (λ (n : ℕ). Serves x (rule ls) (said n 0 0 0 []) x) (sym (j .malformed e)) (malformed x (rule ls) e)
+        by-test (inr e) = subst (λ (n : ℕ). Serves x (rule ls) (said n 0 0 0 []) x) (sym (j .malformed (checked .said ∙ e))) (malformed x (rule ls) e)
         by-test (inl v) =
             let q : ruleFault (formulaIn x) ls ≡ some r = judged v ∙ some-fault r h in
             subst (λ (a : Said). Serves x (rule ls) a x) (ap (λ (o : Option ℕ). saidOf (answer (ruleReply o) 0)) q) (unchanged x (rule ls) v (ap after q))
 
     module _ (e : r ≡ 0) where
       v : valid x ≡ true
-      v = judged-fine x ls places j e
+      v = sym (checked .said) ∙ judged-fine ok (getD (x .«clause_sizes») 0 0) ls places j e
 
       fine : none ≡ faultAfter (getD (x .«clause_sizes») 0 0) (prefixIn x) ls
-      fine = sym (ap faultOf e) ∙ j .fault v (prefixIn x) (shown v)
+      fine = sym (ap faultOf e) ∙ j .fault (checked .said ∙ v) (prefixIn x) (checked .placed v)
 
       -- there is room for the clause
-      pub rule-room : Sized x → Table (paper .literals) (paper .clauses) (x .clauses) (x .«clause_sizes») × (getD (x .«clause_sizes») 0 0 < paper .clauses) × (length ls ≤ paper .literals)
-      rule-room z = (valid-tables x v z .clauses, fine-room (getD (x .«clause_sizes») 0 0) (prefixIn x) ls fine, fine-length (getD (x .«clause_sizes») 0 0) (prefixIn x) ls fine)
+      pub rule-room : Table (paper .literals) (paper .clauses) (x .clauses) (x .«clause_sizes») × (getD (x .«clause_sizes») 0 0 < paper .clauses) × (length ls ≤ paper .literals)
+      rule-room = (valid-tables x v (checked .sized) .clauses, fine-room (getD (x .«clause_sizes») 0 0) (prefixIn x) ls fine, fine-length (getD (x .«clause_sizes») 0 0) (prefixIn x) ls fine)
 
-      module _ {y : State} (a : Accepted x ls places y) where
+      module _ {cells : List ℤ} {sizes cubes : List ℕ} (a : Accepted (x .clauses) (x .«clause_sizes») ls places (x .«learned_cube_sizes») cells sizes cubes) where
+        -- the tables after the rule
+        abbrev y : State
+        y = stateOf (x .numbers) (x .levels) (x .kinds) cells sizes (x .«learned_clauses») (x .«learned_clause_sizes») (x .«learned_cubes») cubes
+
+        none-left-of : getD cubes 0 0 ≡ 0
+        none-left-of = none-left (x .«learned_cube_sizes») (omega (arith, checked .sized .learned-cube-sizes-room)) (a .cleared)
+
         q : ruleFault (formulaIn x) ls ≡ none
         q = judged v ∙ ap faultOf e
 
         still-fits : fits y ≡ true
         still-fits =
-            and-both (p && c && b) (rowsFit 40 64 (y .«learned_cube_sizes»))
-            (and-both (p && c) b (and-both p c (old-prefix ∙ valid-facts x v .prefix-fits) (table-rows 16 255 (y .clauses) (y .«clause_sizes») (a .table))) (old-bars ∙ valid-facts x v .learned-clauses-fit))
-            (none-fit 40 64 (y .«learned_cube_sizes») (a .cleared))
+            and-both (p && c && b) (rowsFit 40 64 cubes)
+            (and-both (p && c) b (and-both p c (valid-facts x v .prefix-fits) (table-rows 16 255 cells sizes (a .table))) (valid-facts x v .learned-clauses-fit))
+            (none-fit 40 64 cubes none-left-of)
           where
             p : Bool
-            p = prefixFits paper (y .numbers) (y .levels) (y .kinds)
+            p = prefixFits paper (x .numbers) (x .levels) (x .kinds)
 
             c : Bool
-            c = rowsFit (paper .literals) (paper .clauses) (y .«clause_sizes»)
+            c = rowsFit (paper .literals) (paper .clauses) sizes
 
             b : Bool
-            b = rowsFit (paper .numbers) (paper .constraints) (y .«learned_clause_sizes»)
-
-            old-prefix : p ≡ prefixFits paper (x .numbers) (x .levels) (x .kinds)
-            old-prefix = λ i. prefixFits paper (a .numbers i) (a .levels i) (a .kinds i)
-
-            old-bars : b ≡ rowsFit (paper .numbers) (paper .constraints) (x .«learned_clause_sizes»)
-            old-bars = ap (rowsFit (paper .numbers) (paper .constraints)) (a .learned-clause-sizes)
+            b = rowsFit (paper .numbers) (paper .constraints) (x .«learned_clause_sizes»)
 
         reads : stateIn y ≡ after none
         reads = λ i. record {
-          formula = record { limits = paper; prefix = prefixOf (a .numbers i) (a .levels i) (a .kinds i); clauses = a .rows (prefixIn x) (shown v) i };
-          store = record { clauses = rowsOf (paper .numbers) (a .learned-clauses i) (a .learned-clause-sizes i); cubes = none-stand 40 64 (y .«learned_cube_sizes») (a .cleared) (y .«learned_cubes») i };
+          formula = record { limits = paper; prefix = prefixIn x; clauses = a .rows (prefixIn x) (checked .placed v) i };
+          store = record {
+            clauses = rowsOf (paper .numbers) (x .«learned_clauses») (x .«learned_clause_sizes»);
+            cubes = none-stand 40 64 cubes none-left-of (x .«learned_cubes») i;
+          };
         }
 
         pub rule-accepted : Serves x (rule ls) (said 0 0 0 0 []) y

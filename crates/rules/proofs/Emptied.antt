@@ -15,7 +15,7 @@ use Rattle.theory.proofs.Basics.{and-both}
 use Rattle.tables.specs.Views.{rowsOf}
 use Rattle.learned.proofs.Rows.{none-rows}
 use Rattle.state.specs.declared.State.{State}
-use Rattle.state.specs.Reading.{atMost, listing, entryAt, rowsFit, prefixFits, formulaIn, valid}
+use Rattle.state.specs.Reading.{atMost, listing, entryAt, rowsFit, prefixFits, stateOf, formulaIn, valid}
 use Rattle.state.specs.Derived.{Sized}
 use Rattle.state.proofs.Valid.{valid-facts}
 use Rattle.serving.specs.Serves.{said, Serves}
@@ -36,17 +36,7 @@ module _ (w cap : ℕ) (s : List ℕ) (none : getD s 0 0 ≡ 0) where
 module _ (x : State) (v : valid x ≡ true) (z : Sized x) where
   pub forgotten : {s t : List ℕ} → s ≡ set (x .«learned_clause_sizes») 0 0 → t ≡ set (x .«learned_cube_sizes») 0 0
       → Serves x forget (said 0 0 0 0 [])
-      (record {
-        numbers = x .numbers;
-        levels = x .levels;
-        kinds = x .kinds;
-        clauses = x .clauses;
-        «clause_sizes» = x .«clause_sizes»;
-        «learned_clauses» = x .«learned_clauses»;
-        «learned_clause_sizes» = s;
-        «learned_cubes» = x .«learned_cubes»;
-        «learned_cube_sizes» = t;
-      })
+      (stateOf (x .numbers) (x .levels) (x .kinds) (x .clauses) (x .«clause_sizes») (x .«learned_clauses») s (x .«learned_cubes») t)
   forgotten {s} {t} e h =
       let clauses : getD s 0 0 ≡ 0 = none-left (x .«learned_clause_sizes») (omega (arith, z .learned-clause-sizes-room)) e in
       let cubes : getD t 0 0 ≡ 0 = none-left (x .«learned_cube_sizes») (omega (arith, z .learned-cube-sizes-room)) h in

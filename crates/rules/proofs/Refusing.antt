@@ -17,8 +17,6 @@ use Rattle.qbf.specs.Calls.{_orElse_, given, literalFault}
 use Rattle.theory.proofs.Basics.{or-right, or-false, or-false-right, dichotomy, eqb-true}
 use Rattle.theory.proofs.AcceptedRule.{given-none}
 use Rattle.tables.specs.Views.{Places}
-use Rattle.state.specs.declared.State.{State}
-use Rattle.state.specs.Reading.{valid}
 use Rattle.rules.specs.Faults.{faultOf, numberFault, faultAfter, Judged}
 
 given-joins : (a b c : Bool) (o : Option ℕ) → (given a 3 orElse given b 5 orElse given c 6 orElse o) ≡ ((given a 3 orElse given b 5 orElse given c 6) orElse o)
@@ -167,17 +165,17 @@ module _ (count : ℕ) (D : Prefix) (ls : List Literal) where
     fine-length = ltb-false 16 (length ls) (or-false-right (eqb (length ls) 0) (ltb 16 (length ls)) (given-none (eqb (length ls) 0 || ltb 16 (length ls)) 7 (literalFault paper D [] ls) (full .1) .0))
 
 -- ---- with the state's check
-module _ (x : State) (ls : List Literal) (places : List ℕ) where
-  pub judged-malformed : valid x ≡ false → Judged x ls places 22
+module _ (ok : Bool) (count : ℕ) (ls : List Literal) (places : List ℕ) where
+  pub judged-malformed : ok ≡ false → Judged ok count ls places 22
   judged-malformed e = record { malformed = λ h. refl; fault = λ v. absurd (true≢false (sym v ∙ e)) }
 
-  pub judged-valid : valid x ≡ true → (r : ℕ) → ((D : Prefix) → Places D places → faultOf r ≡ faultAfter (getD (x .«clause_sizes») 0 0) D ls) → Judged x ls places r
+  pub judged-valid : ok ≡ true → (r : ℕ) → ((D : Prefix) → Places D places → faultOf r ≡ faultAfter count D ls) → Judged ok count ls places r
   judged-valid v r f = record { malformed = λ e. absurd (true≢false (sym v ∙ e)); fault = λ h. f }
 
   -- an accepted rule stands on a valid state
-  pub judged-fine : {r : ℕ} → Judged x ls places r → r ≡ 0 → valid x ≡ true
-  judged-fine {r} j e = by-test (dichotomy (valid x))
+  pub judged-fine : {r : ℕ} → Judged ok count ls places r → r ≡ 0 → ok ≡ true
+  judged-fine {r} j e = by-test (dichotomy ok)
     where
-      by-test : (valid x ≡ true) ⊎ (valid x ≡ false) → valid x ≡ true
+      by-test : (ok ≡ true) ⊎ (ok ≡ false) → ok ≡ true
       by-test (inl v) = v
       by-test (inr h) = absurd (omega (arith, e, j .malformed h))

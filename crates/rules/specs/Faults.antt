@@ -1,16 +1,14 @@
 -- The faults of a rule, as code gives them: a number, 0 where there is none.
 use Prim.Native.Nat.{ℕ, zero, suc}
 use mathlib.Core.Path.{_≡_}
-use mathlib.Core.Bool.{true, false, not, _||_}
+use mathlib.Core.Bool.{Bool, true, false, not, _||_}
 use mathlib.Core.List.{List, []}
 use mathlib.Core.Option.{Option, none, some}
 use lib.Dec.{leb, ltb, eqb}
-use lib.ListN.{length, getD}
+use lib.ListN.{length}
 use Rattle.qbf.specs.Formula.{paper, Literal, Prefix}
 use Rattle.qbf.specs.Calls.{_orElse_, given, literalFault}
 use Rattle.tables.specs.Views.{Places}
-use Rattle.state.specs.declared.State.{State}
-use Rattle.state.specs.Reading.{valid}
 
 abbrev pub faultOf : ℕ → Option ℕ
 faultOf zero = none
@@ -28,7 +26,7 @@ faultAfter count D ls =
     orElse given (eqb (length ls) 0 || ltb (paper .literals) (length ls)) 7
     orElse literalFault paper D [] ls
 
--- r is the first refusal of a rule with these literals on the state x, whose places the table shows
-pub record Judged (x : State) (ls : List Literal) (places : List ℕ) (r : ℕ) : Type 0 where
-  pub malformed : valid x ≡ false → r ≡ 22
-  pub fault : valid x ≡ true → (D : Prefix) → Places D places → faultOf r ≡ faultAfter (getD (x .«clause_sizes») 0 0) D ls
+-- r is the first refusal of a rule with these literals on a state with that check, where that many clauses stand and the table shows the places
+pub record Judged (ok : Bool) (count : ℕ) (ls : List Literal) (places : List ℕ) (r : ℕ) : Type 0 where
+  pub malformed : ok ≡ false → r ≡ 22
+  pub fault : ok ≡ true → (D : Prefix) → Places D places → faultOf r ≡ faultAfter count D ls

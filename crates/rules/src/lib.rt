@@ -5,10 +5,10 @@ ghost use Rattle.qbf.specs.Calls.{rule, forget};
 ghost use Rattle.serving.specs.Serves.{said, Serves};
 ghost use Rattle.rules.specs.Rules.{changeSaid};
 
-mod clauses;
-mod refusals;
+mod clauses; // an accepted rule
+mod refusals; // the refusals of a rule
+pub mod in_place; // the calls on lent tables
 
-use learned::store::clear;
 use state::State;
 
 pub enum Change {
@@ -35,21 +35,24 @@ pub fn refusal_of(c: Change) -> u16
 pub fn forget(x: State) -> Changed
     ensures { λ r. ⌜ Serves x forget (changeSaid (r .change)) (r .state) ⌝ }
 {
-    if !state::check(x) {
-        return Changed {
-            change: Change::Refused(refusals::MALFORMED),
-            state: x,
-        };
-    }
-    let mut clause_sizes = x.learned_clause_sizes;
-    let mut cube_sizes = x.learned_cube_sizes;
-    clear(&mut clause_sizes);
-    clear(&mut cube_sizes);
+    let mut no_clauses = x.learned_clause_sizes;
+    let mut no_cubes = x.learned_cube_sizes;
+    let change = in_place::forget(
+        &x.numbers,
+        &x.levels,
+        &x.kinds,
+        &x.clauses,
+        &x.clause_sizes,
+        &x.learned_clauses,
+        &mut no_clauses,
+        &x.learned_cubes,
+        &mut no_cubes,
+    );
     let mut y = x;
-    y.learned_clause_sizes = clause_sizes;
-    y.learned_cube_sizes = cube_sizes;
+    y.learned_clause_sizes = no_clauses;
+    y.learned_cube_sizes = no_cubes;
     Changed {
-        change: Change::Done,
+        change: change,
         state: y,
     }
 }
@@ -58,18 +61,27 @@ pub fn forget(x: State) -> Changed
 pub fn rule(x: State, lits: &[i16]) -> Changed
     ensures { λ r. ⌜ Serves x (rule (now (lits .entry))) (changeSaid (r .change)) (r .state) ⌝ }
 {
-    let numbers = x.numbers;
-    let places = state::numbers::places_of(&numbers);
-    let fault = refusals::rule_fault(x, lits, &places);
-    if fault != refusals::NONE {
-        return Changed {
-            change: Change::Refused(fault),
-            state: x,
-        };
-    }
-    let y = clauses::accept(x, lits, &places);
+    let mut clauses = x.clauses;
+    let mut clause_sizes = x.clause_sizes;
+    let mut cube_sizes = x.learned_cube_sizes;
+    let change = in_place::rule(
+        &x.numbers,
+        &x.levels,
+        &x.kinds,
+        &mut clauses,
+        &mut clause_sizes,
+        &x.learned_clauses,
+        &x.learned_clause_sizes,
+        &x.learned_cubes,
+        &mut cube_sizes,
+        lits,
+    );
+    let mut y = x;
+    y.clauses = clauses;
+    y.clause_sizes = clause_sizes;
+    y.learned_cube_sizes = cube_sizes;
     Changed {
-        change: Change::Done,
+        change: change,
         state: y,
     }
 }

@@ -6,7 +6,6 @@ ghost use Rattle.qbf.specs.Formula.{paper, Prefix};
 ghost use Rattle.qbf.specs.Calls.{literalFault};
 ghost use Rattle.tables.specs.Views.{Places};
 ghost use Rattle.rules.specs.Faults.{faultOf, numberFault, Judged};
-use state::State;
 
 // The rule is accepted.
 pub const NONE: u16 = 0;
@@ -75,15 +74,19 @@ fn literals_fault<'a>(lits: &'a [i16], places: &'a [u16; tables::BY_NUMBER]) -> 
     NONE
 }
 
-// "Order: 22, 20, 7, then each number from the left 3, .. 5, 6 .. The first fault decides."
-pub fn rule_fault<'a>(x: State, lits: &'a [i16], places: &'a [u16; tables::BY_NUMBER]) -> u16
-    ensures { λ r. ⌜ Judged x (now (lits .entry)) (now (places .entry)) r ⌝ }
+// "Order: 22, 20, 7, then each number from the left 3, .. 5, 6 .. The first fault decides." `ok` is the state's check.
+pub fn rule_fault<'a>(
+    ok: bool,
+    sizes: &'a [u16; tables::CLAUSE_SIZES],
+    lits: &'a [i16],
+    places: &'a [u16; tables::BY_NUMBER],
+) -> u16
+    ensures { λ r. ⌜ Judged ok (getD (now (sizes .entry)) 0 0) (now (lits .entry)) (now (places .entry)) r ⌝ }
 {
-    if !state::check(x) {
+    if !ok {
         return MALFORMED;
     }
-    let sizes = x.clause_sizes;
-    let count = sizes[0] as usize;
+    let count = literal::cell_at(sizes, 0) as usize;
     if count >= tables::CLAUSES {
         return FULL;
     }

@@ -19,7 +19,7 @@ use Rattle.theory.proofs.Stores.{ShapedStore}
 use Rattle.theory.proofs.Basics.{length-▹}
 use Rattle.theory.proofs.Shape.{last-held}
 use Rattle.theory.proofs.WellFormed.{FormulaFacts, clauses-rising, free-before, store-shaped, shaped-store, →rising}
-use Rattle.theory.proofs.ShapedSearch.{ShapedOutcome, shaped-visit, shaped-branch}
+use Rattle.theory.proofs.ShapedSearch.{ShapedOutcome, shaped-visit}
 use Rattle.theory.proofs.Verdict.{NoFree}
 use Rattle.theory.proofs.Search.{Below, FreeFirst}
 use Rattle.theory.proofs.Unmixed.{Unmixed, unmixed-visit, unmixed-branch}
@@ -57,8 +57,8 @@ module _ (D : Prefix) (R : List Clause) (κ : Quantifier) (f : Node → Store �
 -- ---- a position below
 -- the result of a side at the position that the code made for it
 pub side-at : {ls : List Node} (D : Prefix) (R : List Clause) (s : Node) (st : Store) {r : Answer} {up cs cl qs ql table : List ℕ} {q q′ : Position} → q ≡ q′
-    → Result D ls (visitOf D R q s st) q r up cs cl qs ql table → Result D ls (visitOf D R q′ s st) q′ r up cs cl qs ql table
-side-at {ls} D R s st {r} {up} {cs} {cl} {qs} {ql} {table} e w = subst (λ (x : Position). Result D ls (visitOf D R x s st) x r up cs cl qs ql table) e w
+    → Result D ls (visitOf D R q s st false) q r up cs cl qs ql table → Result D ls (visitOf D R q′ s st false) q′ r up cs cl qs ql table
+side-at {ls} D R s st {r} {up} {cs} {cl} {qs} {ql} {table} e w = subst (λ (x : Position). Result D ls (visitOf D R x s st false) x r up cs cl qs ql table) e w
 
 -- ---- what is well formed
 abbrev formulaOf : Prefix → List Clause → Formula
@@ -151,12 +151,6 @@ module _ (D : Prefix) (R : List Clause) (κ : Quantifier) (s : Node) (k : ℕ) (
 
   pub unmixed-side : (b : Bool) (st : Store) → Formed D R st → Unmixed (drop (k + 1) (quantifiers D)) (side (s ▹ b) st .outcome)
   unmixed-side b st h = unmixed-visit paper one D R (rising D R st h) eqb (drop (k + 1) (quantifiers D)) (s ▹ b) st (rest-side b) (shaped D R st h)
-
-  -- the branch's outcome, and the resolvent if there is one, has no more literals than there are numbers
-  pub shaped-here : (st : Store) → Formed D R st → ShapedOutcome D s (branch paper D R κ side s st .outcome)
-  shaped-here st h =
-      shaped-branch paper one D R (rising D R st h) κ (drop (k + 1) (quantifiers D)) s rest side
-      (λ c st′ h′. shaped-visit paper one D R (rising D R st h) eqb (drop (k + 1) (quantifiers D)) (s ▹ c) st′ (rest-side c) h′) st (shaped D R st h) .answer-ok
 
   pub quantified : (st : Store) → Formed D R st → Below κ (drop (k + 1) (quantifiers D))
   quantified st h = below-at (quantifiers D) (length s) κ (drop (k + 1) (quantifiers D)) (free-before (formulaOf D R) (facts D R st h)) rest

@@ -3,15 +3,11 @@ use Prim.Native.Nat.{ℕ, suc, _+_, _-_, _*_, _^_, _≤_, _<_}
 use native.Mathlib.Omega.{arith}
 use native.Mathlib.Nat.{two-pow-succ, pow-le-pow-right}
 use mathlib.Core.Path.{_≡_, sym, ap, _∙_, subst}
-use mathlib.Core.Bool.{Bool, true, false, cond}
+use mathlib.Core.Bool.{Bool, true, cond}
 use mathlib.Core.List.{List}
-use lib.ListN.{length, getD, set}
-use lib.Seq.{set-set, set-getD}
 use Rattle.qbf.specs.Formula.{paper, Prefix, Node}
 use Rattle.qbf.specs.Learning.{LearningResult}
-use Rattle.tables.specs.Codes.{codeAt, given}
 use Rattle.tables.specs.Shelves.{newestOf}
-use Rattle.coding.proofs.Given.{given-back}
 use Rattle.node.specs.Node.{Finished, Grown, isYes, settledLines}
 use Rattle.node.specs.declared.Verdict.the-variants.{Yes, No, Mixed}
 use Rattle.search.specs.Search.{left, Room, Counts, Result}
@@ -57,86 +53,86 @@ settle-low No Mixed m l n e h = omega arith
 settle-low Mixed Mixed m l n e h = omega arith
 
 -- room and counts do not depend on how many clauses are known to be satisfied
-pub room-resumed : {numbers cl ql : List ℕ} {saved : ℕ} (p q : Position) (n : ℕ) → q ≡ resumedAt p n → Room numbers saved cl ql p → Room numbers saved cl ql q
-room-resumed {numbers} {cl} {ql} {saved} p q n e h =
-    subst (Room numbers saved cl ql) (sym e)
-    (record { few = h .few; within = h .within; free = h .free; aside = h .aside; visits = h .visits; lines = h .lines; clauses = h .clauses; cubes = h .cubes })
+pub room-resumed : {cl ql : List ℕ} {saved : ℕ} (p q : Position) (n : ℕ) → q ≡ resumedAt p n → Room saved cl ql p → Room saved cl ql q
+room-resumed {cl} {ql} {saved} p q n e h =
+    subst (Room saved cl ql) (sym e)
+    (record { within = h .within; free = h .free; aside = h .aside; visits = h .visits; lines = h .lines; clauses = h .clauses; cubes = h .cubes })
 
-pub counts-resumed : {numbers cl ql cl′ ql′ : List ℕ} {r : Answer} (p q : Position) (n : ℕ) → q ≡ resumedAt p n → Counts numbers cl ql q r cl′ ql′ → Counts numbers cl ql p r cl′ ql′
-counts-resumed {numbers} {cl} {ql} {cl′} {ql′} {r} p q n e h =
-    let g : Counts numbers cl ql (resumedAt p n) r cl′ ql′ = subst (λ (x : Position). Counts numbers cl ql x r cl′ ql′) e h in
+pub counts-resumed : {cl ql cl′ ql′ : List ℕ} {r : Answer} (p q : Position) (n : ℕ) → q ≡ resumedAt p n → Counts cl ql q r cl′ ql′ → Counts cl ql p r cl′ ql′
+counts-resumed {cl} {ql} {cl′} {ql′} {r} p q n e h =
+    let g : Counts cl ql (resumedAt p n) r cl′ ql′ = subst (λ (x : Position). Counts cl ql x r cl′ ql′) e h in
     record { short = g .short; more = g .more; fewer = g .fewer; lines-more = g .lines-more; lines-fewer = g .lines-fewer; clauses = g .clauses; cubes = g .cubes }
 
-module _ (numbers : List ℕ) (p : Position) where
-  pub counts-settled : {cl ql : List ℕ} (r : Answer) (v : Verdict) (n : ℕ) → r ≡ answered v n (p .visits + 1) (p .lines) → n ≤ paper .numbers → Counts numbers cl ql p r cl ql
+module _ (p : Position) where
+  pub counts-settled : {cl ql : List ℕ} (r : Answer) (v : Verdict) (n : ℕ) → r ≡ answered v n (p .visits + 1) (p .lines) → n ≤ paper .numbers → Counts cl ql p r cl ql
   counts-settled {cl} {ql} r v n e h =
-      subst (λ (x : Answer). Counts numbers cl ql p x cl ql) (sym e)
-      (record { short = h; more = omega arith; fewer = omega (arith, two (left numbers p)); lines-more = omega arith; lines-fewer = omega arith; clauses = omega arith; cubes = omega arith })
+      subst (λ (x : Answer). Counts cl ql p x cl ql) (sym e)
+      (record { short = h; more = omega arith; fewer = omega (arith, two (left p)); lines-more = omega arith; lines-fewer = omega arith; clauses = omega arith; cubes = omega arith })
 
-  module _ (more : p .at < getD numbers 0 0) where
-    twice : 2 ^ suc (left numbers p) ≡ 2 ^ suc (getD numbers 0 0 - (p .at + 1)) + 2 ^ suc (getD numbers 0 0 - (p .at + 1))
+  module _ (more : p .at < paper .numbers) where
+    twice : 2 ^ suc (left p) ≡ 2 ^ suc (paper .numbers - (p .at + 1)) + 2 ^ suc (paper .numbers - (p .at + 1))
     twice =
-        let e : left numbers p ≡ suc (getD numbers 0 0 - (p .at + 1)) = omega arith in
-        ap (λ (n : ℕ). 2 ^ suc n) e ∙ two-pow-succ (suc (getD numbers 0 0 - (p .at + 1)))
+        let e : left p ≡ suc (paper .numbers - (p .at + 1)) = omega arith in
+        ap (λ (n : ℕ). 2 ^ suc n) e ∙ two-pow-succ (suc (paper .numbers - (p .at + 1)))
 
     -- room for a side
     pub record SideRoom (saved : ℕ) (cl ql : List ℕ) (q : Position) : Type 0 where
-      pub room : Room numbers saved cl ql q
+      pub room : Room saved cl ql q
       pub after : 1 ≤ q .at
-      pub own : suc (left numbers q) * paper .numbers ≤ saved
+      pub own : suc (left q) * paper .numbers ≤ saved
 
-    side-room : {cl ql cl′ ql′ : List ℕ} (saved v l : ℕ) → Room numbers saved cl ql p → v + 2 ^ suc (getD numbers 0 0 - (p .at + 1)) ≤ 2 ^ 62 → l ≤ v + v
+    side-room : {cl ql cl′ ql′ : List ℕ} (saved v l : ℕ) → Room saved cl ql p → v + 2 ^ suc (paper .numbers - (p .at + 1)) ≤ 2 ^ 62 → l ≤ v + v
         → newestOf cl′ ≤ v + paper .constraints → newestOf ql′ ≤ v + paper .constraints → SideRoom saved cl′ ql′ (below p v l)
     side-room saved v l h hv hl hc hq =
-        let e : left numbers p ≡ suc (getD numbers 0 0 - (p .at + 1)) = omega arith in
+        let e : left p ≡ suc (paper .numbers - (p .at + 1)) = omega arith in
         record {
-          room = record { few = h .few; within = omega arith; free = h .free; aside = omega (arith, h .aside, e); visits = hv; lines = hl; clauses = hc; cubes = hq };
+          room = record { within = omega arith; free = h .free; aside = omega (arith, h .aside, e); visits = hv; lines = hl; clauses = hc; cubes = hq };
           after = omega arith;
           own = omega (arith, h .aside, e);
         }
 
-    pub room-off : {cl ql : List ℕ} (saved : ℕ) (q : Position) → q ≡ below p (p .visits + 1) (p .lines) → Room numbers saved cl ql p → SideRoom saved cl ql q
+    pub room-off : {cl ql : List ℕ} (saved : ℕ) (q : Position) → q ≡ below p (p .visits + 1) (p .lines) → Room saved cl ql p → SideRoom saved cl ql q
     room-off {cl} {ql} saved q e h =
         subst (SideRoom saved cl ql) (sym e)
-        (side-room saved (p .visits + 1) (p .lines) h (omega (arith, h .visits, twice, two (getD numbers 0 0 - (p .at + 1)))) (omega (arith, h .lines)) (omega (arith, h .clauses)) (omega (arith, h .cubes)))
+        (side-room saved (p .visits + 1) (p .lines) h (omega (arith, h .visits, twice, two (paper .numbers - (p .at + 1)))) (omega (arith, h .lines)) (omega (arith, h .clauses)) (omega (arith, h .cubes)))
 
     -- room to put one constraint aside
-    pub aside-room : {cl ql : List ℕ} (saved : ℕ) → Room numbers saved cl ql p → paper .numbers ≤ saved
+    pub aside-room : {cl ql : List ℕ} (saved : ℕ) → Room saved cl ql p → paper .numbers ≤ saved
     aside-room saved h =
-        let e : left numbers p ≡ suc (getD numbers 0 0 - (p .at + 1)) = omega arith in
+        let e : left p ≡ suc (paper .numbers - (p .at + 1)) = omega arith in
         omega (arith, h .aside, e)
 
-    pub falls-side : (q : Position) (v l : ℕ) → q ≡ below p v l → 4 * (getD numbers 0 0 - q .at) + 4 < 4 * (getD numbers 0 0 - p .at) + 1
+    pub falls-side : (q : Position) (v l : ℕ) → q ≡ below p v l → 4 * (paper .numbers - q .at) + 4 < 4 * (paper .numbers - p .at) + 1
     falls-side q v l e = let z : q .at ≡ p .at + 1 = ap (λ (x : Position). x .at) e in omega arith
 
-    module _ {cl ql cl₁ ql₁ : List ℕ} (q : Position) (eq : q ≡ below p (p .visits + 1) (p .lines)) (off : Answer) (counts : Counts numbers cl ql q off cl₁ ql₁) where
-      c : Counts numbers cl ql (below p (p .visits + 1) (p .lines)) off cl₁ ql₁
-      c = subst (λ (x : Position). Counts numbers cl ql x off cl₁ ql₁) eq counts
+    module _ {cl ql cl₁ ql₁ : List ℕ} (q : Position) (eq : q ≡ below p (p .visits + 1) (p .lines)) (off : Answer) (counts : Counts cl ql q off cl₁ ql₁) where
+      c : Counts cl ql (below p (p .visits + 1) (p .lines)) off cl₁ ql₁
+      c = subst (λ (x : Position). Counts cl ql x off cl₁ ql₁) eq counts
 
-      pub room-on : (saved saved′ l : ℕ) (q′ : Position) → q′ ≡ below p (off .visits) l → l ≤ off .lines + 1 → saved′ ≡ saved → Room numbers saved cl ql p → SideRoom saved′ cl₁ ql₁ q′
+      pub room-on : (saved saved′ l : ℕ) (q′ : Position) → q′ ≡ below p (off .visits) l → l ≤ off .lines + 1 → saved′ ≡ saved → Room saved cl ql p → SideRoom saved′ cl₁ ql₁ q′
       room-on saved saved′ l q′ e hl same h =
           subst (λ (n : ℕ). SideRoom n cl₁ ql₁ q′) (sym same)
           (subst (SideRoom saved cl₁ ql₁) (sym e)
           (side-room saved (off .visits) l h (omega (arith, h .visits, twice, c .fewer)) (omega (arith, h .lines, c .lines-fewer, hl)) (omega (arith, h .clauses, c .clauses)) (omega (arith, h .cubes, c .cubes))))
 
-      pub counts-up : Counts numbers cl ql p off cl₁ ql₁
+      pub counts-up : Counts cl ql p off cl₁ ql₁
       counts-up =
           record {
             short = c .short;
             more = omega (arith, c .more);
-            fewer = omega (arith, c .fewer, twice, two (getD numbers 0 0 - (p .at + 1)));
+            fewer = omega (arith, c .fewer, twice, two (paper .numbers - (p .at + 1)));
             lines-more = c .lines-more;
             lines-fewer = omega (arith, c .lines-fewer);
             clauses = omega (arith, c .clauses);
             cubes = omega (arith, c .cubes);
           }
 
-      module _ {cl₂ ql₂ : List ℕ} (l : ℕ) (q′ : Position) (e : q′ ≡ below p (off .visits) l) (on : Answer) (d′ : Counts numbers cl₁ ql₁ q′ on cl₂ ql₂) where
-        d : Counts numbers cl₁ ql₁ (below p (off .visits) l) on cl₂ ql₂
-        d = subst (λ (x : Position). Counts numbers cl₁ ql₁ x on cl₂ ql₂) e d′
+      module _ {cl₂ ql₂ : List ℕ} (l : ℕ) (q′ : Position) (e : q′ ≡ below p (off .visits) l) (on : Answer) (d′ : Counts cl₁ ql₁ q′ on cl₂ ql₂) where
+        d : Counts cl₁ ql₁ (below p (off .visits) l) on cl₂ ql₂
+        d = subst (λ (x : Position). Counts cl₁ ql₁ x on cl₂ ql₂) e d′
 
         -- the numbers of the newest rows fit when both sides are done
-        pub newest-small : (saved : ℕ) → Room numbers saved cl ql p → (newestOf cl₂ < 2 ^ 63) × (newestOf ql₂ < 2 ^ 63)
+        pub newest-small : (saved : ℕ) → Room saved cl ql p → (newestOf cl₂ < 2 ^ 63) × (newestOf ql₂ < 2 ^ 63)
         newest-small saved h = (
           omega (arith, h .visits, h .clauses, twice, c .fewer, c .clauses, d .fewer, d .clauses),
           omega (arith, h .visits, h .cubes, twice, c .fewer, c .cubes, d .fewer, d .cubes),
@@ -144,7 +140,7 @@ module _ (numbers : List ℕ) (p : Position) where
 
         -- this visit itself counts for the row that is stored last
         counts-both : {cl₃ ql₃ : List ℕ} (r : Answer) → l ≤ off .lines + 1 → r .len ≤ paper .numbers → r .visits ≡ on .visits → p .lines ≤ r .lines → r .lines ≤ on .lines + 1
-            → Grown cl₂ ql₂ cl₃ ql₃ → Counts numbers cl ql p r cl₃ ql₃
+            → Grown cl₂ ql₂ cl₃ ql₃ → Counts cl ql p r cl₃ ql₃
         counts-both r hl hs hv hm hf g =
             record {
               short = hs;
@@ -157,7 +153,7 @@ module _ (numbers : List ℕ) (p : Position) where
             }
 
         -- at an exists or forall variable no line is added here
-        pub counts-quantified : {cl₃ ql₃ : List ℕ} → l ≡ off .lines → (r : Answer) → Finished on r → Grown cl₂ ql₂ cl₃ ql₃ → Counts numbers cl ql p r cl₃ ql₃
+        pub counts-quantified : {cl₃ ql₃ : List ℕ} → l ≡ off .lines → (r : Answer) → Finished on r → Grown cl₂ ql₂ cl₃ ql₃ → Counts cl ql p r cl₃ ql₃
         counts-quantified same r f g =
             counts-both r (omega arith) (f .short) (f .visits) (omega (arith, c .lines-more, d .lines-more, f .lines)) (omega (arith, f .lines)) g
 
@@ -168,42 +164,36 @@ module _ (numbers : List ℕ) (p : Position) where
               let e : l ≡ off .lines + 1 = lined ∙ ap (λ (b : Bool). cond b (off .lines + 1) (off .lines)) y in
               omega (arith, d .lines-more)
 
-          pub on-lines-small : (saved : ℕ) → Room numbers saved cl ql p → on .lines < 2 ^ 63
+          pub on-lines-small : (saved : ℕ) → Room saved cl ql p → on .lines < 2 ^ 63
           on-lines-small saved h =
               omega (arith, h .visits, h .lines, twice, c .fewer, c .lines-fewer, d .fewer, d .lines-fewer, off-lines (off .verdict) (off .lines) l lined .1)
 
           pub counts-free : {cl₃ ql₃ : List ℕ} (r : Answer) → Finished on r → Grown cl₂ ql₂ cl₃ ql₃ → (n : ℕ) → n ≡ settledLines (off .verdict) (on .verdict) (on .lines)
-              → (r′ : Answer) → r′ ≡ answered (r .verdict) (r .len) (r .visits) n → Counts numbers cl ql p r′ cl₃ ql₃
+              → (r′ : Answer) → r′ ≡ answered (r .verdict) (r .len) (r .visits) n → Counts cl ql p r′ cl₃ ql₃
           counts-free {cl₃} {ql₃} r f g n settled r′ e =
-              subst (λ (x : Answer). Counts numbers cl ql p x cl₃ ql₃) (sym e)
+              subst (λ (x : Answer). Counts cl ql p x cl₃ ql₃) (sym e)
               (counts-both (answered (r .verdict) (r .len) (r .visits) n) (off-lines (off .verdict) (off .lines) l lined .1) (f .short) (f .visits)
               (omega (arith, low, c .lines-more)) (omega (arith, settle-high (off .verdict) (on .verdict) (on .lines), settled)) g)
             where
               low : off .lines ≤ n
               low = subst (λ (x : ℕ). off .lines ≤ x) (sym settled) (settle-low (off .verdict) (on .verdict) (off .lines) l (on .lines) lined (d .lines-more))
 
-      pub lines-small : (saved : ℕ) → Room numbers saved cl ql p → off .lines < 2 ^ 63
+      pub lines-small : (saved : ℕ) → Room saved cl ql p → off .lines < 2 ^ 63
       lines-small saved h = omega (arith, h .visits, h .lines, twice, c .fewer, c .lines-fewer)
 
-pub visits-small : {cl ql : List ℕ} (numbers : List ℕ) (saved : ℕ) (p : Position) → Room numbers saved cl ql p → p .visits < 2 ^ 62
-visits-small numbers saved p h = omega (arith, h .visits, two (left numbers p))
+pub visits-small : {cl ql : List ℕ} (saved : ℕ) (p : Position) → Room saved cl ql p → p .visits < 2 ^ 62
+visits-small saved p h = omega (arith, h .visits, two (left p))
 
 -- the cells of `saved` that are in use are passed over
-pub part-room : {numbers cl ql : List ℕ} (saved aside part : ℕ) (p : Position) → Room numbers saved cl ql p → aside ≤ paper .numbers → suc (left numbers p) * paper .numbers ≤ saved
-    → saved ≤ aside + part → Room numbers part cl ql p
+pub part-room : {cl ql : List ℕ} (saved aside part : ℕ) (p : Position) → Room saved cl ql p → aside ≤ paper .numbers → suc (left p) * paper .numbers ≤ saved
+    → saved ≤ aside + part → Room part cl ql p
 part-room saved aside part p h n own e =
-    record { few = h .few; within = h .within; free = h .free; aside = omega (arith, n, own, e); visits = h .visits; lines = h .lines; clauses = h .clauses; cubes = h .cubes }
-
--- setting a value and setting it back
-pub set-back : (l k : List ℕ) (i a : ℕ) → k ≡ set l i a → set k i (getD l i 0) ≡ l
-set-back l k i a e = rw e (set-set l i a (getD l i 0) ∙ set-getD l i 0)
-
--- giving a place a value and taking it back
-pub statuses-back : (p v n m : ℕ) (t u : List ℕ) → codeAt p true < length t → u ≡ given p v t → n ≡ getD t (codeAt p false) 0 → m ≡ getD t (codeAt p true) 0
-    → set (set u (codeAt p false) n) (codeAt p true) m ≡ t
-statuses-back p v n m t u h e hn hm = (λ i. set (set (e i) (codeAt p false) (hn i)) (codeAt p true) (hm i)) ∙ given-back p v t h
+    record { within = h .within; free = h .free; aside = omega (arith, n, own, e); visits = h .visits; lines = h .lines; clauses = h .clauses; cubes = h .cubes }
 
 -- an answer by its fields
+pub counts-as : {cl ql cl′ ql′ : List ℕ} {p : Position} {r r′ : Answer} → r ≡ r′ → Counts cl ql p r cl′ ql′ → Counts cl ql p r′ cl′ ql′
+counts-as {cl} {ql} {cl′} {ql′} {p} {r} {r′} e w = subst (λ (x : Answer). Counts cl ql p x cl′ ql′) e w
+
 pub result-as : {D : Prefix} {ls : List Node} {o : LearningResult} {p : Position} {r r′ : Answer} {up cs cl qs ql tb : List ℕ} → r ≡ r′
     → Result D ls o p r up cs cl qs ql tb → Result D ls o p r′ up cs cl qs ql tb
 result-as {D} {ls} {o} {p} {r} {r′} {up} {cs} {cl} {qs} {ql} {tb} e w = subst (λ (x : Answer). Result D ls o p x up cs cl qs ql tb) e w

@@ -5,25 +5,24 @@ use mathlib.Core.Path.{_≡_, refl, sym, ap, _∙_, subst}
 use mathlib.Core.Bool.{Bool, true, false, cond}
 use mathlib.Core.List.{List, [], _∷_, _++_, append-nil, append-assoc}
 use mathlib.Core.Option.{none}
-use lib.ListN.{length, getD, take, drop, length-append, length-map}
+use lib.ListN.{length, take, drop, length-append}
 use Rattle.qbf.specs.Formula.{paper, free, Prefix, Clause, Node, _▹_, quantifiers, quantifierAt}
 use Rattle.qbf.specs.Truth.{Outcome, decided, mixed, DecidedNode, decidedNodes, select}
 use Rattle.qbf.specs.Learning.{Constraint, Store, LearningResult, mentions, resolve, firstDead}
 use Rattle.qbf.specs.Card.{byteOf}
 use Rattle.theory.proofs.Laws.{select-append}
-use Rattle.theory.proofs.WellFormed.{numbers-ok, free-before}
-use Rattle.theory.proofs.Starting.{free-fit}
-use Rattle.tables.specs.Views.{Values}
+use Rattle.theory.proofs.WellFormed.{free-before}
+use Rattle.tables.specs.Codes.{Statuses}
 use Rattle.cover.specs.Cover.{Covers}
 use Rattle.node.specs.Node.{isYes, Reads, onwardOf, newLines, Joined, LineTask, settledLines, SettledTo}
-use Rattle.search.specs.Search.{Task, Result, branchOf}
+use Rattle.search.specs.Search.{Kept, Task, Result, branchOf}
 use Rattle.node.specs.declared.Verdict.{Verdict}
 use Rattle.node.specs.declared.Verdict.the-variants.{Yes, No, Mixed}
 use Rattle.node.specs.declared.Position.{Position}
 use Rattle.node.specs.declared.Answer.{Answer}
 use Rattle.search.proofs.Counts as counts
 use Rattle.search.proofs.Branching.{facts, rest, free-at}
-use Rattle.search.proofs.Returns.{SideSays, UpSays, FinishSays, inside, offR, onR, off-result, on-result, joined, onward-is, visits-both}
+use Rattle.search.proofs.Returns.{SideSays, UpSays, FinishSays, offR, onR, off-result, on-result, joined, onward-is, visits-both}
 
 -- ---- the lines of both sides
 abbrev pub offLines : Verdict → Node → List Node
@@ -114,37 +113,34 @@ module _ (D : Prefix) (R : List Clause) (s : Node) (st : Store) (k : ℕ) where
         (same-list Mixed (mixed (p .0)) (mixed (q .0)) (mixed-lines (select true (p .0)) (select true (q .0)) ∙ ap (λ (ms : List Node). ls ++ ms) (sym (mixed-first (p .0) (mixed (q .0))))) Mixed (λ f tb x. x) (λ n. refl))
 
 -- ---- the visitor
-module _ {cls szs dy dl ns ks kd mk vs ss cs cl qs ql tb : List ℕ} (p : Position) (more : p .at < getD ns 0 0) (q : Position) (eq : q ≡ counts.below p (p .visits + 1) (p .lines))
-    (off : Answer) {up₁ cs₁ cl₁ qs₁ ql₁ tb₁ : List ℕ} (offs : SideSays cls szs dy dl ns ks kd mk q 1 vs ss cs cl qs ql tb off up₁ cs₁ cl₁ qs₁ ql₁ tb₁) (t : Bool)
-    (ups : UpSays (off .verdict) 0 up₁ (off .len) (p .at) t) {vs₁ ss₁ : List ℕ} (same : vs₁ ≡ vs) (sames : ss₁ ≡ ss) {tbₐ : List ℕ} (l : ℕ)
+module _ {cls lks kd ss cs cl qs ql tb fs : List ℕ} (p q : Position) (eq : q ≡ counts.below p (p .visits + 1) (p .lines))
+    (off : Answer) {up₁ cs₁ cl₁ qs₁ ql₁ tb₁ : List ℕ} (offs : SideSays cls lks kd q 1 ss cs cl qs ql tb fs off up₁ cs₁ cl₁ qs₁ ql₁ tb₁) (t : Bool)
+    (ups : UpSays (off .verdict) 0 up₁ (off .len) (p .at) t) {ss₁ fs₁ : List ℕ} (kept : Kept q ss ss₁ tb tb₁ fs fs₁) {tbₐ : List ℕ} (l : ℕ)
     (counted : l ≡ cond (isYes (off .verdict)) (off .lines + 1) (off .lines))
-    (lined : (D : Prefix) (s : Node) (b : Bool) (ls : List Node) → LineTask D s ls ns vs₁ tb₁ p (off .lines) → 1 ≡ byteOf b → Covers (p .free) tbₐ (ls ++ cond (isYes (off .verdict)) ((s ▹ b) ∷ []) []))
+    (lined : (s : Node) (b : Bool) (ls : List Node) → LineTask s ls ss₁ tb₁ p (off .lines) → 1 ≡ byteOf b → Covers (p .free) tbₐ (ls ++ cond (isYes (off .verdict)) ((s ▹ b) ∷ []) []))
     (q′ : Position) (eq′ : q′ ≡ counts.below p (off .visits) l) (on : Answer) {up₂ cs₂ cl₂ qs₂ ql₂ tb₂ : List ℕ}
-    (ons : SideSays cls szs dy dl ns ks kd mk q′ 2 vs₁ ss₁ cs₁ cl₁ qs₁ ql₁ tbₐ on up₂ cs₂ cl₂ qs₂ ql₂ tb₂)
+    (ons : SideSays cls lks kd q′ 2 ss₁ cs₁ cl₁ qs₁ ql₁ tbₐ fs₁ on up₂ cs₂ cl₂ qs₂ ql₂ tb₂)
     (saved : List ℕ) (aside : take (off .len) saved ≡ take (off .len) up₁) (r : Answer) {up₃ cs₃ cl₃ qs₃ ql₃ : List ℕ}
     (fins : FinishSays kd (off .verdict) (off .len) on 0 saved up₂ (p .at) cs₂ cl₂ qs₂ ql₂ r up₃ cs₃ cl₃ qs₃ ql₃) (unup : t ≡ false) (visits : r .visits ≡ on .visits)
-    {vs₂ : List ℕ} (same₂ : vs₂ ≡ vs) (tb₃ : List ℕ) (n : ℕ) (settled : n ≡ settledLines (off .verdict) (on .verdict) (on .lines))
-    (settling : (D : Prefix) (s : Node) (ls : List Node) → LineTask D s ls ns vs₂ tb₂ p (on .lines) → SettledTo (off .verdict) (on .verdict) s ls (p .free) tb₃) where
-  pub free-result : (D : Prefix) (s : Node) (ls : List Node) (R : List Clause) (st : Store) → Task D s ls R st cls szs dy dl ns ks kd vs ss cs cl qs ql tb mk (p .at) p
-      → firstDead D s R ≡ none → quantifierAt D (suc (p .at)) ≡ free
+    {ss₂ fs₂ : List ℕ} (kept₂ : Kept q′ ss₁ ss₂ tbₐ tb₂ fs₁ fs₂) (tb₃ : List ℕ) (n : ℕ) (settled : n ≡ settledLines (off .verdict) (on .verdict) (on .lines))
+    (settling : (s : Node) (ls : List Node) → LineTask s ls ss₂ tb₂ p (on .lines) → SettledTo (off .verdict) (on .verdict) s ls (p .free) tb₃) where
+  pub free-result : (D : Prefix) (s : Node) (ls : List Node) (R : List Clause) (st : Store) → Task D s ls R st cls lks kd ss cs cl qs ql tb fs (p .at) p
+      → firstDead D s R ≡ none → p .at < length D → quantifierAt D (suc (p .at)) ≡ free
       → Result D ls (branchOf D R free p s st) p (counts.answered (r .verdict) (r .len) (r .visits) n) up₃ cs₃ cl₃ qs₃ ql₃ tb₃
-  free-result D s ls R st task alive is =
+  free-result D s ls R st task alive inside is =
       record {
         verdict = j .verdict;
         stored = j .stored;
-        visited = visits-both free 0 refl p more q eq off offs t ups D s ls R st task alive is l same sames q′ eq′ on ons ls₁ cov cnt saved aside r fins unup visits;
-        covers = subst (λ (x : LearningResult). Covers (p .free) tb₃ (ls ++ newLines (x .outcome))) (sym whole) (s₂ .covers (p .free) tb₃ (settling D s ls₂ (line-task vs₂ same₂ tb₂ ls₂ (on .lines) (z .covers) (z .counted))));
+        visited = visits-both free 0 refl p q eq off offs t ups D s ls R st task alive inside is l kept q′ eq′ on ons ls₁ cov cnt saved aside r fins unup visits;
+        covers = subst (λ (x : LearningResult). Covers (p .free) tb₃ (ls ++ newLines (x .outcome))) (sym whole) (s₂ .covers (p .free) tb₃ (settling s ls₂ (line-task ss₂ (kept₂ .statuses-restored ∙ kept .statuses-restored) tb₂ ls₂ (on .lines) (z .covers) (z .counted))));
         counted = settled ∙ ap (settledLines (off .verdict) (on .verdict)) (z .counted) ∙ s₂ .counts ∙ ap (λ (x : LearningResult). length (ls ++ newLines (x .outcome))) (sym whole);
       }
     where
-      w : Result D ls (offR free 0 refl p more q eq off offs t ups D s ls R st task alive is) (counts.below p (p .visits + 1) (p .lines)) off up₁ cs₁ cl₁ qs₁ ql₁ tb₁
-      w = off-result free 0 refl p more q eq off offs t ups D s ls R st task alive is
+      w : Result D ls (offR free 0 refl p q eq off offs t ups D s ls R st task alive inside is) (counts.below p (p .visits + 1) (p .lines)) off up₁ cs₁ cl₁ qs₁ ql₁ tb₁
+      w = off-result free 0 refl p q eq off offs t ups D s ls R st task alive inside is
 
       a : Outcome Constraint
-      a = offR free 0 refl p more q eq off offs t ups D s ls R st task alive is .outcome
-
-      inD : p .at < length D
-      inD = inside free 0 refl p more q eq off offs t ups D s ls R st task alive is
+      a = offR free 0 refl p q eq off offs t ups D s ls R st task alive inside is .outcome
 
       -- the place is a free one
       among : p .at < p .free
@@ -153,27 +149,18 @@ module _ {cls szs dy dl ns ks kd mk vs ss cs cl qs ql tb : List ℕ} (p : Positi
             arith,
             task .frees,
             task .shown .long,
-            free-at (quantifiers D) (length s) (drop (p .at + 1) (quantifiers D)) (free-before _ (facts D R st (task .formed))) (rest D R free s (p .at) (task .shown .long) inD is),
+            free-at (quantifiers D) (length s) (drop (p .at + 1) (quantifiers D)) (free-before _ (facts D R st (task .formed))) (rest D R free s (p .at) (task .shown .long) inside is),
           )
 
-      line-task : (xs : List ℕ) → xs ≡ vs → (ys : List ℕ) (ms : List Node) (i : ℕ) → Covers (p .free) ys ms → i ≡ length ms → LineTask D s ms ns xs ys p i
+      line-task : (xs : List ℕ) → xs ≡ ss → (ys : List ℕ) (ms : List Node) (i : ℕ) → Covers (p .free) ys ms → i ≡ length ms → LineTask s ms xs ys p i
       line-task xs e ys ms i c h =
-          record {
-            numbered = task .shown .numbered;
-            valued = subst (Values D s) (sym e) (task .shown .valued);
-            long = task .shown .long;
-            inside = among;
-            frees = omega (arith, task .frees, free-fit (quantifiers D), length-map D (λ d. d .quantifier));
-            numbers-ok = numbers-ok _ (facts D R st (task .formed));
-            covers = c;
-            counted = h;
-          }
+          record { statused = subst (Statuses s) (sym e) (task .shown .statused); long = task .shown .long; inside = among; covers = c; counted = h }
 
       ls₁ : List Node
       ls₁ = (ls ++ newLines a) ++ offLines (off .verdict) s
 
       cov : Covers (p .free) tbₐ ls₁
-      cov = lined D s false (ls ++ newLines a) (line-task vs₁ same tb₁ (ls ++ newLines a) (off .lines) (w .covers) (w .counted)) refl
+      cov = lined s false (ls ++ newLines a) (line-task ss₁ (kept .statuses-restored) tb₁ (ls ++ newLines a) (off .lines) (w .covers) (w .counted)) refl
 
       cnt : l ≡ length ls₁
       cnt = counted ∙ by (off .verdict) ∙ sym (length-append (ls ++ newLines a) (offLines (off .verdict) s))
@@ -183,26 +170,26 @@ module _ {cls szs dy dl ns ks kd mk vs ss cs cl qs ql tb : List ℕ} (p : Positi
           by No = omega (arith, w .counted)
           by Mixed = omega (arith, w .counted)
 
-      z : Result D ls₁ (onR free 0 refl p more q eq off offs t ups D s ls R st task alive is l same sames q′ eq′ on ons ls₁ cov cnt) (counts.below p (off .visits) l) on up₂ cs₂ cl₂ qs₂ ql₂ tb₂
-      z = on-result free 0 refl p more q eq off offs t ups D s ls R st task alive is l same sames q′ eq′ on ons ls₁ cov cnt
+      z : Result D ls₁ (onR free 0 refl p q eq off offs t ups D s ls R st task alive inside is l kept q′ eq′ on ons ls₁ cov cnt) (counts.below p (off .visits) l) on up₂ cs₂ cl₂ qs₂ ql₂ tb₂
+      z = on-result free 0 refl p q eq off offs t ups D s ls R st task alive inside is l kept q′ eq′ on ons ls₁ cov cnt
 
       o : Outcome Constraint
-      o = onR free 0 refl p more q eq off offs t ups D s ls R st task alive is l same sames q′ eq′ on ons ls₁ cov cnt .outcome
+      o = onR free 0 refl p q eq off offs t ups D s ls R st task alive inside is l kept q′ eq′ on ons ls₁ cov cnt .outcome
 
       j : Joined D (branchOf D R free p s st) r up₃ cs₃ cl₃ qs₃ ql₃
-      j = joined free 0 refl p more q eq off offs t ups D s ls R st task alive is l same sames q′ eq′ on ons ls₁ cov cnt saved aside r fins unup
+      j = joined free 0 refl p q eq off offs t ups D s ls R st task alive inside is l kept q′ eq′ on ons ls₁ cov cnt saved aside r fins unup
 
       ls₂ : List Node
       ls₂ = unsettled ls s (off .verdict) a o
 
       st′ : Store
-      st′ = onR free 0 refl p more q eq off offs t ups D s ls R st task alive is l same sames q′ eq′ on ons ls₁ cov cnt .store
+      st′ = onR free 0 refl p q eq off offs t ups D s ls R st task alive inside is l kept q′ eq′ on ons ls₁ cov cnt .store
 
       k : ℕ
-      k = suc (offR free 0 refl p more q eq off offs t ups D s ls R st task alive is .visits + onR free 0 refl p more q eq off offs t ups D s ls R st task alive is l same sames q′ eq′ on ons ls₁ cov cnt .visits)
+      k = suc (offR free 0 refl p q eq off offs t ups D s ls R st task alive inside is .visits + onR free 0 refl p q eq off offs t ups D s ls R st task alive inside is l kept q′ eq′ on ons ls₁ cov cnt .visits)
 
       whole : branchOf D R free p s st ≡ onwardOf D R free s a o st′ k
-      whole = onward-is free 0 refl p more q eq off offs t ups D s ls R st task alive is l same sames q′ eq′ on ons ls₁ cov cnt saved aside r fins unup
+      whole = onward-is free 0 refl p q eq off offs t ups D s ls R st task alive inside is l kept q′ eq′ on ons ls₁ cov cnt saved aside r fins unup
 
       s₂ : Settles D R s st′ k ls (off .verdict) (on .verdict) a o
       s₂ = settles D R s st′ k ls (off .verdict) (on .verdict) (take (off .len) up₁) (take (on .len) up₂) a o (w .verdict) (z .verdict)

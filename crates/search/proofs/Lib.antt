@@ -1,4 +1,5 @@
 pub mod Counts
+pub mod Keeping
 pub mod Branching
 pub mod Returns
 pub mod FreeReturns

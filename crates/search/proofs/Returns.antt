@@ -6,7 +6,7 @@ use mathlib.Core.Path.{_≡_, refl, sym, ap, _∙_, subst}
 use mathlib.Core.Bool.{Bool, true, false}
 use mathlib.Core.List.{List, [], _∷_, _++_}
 use mathlib.Core.Option.{none}
-use lib.ListN.{length, getD, take, drop}
+use lib.ListN.{length, take, drop}
 use lib.Dec.{eqb}
 use Rattle.qbf.specs.Formula.{paper, Quantifier, Prefix, Clause, Node, _▹_, quantifiers, quantifierAt}
 use Rattle.qbf.specs.Truth.{Outcome, decided, mixed}
@@ -20,24 +20,27 @@ use Rattle.theory.proofs.WellFormed.{numbers-ok}
 use Rattle.tables.specs.Views.{quantifierCode}
 use Rattle.tables.specs.Codes.{Quantified}
 use Rattle.tables.specs.Shelves.{StoreShown}
+use Rattle.tables.specs.Marks.{Passed}
+use Rattle.inner.proofs.Below.{passed-kept}
 use Rattle.cover.specs.Cover.{Covers}
 use Rattle.tables.specs.Formed.{Formed}
 use Rattle.node.specs.Node.{Reads, Ended, Shown, goesUpOf, onwardOf, resolventOf, newLines, Joined}
-use Rattle.search.specs.Search.{Task, Result, visitOf, branchOf}
+use Rattle.search.specs.Search.{Kept, Task, Result, visitOf, branchOf}
 use Rattle.node.specs.declared.Verdict.{Verdict}
 use Rattle.node.specs.declared.Position.{Position}
 use Rattle.node.specs.declared.Answer.{Answer}
 use Rattle.search.proofs.Counts as counts
+use Rattle.search.proofs.Keeping.{kept-up}
 use Rattle.search.proofs.Branching.{goes-up, goes-on, side-at, facts, formed-on, shaped-side, unmixed-side, unmixed-here, quantified, resolvent-fits, ended}
 
 -- ---- what the callees ensure
 -- a side: the tables that no visit changes, then those before and after it
-abbrev pub SideSays : List ℕ → List ℕ → List ℕ → List ℕ → List ℕ → List ℕ → List ℕ → List ℕ → Position → ℕ
+abbrev pub SideSays : List ℕ → List ℕ → List ℕ → Position → ℕ
     → List ℕ → List ℕ → List ℕ → List ℕ → List ℕ → List ℕ → List ℕ → Answer → List ℕ → List ℕ → List ℕ → List ℕ → List ℕ → List ℕ → Type 0
-SideSays clauses sizes dying links ns ks kinds marks q value vs ss cs cl qs ql tb r up cs′ cl′ qs′ ql′ tb′ =
+SideSays clauses links kinds q value ss cs cl qs ql tb fs r up cs′ cl′ qs′ ql′ tb′ =
     (D : Prefix) (s : Node) (b : Bool) (ls : List Node) (R : List Clause) (st : Store) (k : ℕ)
-    → Task D s ls R st clauses sizes dying links ns ks kinds vs ss cs cl qs ql tb marks k q → firstDead D s R ≡ none → suc k ≡ q .at → value ≡ byteOf b
-    → Result D ls (visitOf D R q (s ▹ b) st) q r up cs′ cl′ qs′ ql′ tb′
+    → Task D s ls R st clauses links kinds ss cs cl qs ql tb fs k q → firstDead D s R ≡ none → k < length D → suc k ≡ q .at → value ≡ byteOf b
+    → Result D ls (visitOf D R q (s ▹ b) st false) q r up cs′ cl′ qs′ ql′ tb′
 
 abbrev pub UpSays : Verdict → ℕ → List ℕ → ℕ → ℕ → Bool → Type 0
 UpSays v kind up n at t =
@@ -58,14 +61,11 @@ pub unmixed-lines : (ks : List Quantifier) (o : Outcome Constraint) → Unmixed 
 unmixed-lines ks (decided v e) h n = refl
 unmixed-lines ks (mixed ds) h n = absurd (h n)
 
-module _ {cls szs dy dl ns ks kd mk vs ss cs cl qs ql tb : List ℕ} (κ : Quantifier) (kind : ℕ) (code : quantifierCode κ ≡ kind) (p : Position) (more : p .at < getD ns 0 0)
+module _ {cls lks kd ss cs cl qs ql tb fs : List ℕ} (κ : Quantifier) (kind : ℕ) (code : quantifierCode κ ≡ kind) (p : Position)
     (q : Position) (eq : q ≡ counts.below p (p .visits + 1) (p .lines)) (off : Answer) {up₁ cs₁ cl₁ qs₁ ql₁ tb₁ : List ℕ}
-    (offs : SideSays cls szs dy dl ns ks kd mk q 1 vs ss cs cl qs ql tb off up₁ cs₁ cl₁ qs₁ ql₁ tb₁) (t : Bool) (ups : UpSays (off .verdict) kind up₁ (off .len) (p .at) t) where
-  module _ (D : Prefix) (s : Node) (ls : List Node) (R : List Clause) (st : Store) (task : Task D s ls R st cls szs dy dl ns ks kd vs ss cs cl qs ql tb mk (p .at) p)
-      (alive : firstDead D s R ≡ none) (is : quantifierAt D (suc (p .at)) ≡ κ) where
-    pub inside : p .at < length D
-    inside = omega (arith, more, task .shown .numbered .count)
-
+    (offs : SideSays cls lks kd q 1 ss cs cl qs ql tb fs off up₁ cs₁ cl₁ qs₁ ql₁ tb₁) (t : Bool) (ups : UpSays (off .verdict) kind up₁ (off .len) (p .at) t) where
+  module _ (D : Prefix) (s : Node) (ls : List Node) (R : List Clause) (st : Store) (task : Task D s ls R st cls lks kd ss cs cl qs ql tb fs (p .at) p)
+      (alive : firstDead D s R ≡ none) (inside : p .at < length D) (is : quantifierAt D (suc (p .at)) ≡ κ) where
     abbrev side : Node → Store → LearningResult
     side = visit D R eqb (below paper D R (drop (p .at + 1) (quantifiers D)))
 
@@ -79,9 +79,9 @@ module _ {cls szs dy dl ns ks kd mk vs ss cs cl qs ql tb : List ℕ} (κ : Quant
     off-result =
         side-at D R (s ▹ false) st eq
         (offs D s false ls R st (p .at)
-        (subst (Task D s ls R st cls szs dy dl ns ks kd vs ss cs cl qs ql tb mk (p .at)) (sym eq)
-        (record { shown = task .shown; formed = task .formed; matrix = task .matrix; stored = task .stored; marked = task .marked; frees = task .frees; covers = task .covers; counted = task .counted }))
-        alive (at-side q (p .visits + 1) (p .lines) eq) refl)
+        (subst (Task D s ls R st cls lks kd ss cs cl qs ql tb fs (p .at)) (sym eq)
+        (record { shown = task .shown; formed = task .formed; matrix = task .matrix; stored = task .stored; passed = task .passed; frees = task .frees; covers = task .covers; counted = task .counted }))
+        alive inside (at-side q (p .visits + 1) (p .lines) eq) refl)
 
     ended-off : Ended D (suc (p .at)) (offR .outcome)
     ended-off = ended D s false (p .at) (offR .outcome) (task .shown .long) (shaped-side D R κ s (p .at) (task .shown .long) inside is false st (task .formed))
@@ -95,14 +95,17 @@ module _ {cls szs dy dl ns ks kd mk vs ss cs cl qs ql tb : List ℕ} (κ : Quant
         subst (λ (x : LearningResult). Result D ls x p off up₁ cs₁ cl₁ qs₁ ql₁ tb₁) (sym (goes-up D R κ side s st (sym tested ∙ e)))
         (record { verdict = off-result .verdict; stored = off-result .stored; visited = omega (arith, off-result .visited); covers = off-result .covers; counted = off-result .counted })
 
-    module _ {tbₐ : List ℕ} (l : ℕ) {vs₁ ss₁ : List ℕ} (same : vs₁ ≡ vs) (sames : ss₁ ≡ ss) (q′ : Position) (eq′ : q′ ≡ counts.below p (off .visits) l) (on : Answer)
-        {up₂ cs₂ cl₂ qs₂ ql₂ tb₂ : List ℕ} (ons : SideSays cls szs dy dl ns ks kd mk q′ 2 vs₁ ss₁ cs₁ cl₁ qs₁ ql₁ tbₐ on up₂ cs₂ cl₂ qs₂ ql₂ tb₂)
+    module _ {tbₐ : List ℕ} (l : ℕ) {ss₁ fs₁ : List ℕ} (kept : Kept q ss ss₁ tb tb₁ fs fs₁) (q′ : Position) (eq′ : q′ ≡ counts.below p (off .visits) l) (on : Answer)
+        {up₂ cs₂ cl₂ qs₂ ql₂ tb₂ : List ℕ} (ons : SideSays cls lks kd q′ 2 ss₁ cs₁ cl₁ qs₁ ql₁ tbₐ fs₁ on up₂ cs₂ cl₂ qs₂ ql₂ tb₂)
         (ls₁ : List Node) (cov : Covers (p .free) tbₐ ls₁) (cnt : l ≡ length ls₁) where
       abbrev pub onR : LearningResult
       onR = side (s ▹ true) (offR .store)
 
-      shown-on : Shown D s ns ks vs₁ kd ss₁ (p .at)
-      shown-on = subst (λ (x : List ℕ). Shown D s ns ks x kd ss₁ (p .at)) (sym same) (subst (λ (y : List ℕ). Shown D s ns ks vs kd y (p .at)) (sym sames) (task .shown))
+      shown-on : Shown D s kd ss₁ (p .at)
+      shown-on = subst (λ (x : List ℕ). Shown D s kd x (p .at)) (sym (kept .statuses-restored)) (task .shown)
+
+      passed-on : Passed D s R (p .satisfied) fs₁
+      passed-on = passed-kept (task .passed) (kept-up p q (p .visits + 1) (p .lines) eq kept .firsts-kept)
 
       formed-off : Formed D R (offR .store)
       formed-off = formed-on D R κ s (p .at) (task .shown .long) inside is st (task .formed)
@@ -111,9 +114,9 @@ module _ {cls szs dy dl ns ks kd mk vs ss cs cl qs ql tb : List ℕ} (κ : Quant
       on-result =
           side-at D R (s ▹ true) (offR .store) eq′
           (ons D s true ls₁ R (offR .store) (p .at)
-          (subst (Task D s ls₁ R (offR .store) cls szs dy dl ns ks kd vs₁ ss₁ cs₁ cl₁ qs₁ ql₁ tbₐ mk (p .at)) (sym eq′)
-          (record { shown = shown-on; formed = formed-off; matrix = task .matrix; stored = off-result .stored; marked = task .marked; frees = task .frees; covers = cov; counted = cnt }))
-          alive (at-side q′ (off .visits) l eq′) refl)
+          (subst (Task D s ls₁ R (offR .store) cls lks kd ss₁ cs₁ cl₁ qs₁ ql₁ tbₐ fs₁ (p .at)) (sym eq′)
+          (record { shown = shown-on; formed = formed-off; matrix = task .matrix; stored = off-result .stored; passed = passed-on; frees = task .frees; covers = cov; counted = cnt }))
+          alive inside (at-side q′ (off .visits) l eq′) refl)
 
       module _ (saved : List ℕ) (aside : take (off .len) saved ≡ take (off .len) up₁) (r : Answer) {up₃ cs₃ cl₃ qs₃ ql₃ : List ℕ}
           (fins : FinishSays kd (off .verdict) (off .len) on kind saved up₂ (p .at) cs₂ cl₂ qs₂ ql₂ r up₃ cs₃ cl₃ qs₃ ql₃) (unup : t ≡ false) where
@@ -143,48 +146,45 @@ module _ {cls szs dy dl ns ks kd mk vs ss cs cl qs ql tb : List ℕ} (κ : Quant
 
   -- at an exists or forall variable no side is Mixed, so there are no new lines
   module _ (nofree : (qs : List Quantifier) → Below κ qs → NoFree (κ ∷ qs)) (nobelow : (qs : List Quantifier) → NoFree (κ ∷ qs) → NoFree qs)
-      {vs₁ ss₁ : List ℕ} (same : vs₁ ≡ vs) (sames : ss₁ ≡ ss) (q′ : Position) (eq′ : q′ ≡ counts.below p (off .visits) (off .lines)) (on : Answer) {up₂ cs₂ cl₂ qs₂ ql₂ tb₂ : List ℕ}
-      (ons : SideSays cls szs dy dl ns ks kd mk q′ 2 vs₁ ss₁ cs₁ cl₁ qs₁ ql₁ tb₁ on up₂ cs₂ cl₂ qs₂ ql₂ tb₂)
+      {ss₁ fs₁ : List ℕ} (kept : Kept q ss ss₁ tb tb₁ fs fs₁) (q′ : Position) (eq′ : q′ ≡ counts.below p (off .visits) (off .lines)) (on : Answer) {up₂ cs₂ cl₂ qs₂ ql₂ tb₂ : List ℕ}
+      (ons : SideSays cls lks kd q′ 2 ss₁ cs₁ cl₁ qs₁ ql₁ tb₁ fs₁ on up₂ cs₂ cl₂ qs₂ ql₂ tb₂)
       (saved : List ℕ) (aside : take (off .len) saved ≡ take (off .len) up₁) (r : Answer) {up₃ cs₃ cl₃ qs₃ ql₃ : List ℕ}
       (fins : FinishSays kd (off .verdict) (off .len) on kind saved up₂ (p .at) cs₂ cl₂ qs₂ ql₂ r up₃ cs₃ cl₃ qs₃ ql₃) (unup : t ≡ false)
       (visits : r .visits ≡ on .visits) (lines : r .lines ≡ on .lines) where
-    pub both-result : (D : Prefix) (s : Node) (ls : List Node) (R : List Clause) (st : Store) → Task D s ls R st cls szs dy dl ns ks kd vs ss cs cl qs ql tb mk (p .at) p
-        → firstDead D s R ≡ none → quantifierAt D (suc (p .at)) ≡ κ → Result D ls (branchOf D R κ p s st) p r up₃ cs₃ cl₃ qs₃ ql₃ tb₂
-    both-result D s ls R st task alive is =
+    pub both-result : (D : Prefix) (s : Node) (ls : List Node) (R : List Clause) (st : Store) → Task D s ls R st cls lks kd ss cs cl qs ql tb fs (p .at) p
+        → firstDead D s R ≡ none → p .at < length D → quantifierAt D (suc (p .at)) ≡ κ → Result D ls (branchOf D R κ p s st) p r up₃ cs₃ cl₃ qs₃ ql₃ tb₂
+    both-result D s ls R st task alive inside is =
         record {
           verdict = j .verdict;
           stored = j .stored;
-          visited = visits-both D s ls R st task alive is (off .lines) same sames q′ eq′ on ons (ls ++ newLines a) (w .covers) (w .counted) saved aside r fins unup visits;
+          visited = visits-both D s ls R st task alive inside is (off .lines) kept q′ eq′ on ons (ls ++ newLines a) (w .covers) (w .counted) saved aside r fins unup visits;
           covers = subst (Covers (p .free) tb₂) lists (z .covers);
           counted = lines ∙ z .counted ∙ ap length lists;
         }
       where
         a : Outcome Constraint
-        a = offR D s ls R st task alive is .outcome
+        a = offR D s ls R st task alive inside is .outcome
 
-        w : Result D ls (offR D s ls R st task alive is) (counts.below p (p .visits + 1) (p .lines)) off up₁ cs₁ cl₁ qs₁ ql₁ tb₁
-        w = off-result D s ls R st task alive is
+        w : Result D ls (offR D s ls R st task alive inside is) (counts.below p (p .visits + 1) (p .lines)) off up₁ cs₁ cl₁ qs₁ ql₁ tb₁
+        w = off-result D s ls R st task alive inside is
 
         j : Joined D (branchOf D R κ p s st) r up₃ cs₃ cl₃ qs₃ ql₃
-        j = joined D s ls R st task alive is (off .lines) same sames q′ eq′ on ons (ls ++ newLines a) (w .covers) (w .counted) saved aside r fins unup
+        j = joined D s ls R st task alive inside is (off .lines) kept q′ eq′ on ons (ls ++ newLines a) (w .covers) (w .counted) saved aside r fins unup
 
         onRes : LearningResult
-        onRes = onR D s ls R st task alive is (off .lines) same sames q′ eq′ on ons (ls ++ newLines a) (w .covers) (w .counted)
+        onRes = onR D s ls R st task alive inside is (off .lines) kept q′ eq′ on ons (ls ++ newLines a) (w .covers) (w .counted)
 
         z : Result D (ls ++ newLines a) onRes (counts.below p (off .visits) (off .lines)) on up₂ cs₂ cl₂ qs₂ ql₂ tb₂
-        z = on-result D s ls R st task alive is (off .lines) same sames q′ eq′ on ons (ls ++ newLines a) (w .covers) (w .counted)
+        z = on-result D s ls R st task alive inside is (off .lines) kept q′ eq′ on ons (ls ++ newLines a) (w .covers) (w .counted)
 
         ks′ : List Quantifier
         ks′ = drop (p .at + 1) (quantifiers D)
 
-        inD : p .at < length D
-        inD = inside D s ls R st task alive is
-
         nothing : NoFree (κ ∷ ks′)
-        nothing = nofree ks′ (quantified D R κ s (p .at) (task .shown .long) inD is st (task .formed))
+        nothing = nofree ks′ (quantified D R κ s (p .at) (task .shown .long) inside is st (task .formed))
 
         no-off : newLines a ≡ []
-        no-off = unmixed-lines ks′ a (unmixed-side D R κ s (p .at) (task .shown .long) inD is false st (task .formed)) (nobelow ks′ nothing)
+        no-off = unmixed-lines ks′ a (unmixed-side D R κ s (p .at) (task .shown .long) inside is false st (task .formed)) (nobelow ks′ nothing)
 
         o : Outcome Constraint
         o = onRes .outcome
@@ -192,10 +192,10 @@ module _ {cls szs dy dl ns ks kd mk vs ss cs cl qs ql tb : List ℕ} (κ : Quant
         no-on : newLines o ≡ []
         no-on =
             unmixed-lines ks′ o
-            (unmixed-side D R κ s (p .at) (task .shown .long) inD is true (offR D s ls R st task alive is .store) (formed-on D R κ s (p .at) (task .shown .long) inD is st (task .formed))) (nobelow ks′ nothing)
+            (unmixed-side D R κ s (p .at) (task .shown .long) inside is true (offR D s ls R st task alive inside is .store) (formed-on D R κ s (p .at) (task .shown .long) inside is st (task .formed))) (nobelow ks′ nothing)
 
         no-here : newLines (branchOf D R κ p s st .outcome) ≡ []
-        no-here = unmixed-lines (κ ∷ ks′) (branchOf D R κ p s st .outcome) (unmixed-here D R κ s (p .at) (task .shown .long) inD is st (task .formed)) nothing
+        no-here = unmixed-lines (κ ∷ ks′) (branchOf D R κ p s st .outcome) (unmixed-here D R κ s (p .at) (task .shown .long) inside is st (task .formed)) nothing
 
         end : (xs : List Node) → xs ++ [] ≡ xs
         end [] = refl

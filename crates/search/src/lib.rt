@@ -1,18 +1,19 @@
 // The learning search below a start node that its own steps 1 to 4 leave open: a visit of a node, the branch on its next variable, and the
-// visitors of exists, forall and free variables, which call one another over lent tables; the number of open places falls. Values,
+// visitors of exists, forall and free variables, which call one another over lent tables; the number of open places falls. Statuses,
 // constraints, scratch space and the card's table are lent and handed back: no table is copied. The count of visits goes down with the
 // position and comes back with the answer.
 ghost use mathlib.Core.Path.{_≡_};
-ghost use mathlib.Core.Bool.{Bool};
+ghost use mathlib.Core.Bool.{Bool, false};
 ghost use mathlib.Core.List.{List};
 ghost use mathlib.Core.Option.{none};
 ghost use Prim.Native.Nat.{ℕ, suc, _*_, _≤_, _<_};
-ghost use lib.ListN.{length, getD, take};
+ghost use lib.ListN.{length, take};
 ghost use Rattle.qbf.specs.Formula.{paper, exists, forall, free, Prefix, Clause, Node, _▹_, quantifierAt};
 ghost use Rattle.qbf.specs.Learning.{Store, firstDead};
 ghost use Rattle.qbf.specs.Card.{byteOf};
-ghost use Rattle.tables.specs.Shelves.{Matrix, Shelves};
-ghost use Rattle.tables.specs.Marks.{Fresh};
+ghost use Rattle.tables.specs.Shelves.{Shelves};
+ghost use Rattle.tables.specs.Matrices.{Matrix};
+ghost use Rattle.inner.specs.Inner.{Entered};
 ghost use Rattle.search.specs.Search.{left, Room, Counts, Kept, Task, Result, visitOf, belowOf, branchOf};
 use coding::statuses::give;
 use coding::statuses::restore;
@@ -25,7 +26,6 @@ use node::finish;
 use node::goes_up;
 use node::line_if;
 use node::next_kind;
-use node::number_at;
 use node::put_aside;
 use node::resumed;
 use node::settle_lines;
@@ -34,16 +34,11 @@ use node::to_off;
 use node::to_on;
 use node::with_lines;
 
-// Steps 1 to 4 at an inner node, else step 5.
-fn visit<'a>(
-    clauses: &'a [u8; tables::CLAUSE_CELLS],
-    sizes: &'a [u16; tables::CLAUSE_SIZES],
-    dying: &'a [u8; tables::CLAUSE_CODES],
-    dying_links: &'a [u64; tables::CLAUSE_LINKS],
-    numbers: &'a [u16; tables::BY_NUMBER],
-    kinds: &'a [u16; tables::BY_NUMBER],
+// Steps 1 to 4, else step 5. At a start node steps 1 to 4 have been taken and leave it open.
+pub fn visit<'a>(
+    clauses: &'a [u8; tables::CLAUSE_ROWS],
+    links: &'a [u16; tables::CLAUSE_LINKS],
     quantifiers: &'a [u8; tables::CODES],
-    values: &mut [u8; tables::BY_NUMBER],
     statuses: &mut [u8; tables::CODES],
     learned: &mut [u8; tables::CONSTRAINT_CODES],
     learned_links: &mut [u64; tables::CONSTRAINT_LINKS],
@@ -52,21 +47,20 @@ fn visit<'a>(
     up: &mut [u8; tables::AREA],
     saved: &mut [u8],
     table: &mut [u8],
-    marks: &'a [u8; tables::MARKS],
+    firsts: &mut [u8; tables::CLAUSES],
     p: Position,
+    start: bool,
 ) -> Answer
-    requires { ⌜ Matrix (now clauses) (now sizes) (now dying) (now «dying_links») × Shelves (now learned) (now «learned_links») (now cubes) (now «cube_links») × Room (now numbers) (length (now saved)) (now «learned_links») (now «cube_links») p × (1 ≤ p .at) ⌝ }
-    ensures { λ r. ⌜ Counts (now (numbers .entry)) (now («learned_links» .entry)) (now («cube_links» .entry)) p r (now («learned_links» .exit)) (now («cube_links» .exit)) ⌝ }
-    ensures { λ _. ⌜ Kept (now (values .entry)) (now (values .exit)) (now (statuses .entry)) (now (statuses .exit)) (now (table .entry)) (now (table .exit)) × Shelves (now (learned .exit)) (now («learned_links» .exit)) (now (cubes .exit)) (now («cube_links» .exit)) ⌝ }
-    ensures { λ r. ⌜ ((D : Prefix) (s : Node) (ls : List Node) (R : List Clause) (st : Store) → Task D s ls R st (now (clauses .entry)) (now (sizes .entry)) (now (dying .entry)) (now («dying_links» .entry)) (now (numbers .entry)) (now (kinds .entry)) (now (quantifiers .entry)) (now (values .entry)) (now (statuses .entry)) (now (learned .entry)) (now («learned_links» .entry)) (now (cubes .entry)) (now («cube_links» .entry)) (now (table .entry)) (now (marks .entry)) (p .at) p → Fresh D s R → Result D ls (visitOf D R p s st) p r (now (up .exit)) (now (learned .exit)) (now («learned_links» .exit)) (now (cubes .exit)) (now («cube_links» .exit)) (now (table .exit))) ⌝ }
+    requires { ⌜ Matrix (now clauses) (now links) × Shelves (now learned) (now «learned_links») (now cubes) (now «cube_links») × Room (length (now saved)) (now «learned_links») (now «cube_links») p ⌝ }
+    ensures { λ r. ⌜ Counts (now («learned_links» .entry)) (now («cube_links» .entry)) p r (now («learned_links» .exit)) (now («cube_links» .exit)) ⌝ }
+    ensures { λ _. ⌜ Kept p (now (statuses .entry)) (now (statuses .exit)) (now (table .entry)) (now (table .exit)) (now (firsts .entry)) (now (firsts .exit)) × Shelves (now (learned .exit)) (now («learned_links» .exit)) (now (cubes .exit)) (now («cube_links» .exit)) ⌝ }
+    ensures { λ r. ⌜ ((D : Prefix) (s : Node) (ls : List Node) (R : List Clause) (st : Store) → Task D s ls R st (now (clauses .entry)) (now (links .entry)) (now (quantifiers .entry)) (now (statuses .entry)) (now (learned .entry)) (now («learned_links» .entry)) (now (cubes .entry)) (now («cube_links» .entry)) (now (table .entry)) (now (firsts .entry)) (p .at) p → Entered D s R start → Result D ls (visitOf D R p s st start) p r (now (up .exit)) (now (learned .exit)) (now («learned_links» .exit)) (now (cubes .exit)) (now («cube_links» .exit)) (now (table .exit))) ⌝ }
 {
     let at = p.at;
     let satisfied = p.satisfied;
     let step = conclude(
         clauses,
-        sizes,
-        dying,
-        dying_links,
+        links,
         quantifiers,
         statuses,
         learned,
@@ -74,24 +68,20 @@ fn visit<'a>(
         cubes,
         cube_links,
         up,
+        firsts,
         at,
         satisfied,
-        marks,
+        start,
     );
     let leaf = step.leaf;
     match leaf {
         Leaf::No(len) => settled(Verdict::No, len, p),
         Leaf::Yes(len) => settled(Verdict::Yes, len, p),
         Leaf::Open => {
-            branch(
+            let below = branch(
                 clauses,
-                sizes,
-                dying,
-                dying_links,
-                numbers,
-                kinds,
+                links,
                 quantifiers,
-                values,
                 statuses,
                 learned,
                 learned_links,
@@ -100,23 +90,19 @@ fn visit<'a>(
                 up,
                 saved,
                 table,
-                &step.marks,
+                firsts,
                 resumed(p, step.satisfied),
-            )
+            );
+            with_lines(below, below.lines) // not copied whole: see `side`
         }
     }
 }
 
 // "5. Branch on the next variable v, off first": at a node that steps 1 to 4 leave open.
-pub fn branch<'a>(
-    clauses: &'a [u8; tables::CLAUSE_CELLS],
-    sizes: &'a [u16; tables::CLAUSE_SIZES],
-    dying: &'a [u8; tables::CLAUSE_CODES],
-    dying_links: &'a [u64; tables::CLAUSE_LINKS],
-    numbers: &'a [u16; tables::BY_NUMBER],
-    kinds: &'a [u16; tables::BY_NUMBER],
+fn branch<'a>(
+    clauses: &'a [u8; tables::CLAUSE_ROWS],
+    links: &'a [u16; tables::CLAUSE_LINKS],
     quantifiers: &'a [u8; tables::CODES],
-    values: &mut [u8; tables::BY_NUMBER],
     statuses: &mut [u8; tables::CODES],
     learned: &mut [u8; tables::CONSTRAINT_CODES],
     learned_links: &mut [u64; tables::CONSTRAINT_LINKS],
@@ -125,25 +111,20 @@ pub fn branch<'a>(
     up: &mut [u8; tables::AREA],
     saved: &mut [u8],
     table: &mut [u8],
-    marks: &'a [u8; tables::MARKS],
+    firsts: &mut [u8; tables::CLAUSES],
     p: Position,
 ) -> Answer
-    requires { ⌜ Matrix (now clauses) (now sizes) (now dying) (now «dying_links») × Shelves (now learned) (now «learned_links») (now cubes) (now «cube_links») × Room (now numbers) (length (now saved)) (now «learned_links») (now «cube_links») p ⌝ }
-    ensures { λ r. ⌜ Counts (now (numbers .entry)) (now («learned_links» .entry)) (now («cube_links» .entry)) p r (now («learned_links» .exit)) (now («cube_links» .exit)) ⌝ }
-    ensures { λ _. ⌜ Kept (now (values .entry)) (now (values .exit)) (now (statuses .entry)) (now (statuses .exit)) (now (table .entry)) (now (table .exit)) × Shelves (now (learned .exit)) (now («learned_links» .exit)) (now (cubes .exit)) (now («cube_links» .exit)) ⌝ }
-    ensures { λ r. ⌜ ((D : Prefix) (s : Node) (ls : List Node) (R : List Clause) (st : Store) → Task D s ls R st (now (clauses .entry)) (now (sizes .entry)) (now (dying .entry)) (now («dying_links» .entry)) (now (numbers .entry)) (now (kinds .entry)) (now (quantifiers .entry)) (now (values .entry)) (now (statuses .entry)) (now (learned .entry)) (now («learned_links» .entry)) (now (cubes .entry)) (now («cube_links» .entry)) (now (table .entry)) (now (marks .entry)) (p .at) p → firstDead D s R ≡ none → Result D ls (belowOf D R p s st) p r (now (up .exit)) (now (learned .exit)) (now («learned_links» .exit)) (now (cubes .exit)) (now («cube_links» .exit)) (now (table .exit))) ⌝ }
+    requires { ⌜ Matrix (now clauses) (now links) × Shelves (now learned) (now «learned_links») (now cubes) (now «cube_links») × Room (length (now saved)) (now «learned_links») (now «cube_links») p ⌝ }
+    ensures { λ r. ⌜ Counts (now («learned_links» .entry)) (now («cube_links» .entry)) p r (now («learned_links» .exit)) (now («cube_links» .exit)) ⌝ }
+    ensures { λ _. ⌜ Kept p (now (statuses .entry)) (now (statuses .exit)) (now (table .entry)) (now (table .exit)) (now (firsts .entry)) (now (firsts .exit)) × Shelves (now (learned .exit)) (now («learned_links» .exit)) (now (cubes .exit)) (now («cube_links» .exit)) ⌝ }
+    ensures { λ r. ⌜ ((D : Prefix) (s : Node) (ls : List Node) (R : List Clause) (st : Store) → Task D s ls R st (now (clauses .entry)) (now (links .entry)) (now (quantifiers .entry)) (now (statuses .entry)) (now (learned .entry)) (now («learned_links» .entry)) (now (cubes .entry)) (now («cube_links» .entry)) (now (table .entry)) (now (firsts .entry)) (p .at) p → firstDead D s R ≡ none → Result D ls (belowOf D R p s st) p r (now (up .exit)) (now (learned .exit)) (now («learned_links» .exit)) (now (cubes .exit)) (now («cube_links» .exit)) (now (table .exit))) ⌝ }
 {
-    let kind = next_kind(numbers, kinds, p.at);
+    let kind = next_kind(quantifiers, p.at);
     if kind == tables::EXISTS {
         exists(
             clauses,
-            sizes,
-            dying,
-            dying_links,
-            numbers,
-            kinds,
+            links,
             quantifiers,
-            values,
             statuses,
             learned,
             learned_links,
@@ -152,19 +133,14 @@ pub fn branch<'a>(
             up,
             saved,
             table,
-            marks,
+            firsts,
             p,
         )
     } else if kind == tables::FORALL {
         forall(
             clauses,
-            sizes,
-            dying,
-            dying_links,
-            numbers,
-            kinds,
+            links,
             quantifiers,
-            values,
             statuses,
             learned,
             learned_links,
@@ -173,19 +149,14 @@ pub fn branch<'a>(
             up,
             saved,
             table,
-            marks,
+            firsts,
             p,
         )
     } else if kind == tables::FREE {
         free(
             clauses,
-            sizes,
-            dying,
-            dying_links,
-            numbers,
-            kinds,
+            links,
             quantifiers,
-            values,
             statuses,
             learned,
             learned_links,
@@ -194,7 +165,7 @@ pub fn branch<'a>(
             up,
             saved,
             table,
-            marks,
+            firsts,
             p,
         )
     } else {
@@ -205,14 +176,9 @@ pub fn branch<'a>(
 // The node below at the position p, where the variable of its last place is given `value`, which is taken back. The first `aside` cells of
 // `saved` stay as they are.
 fn side<'a>(
-    clauses: &'a [u8; tables::CLAUSE_CELLS],
-    sizes: &'a [u16; tables::CLAUSE_SIZES],
-    dying: &'a [u8; tables::CLAUSE_CODES],
-    dying_links: &'a [u64; tables::CLAUSE_LINKS],
-    numbers: &'a [u16; tables::BY_NUMBER],
-    kinds: &'a [u16; tables::BY_NUMBER],
+    clauses: &'a [u8; tables::CLAUSE_ROWS],
+    links: &'a [u16; tables::CLAUSE_LINKS],
     quantifiers: &'a [u8; tables::CODES],
-    values: &mut [u8; tables::BY_NUMBER],
     statuses: &mut [u8; tables::CODES],
     learned: &mut [u8; tables::CONSTRAINT_CODES],
     learned_links: &mut [u64; tables::CONSTRAINT_LINKS],
@@ -221,31 +187,23 @@ fn side<'a>(
     up: &mut [u8; tables::AREA],
     saved: &mut [u8],
     table: &mut [u8],
-    marks: &'a [u8; tables::MARKS],
+    firsts: &mut [u8; tables::CLAUSES],
     p: Position,
     aside: usize,
     value: u8,
 ) -> Answer
-    requires { ⌜ Matrix (now clauses) (now sizes) (now dying) (now «dying_links») × Shelves (now learned) (now «learned_links») (now cubes) (now «cube_links») × Room (now numbers) (length (now saved)) (now «learned_links») (now «cube_links») p × (1 ≤ p .at) × (aside ≤ paper .numbers) × ((suc (left (now numbers) p)) * paper .numbers ≤ length (now saved)) ⌝ }
-    ensures { λ r. ⌜ Counts (now (numbers .entry)) (now («learned_links» .entry)) (now («cube_links» .entry)) p r (now («learned_links» .exit)) (now («cube_links» .exit)) ⌝ }
-    ensures { λ _. ⌜ Kept (now (values .entry)) (now (values .exit)) (now (statuses .entry)) (now (statuses .exit)) (now (table .entry)) (now (table .exit)) × Shelves (now (learned .exit)) (now («learned_links» .exit)) (now (cubes .exit)) (now («cube_links» .exit)) ⌝ }
+    requires { ⌜ Matrix (now clauses) (now links) × Shelves (now learned) (now «learned_links») (now cubes) (now «cube_links») × Room (length (now saved)) (now «learned_links») (now «cube_links») p × (1 ≤ p .at) × (aside ≤ paper .numbers) × (suc (left p) * paper .numbers ≤ length (now saved)) ⌝ }
+    ensures { λ r. ⌜ Counts (now («learned_links» .entry)) (now («cube_links» .entry)) p r (now («learned_links» .exit)) (now («cube_links» .exit)) ⌝ }
+    ensures { λ _. ⌜ Kept p (now (statuses .entry)) (now (statuses .exit)) (now (table .entry)) (now (table .exit)) (now (firsts .entry)) (now (firsts .exit)) × Shelves (now (learned .exit)) (now («learned_links» .exit)) (now (cubes .exit)) (now («cube_links» .exit)) ⌝ }
     ensures { λ _. ⌜ (length (now (saved .exit)) ≡ length (now (saved .entry))) × (take aside (now (saved .exit)) ≡ take aside (now (saved .entry))) ⌝ }
-    ensures { λ r. ⌜ ((D : Prefix) (s : Node) (b : Bool) (ls : List Node) (R : List Clause) (st : Store) (k : ℕ) → Task D s ls R st (now (clauses .entry)) (now (sizes .entry)) (now (dying .entry)) (now («dying_links» .entry)) (now (numbers .entry)) (now (kinds .entry)) (now (quantifiers .entry)) (now (values .entry)) (now (statuses .entry)) (now (learned .entry)) (now («learned_links» .entry)) (now (cubes .entry)) (now («cube_links» .entry)) (now (table .entry)) (now (marks .entry)) k p → firstDead D s R ≡ none → suc k ≡ p .at → value ≡ byteOf b → Result D ls (visitOf D R p (s ▹ b) st) p r (now (up .exit)) (now (learned .exit)) (now («learned_links» .exit)) (now (cubes .exit)) (now («cube_links» .exit)) (now (table .exit))) ⌝ }
+    ensures { λ r. ⌜ ((D : Prefix) (s : Node) (b : Bool) (ls : List Node) (R : List Clause) (st : Store) (k : ℕ) → Task D s ls R st (now (clauses .entry)) (now (links .entry)) (now (quantifiers .entry)) (now (statuses .entry)) (now (learned .entry)) (now («learned_links» .entry)) (now (cubes .entry)) (now («cube_links» .entry)) (now (table .entry)) (now (firsts .entry)) k p → firstDead D s R ≡ none → k < length D → suc k ≡ p .at → value ≡ byteOf b → Result D ls (visitOf D R p (s ▹ b) st false) p r (now (up .exit)) (now (learned .exit)) (now («learned_links» .exit)) (now (cubes .exit)) (now («cube_links» .exit)) (now (table .exit))) ⌝ }
 {
-    let n = number_at(numbers, p.at);
-    let was = values[n];
-    values[n] = value;
     let cells: &[u8] = statuses; // one for every code
     let above = give(statuses, p.at, value);
     let below = visit(
         clauses,
-        sizes,
-        dying,
-        dying_links,
-        numbers,
-        kinds,
+        links,
         quantifiers,
-        values,
         statuses,
         learned,
         learned_links,
@@ -254,24 +212,19 @@ fn side<'a>(
         up,
         &mut saved[aside..],
         table,
-        marks,
+        firsts,
         p,
+        false,
     );
     restore(statuses, p.at, above);
-    values[n] = was;
-    below
+    with_lines(below, below.lines) // field by field: copied whole, a struct takes its padding along, and the processor waits for that
 }
 
 // "An exists node visits the off side and stops on Yes".
 fn exists<'a>(
-    clauses: &'a [u8; tables::CLAUSE_CELLS],
-    sizes: &'a [u16; tables::CLAUSE_SIZES],
-    dying: &'a [u8; tables::CLAUSE_CODES],
-    dying_links: &'a [u64; tables::CLAUSE_LINKS],
-    numbers: &'a [u16; tables::BY_NUMBER],
-    kinds: &'a [u16; tables::BY_NUMBER],
+    clauses: &'a [u8; tables::CLAUSE_ROWS],
+    links: &'a [u16; tables::CLAUSE_LINKS],
     quantifiers: &'a [u8; tables::CODES],
-    values: &mut [u8; tables::BY_NUMBER],
     statuses: &mut [u8; tables::CODES],
     learned: &mut [u8; tables::CONSTRAINT_CODES],
     learned_links: &mut [u64; tables::CONSTRAINT_LINKS],
@@ -280,23 +233,18 @@ fn exists<'a>(
     up: &mut [u8; tables::AREA],
     saved: &mut [u8],
     table: &mut [u8],
-    marks: &'a [u8; tables::MARKS],
+    firsts: &mut [u8; tables::CLAUSES],
     p: Position,
 ) -> Answer
-    requires { ⌜ Matrix (now clauses) (now sizes) (now dying) (now «dying_links») × Shelves (now learned) (now «learned_links») (now cubes) (now «cube_links») × Room (now numbers) (length (now saved)) (now «learned_links») (now «cube_links») p × (p .at < getD (now numbers) 0 0) ⌝ }
-    ensures { λ r. ⌜ Counts (now (numbers .entry)) (now («learned_links» .entry)) (now («cube_links» .entry)) p r (now («learned_links» .exit)) (now («cube_links» .exit)) ⌝ }
-    ensures { λ _. ⌜ Kept (now (values .entry)) (now (values .exit)) (now (statuses .entry)) (now (statuses .exit)) (now (table .entry)) (now (table .exit)) × Shelves (now (learned .exit)) (now («learned_links» .exit)) (now (cubes .exit)) (now («cube_links» .exit)) ⌝ }
-    ensures { λ r. ⌜ ((D : Prefix) (s : Node) (ls : List Node) (R : List Clause) (st : Store) → Task D s ls R st (now (clauses .entry)) (now (sizes .entry)) (now (dying .entry)) (now («dying_links» .entry)) (now (numbers .entry)) (now (kinds .entry)) (now (quantifiers .entry)) (now (values .entry)) (now (statuses .entry)) (now (learned .entry)) (now («learned_links» .entry)) (now (cubes .entry)) (now («cube_links» .entry)) (now (table .entry)) (now (marks .entry)) (p .at) p → firstDead D s R ≡ none → quantifierAt D (suc (p .at)) ≡ exists → Result D ls (branchOf D R exists p s st) p r (now (up .exit)) (now (learned .exit)) (now («learned_links» .exit)) (now (cubes .exit)) (now («cube_links» .exit)) (now (table .exit))) ⌝ }
+    requires { ⌜ Matrix (now clauses) (now links) × Shelves (now learned) (now «learned_links») (now cubes) (now «cube_links») × Room (length (now saved)) (now «learned_links») (now «cube_links») p × (p .at < paper .numbers) ⌝ }
+    ensures { λ r. ⌜ Counts (now («learned_links» .entry)) (now («cube_links» .entry)) p r (now («learned_links» .exit)) (now («cube_links» .exit)) ⌝ }
+    ensures { λ _. ⌜ Kept p (now (statuses .entry)) (now (statuses .exit)) (now (table .entry)) (now (table .exit)) (now (firsts .entry)) (now (firsts .exit)) × Shelves (now (learned .exit)) (now («learned_links» .exit)) (now (cubes .exit)) (now («cube_links» .exit)) ⌝ }
+    ensures { λ r. ⌜ ((D : Prefix) (s : Node) (ls : List Node) (R : List Clause) (st : Store) → Task D s ls R st (now (clauses .entry)) (now (links .entry)) (now (quantifiers .entry)) (now (statuses .entry)) (now (learned .entry)) (now («learned_links» .entry)) (now (cubes .entry)) (now («cube_links» .entry)) (now (table .entry)) (now (firsts .entry)) (p .at) p → firstDead D s R ≡ none → p .at < length D → quantifierAt D (suc (p .at)) ≡ exists → Result D ls (branchOf D R exists p s st) p r (now (up .exit)) (now (learned .exit)) (now («learned_links» .exit)) (now (cubes .exit)) (now («cube_links» .exit)) (now (table .exit))) ⌝ }
 {
     let off = side(
         clauses,
-        sizes,
-        dying,
-        dying_links,
-        numbers,
-        kinds,
+        links,
         quantifiers,
-        values,
         statuses,
         learned,
         learned_links,
@@ -305,7 +253,7 @@ fn exists<'a>(
         up,
         saved,
         table,
-        marks,
+        firsts,
         to_off(p),
         0,
         tables::OFF,
@@ -319,13 +267,8 @@ fn exists<'a>(
     put_aside(saved, up, n);
     let on = side(
         clauses,
-        sizes,
-        dying,
-        dying_links,
-        numbers,
-        kinds,
+        links,
         quantifiers,
-        values,
         statuses,
         learned,
         learned_links,
@@ -334,7 +277,7 @@ fn exists<'a>(
         up,
         saved,
         table,
-        marks,
+        firsts,
         to_on(p, off.visits, off.lines),
         n,
         tables::ON,
@@ -357,14 +300,9 @@ fn exists<'a>(
 
 // "A forall node visits the off side and stops on No".
 fn forall<'a>(
-    clauses: &'a [u8; tables::CLAUSE_CELLS],
-    sizes: &'a [u16; tables::CLAUSE_SIZES],
-    dying: &'a [u8; tables::CLAUSE_CODES],
-    dying_links: &'a [u64; tables::CLAUSE_LINKS],
-    numbers: &'a [u16; tables::BY_NUMBER],
-    kinds: &'a [u16; tables::BY_NUMBER],
+    clauses: &'a [u8; tables::CLAUSE_ROWS],
+    links: &'a [u16; tables::CLAUSE_LINKS],
     quantifiers: &'a [u8; tables::CODES],
-    values: &mut [u8; tables::BY_NUMBER],
     statuses: &mut [u8; tables::CODES],
     learned: &mut [u8; tables::CONSTRAINT_CODES],
     learned_links: &mut [u64; tables::CONSTRAINT_LINKS],
@@ -373,23 +311,18 @@ fn forall<'a>(
     up: &mut [u8; tables::AREA],
     saved: &mut [u8],
     table: &mut [u8],
-    marks: &'a [u8; tables::MARKS],
+    firsts: &mut [u8; tables::CLAUSES],
     p: Position,
 ) -> Answer
-    requires { ⌜ Matrix (now clauses) (now sizes) (now dying) (now «dying_links») × Shelves (now learned) (now «learned_links») (now cubes) (now «cube_links») × Room (now numbers) (length (now saved)) (now «learned_links») (now «cube_links») p × (p .at < getD (now numbers) 0 0) ⌝ }
-    ensures { λ r. ⌜ Counts (now (numbers .entry)) (now («learned_links» .entry)) (now («cube_links» .entry)) p r (now («learned_links» .exit)) (now («cube_links» .exit)) ⌝ }
-    ensures { λ _. ⌜ Kept (now (values .entry)) (now (values .exit)) (now (statuses .entry)) (now (statuses .exit)) (now (table .entry)) (now (table .exit)) × Shelves (now (learned .exit)) (now («learned_links» .exit)) (now (cubes .exit)) (now («cube_links» .exit)) ⌝ }
-    ensures { λ r. ⌜ ((D : Prefix) (s : Node) (ls : List Node) (R : List Clause) (st : Store) → Task D s ls R st (now (clauses .entry)) (now (sizes .entry)) (now (dying .entry)) (now («dying_links» .entry)) (now (numbers .entry)) (now (kinds .entry)) (now (quantifiers .entry)) (now (values .entry)) (now (statuses .entry)) (now (learned .entry)) (now («learned_links» .entry)) (now (cubes .entry)) (now («cube_links» .entry)) (now (table .entry)) (now (marks .entry)) (p .at) p → firstDead D s R ≡ none → quantifierAt D (suc (p .at)) ≡ forall → Result D ls (branchOf D R forall p s st) p r (now (up .exit)) (now (learned .exit)) (now («learned_links» .exit)) (now (cubes .exit)) (now («cube_links» .exit)) (now (table .exit))) ⌝ }
+    requires { ⌜ Matrix (now clauses) (now links) × Shelves (now learned) (now «learned_links») (now cubes) (now «cube_links») × Room (length (now saved)) (now «learned_links») (now «cube_links») p × (p .at < paper .numbers) ⌝ }
+    ensures { λ r. ⌜ Counts (now («learned_links» .entry)) (now («cube_links» .entry)) p r (now («learned_links» .exit)) (now («cube_links» .exit)) ⌝ }
+    ensures { λ _. ⌜ Kept p (now (statuses .entry)) (now (statuses .exit)) (now (table .entry)) (now (table .exit)) (now (firsts .entry)) (now (firsts .exit)) × Shelves (now (learned .exit)) (now («learned_links» .exit)) (now (cubes .exit)) (now («cube_links» .exit)) ⌝ }
+    ensures { λ r. ⌜ ((D : Prefix) (s : Node) (ls : List Node) (R : List Clause) (st : Store) → Task D s ls R st (now (clauses .entry)) (now (links .entry)) (now (quantifiers .entry)) (now (statuses .entry)) (now (learned .entry)) (now («learned_links» .entry)) (now (cubes .entry)) (now («cube_links» .entry)) (now (table .entry)) (now (firsts .entry)) (p .at) p → firstDead D s R ≡ none → p .at < length D → quantifierAt D (suc (p .at)) ≡ forall → Result D ls (branchOf D R forall p s st) p r (now (up .exit)) (now (learned .exit)) (now («learned_links» .exit)) (now (cubes .exit)) (now («cube_links» .exit)) (now (table .exit))) ⌝ }
 {
     let off = side(
         clauses,
-        sizes,
-        dying,
-        dying_links,
-        numbers,
-        kinds,
+        links,
         quantifiers,
-        values,
         statuses,
         learned,
         learned_links,
@@ -398,7 +331,7 @@ fn forall<'a>(
         up,
         saved,
         table,
-        marks,
+        firsts,
         to_off(p),
         0,
         tables::OFF,
@@ -412,13 +345,8 @@ fn forall<'a>(
     put_aside(saved, up, n);
     let on = side(
         clauses,
-        sizes,
-        dying,
-        dying_links,
-        numbers,
-        kinds,
+        links,
         quantifiers,
-        values,
         statuses,
         learned,
         learned_links,
@@ -427,7 +355,7 @@ fn forall<'a>(
         up,
         saved,
         table,
-        marks,
+        firsts,
         to_on(p, off.visits, off.lines),
         n,
         tables::ON,
@@ -450,14 +378,9 @@ fn forall<'a>(
 
 // "Flag: an off side of No or Yes whose bar or pass lacks v goes up. Else visit on."
 fn free<'a>(
-    clauses: &'a [u8; tables::CLAUSE_CELLS],
-    sizes: &'a [u16; tables::CLAUSE_SIZES],
-    dying: &'a [u8; tables::CLAUSE_CODES],
-    dying_links: &'a [u64; tables::CLAUSE_LINKS],
-    numbers: &'a [u16; tables::BY_NUMBER],
-    kinds: &'a [u16; tables::BY_NUMBER],
+    clauses: &'a [u8; tables::CLAUSE_ROWS],
+    links: &'a [u16; tables::CLAUSE_LINKS],
     quantifiers: &'a [u8; tables::CODES],
-    values: &mut [u8; tables::BY_NUMBER],
     statuses: &mut [u8; tables::CODES],
     learned: &mut [u8; tables::CONSTRAINT_CODES],
     learned_links: &mut [u64; tables::CONSTRAINT_LINKS],
@@ -466,23 +389,18 @@ fn free<'a>(
     up: &mut [u8; tables::AREA],
     saved: &mut [u8],
     table: &mut [u8],
-    marks: &'a [u8; tables::MARKS],
+    firsts: &mut [u8; tables::CLAUSES],
     p: Position,
 ) -> Answer
-    requires { ⌜ Matrix (now clauses) (now sizes) (now dying) (now «dying_links») × Shelves (now learned) (now «learned_links») (now cubes) (now «cube_links») × Room (now numbers) (length (now saved)) (now «learned_links») (now «cube_links») p × (p .at < getD (now numbers) 0 0) ⌝ }
-    ensures { λ r. ⌜ Counts (now (numbers .entry)) (now («learned_links» .entry)) (now («cube_links» .entry)) p r (now («learned_links» .exit)) (now («cube_links» .exit)) ⌝ }
-    ensures { λ _. ⌜ Kept (now (values .entry)) (now (values .exit)) (now (statuses .entry)) (now (statuses .exit)) (now (table .entry)) (now (table .exit)) × Shelves (now (learned .exit)) (now («learned_links» .exit)) (now (cubes .exit)) (now («cube_links» .exit)) ⌝ }
-    ensures { λ r. ⌜ ((D : Prefix) (s : Node) (ls : List Node) (R : List Clause) (st : Store) → Task D s ls R st (now (clauses .entry)) (now (sizes .entry)) (now (dying .entry)) (now («dying_links» .entry)) (now (numbers .entry)) (now (kinds .entry)) (now (quantifiers .entry)) (now (values .entry)) (now (statuses .entry)) (now (learned .entry)) (now («learned_links» .entry)) (now (cubes .entry)) (now («cube_links» .entry)) (now (table .entry)) (now (marks .entry)) (p .at) p → firstDead D s R ≡ none → quantifierAt D (suc (p .at)) ≡ free → Result D ls (branchOf D R free p s st) p r (now (up .exit)) (now (learned .exit)) (now («learned_links» .exit)) (now (cubes .exit)) (now («cube_links» .exit)) (now (table .exit))) ⌝ }
+    requires { ⌜ Matrix (now clauses) (now links) × Shelves (now learned) (now «learned_links») (now cubes) (now «cube_links») × Room (length (now saved)) (now «learned_links») (now «cube_links») p × (p .at < paper .numbers) ⌝ }
+    ensures { λ r. ⌜ Counts (now («learned_links» .entry)) (now («cube_links» .entry)) p r (now («learned_links» .exit)) (now («cube_links» .exit)) ⌝ }
+    ensures { λ _. ⌜ Kept p (now (statuses .entry)) (now (statuses .exit)) (now (table .entry)) (now (table .exit)) (now (firsts .entry)) (now (firsts .exit)) × Shelves (now (learned .exit)) (now («learned_links» .exit)) (now (cubes .exit)) (now («cube_links» .exit)) ⌝ }
+    ensures { λ r. ⌜ ((D : Prefix) (s : Node) (ls : List Node) (R : List Clause) (st : Store) → Task D s ls R st (now (clauses .entry)) (now (links .entry)) (now (quantifiers .entry)) (now (statuses .entry)) (now (learned .entry)) (now («learned_links» .entry)) (now (cubes .entry)) (now («cube_links» .entry)) (now (table .entry)) (now (firsts .entry)) (p .at) p → firstDead D s R ≡ none → p .at < length D → quantifierAt D (suc (p .at)) ≡ free → Result D ls (branchOf D R free p s st) p r (now (up .exit)) (now (learned .exit)) (now («learned_links» .exit)) (now (cubes .exit)) (now («cube_links» .exit)) (now (table .exit))) ⌝ }
 {
     let off = side(
         clauses,
-        sizes,
-        dying,
-        dying_links,
-        numbers,
-        kinds,
+        links,
         quantifiers,
-        values,
         statuses,
         learned,
         learned_links,
@@ -491,7 +409,7 @@ fn free<'a>(
         up,
         saved,
         table,
-        marks,
+        firsts,
         to_off(p),
         0,
         tables::OFF,
@@ -503,16 +421,11 @@ fn free<'a>(
         return off;
     }
     put_aside(saved, up, n);
-    let lines = line_if(first, tables::OFF, table, off.lines, p, numbers, values);
+    let lines = line_if(first, tables::OFF, table, off.lines, p, statuses);
     let on = side(
         clauses,
-        sizes,
-        dying,
-        dying_links,
-        numbers,
-        kinds,
+        links,
         quantifiers,
-        values,
         statuses,
         learned,
         learned_links,
@@ -521,7 +434,7 @@ fn free<'a>(
         up,
         saved,
         table,
-        marks,
+        firsts,
         to_on(p, off.visits, lines),
         n,
         tables::ON,
@@ -543,6 +456,6 @@ fn free<'a>(
     );
     with_lines(
         both,
-        settle_lines(first, second, table, on.lines, p, numbers, values),
+        settle_lines(first, second, table, on.lines, p, statuses),
     )
 }

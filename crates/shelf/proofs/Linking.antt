@@ -8,7 +8,7 @@ use mathlib.Core.Bool.{Bool, true, false, cond}
 use mathlib.Core.List.{List, [], _∷_, _++_}
 use borrow.Author.Tests.{eqb-true, eqb-false}
 use lib.ListN.{length, getD, take, set, length-append, length-set, List·getD-append}
-use lib.Seq.{lt-length-set, getD-at, take-at, take-append-le, getD-set-same, getD-set-other}
+use lib.Seq.{getD-at, take-at, take-append-le, getD-set-same, getD-set-other}
 use Rattle.theory.proofs.Basics.{le-or-lt}
 use Rattle.tables.specs.Codes.{lastCode}
 use Rattle.tables.specs.Shelves.{codeCount, lengthAt, headOf, newestOf, linkOf, baseOf, shelfRows, endsIn, newest, Points, Shelf}
@@ -59,10 +59,6 @@ relinked links code slot n = set (set (set links (suc codeCount + slot) (getD li
 pub relinked-as : (links : List ℕ) (code slot n : ℕ)
     → set (set (set links (suc codeCount + slot) (getD links code 0)) code (n + 1)) codeCount (n + 1) ≡ relinked links code slot n
 relinked-as links code slot n = ap (λ (k : ℕ). set (set (set links (suc codeCount + slot) (getD links code 0)) code k) codeCount k) (add-one n)
-
--- the newest row's cell stays within the table
-pub second-within : (links : List ℕ) (i v j w : ℕ) → codeCount < length links → codeCount < length (set (set links i v) j w)
-second-within links i v j w h = lt-length-set (set links i v) j w (lt-length-set links i v h)
 
 module _ (links : List ℕ) (code slot n : ℕ) (low : code < codeCount) (within : suc codeCount + slot < length links) where
   abbrev first : List ℕ

@@ -2,13 +2,13 @@
 use Prim.Native.Nat.{ℕ, zero, suc, _+_, _*_, _≤_, _<_}
 use native.Mathlib.Omega.{arith}
 use mathlib.Core.Path.{_≡_, refl, sym, ap, _∙_}
-use mathlib.Core.Bool.{Bool, true, false, cond, not, _&&_, false≢true}
+use mathlib.Core.Bool.{Bool, true, false, cond, _&&_, false≢true}
 use mathlib.Core.List.{List, []}
 use mathlib.Core.Option.{none, some}
 use lib.ListN.{length, getD}
 use lib.Dec.{leb}
 use lib.IntN.{ℤ}
-use borrow.Author.Tests.{le-leb, leb-true, not-false}
+use borrow.Author.Tests.{le-leb, leb-true}
 use Rattle.qbf.specs.Formula.{paper, free, Prefix, Clause, quantifiers, quantifierAt, all}
 use Rattle.qbf.specs.Learning.{Constraint}
 use Rattle.qbf.specs.Calls.{wellFormed, formulaOk, prefixOk, numbersOk, freeFirst, clauseOk, clausesOk, constraintOk, storeOk}
@@ -17,7 +17,7 @@ use Rattle.tables.specs.Views.{quantifierCode, Numbers, Places, Kinds, Table, r
 use Rattle.tables.proofs.Laws.{rows-length}
 use Rattle.state.specs.declared.State.{State}
 use Rattle.state.specs.Reading.{listing, atMost, quantifierOf, entryAt, entries, codeAt, variableAt, prefixOf, levelsFit, prefixFits, rowsFit, fits, prefixIn, stateIn, readState, wellFormedRead, valid}
-use Rattle.state.specs.Derived.{numbered, Placing, Quantified, levelsOk, Shown, Sized}
+use Rattle.state.specs.Derived.{numbered, Placing, Quantified, levelsOk, Shown, clausesFine, constraintsFine, Sized, Checked}
 use Rattle.state.proofs.Listing.{listing-length, listing-at, listing-map, listing-all}
 
 -- ---- the prefix of three tables
@@ -107,10 +107,6 @@ table-rows w most flat sizes t =
     (listing-most w (entryAt sizes) 0 (getD sizes 0 0) (λ j a b. t .short j (omega arith)))
 
 -- ---- a state
--- a part whose test, answered r, did not fail
-pub passed : {r part : Bool} → r ≡ part → not r ≡ false → part ≡ true
-passed {r} s e = sym s ∙ not-false r e
-
 -- what a test that passes says of a state
 pub record ValidFacts (x : State) : Type 0 where
   pub read : readState x ≡ some (stateIn x)
@@ -181,13 +177,13 @@ module _ (x : State) where
   levelsPart = levelsOk (x .numbers) (x .levels) (x .kinds)
 
   abbrev pub clausesPart : Bool
-  clausesPart = a && all (clauseOk paper D) R
+  clausesPart = clausesFine D (x .clauses) (x .«clause_sizes»)
 
   abbrev pub learnedClausesPart : Bool
-  learnedClausesPart = b && all (constraintOk D false) C₀
+  learnedClausesPart = constraintsFine D false (x .«learned_clauses») (x .«learned_clause_sizes»)
 
   abbrev pub learnedCubesPart : Bool
-  learnedCubesPart = c && all (constraintOk D true) C₁
+  learnedCubesPart = constraintsFine D true (x .«learned_cubes») (x .«learned_cube_sizes»)
 
   pub record Parts : Type 0 where
     pub numbers-ok : numbersPart ≡ true
@@ -264,27 +260,47 @@ module _ (x : State) where
           ap (λ (n : ℕ). leb n 40) (prefix-length (x .numbers) (x .levels) (x .kinds))
           ∙ and-left (leb (getD (x .numbers) 0 0) 40) (levelsFit paper (x .numbers) (x .levels) (x .kinds)) (f .prefix-fits)
 
-  -- r is the answer of a part that fails, or of the last part
-  either : (q r : Bool) → (q ≡ true → r ≡ true) → r ≡ false → false ≡ q
-  either true r f e = sym e ∙ f refl
-  either false r f e = refl
+  -- two answers that are true of each other are one
+  alike : (r q : Bool) → (q ≡ true → r ≡ true) → (r ≡ true → q ≡ true) → r ≡ q
+  alike true q f g = sym (g refl)
+  alike false true f g = f refl
+  alike false false f g = refl
 
-  pub invalid-prefix : {r : Bool} → r ≡ (numbersPart && levelsPart) → r ≡ false → false ≡ valid x
-  invalid-prefix {r} s e = either (valid x) r (λ v. s ∙ and-both numbersPart levelsPart (valid-parts v .numbers-ok) (valid-parts v .levels-ok)) e
+  abbrev rowsPart : Bool
+  rowsPart = clausesPart && learnedClausesPart && learnedCubesPart
 
-  pub invalid-clauses : {r : Bool} → r ≡ clausesPart → r ≡ false → false ≡ valid x
-  invalid-clauses {r} s e = either (valid x) r (λ v. s ∙ valid-parts v .clauses-ok) e
+  -- the answer is the rows' where the prefix is well formed
+  rows-valid : (numbersPart && levelsPart) ≡ true → {r : Bool} → r ≡ rowsPart → r ≡ valid x
+  rows-valid h {r} s =
+      alike r (valid x)
+      (λ v. s ∙ and-both (clausesPart && learnedClausesPart) learnedCubesPart (and-both clausesPart learnedClausesPart (valid-parts v .clauses-ok) (valid-parts v .learned-clauses-ok)) (valid-parts v .learned-cubes-ok))
+      (λ e.
+      let g : (clausesPart && learnedClausesPart) ≡ true = and-left (clausesPart && learnedClausesPart) learnedCubesPart (sym s ∙ e) in
+      parts-valid
+      (record {
+        numbers-ok = and-left numbersPart levelsPart h;
+        levels-ok = and-right numbersPart levelsPart h;
+        clauses-ok = and-left clausesPart learnedClausesPart g;
+        learned-clauses-ok = and-right clausesPart learnedClausesPart g;
+        learned-cubes-ok = and-right (clausesPart && learnedClausesPart) learnedCubesPart (sym s ∙ e);
+      }))
 
-  pub invalid-learned-clauses : {r : Bool} → r ≡ learnedClausesPart → r ≡ false → false ≡ valid x
-  invalid-learned-clauses {r} s e = either (valid x) r (λ v. s ∙ valid-parts v .learned-clauses-ok) e
+  -- from the prefix that was read: the check stops there, or goes on to the rows
+  module _ {ok : Bool} {places kinds : List ℕ} (shown : Shown (x .numbers) (x .levels) (x .kinds) ok places kinds) (sized : Sized x) where
+    valid-read : valid x ≡ true → ok ≡ true
+    valid-read v = shown .said ∙ and-both numbersPart levelsPart (valid-parts v .numbers-ok) (valid-parts v .levels-ok)
 
-  pub valid-last : (numbersPart && levelsPart) ≡ true → clausesPart ≡ true → learnedClausesPart ≡ true → {r : Bool} → r ≡ learnedCubesPart → r ≡ valid x
-  valid-last h j k {r} s = by r (valid x) (λ v. s ∙ valid-parts v .learned-cubes-ok) (λ e. parts-valid (record { numbers-ok = and-left numbersPart levelsPart h; levels-ok = and-right numbersPart levelsPart h; clauses-ok = j; learned-clauses-ok = k; learned-cubes-ok = sym s ∙ e }))
-    where
-      by : (r q : Bool) → (q ≡ true → r ≡ true) → (r ≡ true → q ≡ true) → r ≡ q
-      by true q f g = sym (g refl)
-      by false true f g = f refl
-      by false false f g = refl
+    checked : {r : Bool} → r ≡ valid x → Checked x r places kinds
+    checked e =
+        record { said = e; sized = sized; placed = λ v. shown .places-shown (valid-read v); kinded = λ v. shown .kinds-shown (valid-read v) }
+
+    pub checked-bad : ok ≡ false → Checked x ok places kinds
+    checked-bad e = checked (alike ok (valid x) valid-read (λ t. absurd (false≢true (sym e ∙ t))))
+
+    pub checked-rows : ok ≡ true → {r : Bool} → ((D : Prefix) → Places D places → Kinds D kinds
+        → r ≡ (clausesFine D (x .clauses) (x .«clause_sizes») && constraintsFine D false (x .«learned_clauses») (x .«learned_clause_sizes») && constraintsFine D true (x .«learned_cubes») (x .«learned_cube_sizes»)))
+        → Checked x r places kinds
+    checked-rows e f = checked (rows-valid (sym (shown .said) ∙ e) (f D (shown .places-shown e) (shown .kinds-shown e)))
 
 -- ---- what the tables of a valid state show
 pub record ValidTables (x : State) : Type 0 where
@@ -310,14 +326,3 @@ module _ (x : State) (v : valid x ≡ true) where
 
   pub valid-quantified : Quantified (prefixIn x) (x .levels) (x .kinds)
   valid-quantified = prefix-quantified (x .numbers) (x .levels) (x .kinds) (valid-facts x v .prefix-fits)
-
-  -- of the tables that `prefix::read_prefix` derives
-  module _ {ok : Bool} {places kinds : List ℕ} (shown : Shown (x .numbers) (x .levels) (x .kinds) ok places kinds) where
-    pub valid-ok : ok ≡ true
-    valid-ok = shown .said ∙ and-both (numbersPart x) (levelsPart x) (valid-parts x v .numbers-ok) (valid-parts x v .levels-ok)
-
-    pub valid-places : Places (prefixIn x) places
-    valid-places = shown .places-shown valid-ok
-
-    pub valid-kinds : Kinds (prefixIn x) kinds
-    valid-kinds = shown .kinds-shown valid-ok

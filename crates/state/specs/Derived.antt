@@ -5,11 +5,12 @@ use mathlib.Core.Bool.{Bool, true, not, _&&_}
 use mathlib.Core.List.{List, []}
 use lib.ListN.{length, getD}
 use lib.Dec.{leb, eqb}
-use Rattle.qbf.specs.Formula.{paper, Quantifier, free, exists, forall, isFree, Prefix, quantifiers, quantifierAt, levelBeside}
-use Rattle.qbf.specs.Calls.{numbersOk, freeFirst}
-use Rattle.tables.specs.Views.{quantifierCode, Numbers, Places, Kinds}
+use lib.IntN.{ℤ}
+use Rattle.qbf.specs.Formula.{paper, Quantifier, free, exists, forall, isFree, Prefix, quantifiers, quantifierAt, levelBeside, all}
+use Rattle.qbf.specs.Calls.{numbersOk, freeFirst, clauseOk, constraintOk}
+use Rattle.tables.specs.Views.{quantifierCode, Numbers, Places, Kinds, rowsOf}
 use Rattle.state.specs.declared.State.{State}
-use Rattle.state.specs.Reading.{quantifierOf, codeAt, prefixOf, prefixFits}
+use Rattle.state.specs.Reading.{quantifierOf, codeAt, prefixOf, prefixFits, rowsFit, prefixIn, valid}
 
 -- no more variables than there are numbers, each of its own number
 abbrev pub numbered : Prefix → Bool
@@ -52,6 +53,13 @@ pub record Shown (ns ls ks : List ℕ) (ok : Bool) (places kinds : List ℕ) : T
   pub places-shown : ok ≡ true → Places (prefixOf ns ls ks) places
   pub kinds-shown : ok ≡ true → Kinds (prefixOf ns ls ks) kinds
 
+-- flat tables: rows within their room, each of them well formed
+abbrev pub clausesFine : Prefix → List ℤ → List ℕ → Bool
+clausesFine D flat sizes = rowsFit (paper .literals) (paper .clauses) sizes && all (clauseOk paper D) (rowsOf (paper .literals) flat sizes)
+
+abbrev pub constraintsFine : Prefix → Bool → List ℤ → List ℕ → Bool
+constraintsFine D cube flat sizes = rowsFit (paper .numbers) (paper .constraints) sizes && all (constraintOk D cube) (rowsOf (paper .numbers) flat sizes)
+
 -- the length of each table: what the type of a state by value says
 pub record Sized (x : State) : Type 0 where
   pub numbers-room : length (x .numbers) ≡ suc (paper .numbers)
@@ -63,3 +71,10 @@ pub record Sized (x : State) : Type 0 where
   pub learned-clause-sizes-room : length (x .«learned_clause_sizes») ≡ suc (paper .constraints)
   pub learned-cubes-room : length (x .«learned_cubes») ≡ paper .constraints * paper .numbers
   pub learned-cube-sizes-room : length (x .«learned_cube_sizes») ≡ suc (paper .constraints)
+
+-- what the check of a state says: whether it is valid, and the tables by number that show its prefix where it is
+pub record Checked (x : State) (ok : Bool) (places kinds : List ℕ) : Type 0 where
+  pub said : ok ≡ valid x
+  pub sized : Sized x
+  pub placed : valid x ≡ true → Places (prefixIn x) places
+  pub kinded : valid x ≡ true → Kinds (prefixIn x) kinds

@@ -5,6 +5,7 @@ use mathlib.Core.Bool.{Bool, true, false, cond, _&&_}
 use mathlib.Core.List.{List, [], _∷_}
 use mathlib.Core.Option.{Option, none, some}
 use lib.ListN.{getD}
+use lib.IntN.{ℤ}
 use lib.Dec.{leb, eqb}
 use Rattle.qbf.specs.Formula.{Limits, paper, Quantifier, free, exists, forall, Variable, Prefix, Formula, levels, all}
 use Rattle.qbf.specs.Learning.{Store, emptyStore}
@@ -65,6 +66,21 @@ abbrev pub rowsFit : ℕ → ℕ → List ℕ → Bool
 rowsFit stride capacity sizes = leb (getD sizes 0 0) capacity && atMost stride (entries sizes)
 
 -- ---- the state
+-- the state of nine tables
+abbrev pub stateOf : List ℕ → List ℕ → List ℕ → List ℤ → List ℕ → List ℤ → List ℕ → List ℤ → List ℕ → State
+stateOf ns ls ks cs css lcs lcss lqs lqss =
+    record {
+      numbers = ns;
+      levels = ls;
+      kinds = ks;
+      clauses = cs;
+      «clause_sizes» = css;
+      «learned_clauses» = lcs;
+      «learned_clause_sizes» = lcss;
+      «learned_cubes» = lqs;
+      «learned_cube_sizes» = lqss;
+    }
+
 abbrev pub fits : State → Bool
 fits x =
     prefixFits paper (x .numbers) (x .levels) (x .kinds)

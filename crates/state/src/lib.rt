@@ -1,12 +1,14 @@
-// The state by value, as anyone may hand it in: its check (refusal 22), and the tables that are derived from it.
+// The state by value or in lent tables, as anyone may hand it in: its check (refusal 22), and the tables that are derived from it.
 ghost use mathlib.Core.Path.{_≡_};
 ghost use mathlib.Core.Bool.{true};
 ghost use mathlib.Core.Option.{some};
-ghost use Rattle.state.specs.Reading.{readState, emptyState, valid};
+ghost use Rattle.state.specs.Reading.{stateOf, readState, emptyState, valid};
+ghost use Rattle.state.specs.Derived.{Checked};
 
 mod cells;
 pub mod declare;
 pub mod kinds;
+mod lengths;
 pub mod levels;
 pub mod numbers;
 pub mod prefix;
@@ -54,33 +56,83 @@ pub fn empty() -> State
     }
 }
 
+// The check of a state whose tables are lent, with the prefix that it reads on the way.
+pub fn check_tables<'a>(
+    numbers: &'a [u16; tables::BY_NUMBER],
+    levels: &'a [u16; tables::BY_NUMBER],
+    kinds: &'a [u16; tables::BY_NUMBER],
+    clauses: &'a [i16; tables::CLAUSE_CELLS],
+    clause_sizes: &'a [u16; tables::CLAUSE_SIZES],
+    learned_clauses: &'a [i16; tables::CONSTRAINT_CELLS],
+    learned_clause_sizes: &'a [u16; tables::CONSTRAINT_SIZES],
+    learned_cubes: &'a [i16; tables::CONSTRAINT_CELLS],
+    learned_cube_sizes: &'a [u16; tables::CONSTRAINT_SIZES],
+) -> prefix::Tables
+    ensures { λ r. ⌜
+        Checked
+        (stateOf
+        (now (numbers .entry))
+        (now (levels .entry))
+        (now (kinds .entry))
+        (now (clauses .entry))
+        (now («clause_sizes» .entry))
+        (now («learned_clauses» .entry))
+        (now («learned_clause_sizes» .entry))
+        (now («learned_cubes» .entry))
+        (now («learned_cube_sizes» .entry)))
+        (r .ok)
+        (r .places)
+        (r .kinds)
+        ⌝ }
+{
+    lengths::tables_sized(
+        numbers,
+        levels,
+        kinds,
+        clauses,
+        clause_sizes,
+        learned_clauses,
+        learned_clause_sizes,
+        learned_cubes,
+        learned_cube_sizes,
+    );
+    let read = prefix::read_prefix(numbers, levels, kinds);
+    if !read.ok {
+        return read;
+    }
+    let places = read.places;
+    let by_number = read.kinds;
+    let ok = rows::all_ok(
+        &places,
+        &by_number,
+        clauses,
+        clause_sizes,
+        learned_clauses,
+        learned_clause_sizes,
+        learned_cubes,
+        learned_cube_sizes,
+    );
+    prefix::Tables {
+        ok: ok,
+        places: places,
+        kinds: by_number,
+    }
+}
+
 // "22 the state is malformed": it is not valid.
 pub fn check(x: State) -> bool
     ensures { λ r. ⌜ r ≡ valid x ⌝ }
 {
-    let prefix = prefix::read_prefix(&x.numbers, &x.levels, &x.kinds);
-    if !prefix.ok {
-        return false;
-    }
-    let places = prefix.places;
-    if !rows::clauses_ok(&places, &x.clauses, &x.clause_sizes) {
-        return false;
-    }
-    let by_number = prefix.kinds;
-    if !rows::constraints_ok(
-        &places,
-        &by_number,
+    let read = check_tables(
+        &x.numbers,
+        &x.levels,
+        &x.kinds,
+        &x.clauses,
+        &x.clause_sizes,
         &x.learned_clauses,
         &x.learned_clause_sizes,
-        false,
-    ) {
-        return false;
-    }
-    rows::constraints_ok(
-        &places,
-        &by_number,
         &x.learned_cubes,
         &x.learned_cube_sizes,
-        true,
-    )
+    );
+    read.ok
 }

@@ -1,5 +1,4 @@
 // The prefix of a state: whether it is well formed, and the tables by number that show it.
-ghost use mathlib.Core.Path.{_≡_};
 ghost use Rattle.state.specs.Derived.{Shown};
 
 pub struct Tables {

@@ -1,13 +1,13 @@
 // The rows of a state's flat tables: clauses and learned constraints, each in place order, and a constraint reduced.
 ghost use mathlib.Core.Path.{_≡_};
 ghost use Prim.Native.Nat.{_≤_, _+_};
-ghost use mathlib.Core.Bool.{cond, not, _&&_};
+ghost use mathlib.Core.Bool.{true, false, cond, not, _&&_};
 ghost use lib.ListN.{length, take, drop};
-ghost use Rattle.qbf.specs.Formula.{Prefix, paper, exists, forall, all, quantifierAt};
+ghost use Rattle.qbf.specs.Formula.{Prefix, paper, exists, forall, quantifierAt};
 ghost use Rattle.qbf.specs.Learning.{dropped, lastPlace};
 ghost use Rattle.qbf.specs.Calls.{inOrder, clauseOk, constraintOk};
-ghost use Rattle.tables.specs.Views.{quantifierCode, Places, Kinds, rowsOf};
-ghost use Rattle.state.specs.Reading.{rowsFit};
+ghost use Rattle.tables.specs.Views.{quantifierCode, Places, Kinds};
+ghost use Rattle.state.specs.Derived.{clausesFine, constraintsFine};
 
 // Each place is greater than the one before: so each variable is declared, and none stands twice.
 pub fn in_order<'a>(places: &'a [u16; tables::BY_NUMBER], lits: &'a [i16]) -> bool
@@ -98,9 +98,7 @@ pub fn clauses_ok<'a>(
     ensures { λ r. ⌜
         ((D : Prefix) →
         Places D (now (places .entry)) →
-        r
-        ≡ (rowsFit (paper .literals) (paper .clauses) (now (sizes .entry))
-        && all (clauseOk paper D) (rowsOf (paper .literals) (now (flat .entry)) (now (sizes .entry)))))
+        r ≡ clausesFine D (now (flat .entry)) (now (sizes .entry)))
         ⌝ }
 {
     let count = crate::cells::count(sizes);
@@ -133,9 +131,7 @@ pub fn constraints_ok<'a>(
         ((D : Prefix) →
         Places D (now (places .entry)) →
         Kinds D (now (kinds .entry)) →
-        r
-        ≡ (rowsFit (paper .numbers) (paper .constraints) (now (sizes .entry))
-        && all (constraintOk D cube) (rowsOf (paper .numbers) (now (flat .entry)) (now (sizes .entry)))))
+        r ≡ constraintsFine D cube (now (flat .entry)) (now (sizes .entry)))
         ⌝ }
 {
     let count = crate::cells::count(sizes);
@@ -155,4 +151,34 @@ pub fn constraints_ok<'a>(
         k += 1;
     }
     true
+}
+
+// Clauses, learned clauses and learned cubes.
+pub fn all_ok<'a>(
+    places: &'a [u16; tables::BY_NUMBER],
+    kinds: &'a [u16; tables::BY_NUMBER],
+    clauses: &'a [i16; tables::CLAUSE_CELLS],
+    clause_sizes: &'a [u16; tables::CLAUSE_SIZES],
+    learned_clauses: &'a [i16; tables::CONSTRAINT_CELLS],
+    learned_clause_sizes: &'a [u16; tables::CONSTRAINT_SIZES],
+    learned_cubes: &'a [i16; tables::CONSTRAINT_CELLS],
+    learned_cube_sizes: &'a [u16; tables::CONSTRAINT_SIZES],
+) -> bool
+    ensures { λ r. ⌜
+        ((D : Prefix) →
+        Places D (now (places .entry)) →
+        Kinds D (now (kinds .entry)) →
+        r
+        ≡ (clausesFine D (now (clauses .entry)) (now («clause_sizes» .entry))
+        && constraintsFine D false (now («learned_clauses» .entry)) (now («learned_clause_sizes» .entry))
+        && constraintsFine D true (now («learned_cubes» .entry)) (now («learned_cube_sizes» .entry))))
+        ⌝ }
+{
+    if !clauses_ok(places, clauses, clause_sizes) {
+        return false;
+    }
+    if !constraints_ok(places, kinds, learned_clauses, learned_clause_sizes, false) {
+        return false;
+    }
+    constraints_ok(places, kinds, learned_cubes, learned_cube_sizes, true)
 }

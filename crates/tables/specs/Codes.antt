@@ -1,12 +1,12 @@
 -- The codes of literals inside a search, and the tables by code. A code is twice the literal's place, and one more where it is positive.
-use Prim.Native.Nat.{ℕ, _+_, _*_, _≤_}
+use Prim.Native.Nat.{ℕ, _+_, _*_, _≤_, _<_}
 use mathlib.Core.Path.{_≡_}
 use mathlib.Core.Bool.{Bool, true, false, cond, Bool·beq}
 use mathlib.Core.List.{List, [], _∷_, map}
 use mathlib.Core.Option.{Option, none, some}
-use lib.ListN.{getD, set}
+use lib.ListN.{length, getD, set}
 use lib.Dec.{eqb}
-use Rattle.qbf.specs.Formula.{Prefix, Literal, Node, place, positive, all, quantifierAt, valueAt}
+use Rattle.qbf.specs.Formula.{paper, Prefix, Literal, Node, place, positive, all, quantifierAt, valueAt}
 use Rattle.qbf.specs.Learning.{Polarity}
 use Rattle.tables.specs.Views.{quantifierCode, negated}
 
@@ -52,6 +52,7 @@ allAre t w cs = all (λ c. eqb (getD t c 0) w) cs
 abbrev pub given : ℕ → ℕ → List ℕ → List ℕ
 given p v t = set (set t (codeAt p false) (negated v)) (codeAt p true) v
 
--- ---- the quantifier of each code's variable
+-- ---- the quantifier of each code's variable; 3 after the last variable's place
 pub record Quantified (D : Prefix) (t : List ℕ) : Type 0 where
-  pub at : (p : ℕ) (b : Bool) → getD t (codeAt p b) 0 ≡ quantifierCode (quantifierAt D p)
+  pub at : (p : ℕ) (b : Bool) → p ≤ length D → getD t (codeAt p b) 0 ≡ quantifierCode (quantifierAt D p)
+  pub end : (p : ℕ) (b : Bool) → length D < p → p ≤ paper .numbers → getD t (codeAt p b) 0 ≡ 3

@@ -2,4 +2,5 @@ pub mod Views
 pub mod Formed
 pub mod Codes
 pub mod Shelves
+pub mod Matrices
 pub mod Marks

@@ -8,9 +8,8 @@ use mathlib.Core.List.{List, [], _∷_, _++_, map}
 use mathlib.Core.Option.{Option, none, some}
 use lib.ListN.{length, getD, take, drop}
 use lib.Dec.{eqb, ltb}
-use Rattle.qbf.specs.Formula.{paper, Prefix, Clause}
-use Rattle.qbf.specs.Learning.{Constraint, Store, reduce, first}
-use Rattle.tables.specs.Views.{rowsOf, Table}
+use Rattle.qbf.specs.Formula.{paper, Prefix}
+use Rattle.qbf.specs.Learning.{Store, first}
 use Rattle.tables.specs.Codes.{codes, lastCode, allAre}
 
 -- how many codes a byte can be
@@ -84,7 +83,7 @@ foundAt stride slots cells r = cond (ltb r slots) (some (rowAt stride cells r)) 
 abbrev pub firstMatch : ℕ → List ℕ → ℕ → List (List ℕ) → Option (List ℕ)
 firstMatch c statuses w rows = first (λ row. endsIn c row && allAre statuses w row) rows
 
--- ---- the learned constraints, and the clauses of a formula, on shelves
+-- ---- the learned constraints on shelves
 abbrev pub Entries : List ℕ → List ℕ → Type 0
 Entries cells links = Shelf (paper .numbers) (paper .constraints) cells links
 
@@ -99,16 +98,3 @@ pub record Shelves (cs cl qs ql : List ℕ) : Type 0 where
 pub record StoreShown (D : Prefix) (st : Store) (cs cl qs ql : List ℕ) : Type 0 where
   pub clauses : entriesOf cs cl ≡ map (codes D) (st .clauses)
   pub cubes : entriesOf qs ql ≡ map (codes D) (st .cubes)
-
--- one slot more than there can be clauses
-abbrev pub clauseSlots : ℕ
-clauseSlots = suc (paper .clauses)
-
--- The clauses: a table of their codes, and a shelf of the same clauses under universal reduction, in the order of adding.
-pub record Matrix (table sizes cells links : List ℕ) : Type 0 where
-  pub rows : Table (paper .literals) (paper .clauses) table sizes
-  pub shelf : Shelf (paper .literals) clauseSlots cells links
-
-pub record MatrixShown (D : Prefix) (R : List Clause) (table sizes cells links : List ℕ) : Type 0 where
-  pub rows : rowsOf (paper .literals) table sizes ≡ map (codes D) R
-  pub shelf : shelfRows (paper .literals) clauseSlots cells links ≡ map (codes D) (map (reduce D false) R)

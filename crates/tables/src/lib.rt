@@ -29,19 +29,18 @@ pub const AREA: usize = NUMBERS * 2;
 // links have a cell for each code, one for the newest row's number, and one for each slot.
 pub const CODES: usize = 256;
 
-// One slot more than there can be clauses makes a power of two, so that the slot of a number is had by a mask.
-pub const CLAUSE_SLOTS: usize = CLAUSES + 1;
+// The clauses inside a search: of each its length under universal reduction, its whole length, and its codes.
+pub const CLAUSE_ROW: usize = LITERALS + 2;
 
-pub const CLAUSE_CODES: usize = CLAUSE_SLOTS * (LITERALS + 1);
+pub const CLAUSE_ROWS: usize = CLAUSES * CLAUSE_ROW;
 
-pub const CLAUSE_LINKS: usize = CODES + 1 + CLAUSE_SLOTS;
+// They are linked by their last code under universal reduction: for each code the number of the first clause that ends in it, then the count of
+// the clauses, then for each clause the number of the next one with the same last code. Numbers run from 1; 0 is no clause.
+pub const CLAUSE_LINKS: usize = CODES + 1 + CLAUSES;
 
 pub const CONSTRAINT_CODES: usize = CONSTRAINTS * (NUMBERS + 1);
 
 pub const CONSTRAINT_LINKS: usize = CODES + 1 + CONSTRAINTS;
-
-// Marks by place: the cells of a table by place in whole words of sixteen, so that a copy is a few moves.
-pub const MARKS: usize = NUMBERS / 16 * 16 + 16;
 
 // Values of a table by number.
 pub const OPEN: u8 = 0;
@@ -56,3 +55,6 @@ pub const FREE: u16 = 0;
 pub const EXISTS: u16 = 1;
 
 pub const FORALL: u16 = 2;
+
+// In a table by code: the code of a place after the last variable's.
+pub const END: u8 = 3;

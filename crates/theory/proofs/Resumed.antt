@@ -5,12 +5,11 @@ use mathlib.Core.Path.{_≡_, refl, ap, _∙_}
 use mathlib.Core.Logic.{_⊎_, inl, inr}
 use mathlib.Core.Bool.{Bool, true, false, cond, _||_}
 use mathlib.Core.List.{List, [], _∷_, _++_}
-use mathlib.Core.Option.{Option, some}
+use mathlib.Core.Option.{some}
 use lib.ListN.{length}
-use Rattle.qbf.specs.Formula.{Clause, Literal, Node, Prefix, _▹_, all, any, has, place, satisfied}
+use Rattle.qbf.specs.Formula.{Clause, Node, Prefix, _▹_, all, any, has, place, satisfied}
 use Rattle.qbf.specs.Learning.{Constraint, first, implicant, insertFound}
-use Rattle.qbf.specs.Card.{Mem}
-use Rattle.theory.proofs.Basics.{and-left, and-right, any→, has-le, has-low, has-up, le-or-lt}
+use Rattle.theory.proofs.Basics.{any→, has-le, has-low, has-up, le-or-lt}
 use Rattle.theory.proofs.Game.{Rising, rising-above, satisfied-up}
 
 -- clauses that are satisfied stay so one place below
@@ -31,14 +30,6 @@ module _ (D : Prefix) (s : Node) (b : Bool) where
       by true h ih q t = ap (λ (y : Bool). cond y (some l) (first (has D true (s ▹ b)) r)) (has-up D true s b l h)
       by false h ih (inl q) t = ap (λ (y : Bool). cond y (some l) (first (has D true (s ▹ b)) r)) (has-low D true s b l q ∙ h) ∙ ih t
       by false h ih (inr q) t = absurd (far q t)
-
--- what satisfied clauses put into a cube is the same one place below
-pub implicant-stays : (D : Prefix) (s : Node) (b : Bool) (R : List Clause) → ((r : Clause) → Mem r R → Rising D 0 r)
-    → all (satisfied D s) R ≡ true → (E : Constraint) → implicant D (s ▹ b) R E ≡ implicant D s R E
-implicant-stays D s b [] up e E = refl
-implicant-stays D s b (r ∷ R) up e E =
-    ap (λ (o : Option Literal). implicant D (s ▹ b) R (insertFound D o E)) (first-stays D s b 0 r (up r (inl refl)) (and-left (satisfied D s r) (all (satisfied D s) R) e))
-    ∙ implicant-stays D s b R (λ x m. up x (inr m)) (and-right (satisfied D s r) (all (satisfied D s) R) e) (insertFound D (first (has D true s) r) E)
 
 -- a cube made of some clauses and then of the rest
 pub implicant-append : (D : Prefix) (s : Node) (xs ys : List Clause) (E : Constraint) → implicant D s (xs ++ ys) E ≡ implicant D s ys (implicant D s xs E)

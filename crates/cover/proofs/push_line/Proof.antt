@@ -34,12 +34,12 @@ same-length c = search needs
 returns : tie.Need-returns
 returns c =
     let s = c .before .before .before .before .before .before in
-    (c .before .table .given .1, pushed (s .args .lines) (s .args .free) (now (s .args .table)) (now (s .args .numbers)) (now (s .args .values)) (s .args .k) (s .args .value) (s .pre .1) _ (c .before .before .before .before .if1 .taken) (c .before .before .write-line .ensures))
+    (c .before .table .given .1, pushed (s .args .lines) (s .args .free) (now (s .args .table)) (now (s .args .statuses)) (s .args .k) (s .args .value) (s .pre .1) _ (c .before .before .before .before .if1 .taken) (c .before .before .write-line .ensures))
 
 returns-2 : tie.Need-returns-2
 returns-2 c =
     let s = c .before .before in
-    (refl, push-full (s .args .lines) (s .args .free) (now (s .args .table)) (now (s .args .numbers)) (now (s .args .values)) (s .args .k) (s .args .value) (s .pre .1) (omega arith))
+    (refl, push-full (s .args .lines) (s .args .free) (now (s .args .table)) (now (s .args .statuses)) (s .args .k) (s .args .value) (s .pre .1) (omega arith))
 
 pub push-line-spec : {M : Type 1} → statement M
 push-line-spec =

@@ -1,13 +1,22 @@
--- `inner::conclude` meets its contract. Steps 1 and 2, then 3 and 4, as `leaf` of qbf has them.
+-- `inner::conclude` meets its contract. Nothing more at a start node; else steps 1 and 2, then 3 and 4, as `leaf` of qbf has them.
 use borrow.Author.Needs.{needs}
 use Rattle.inner.proofs.conclude.Statement.{statement}
 use Rattle.inner.proofs.conclude.Tie as tie
+use native.Mathlib.Omega.{arith}
+use mathlib.Core.Path.{refl}
 use denote.Ref.{now}
-use lib.Dec.{eqb}
-use Rattle.qbf.specs.Formula.{paper}
-use Rattle.qbf.specs.Learning.{leaf}
 use Rattle.inner.proofs.Advancing.{clause-count}
-use Rattle.inner.proofs.Conclusions.{found-short, leaf-short, leaf-coded, marked-same, conflict-no, conflict-none}
+use Rattle.inner.proofs.Conclusions.{found-short, conflict-no, conflict-none, step-short, step-grown, concluded, entered-inner}
+
+step-of-requires : tie.Need-step-of-requires
+step-of-requires c κs = search needs
+
+returns : tie.Need-returns
+returns c =
+    let made = c .step-of .ensures in (
+      (step-short made (omega arith), step-grown made (omega arith), refl),
+      λ D R s st quantified shown long matrix store formed entered passed. concluded made (c .before .if1 .taken) (now (c .before .before .args .up)) refl passed,
+    )
 
 conflict-requires : tie.Need-conflict-requires
 conflict-requires c κs = search needs
@@ -15,8 +24,8 @@ conflict-requires c κs = search needs
 enum-known-conflict : tie.Need-enum-known-conflict
 enum-known-conflict c = search needs
 
-decided-requires : tie.Need-decided-requires
-decided-requires c κs = search needs
+step-of-requires-2 : tie.Need-step-of-requires-2
+step-of-requires-2 c κs = search needs
 
 enum-told : tie.Need-enum-told
 enum-told c = search needs
@@ -24,51 +33,66 @@ enum-told c = search needs
 advance-requires : tie.Need-advance-requires
 advance-requires c κs = search needs
 
+element-copy-out-count : tie.Need-element-copy-out-count
+element-copy-out-count c = search needs
+
+cast-count : tie.Need-cast-count
+cast-count c = search needs
+
 solution-requires : tie.Need-solution-requires
 solution-requires c κs = search needs
 
-returns : tie.Need-returns
-returns c =
-    let found = c .before .before .before .before .conflict in
-    let at = c .before .before .conflict2 .given .1 in
-    let answer = c .decided .ensures in
-    let up = found .last .1 .1 .1 .1 .1 .0 in (
-      leaf-short (answer .0) (found-short at (found .ensures .0)),
-      λ D R s st quantified shown long inner matrix store formed fresh marked. record {
-        read =
-            leaf-coded (answer .0) D up (leaf D R eqb s st)
-            (conflict-no D R s st up (found .ensures .1 D R s (st .clauses) shown long inner (matrix .shelf) (store .clauses) fresh) at);
-        marked = marked-same (answer .1) (answer .2) marked;
-      },
-    )
+step-of-requires-3 : tie.Need-step-of-requires-3
+step-of-requires-3 c κs = search needs
 
 returns-2 : tie.Need-returns-2
 returns-2 c =
-    let a = c .before .before .before .before .before .before .before .args in
-    let found = c .before .before .before .before .before .conflict in (
-      c .solution .ensures .0,
-      λ D R s st quantified shown long inner matrix store formed fresh marked.
-          let reached = c .before .before .advance .ensures D R s (matrix .rows) shown (formed .prefix-ok) (formed .clauses-ok) marked in
-          let counted = clause-count (paper .literals) (now (a .table)) (now (a .sizes)) D R (matrix .rows) in
-          let answer = c .solution .ensures .1 D R s (st .cubes) quantified shown long inner counted (store .cubes) (reached .0) (reached .1) in
-          record {
-            read =
-                conflict-none D R s st (found .last .1 .1 .1 .1 .1 .0)
-                (found .ensures .1 D R s (st .clauses) shown long inner (matrix .shelf) (store .clauses) fresh)
-                (c .before .before .before .enum-told .given .1) (c .solution .result .leaf) (c .solution .last .1 .1 .1 .1 .1 .1 .0) (answer .0);
-            marked = answer .1;
-          },
+    let found = c .before .before .before .before .conflict in
+    let at = c .before .before .conflict2 .given .1 in
+    let made = c .step-of2 .ensures in
+    let up = found .last .1 .1 .1 .1 .1 .0 in (
+      (step-short made (found-short at (found .ensures .0)), step-grown made (omega arith), refl),
+      λ D R s st quantified shown long matrix store formed entered passed.
+          let inner = entered-inner (c .before .before .before .before .before .before .if1 .left) entered in
+          concluded made (c .before .before .before .before .before .before .if1 .left) up
+          (conflict-no D R s st up (found .ensures .1 D R s (st .clauses) shown long (omega (arith, inner .1, long)) (matrix .dying) (store .clauses) (inner .0)) at)
+          passed,
+    )
+
+returns-3 : tie.Need-returns-3
+returns-3 c =
+    let found = c .before .before .before .before .before .before .before .before .before .conflict in
+    let advanced = c .before .before .before .before .before .advance .ensures in
+    let answer = c .before .solution in
+    let no-start = c .before .before .before .before .before .before .before .before .before .before .before .if1 .left in
+    let made = c .step-of3 .ensures in
+    let up = answer .last .1 .1 .1 .1 .1 .1 .1 .0 in (
+      (step-short made (answer .ensures .0), step-grown made (advanced .0 .0), advanced .0 .1),
+      λ D R s st quantified shown long matrix store formed entered passed.
+          let inner = entered-inner (no-start) entered in
+          let reached = advanced .1 D R s matrix shown passed in
+          concluded made (no-start) up
+          (conflict-none D R s st (found .last .1 .1 .1 .1 .1 .0)
+          (found .ensures .1 D R s (st .clauses) shown long (omega (arith, inner .1, long)) (matrix .dying) (store .clauses) (inner .0))
+          (c .before .before .before .before .before .before .before .enum-told .given .1) (answer .result) up
+          (answer .ensures .1 D R s (st .cubes) quantified shown (formed .prefix-ok) long (omega (arith, inner .1, long)) (clause-count matrix) (store .cubes) (reached .0) (reached .1)))
+          (reached .0),
     )
 
 pub conclude-spec : {M : Type 1} → statement M
 conclude-spec =
     tie.close
     (tie.spec
+    step-of-requires
+    returns
     conflict-requires
     enum-known-conflict
-    decided-requires
+    step-of-requires-2
     enum-told
     advance-requires
+    element-copy-out-count
+    cast-count
     solution-requires
-    returns
-    returns-2)
+    step-of-requires-3
+    returns-2
+    returns-3)

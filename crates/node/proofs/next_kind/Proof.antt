@@ -1,24 +1,37 @@
--- `node::next_kind` meets its contract. By the test on the count.
+-- `node::next_kind` meets its contract. By the test on the place.
 use borrow.Author.Needs.{needs}
 use Rattle.node.proofs.next_kind.Statement.{statement}
 use Rattle.node.proofs.next_kind.Tie as tie
+use Prim.Native.Nat.{ℕ, suc, _+_, _*_}
 use native.Mathlib.Omega.{arith}
-use native.Mathlib.Numerals.{add-one}
+use mathlib.Core.Path.{_≡_, ap, _∙_}
+use mathlib.Core.Bool.{false}
+use denote.Ref.{now}
+use lib.ListN.{getD}
+use Rattle.tables.specs.Codes.{codeAt}
 
-cell-at-requires : tie.Need-cell-at-requires
-cell-at-requires c κs = search needs
+mul-wide : tie.Need-mul-wide
+mul-wide c = search needs
 
-add-cell-at : tie.Need-add-cell-at
-add-cell-at c = search needs
+add-wide : tie.Need-add-wide
+add-wide c = search needs
 
-cell-at-requires-2 : tie.Need-cell-at-requires-2
-cell-at-requires-2 c κs = search needs
+element-copy-out-wide : tie.Need-element-copy-out-wide
+element-copy-out-wide c = search needs
 
-kind-at-requires : tie.Need-kind-at-requires
-kind-at-requires c κs = search needs
+wide-requires : tie.Need-wide-requires
+wide-requires c κs = search needs
 
 returns : tie.Need-returns
-returns c = record { more = λ h. rw (← add-one) (cc); none = λ h. absurd (omega (arith, h, c .before .before .before .before .if1 .taken, c .before .before .before .before .before .cell-at .ensures)) }
+returns c =
+    let s = c .before .before .before in
+    let z : s .args .at * 2 + 2 ≡ codeAt (suc (s .args .at)) false = omega arith in record {
+      more = λ h. c .wide .ensures ∙ ap (λ (k : ℕ). getD (now (s .args .quantifiers)) k 0) z;
+      none = λ h. absurd (omega (arith, h, c .before .before .if1 .taken));
+    }
+
+wide-requires-2 : tie.Need-wide-requires-2
+wide-requires-2 c κs = search needs
 
 returns-2 : tie.Need-returns-2
 returns-2 c = search needs
@@ -26,4 +39,4 @@ returns-2 c = search needs
 pub next-kind-spec : {M : Type 1} → statement M
 next-kind-spec =
     tie.close
-    (tie.spec cell-at-requires add-cell-at cell-at-requires-2 kind-at-requires returns returns-2)
+    (tie.spec mul-wide add-wide element-copy-out-wide wide-requires returns wide-requires-2 returns-2)

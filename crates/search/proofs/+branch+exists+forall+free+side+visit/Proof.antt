@@ -27,7 +27,6 @@ use Rattle.node.proofs.finish.Reads as finish-reads
 use Rattle.node.proofs.goes_up.Reads as goes-up-reads
 use Rattle.node.proofs.line_if.Reads as line-if-reads
 use Rattle.node.proofs.next_kind.Reads as next-kind-reads
-use Rattle.node.proofs.number_at.Reads as number-at-reads
 use Rattle.node.proofs.put_aside.Reads as put-aside-reads
 use Rattle.node.proofs.resumed.Reads as resumed-reads
 use Rattle.node.proofs.settle_lines.Reads as settle-lines-reads
@@ -42,33 +41,34 @@ use borrow.Author.Needs.{needs}
 use mathlib.Core.Path.{_∙_, sym, ap, refl}
 use mathlib.Core.Bool.{true, false}
 use Prim.Native.Nat.{_+_, _-_, _*_}
-use lib.ListN.{length, getD, length-take, length-drop}
+use lib.ListN.{length, length-take, length-drop}
 use borrow.Rule.Slice.PartMut.{take-put}
-use Rattle.qbf.specs.Formula.{exists, forall, free}
+use Rattle.qbf.specs.Formula.{paper, exists, forall, free, _▹_}
 use Rattle.node.specs.declared.Position.{Position}
 use Rattle.node.specs.declared.Verdict.the-variants.{Yes, No}
-use Rattle.search.proofs.Counts.{room-off, room-on, aside-room, falls-side, counts-up, counts-quantified, counts-free, counts-settled, counts-resumed, visits-small, newest-small, lines-small, off-lines, on-lines-one, on-lines-small, part-room, room-resumed, set-back, statuses-back, result-as}
+use Rattle.search.proofs.Counts.{room-off, room-on, aside-room, falls-side, counts-up, counts-quantified, counts-free, counts-settled, counts-resumed, visits-small, newest-small, lines-small, off-lines, on-lines-one, on-lines-small, part-room, room-resumed, counts-as, result-as}
+use Rattle.search.proofs.Keeping.{statuses-back, kept-up, kept-resumed, kept-both}
 use Rattle.search.proofs.Returns.{up-result, both-result}
 use Rattle.search.proofs.FreeReturns.{free-result}
 use Rattle.search.proofs.Visiting.{said-no, said-yes, said-open, leaf-result, open-result, exists-result, forall-result, free-visit-result, end-result, more-places, side-result}
 
 abbrev μ-branch : Measures 10 branch-kinds.ps ℕ
-μ-branch κs a = 4 * (getD (a .1 .1 .1 .1 .0 .now) 0 0 - a .1 .1 .1 .1 .1 .1 .1 .1 .1 .1 .1 .1 .1 .1 .1 .1 .1 .0 .at) + 2
+μ-branch κs a = 4 * (paper .numbers - a .1 .1 .1 .1 .1 .1 .1 .1 .1 .1 .1 .1 .0 .at) + 2
 
 abbrev μ-exists : Measures 10 exists-kinds.ps ℕ
-μ-exists κs a = 4 * (getD (a .1 .1 .1 .1 .0 .now) 0 0 - a .1 .1 .1 .1 .1 .1 .1 .1 .1 .1 .1 .1 .1 .1 .1 .1 .1 .0 .at) + 1
+μ-exists κs a = 4 * (paper .numbers - a .1 .1 .1 .1 .1 .1 .1 .1 .1 .1 .1 .1 .0 .at) + 1
 
 abbrev μ-forall : Measures 10 forall-kinds.ps ℕ
-μ-forall κs a = 4 * (getD (a .1 .1 .1 .1 .0 .now) 0 0 - a .1 .1 .1 .1 .1 .1 .1 .1 .1 .1 .1 .1 .1 .1 .1 .1 .1 .0 .at) + 1
+μ-forall κs a = 4 * (paper .numbers - a .1 .1 .1 .1 .1 .1 .1 .1 .1 .1 .1 .1 .0 .at) + 1
 
 abbrev μ-free : Measures 10 free-kinds.ps ℕ
-μ-free κs a = 4 * (getD (a .1 .1 .1 .1 .0 .now) 0 0 - a .1 .1 .1 .1 .1 .1 .1 .1 .1 .1 .1 .1 .1 .1 .1 .1 .1 .0 .at) + 1
+μ-free κs a = 4 * (paper .numbers - a .1 .1 .1 .1 .1 .1 .1 .1 .1 .1 .1 .1 .0 .at) + 1
 
 abbrev μ-side : Measures 10 side-kinds.ps ℕ
-μ-side κs a = 4 * (getD (a .1 .1 .1 .1 .0 .now) 0 0 - a .1 .1 .1 .1 .1 .1 .1 .1 .1 .1 .1 .1 .1 .1 .1 .1 .1 .0 .at) + 4
+μ-side κs a = 4 * (paper .numbers - a .1 .1 .1 .1 .1 .1 .1 .1 .1 .1 .1 .1 .0 .at) + 4
 
 abbrev μ-visit : Measures 10 visit-kinds.ps ℕ
-μ-visit κs a = 4 * (getD (a .1 .1 .1 .1 .0 .now) 0 0 - a .1 .1 .1 .1 .1 .1 .1 .1 .1 .1 .1 .1 .1 .1 .1 .1 .1 .0 .at) + 3
+μ-visit κs a = 4 * (paper .numbers - a .1 .1 .1 .1 .1 .1 .1 .1 .1 .1 .1 .1 .0 .at) + 3
 
 abbrev branch-at : ℕ → In 10 branch-kinds.ps
 branch-at t = and 10 branch-kinds.ps (is 10 branch-kinds.ps μ-branch t) branch.Pre
@@ -132,7 +132,7 @@ branch-exists-requires : (t : ℕ) → branch-lts.Need-exists-requires (
   settled-reads.Asked,
   settled-reads.Learnt,
 ) (branch-at t) branch.Post
-branch-exists-requires t c κs = (omega (arith, c .before .before .before .before .before .before .before .before .before .before .before .before .before .pre .0), (c .before .before .before .before .before .before .before .before .before .before .before .before .before .pre .1 .0, c .before .before .before .before .before .before .before .before .before .before .before .before .before .pre .1 .1, c .before .before .before .before .before .before .before .before .before .before .before .before .before .pre .1 .2, more-places (c .before .before .before .before .before .before .before .before .before .before .before .before .before .args .numbers .now) _ (c .before .before .before .before .before .before .before .before .before .before .before .before .before .args .p .at) (c .before .before .before .before .before .before .before .before .before .before .next-kind .result) (c .before .before .before .before .before .before .before .before .before .before .next-kind .ensures) (omega (arith, c .before .before .before .before .before .before .before .before .before .if1 .taken))))
+branch-exists-requires t c κs = (omega (arith, c .before .before .before .before .before .before .before .before .before .before .before .before .before .pre .0), (c .before .before .before .before .before .before .before .before .before .before .before .before .before .pre .1 .0, c .before .before .before .before .before .before .before .before .before .before .before .before .before .pre .1 .1, c .before .before .before .before .before .before .before .before .before .before .before .before .before .pre .1 .2, more-places _ (c .before .before .before .before .before .before .before .before .before .before .before .before .before .args .p .at) (c .before .before .before .before .before .before .before .before .before .before .next-kind .result) (c .before .before .before .before .before .before .before .before .before .before .next-kind .ensures) (omega (arith, c .before .before .before .before .before .before .before .before .before .if1 .taken))))
 
 branch-forall-requires : (t : ℕ) → branch-lts.Need-forall-requires (
   next-kind-reads.Asked,
@@ -146,7 +146,7 @@ branch-forall-requires : (t : ℕ) → branch-lts.Need-forall-requires (
   settled-reads.Asked,
   settled-reads.Learnt,
 ) (branch-at t) branch.Post
-branch-forall-requires t c κs = (omega (arith, c .before .before .before .before .before .before .before .before .before .before .before .before .before .before .pre .0), (c .before .before .before .before .before .before .before .before .before .before .before .before .before .before .pre .1 .0, c .before .before .before .before .before .before .before .before .before .before .before .before .before .before .pre .1 .1, c .before .before .before .before .before .before .before .before .before .before .before .before .before .before .pre .1 .2, more-places (c .before .before .before .before .before .before .before .before .before .before .before .before .before .before .args .numbers .now) _ (c .before .before .before .before .before .before .before .before .before .before .before .before .before .before .args .p .at) (c .before .before .before .before .before .before .before .before .before .before .before .next-kind .result) (c .before .before .before .before .before .before .before .before .before .before .before .next-kind .ensures) (omega (arith, c .before .before .before .before .before .before .before .before .before .if2 .taken))))
+branch-forall-requires t c κs = (omega (arith, c .before .before .before .before .before .before .before .before .before .before .before .before .before .before .pre .0), (c .before .before .before .before .before .before .before .before .before .before .before .before .before .before .pre .1 .0, c .before .before .before .before .before .before .before .before .before .before .before .before .before .before .pre .1 .1, c .before .before .before .before .before .before .before .before .before .before .before .before .before .before .pre .1 .2, more-places _ (c .before .before .before .before .before .before .before .before .before .before .before .before .before .before .args .p .at) (c .before .before .before .before .before .before .before .before .before .before .before .next-kind .result) (c .before .before .before .before .before .before .before .before .before .before .before .next-kind .ensures) (omega (arith, c .before .before .before .before .before .before .before .before .before .if2 .taken))))
 
 branch-free-requires : (t : ℕ) → branch-lts.Need-free-requires (
   next-kind-reads.Asked,
@@ -160,7 +160,7 @@ branch-free-requires : (t : ℕ) → branch-lts.Need-free-requires (
   settled-reads.Asked,
   settled-reads.Learnt,
 ) (branch-at t) branch.Post
-branch-free-requires t c κs = (omega (arith, c .before .before .before .before .before .before .before .before .before .before .before .before .before .before .before .pre .0), (c .before .before .before .before .before .before .before .before .before .before .before .before .before .before .before .pre .1 .0, c .before .before .before .before .before .before .before .before .before .before .before .before .before .before .before .pre .1 .1, c .before .before .before .before .before .before .before .before .before .before .before .before .before .before .before .pre .1 .2, more-places (c .before .before .before .before .before .before .before .before .before .before .before .before .before .before .before .args .numbers .now) _ (c .before .before .before .before .before .before .before .before .before .before .before .before .before .before .before .args .p .at) (c .before .before .before .before .before .before .before .before .before .before .before .before .next-kind .result) (c .before .before .before .before .before .before .before .before .before .before .before .before .next-kind .ensures) (omega (arith, c .before .before .before .before .before .before .before .before .before .if3 .taken))))
+branch-free-requires t c κs = (omega (arith, c .before .before .before .before .before .before .before .before .before .before .before .before .before .before .before .pre .0), (c .before .before .before .before .before .before .before .before .before .before .before .before .before .before .before .pre .1 .0, c .before .before .before .before .before .before .before .before .before .before .before .before .before .before .before .pre .1 .1, c .before .before .before .before .before .before .before .before .before .before .before .before .before .before .before .pre .1 .2, more-places _ (c .before .before .before .before .before .before .before .before .before .before .before .before .before .before .before .args .p .at) (c .before .before .before .before .before .before .before .before .before .before .before .before .next-kind .result) (c .before .before .before .before .before .before .before .before .before .before .before .before .next-kind .ensures) (omega (arith, c .before .before .before .before .before .before .before .before .before .if3 .taken))))
 
 branch-settled-requires : (t : ℕ) → branch-lts.Need-settled-requires (
   next-kind-reads.Asked,
@@ -174,7 +174,7 @@ branch-settled-requires : (t : ℕ) → branch-lts.Need-settled-requires (
   settled-reads.Asked,
   settled-reads.Learnt,
 ) (branch-at t) branch.Post
-branch-settled-requires t c κs = visits-small (c .before .before .before .before .before .before .args .numbers .now) (length (c .before .before .before .before .before .before .args .saved .now)) (c .before .before .before .before .before .before .args .p) (c .before .before .before .before .before .before .pre .1 .2)
+branch-settled-requires t c κs = visits-small (length (c .before .before .before .before .before .before .args .saved .now)) (c .before .before .before .before .before .before .args .p) (c .before .before .before .before .before .before .pre .1 .2)
 
 branch-same-length : (t : ℕ) → branch-lts.Need-same-length (
   next-kind-reads.Asked,
@@ -333,10 +333,10 @@ branch-returns-4 : (t : ℕ) → branch-lts.Need-returns-4 (
   settled-reads.Learnt,
 ) (branch-at t) branch.Post
 branch-returns-4 t c = (
-  counts-settled (c .before .before .before .before .before .before .before .args .numbers .now) (c .before .before .before .before .before .before .before .args .p) (c .settled .result) No 0 (c .settled .ensures) (omega arith),
+  counts-settled (c .before .before .before .before .before .before .before .args .p) (c .settled .result) No 0 (c .settled .ensures) (omega arith),
   (
-    (record { restored = refl; statuses-restored = refl; size = refl }, c .before .before .before .before .before .before .before .pre .1 .1),
-    (λ D s ls R st task alive. end-result (c .before .before .before .before .before .before .before .args .p) task _ (c .settled .result) (c .before .before .before .before .next-kind .result) (c .before .before .before .before .next-kind .ensures) (c .before .before .before .if1 .left) (c .before .before .if2 .left) (c .before .if3 .left) (c .settled .ensures)),
+    (record { statuses-restored = refl; size = refl; firsts-kept = refl }, c .before .before .before .before .before .before .before .pre .1 .1),
+    (λ D s ls R st task alive. end-result (c .before .before .before .before .before .before .before .args .p) task (c .settled .result) (c .before .before .before .before .next-kind .result) (c .before .before .before .before .next-kind .ensures) _ (c .before .before .before .if1 .left) (c .before .before .if2 .left) (c .before .if3 .left) (c .settled .ensures)),
   ),
 )
 
@@ -354,7 +354,7 @@ exists-to-off-requires : (t : ℕ) → exists-lts.Need-to-off-requires (
   finish-reads.Asked,
   finish-reads.Learnt,
 ) (exists-at t) exists.Post
-exists-to-off-requires t c κs = (omega (arith, c .before .before .before .before .before .before .before .before .before .before .before .pre .1 .2 .few, c .before .before .before .before .before .before .before .before .before .before .before .pre .1 .3), visits-small (c .before .before .before .before .before .before .before .before .before .before .before .args .numbers .now) (length (c .before .before .before .before .before .before .before .before .before .before .before .args .saved .now)) (c .before .before .before .before .before .before .before .before .before .before .before .args .p) (c .before .before .before .before .before .before .before .before .before .before .before .pre .1 .2))
+exists-to-off-requires t c κs = (omega (arith, c .before .before .before .before .before .before .before .before .before .before .before .pre .1 .3), visits-small (length (c .before .before .before .before .before .before .before .before .before .before .before .args .saved .now)) (c .before .before .before .before .before .before .before .before .before .before .before .args .p) (c .before .before .before .before .before .before .before .before .before .before .before .pre .1 .2))
 
 exists-side-requires : (t : ℕ) → exists-lts.Need-side-requires (
   to-off-reads.Asked,
@@ -371,8 +371,8 @@ exists-side-requires : (t : ℕ) → exists-lts.Need-side-requires (
   finish-reads.Learnt,
 ) (exists-at t) exists.Post
 exists-side-requires t c κs =
-    let sr = room-off (c .before .before .before .before .before .before .before .before .before .before .before .before .args .numbers .now) (c .before .before .before .before .before .before .before .before .before .before .before .before .args .p) (c .before .before .before .before .before .before .before .before .before .before .before .before .pre .1 .3) (length (c .before .before .before .before .before .before .before .before .before .before .before .before .args .saved .now)) (c .to-off .result) (c .to-off .ensures) (c .before .before .before .before .before .before .before .before .before .before .before .before .pre .1 .2) in
-    (omega (arith, c .before .before .before .before .before .before .before .before .before .before .before .before .pre .0, falls-side (c .before .before .before .before .before .before .before .before .before .before .before .before .args .numbers .now) (c .before .before .before .before .before .before .before .before .before .before .before .before .args .p) (c .before .before .before .before .before .before .before .before .before .before .before .before .pre .1 .3) (c .to-off .result) _ _ (c .to-off .ensures)), (c .before .before .before .before .before .before .before .before .before .before .before .before .pre .1 .0, c .before .before .before .before .before .before .before .before .before .before .before .before .pre .1 .1, sr .room, sr .after, omega arith, sr .own))
+    let sr = room-off (c .before .before .before .before .before .before .before .before .before .before .before .before .args .p) (c .before .before .before .before .before .before .before .before .before .before .before .before .pre .1 .3) (length (c .before .before .before .before .before .before .before .before .before .before .before .before .args .saved .now)) (c .to-off .result) (c .to-off .ensures) (c .before .before .before .before .before .before .before .before .before .before .before .before .pre .1 .2) in
+    (omega (arith, c .before .before .before .before .before .before .before .before .before .before .before .before .pre .0, falls-side (c .before .before .before .before .before .before .before .before .before .before .before .before .args .p) (c .before .before .before .before .before .before .before .before .before .before .before .before .pre .1 .3) (c .to-off .result) _ _ (c .to-off .ensures)), (c .before .before .before .before .before .before .before .before .before .before .before .before .pre .1 .0, c .before .before .before .before .before .before .before .before .before .before .before .before .pre .1 .1, sr .room, sr .after, omega arith, sr .own))
 
 exists-goes-up-requires : (t : ℕ) → exists-lts.Need-goes-up-requires (
   to-off-reads.Asked,
@@ -388,7 +388,7 @@ exists-goes-up-requires : (t : ℕ) → exists-lts.Need-goes-up-requires (
   finish-reads.Asked,
   finish-reads.Learnt,
 ) (exists-at t) exists.Post
-exists-goes-up-requires t c κs = (c .before .before .before .before .before .side .ensures .0 .short, omega (arith, c .before .before .before .before .before .before .before .before .before .before .before .before .before .before .before .before .before .before .pre .1 .2 .few, c .before .before .before .before .before .before .before .before .before .before .before .before .before .before .before .before .before .before .pre .1 .3))
+exists-goes-up-requires t c κs = (c .before .before .before .before .before .side .ensures .0 .short, omega (arith, c .before .before .before .before .before .before .before .before .before .before .before .before .before .before .before .before .before .before .pre .1 .3))
 
 exists-same-length : (t : ℕ) → exists-lts.Need-same-length (
   to-off-reads.Asked,
@@ -437,10 +437,10 @@ exists-returns : (t : ℕ) → exists-lts.Need-returns (
   finish-reads.Learnt,
 ) (exists-at t) exists.Post
 exists-returns t c = (
-  counts-up (c .before .before .before .before .before .before .before .before .before .before .before .before .before .before .before .before .before .before .before .before .args .numbers .now) (c .before .before .before .before .before .before .before .before .before .before .before .before .before .before .before .before .before .before .before .before .args .p) (c .before .before .before .before .before .before .before .before .before .before .before .before .before .before .before .before .before .before .before .before .pre .1 .3) (c .before .before .before .before .before .before .before .before .to-off .result) (c .before .before .before .before .before .before .before .before .to-off .ensures) (c .before .before .before .before .before .before .before .side .result) (c .before .before .before .before .before .before .before .side .ensures .0),
+  counts-up (c .before .before .before .before .before .before .before .before .before .before .before .before .before .before .before .before .before .before .before .before .args .p) (c .before .before .before .before .before .before .before .before .before .before .before .before .before .before .before .before .before .before .before .before .pre .1 .3) (c .before .before .before .before .before .before .before .before .to-off .result) (c .before .before .before .before .before .before .before .before .to-off .ensures) (c .before .before .before .before .before .before .before .side .result) (c .before .before .before .before .before .before .before .side .ensures .0),
   (
-    c .before .before .before .before .before .before .before .side .ensures .1 .0,
-    (λ D s ls R st task alive is. up-result exists 1 refl (c .before .before .before .before .before .before .before .before .before .before .before .before .before .before .before .before .before .before .before .before .args .p) (c .before .before .before .before .before .before .before .before .before .before .before .before .before .before .before .before .before .before .before .before .pre .1 .3) (c .before .before .before .before .before .before .before .before .to-off .result) (c .before .before .before .before .before .before .before .before .to-off .ensures) (c .before .before .before .before .before .before .before .side .result) (c .before .before .before .before .before .before .before .side .ensures .1 .1 .1) (c .before .goes-up .result) (c .before .goes-up .ensures) D s ls R st task alive is (c .if1 .taken)),
+    (kept-up (c .before .before .before .before .before .before .before .before .before .before .before .before .before .before .before .before .before .before .before .before .args .p) (c .before .before .before .before .before .before .before .before .to-off .result) _ _ (c .before .before .before .before .before .before .before .before .to-off .ensures) (c .before .before .before .before .before .before .before .side .ensures .1 .0 .0), c .before .before .before .before .before .before .before .side .ensures .1 .0 .1),
+    (λ D s ls R st task alive inside is. up-result exists 1 refl (c .before .before .before .before .before .before .before .before .before .before .before .before .before .before .before .before .before .before .before .before .args .p) (c .before .before .before .before .before .before .before .before .to-off .result) (c .before .before .before .before .before .before .before .before .to-off .ensures) (c .before .before .before .before .before .before .before .side .result) (c .before .before .before .before .before .before .before .side .ensures .1 .1 .1) (c .before .goes-up .result) (c .before .goes-up .ensures) D s ls R st task alive inside is (c .if1 .taken)),
   ),
 )
 
@@ -458,7 +458,7 @@ exists-put-aside-requires : (t : ℕ) → exists-lts.Need-put-aside-requires (
   finish-reads.Asked,
   finish-reads.Learnt,
 ) (exists-at t) exists.Post
-exists-put-aside-requires t c κs = (c .before .before .before .before .before .before .before .before .before .side .ensures .0 .short, omega (arith, c .before .before .before .before .before .before .before .before .before .side .ensures .0 .short, aside-room (c .before .before .before .before .before .before .before .before .before .before .before .before .before .before .before .before .before .before .before .before .before .before .args .numbers .now) (c .before .before .before .before .before .before .before .before .before .before .before .before .before .before .before .before .before .before .before .before .before .before .args .p) (c .before .before .before .before .before .before .before .before .before .before .before .before .before .before .before .before .before .before .before .before .before .before .pre .1 .3) (length (c .before .before .before .before .before .before .before .before .before .before .before .before .before .before .before .before .before .before .before .before .before .before .args .saved .now)) (c .before .before .before .before .before .before .before .before .before .before .before .before .before .before .before .before .before .before .before .before .before .before .pre .1 .2), c .before .before .before .before .before .before .before .before .before .side .ensures .1 .1 .0 .0))
+exists-put-aside-requires t c κs = (c .before .before .before .before .before .before .before .before .before .side .ensures .0 .short, omega (arith, c .before .before .before .before .before .before .before .before .before .side .ensures .0 .short, aside-room (c .before .before .before .before .before .before .before .before .before .before .before .before .before .before .before .before .before .before .before .before .before .before .args .p) (c .before .before .before .before .before .before .before .before .before .before .before .before .before .before .before .before .before .before .before .before .before .before .pre .1 .3) (length (c .before .before .before .before .before .before .before .before .before .before .before .before .before .before .before .before .before .before .before .before .before .before .args .saved .now)) (c .before .before .before .before .before .before .before .before .before .before .before .before .before .before .before .before .before .before .before .before .before .before .pre .1 .2), c .before .before .before .before .before .before .before .before .before .side .ensures .1 .1 .0 .0))
 
 exists-to-on-requires : (t : ℕ) → exists-lts.Need-to-on-requires (
   to-off-reads.Asked,
@@ -474,7 +474,7 @@ exists-to-on-requires : (t : ℕ) → exists-lts.Need-to-on-requires (
   finish-reads.Asked,
   finish-reads.Learnt,
 ) (exists-at t) exists.Post
-exists-to-on-requires t c κs = omega (arith, c .before .before .before .before .before .before .before .before .before .before .before .before .before .before .before .before .before .before .before .before .before .before .before .before .before .before .before .before .before .before .before .before .before .before .pre .1 .2 .few, c .before .before .before .before .before .before .before .before .before .before .before .before .before .before .before .before .before .before .before .before .before .before .before .before .before .before .before .before .before .before .before .before .before .before .pre .1 .3)
+exists-to-on-requires t c κs = omega (arith, c .before .before .before .before .before .before .before .before .before .before .before .before .before .before .before .before .before .before .before .before .before .before .before .before .before .before .before .before .before .before .before .before .before .before .pre .1 .3)
 
 exists-side-requires-2 : (t : ℕ) → exists-lts.Need-side-requires-2 (
   to-off-reads.Asked,
@@ -491,8 +491,8 @@ exists-side-requires-2 : (t : ℕ) → exists-lts.Need-side-requires-2 (
   finish-reads.Learnt,
 ) (exists-at t) exists.Post
 exists-side-requires-2 t c κs =
-    let sr = room-on (c .before .before .before .before .before .before .before .before .before .before .before .before .before .before .before .before .before .before .before .before .before .before .before .before .before .before .before .before .before .before .before .before .before .before .before .args .numbers .now) (c .before .before .before .before .before .before .before .before .before .before .before .before .before .before .before .before .before .before .before .before .before .before .before .before .before .before .before .before .before .before .before .before .before .before .before .args .p) (c .before .before .before .before .before .before .before .before .before .before .before .before .before .before .before .before .before .before .before .before .before .before .before .before .before .before .before .before .before .before .before .before .before .before .before .pre .1 .3) (c .before .before .before .before .before .before .before .before .before .before .before .before .before .before .before .before .before .before .before .before .before .before .before .to-off .result) (c .before .before .before .before .before .before .before .before .before .before .before .before .before .before .before .before .before .before .before .before .before .before .before .to-off .ensures) (c .before .before .before .before .before .before .before .before .before .before .before .before .before .before .before .before .before .before .before .before .before .before .side .result) (c .before .before .before .before .before .before .before .before .before .before .before .before .before .before .before .before .before .before .before .before .before .before .side .ensures .0) (length (c .before .before .before .before .before .before .before .before .before .before .before .before .before .before .before .before .before .before .before .before .before .before .before .before .before .before .before .before .before .before .before .before .before .before .before .args .saved .now)) _ (c .before .before .before .before .before .before .before .before .before .before .before .before .before .before .before .before .before .before .before .before .before .before .side .result .lines) (c .to-on .result) (c .to-on .ensures) (omega arith) (c .before .before .before .before .before .before .before .before .before .before .before .before .put-aside .ensures .0 ∙ c .before .before .before .before .before .before .before .before .before .before .before .before .before .before .before .before .before .before .before .before .before .before .side .ensures .1 .1 .0 .0) (c .before .before .before .before .before .before .before .before .before .before .before .before .before .before .before .before .before .before .before .before .before .before .before .before .before .before .before .before .before .before .before .before .before .before .before .pre .1 .2) in
-    (omega (arith, c .before .before .before .before .before .before .before .before .before .before .before .before .before .before .before .before .before .before .before .before .before .before .before .before .before .before .before .before .before .before .before .before .before .before .before .pre .0, falls-side (c .before .before .before .before .before .before .before .before .before .before .before .before .before .before .before .before .before .before .before .before .before .before .before .before .before .before .before .before .before .before .before .before .before .before .before .args .numbers .now) (c .before .before .before .before .before .before .before .before .before .before .before .before .before .before .before .before .before .before .before .before .before .before .before .before .before .before .before .before .before .before .before .before .before .before .before .args .p) (c .before .before .before .before .before .before .before .before .before .before .before .before .before .before .before .before .before .before .before .before .before .before .before .before .before .before .before .before .before .before .before .before .before .before .before .pre .1 .3) (c .to-on .result) _ _ (c .to-on .ensures)), (c .before .before .before .before .before .before .before .before .before .before .before .before .before .before .before .before .before .before .before .before .before .before .before .before .before .before .before .before .before .before .before .before .before .before .before .pre .1 .0, c .before .before .before .before .before .before .before .before .before .before .before .before .before .before .before .before .before .before .before .before .before .before .side .ensures .1 .0 .1, sr .room, sr .after, c .before .before .before .before .before .before .before .before .before .before .before .before .before .before .before .before .before .before .before .before .before .before .side .ensures .0 .short, sr .own))
+    let sr = room-on (c .before .before .before .before .before .before .before .before .before .before .before .before .before .before .before .before .before .before .before .before .before .before .before .before .before .before .before .before .before .before .before .before .before .before .before .args .p) (c .before .before .before .before .before .before .before .before .before .before .before .before .before .before .before .before .before .before .before .before .before .before .before .before .before .before .before .before .before .before .before .before .before .before .before .pre .1 .3) (c .before .before .before .before .before .before .before .before .before .before .before .before .before .before .before .before .before .before .before .before .before .before .before .to-off .result) (c .before .before .before .before .before .before .before .before .before .before .before .before .before .before .before .before .before .before .before .before .before .before .before .to-off .ensures) (c .before .before .before .before .before .before .before .before .before .before .before .before .before .before .before .before .before .before .before .before .before .before .side .result) (c .before .before .before .before .before .before .before .before .before .before .before .before .before .before .before .before .before .before .before .before .before .before .side .ensures .0) (length (c .before .before .before .before .before .before .before .before .before .before .before .before .before .before .before .before .before .before .before .before .before .before .before .before .before .before .before .before .before .before .before .before .before .before .before .args .saved .now)) _ (c .before .before .before .before .before .before .before .before .before .before .before .before .before .before .before .before .before .before .before .before .before .before .side .result .lines) (c .to-on .result) (c .to-on .ensures) (omega arith) (c .before .before .before .before .before .before .before .before .before .before .before .before .put-aside .ensures .0 ∙ c .before .before .before .before .before .before .before .before .before .before .before .before .before .before .before .before .before .before .before .before .before .before .side .ensures .1 .1 .0 .0) (c .before .before .before .before .before .before .before .before .before .before .before .before .before .before .before .before .before .before .before .before .before .before .before .before .before .before .before .before .before .before .before .before .before .before .before .pre .1 .2) in
+    (omega (arith, c .before .before .before .before .before .before .before .before .before .before .before .before .before .before .before .before .before .before .before .before .before .before .before .before .before .before .before .before .before .before .before .before .before .before .before .pre .0, falls-side (c .before .before .before .before .before .before .before .before .before .before .before .before .before .before .before .before .before .before .before .before .before .before .before .before .before .before .before .before .before .before .before .before .before .before .before .args .p) (c .before .before .before .before .before .before .before .before .before .before .before .before .before .before .before .before .before .before .before .before .before .before .before .before .before .before .before .before .before .before .before .before .before .before .before .pre .1 .3) (c .to-on .result) _ _ (c .to-on .ensures)), (c .before .before .before .before .before .before .before .before .before .before .before .before .before .before .before .before .before .before .before .before .before .before .before .before .before .before .before .before .before .before .before .before .before .before .before .pre .1 .0, c .before .before .before .before .before .before .before .before .before .before .before .before .before .before .before .before .before .before .before .before .before .before .side .ensures .1 .0 .1, sr .room, sr .after, c .before .before .before .before .before .before .before .before .before .before .before .before .before .before .before .before .before .before .before .before .before .before .side .ensures .0 .short, sr .own))
 
 exists-finish-requires : (t : ℕ) → exists-lts.Need-finish-requires (
   to-off-reads.Asked,
@@ -509,8 +509,8 @@ exists-finish-requires : (t : ℕ) → exists-lts.Need-finish-requires (
   finish-reads.Learnt,
 ) (exists-at t) exists.Post
 exists-finish-requires t c κs =
-    let small = newest-small (c .before .before .before .before .before .before .before .before .before .before .before .before .before .before .before .before .before .before .before .before .before .before .before .before .before .before .before .before .before .before .before .before .before .before .before .before .before .before .before .before .before .before .before .before .before .before .args .numbers .now) (c .before .before .before .before .before .before .before .before .before .before .before .before .before .before .before .before .before .before .before .before .before .before .before .before .before .before .before .before .before .before .before .before .before .before .before .before .before .before .before .before .before .before .before .before .before .before .args .p) (c .before .before .before .before .before .before .before .before .before .before .before .before .before .before .before .before .before .before .before .before .before .before .before .before .before .before .before .before .before .before .before .before .before .before .before .before .before .before .before .before .before .before .before .before .before .before .pre .1 .3) (c .before .before .before .before .before .before .before .before .before .before .before .before .before .before .before .before .before .before .before .before .before .before .before .before .before .before .before .before .before .before .before .before .before .before .to-off .result) (c .before .before .before .before .before .before .before .before .before .before .before .before .before .before .before .before .before .before .before .before .before .before .before .before .before .before .before .before .before .before .before .before .before .before .to-off .ensures) (c .before .before .before .before .before .before .before .before .before .before .before .before .before .before .before .before .before .before .before .before .before .before .before .before .before .before .before .before .before .before .before .before .before .side .result) (c .before .before .before .before .before .before .before .before .before .before .before .before .before .before .before .before .before .before .before .before .before .before .before .before .before .before .before .before .before .before .before .before .before .side .ensures .0) (c .before .before .before .before .before .before .before .before .before .before .before .before .before .before .before .before .before .before .before .before .before .before .before .before .before .before .before .before .before .before .before .before .before .side .result .lines) (c .before .before .before .before .before .before .before .before .before .before .before .to-on .result) (c .before .before .before .before .before .before .before .before .before .before .before .to-on .ensures) (c .before .before .before .before .before .before .before .before .before .before .side2 .result) (c .before .before .before .before .before .before .before .before .before .before .side2 .ensures .0) (length (c .before .before .before .before .before .before .before .before .before .before .before .before .before .before .before .before .before .before .before .before .before .before .before .before .before .before .before .before .before .before .before .before .before .before .before .before .before .before .before .before .before .before .before .before .before .before .args .saved .now)) (c .before .before .before .before .before .before .before .before .before .before .before .before .before .before .before .before .before .before .before .before .before .before .before .before .before .before .before .before .before .before .before .before .before .before .before .before .before .before .before .before .before .before .before .before .before .before .pre .1 .2) in
-    (c .before .before .before .before .before .before .before .before .before .before .before .before .before .before .before .before .before .before .before .before .before .before .before .before .before .before .before .before .before .before .before .before .before .side .ensures .0 .short, c .before .before .before .before .before .before .before .before .before .before .side2 .ensures .0 .short, omega (arith, c .before .before .before .before .before .before .before .before .before .before .before .before .before .before .before .before .before .before .before .before .before .before .before .before .before .before .before .before .before .before .before .before .before .side .ensures .0 .short, aside-room (c .before .before .before .before .before .before .before .before .before .before .before .before .before .before .before .before .before .before .before .before .before .before .before .before .before .before .before .before .before .before .before .before .before .before .before .before .before .before .before .before .before .before .before .before .before .before .args .numbers .now) (c .before .before .before .before .before .before .before .before .before .before .before .before .before .before .before .before .before .before .before .before .before .before .before .before .before .before .before .before .before .before .before .before .before .before .before .before .before .before .before .before .before .before .before .before .before .before .args .p) (c .before .before .before .before .before .before .before .before .before .before .before .before .before .before .before .before .before .before .before .before .before .before .before .before .before .before .before .before .before .before .before .before .before .before .before .before .before .before .before .before .before .before .before .before .before .before .pre .1 .3) (length (c .before .before .before .before .before .before .before .before .before .before .before .before .before .before .before .before .before .before .before .before .before .before .before .before .before .before .before .before .before .before .before .before .before .before .before .before .before .before .before .before .before .before .before .before .before .before .args .saved .now)) (c .before .before .before .before .before .before .before .before .before .before .before .before .before .before .before .before .before .before .before .before .before .before .before .before .before .before .before .before .before .before .before .before .before .before .before .before .before .before .before .before .before .before .before .before .before .before .pre .1 .2), c .before .before .before .before .before .before .before .before .before .before .side2 .ensures .1 .1 .0 .0, c .before .before .before .before .before .before .before .before .before .before .before .before .before .before .before .before .before .before .before .before .before .before .before .put-aside .ensures .0, c .before .before .before .before .before .before .before .before .before .before .before .before .before .before .before .before .before .before .before .before .before .before .before .before .before .before .before .before .before .before .before .before .before .side .ensures .1 .1 .0 .0), omega (arith, c .before .before .before .before .before .before .before .before .before .before .before .before .before .before .before .before .before .before .before .before .before .before .before .before .before .before .before .before .before .before .before .before .before .before .before .before .before .before .before .before .before .before .before .before .before .before .pre .1 .2 .few, c .before .before .before .before .before .before .before .before .before .before .before .before .before .before .before .before .before .before .before .before .before .before .before .before .before .before .before .before .before .before .before .before .before .before .before .before .before .before .before .before .before .before .before .before .before .before .pre .1 .3), c .before .before .before .before .before .before .before .before .before .before .side2 .ensures .1 .0 .1, small .0, small .1)
+    let small = newest-small (c .before .before .before .before .before .before .before .before .before .before .before .before .before .before .before .before .before .before .before .before .before .before .before .before .before .before .before .before .before .before .before .before .before .before .before .before .before .before .before .before .before .before .before .before .before .before .args .p) (c .before .before .before .before .before .before .before .before .before .before .before .before .before .before .before .before .before .before .before .before .before .before .before .before .before .before .before .before .before .before .before .before .before .before .before .before .before .before .before .before .before .before .before .before .before .before .pre .1 .3) (c .before .before .before .before .before .before .before .before .before .before .before .before .before .before .before .before .before .before .before .before .before .before .before .before .before .before .before .before .before .before .before .before .before .before .to-off .result) (c .before .before .before .before .before .before .before .before .before .before .before .before .before .before .before .before .before .before .before .before .before .before .before .before .before .before .before .before .before .before .before .before .before .before .to-off .ensures) (c .before .before .before .before .before .before .before .before .before .before .before .before .before .before .before .before .before .before .before .before .before .before .before .before .before .before .before .before .before .before .before .before .before .side .result) (c .before .before .before .before .before .before .before .before .before .before .before .before .before .before .before .before .before .before .before .before .before .before .before .before .before .before .before .before .before .before .before .before .before .side .ensures .0) (c .before .before .before .before .before .before .before .before .before .before .before .before .before .before .before .before .before .before .before .before .before .before .before .before .before .before .before .before .before .before .before .before .before .side .result .lines) (c .before .before .before .before .before .before .before .before .before .before .before .to-on .result) (c .before .before .before .before .before .before .before .before .before .before .before .to-on .ensures) (c .before .before .before .before .before .before .before .before .before .before .side2 .result) (c .before .before .before .before .before .before .before .before .before .before .side2 .ensures .0) (length (c .before .before .before .before .before .before .before .before .before .before .before .before .before .before .before .before .before .before .before .before .before .before .before .before .before .before .before .before .before .before .before .before .before .before .before .before .before .before .before .before .before .before .before .before .before .before .args .saved .now)) (c .before .before .before .before .before .before .before .before .before .before .before .before .before .before .before .before .before .before .before .before .before .before .before .before .before .before .before .before .before .before .before .before .before .before .before .before .before .before .before .before .before .before .before .before .before .before .pre .1 .2) in
+    (c .before .before .before .before .before .before .before .before .before .before .before .before .before .before .before .before .before .before .before .before .before .before .before .before .before .before .before .before .before .before .before .before .before .side .ensures .0 .short, c .before .before .before .before .before .before .before .before .before .before .side2 .ensures .0 .short, omega (arith, c .before .before .before .before .before .before .before .before .before .before .before .before .before .before .before .before .before .before .before .before .before .before .before .before .before .before .before .before .before .before .before .before .before .side .ensures .0 .short, aside-room (c .before .before .before .before .before .before .before .before .before .before .before .before .before .before .before .before .before .before .before .before .before .before .before .before .before .before .before .before .before .before .before .before .before .before .before .before .before .before .before .before .before .before .before .before .before .before .args .p) (c .before .before .before .before .before .before .before .before .before .before .before .before .before .before .before .before .before .before .before .before .before .before .before .before .before .before .before .before .before .before .before .before .before .before .before .before .before .before .before .before .before .before .before .before .before .before .pre .1 .3) (length (c .before .before .before .before .before .before .before .before .before .before .before .before .before .before .before .before .before .before .before .before .before .before .before .before .before .before .before .before .before .before .before .before .before .before .before .before .before .before .before .before .before .before .before .before .before .before .args .saved .now)) (c .before .before .before .before .before .before .before .before .before .before .before .before .before .before .before .before .before .before .before .before .before .before .before .before .before .before .before .before .before .before .before .before .before .before .before .before .before .before .before .before .before .before .before .before .before .before .pre .1 .2), c .before .before .before .before .before .before .before .before .before .before .side2 .ensures .1 .1 .0 .0, c .before .before .before .before .before .before .before .before .before .before .before .before .before .before .before .before .before .before .before .before .before .before .before .put-aside .ensures .0, c .before .before .before .before .before .before .before .before .before .before .before .before .before .before .before .before .before .before .before .before .before .before .before .before .before .before .before .before .before .before .before .before .before .side .ensures .1 .1 .0 .0), omega (arith, c .before .before .before .before .before .before .before .before .before .before .before .before .before .before .before .before .before .before .before .before .before .before .before .before .before .before .before .before .before .before .before .before .before .before .before .before .before .before .before .before .before .before .before .before .before .before .pre .1 .3), c .before .before .before .before .before .before .before .before .before .before .side2 .ensures .1 .0 .1, small .0, small .1)
 
 exists-same-length-3 : (t : ℕ) → exists-lts.Need-same-length-3 (
   to-off-reads.Asked,
@@ -559,11 +559,11 @@ exists-returns-2 : (t : ℕ) → exists-lts.Need-returns-2 (
   finish-reads.Learnt,
 ) (exists-at t) exists.Post
 exists-returns-2 t c = (
-  counts-quantified (c .before .before .before .before .before .before .before .before .before .before .before .before .before .before .before .before .before .before .before .before .before .before .before .before .before .before .before .before .before .before .before .before .before .before .before .before .before .before .before .before .before .before .before .before .before .before .before .args .numbers .now) (c .before .before .before .before .before .before .before .before .before .before .before .before .before .before .before .before .before .before .before .before .before .before .before .before .before .before .before .before .before .before .before .before .before .before .before .before .before .before .before .before .before .before .before .before .before .before .before .args .p) (c .before .before .before .before .before .before .before .before .before .before .before .before .before .before .before .before .before .before .before .before .before .before .before .before .before .before .before .before .before .before .before .before .before .before .before .before .before .before .before .before .before .before .before .before .before .before .before .pre .1 .3) (c .before .before .before .before .before .before .before .before .before .before .before .before .before .before .before .before .before .before .before .before .before .before .before .before .before .before .before .before .before .before .before .before .before .before .before .to-off .result) (c .before .before .before .before .before .before .before .before .before .before .before .before .before .before .before .before .before .before .before .before .before .before .before .before .before .before .before .before .before .before .before .before .before .before .before .to-off .ensures) (c .before .before .before .before .before .before .before .before .before .before .before .before .before .before .before .before .before .before .before .before .before .before .before .before .before .before .before .before .before .before .before .before .before .before .side .result) (c .before .before .before .before .before .before .before .before .before .before .before .before .before .before .before .before .before .before .before .before .before .before .before .before .before .before .before .before .before .before .before .before .before .before .side .ensures .0) (c .before .before .before .before .before .before .before .before .before .before .before .before .before .before .before .before .before .before .before .before .before .before .before .before .before .before .before .before .before .before .before .before .before .before .side .result .lines) (c .before .before .before .before .before .before .before .before .before .before .before .before .to-on .result) (c .before .before .before .before .before .before .before .before .before .before .before .before .to-on .ensures) (c .before .before .before .before .before .before .before .before .before .before .before .side2 .result) (c .before .before .before .before .before .before .before .before .before .before .before .side2 .ensures .0) refl (c .finish .result) (c .finish .ensures .0 .0) (c .finish .ensures .0 .2),
+  counts-quantified (c .before .before .before .before .before .before .before .before .before .before .before .before .before .before .before .before .before .before .before .before .before .before .before .before .before .before .before .before .before .before .before .before .before .before .before .before .before .before .before .before .before .before .before .before .before .before .before .args .p) (c .before .before .before .before .before .before .before .before .before .before .before .before .before .before .before .before .before .before .before .before .before .before .before .before .before .before .before .before .before .before .before .before .before .before .before .before .before .before .before .before .before .before .before .before .before .before .before .pre .1 .3) (c .before .before .before .before .before .before .before .before .before .before .before .before .before .before .before .before .before .before .before .before .before .before .before .before .before .before .before .before .before .before .before .before .before .before .before .to-off .result) (c .before .before .before .before .before .before .before .before .before .before .before .before .before .before .before .before .before .before .before .before .before .before .before .before .before .before .before .before .before .before .before .before .before .before .before .to-off .ensures) (c .before .before .before .before .before .before .before .before .before .before .before .before .before .before .before .before .before .before .before .before .before .before .before .before .before .before .before .before .before .before .before .before .before .before .side .result) (c .before .before .before .before .before .before .before .before .before .before .before .before .before .before .before .before .before .before .before .before .before .before .before .before .before .before .before .before .before .before .before .before .before .before .side .ensures .0) (c .before .before .before .before .before .before .before .before .before .before .before .before .before .before .before .before .before .before .before .before .before .before .before .before .before .before .before .before .before .before .before .before .before .before .side .result .lines) (c .before .before .before .before .before .before .before .before .before .before .before .before .to-on .result) (c .before .before .before .before .before .before .before .before .before .before .before .before .to-on .ensures) (c .before .before .before .before .before .before .before .before .before .before .before .side2 .result) (c .before .before .before .before .before .before .before .before .before .before .before .side2 .ensures .0) refl (c .finish .result) (c .finish .ensures .0 .0) (c .finish .ensures .0 .2),
   (
-    (record { restored = c .before .before .before .before .before .before .before .before .before .before .before .side2 .ensures .1 .0 .0 .restored ∙ c .before .before .before .before .before .before .before .before .before .before .before .before .before .before .before .before .before .before .before .before .before .before .before .before .before .before .before .before .before .before .before .before .before .before .side .ensures .1 .0 .0 .restored; statuses-restored = c .before .before .before .before .before .before .before .before .before .before .before .side2 .ensures .1 .0 .0 .statuses-restored ∙ c .before .before .before .before .before .before .before .before .before .before .before .before .before .before .before .before .before .before .before .before .before .before .before .before .before .before .before .before .before .before .before .before .before .before .side .ensures .1 .0 .0 .statuses-restored; size = c .before .before .before .before .before .before .before .before .before .before .before .side2 .ensures .1 .0 .0 .size ∙ c .before .before .before .before .before .before .before .before .before .before .before .before .before .before .before .before .before .before .before .before .before .before .before .before .before .before .before .before .before .before .before .before .before .before .side .ensures .1 .0 .0 .size }, c .finish .ensures .0 .1),
-    both-result exists 1 refl (c .before .before .before .before .before .before .before .before .before .before .before .before .before .before .before .before .before .before .before .before .before .before .before .before .before .before .before .before .before .before .before .before .before .before .before .before .before .before .before .before .before .before .before .before .before .before .before .args .p) (c .before .before .before .before .before .before .before .before .before .before .before .before .before .before .before .before .before .before .before .before .before .before .before .before .before .before .before .before .before .before .before .before .before .before .before .before .before .before .before .before .before .before .before .before .before .before .before .pre .1 .3) (c .before .before .before .before .before .before .before .before .before .before .before .before .before .before .before .before .before .before .before .before .before .before .before .before .before .before .before .before .before .before .before .before .before .before .before .to-off .result) (c .before .before .before .before .before .before .before .before .before .before .before .before .before .before .before .before .before .before .before .before .before .before .before .before .before .before .before .before .before .before .before .before .before .before .before .to-off .ensures) (c .before .before .before .before .before .before .before .before .before .before .before .before .before .before .before .before .before .before .before .before .before .before .before .before .before .before .before .before .before .before .before .before .before .before .side .result) (c .before .before .before .before .before .before .before .before .before .before .before .before .before .before .before .before .before .before .before .before .before .before .before .before .before .before .before .before .before .before .before .before .before .before .side .ensures .1 .1 .1) (c .before .before .before .before .before .before .before .before .before .before .before .before .before .before .before .before .before .before .before .before .before .before .before .before .before .before .before .before .goes-up .result) (c .before .before .before .before .before .before .before .before .before .before .before .before .before .before .before .before .before .before .before .before .before .before .before .before .before .before .before .before .goes-up .ensures) (λ qs h. h) (λ qs h. h)
-        (c .before .before .before .before .before .before .before .before .before .before .before .before .before .before .before .before .before .before .before .before .before .before .before .before .before .before .before .before .before .before .before .before .before .before .side .ensures .1 .0 .0 .restored) (c .before .before .before .before .before .before .before .before .before .before .before .before .before .before .before .before .before .before .before .before .before .before .before .before .before .before .before .before .before .before .before .before .before .before .side .ensures .1 .0 .0 .statuses-restored) (c .before .before .before .before .before .before .before .before .before .before .before .before .to-on .result) (c .before .before .before .before .before .before .before .before .before .before .before .before .to-on .ensures) (c .before .before .before .before .before .before .before .before .before .before .before .side2 .result) (c .before .before .before .before .before .before .before .before .before .before .before .side2 .ensures .1 .1 .1) _ (c .before .before .before .before .before .before .before .before .before .before .before .side2 .ensures .1 .1 .0 .1 ∙ c .before .before .before .before .before .before .before .before .before .before .before .before .before .before .before .before .before .before .before .before .before .before .before .before .put-aside .ensures .1) (c .finish .result)
+    (kept-both (c .before .before .before .before .before .before .before .before .before .before .before .before .before .before .before .before .before .before .before .before .before .before .before .before .before .before .before .before .before .before .before .before .before .before .before .before .before .before .before .before .before .before .before .before .before .before .before .args .p) (c .before .before .before .before .before .before .before .before .before .before .before .before .before .before .before .before .before .before .before .before .before .before .before .before .before .before .before .before .before .before .before .before .before .before .before .to-off .result) (c .before .before .before .before .before .before .before .before .before .before .before .before .to-on .result) _ _ _ _ (c .before .before .before .before .before .before .before .before .before .before .before .before .before .before .before .before .before .before .before .before .before .before .before .before .before .before .before .before .before .before .before .before .before .before .before .to-off .ensures) (c .before .before .before .before .before .before .before .before .before .before .before .before .to-on .ensures) (c .before .before .before .before .before .before .before .before .before .before .before .before .before .before .before .before .before .before .before .before .before .before .before .before .before .before .before .before .before .before .before .before .before .before .side .ensures .1 .0 .0) refl (c .before .before .before .before .before .before .before .before .before .before .before .side2 .ensures .1 .0 .0) refl, c .finish .ensures .0 .1),
+    both-result exists 1 refl (c .before .before .before .before .before .before .before .before .before .before .before .before .before .before .before .before .before .before .before .before .before .before .before .before .before .before .before .before .before .before .before .before .before .before .before .before .before .before .before .before .before .before .before .before .before .before .before .args .p) (c .before .before .before .before .before .before .before .before .before .before .before .before .before .before .before .before .before .before .before .before .before .before .before .before .before .before .before .before .before .before .before .before .before .before .before .to-off .result) (c .before .before .before .before .before .before .before .before .before .before .before .before .before .before .before .before .before .before .before .before .before .before .before .before .before .before .before .before .before .before .before .before .before .before .before .to-off .ensures) (c .before .before .before .before .before .before .before .before .before .before .before .before .before .before .before .before .before .before .before .before .before .before .before .before .before .before .before .before .before .before .before .before .before .before .side .result) (c .before .before .before .before .before .before .before .before .before .before .before .before .before .before .before .before .before .before .before .before .before .before .before .before .before .before .before .before .before .before .before .before .before .before .side .ensures .1 .1 .1) (c .before .before .before .before .before .before .before .before .before .before .before .before .before .before .before .before .before .before .before .before .before .before .before .before .before .before .before .before .goes-up .result) (c .before .before .before .before .before .before .before .before .before .before .before .before .before .before .before .before .before .before .before .before .before .before .before .before .before .before .before .before .goes-up .ensures) (λ qs h. h) (λ qs h. h)
+        (c .before .before .before .before .before .before .before .before .before .before .before .before .before .before .before .before .before .before .before .before .before .before .before .before .before .before .before .before .before .before .before .before .before .before .side .ensures .1 .0 .0) (c .before .before .before .before .before .before .before .before .before .before .before .before .to-on .result) (c .before .before .before .before .before .before .before .before .before .before .before .before .to-on .ensures) (c .before .before .before .before .before .before .before .before .before .before .before .side2 .result) (c .before .before .before .before .before .before .before .before .before .before .before .side2 .ensures .1 .1 .1) _ (c .before .before .before .before .before .before .before .before .before .before .before .side2 .ensures .1 .1 .0 .1 ∙ c .before .before .before .before .before .before .before .before .before .before .before .before .before .before .before .before .before .before .before .before .before .before .before .before .put-aside .ensures .1) (c .finish .result)
         (c .finish .ensures .1) (c .before .before .before .before .before .before .before .before .before .before .before .before .before .before .before .before .before .before .before .before .before .before .before .before .before .before .before .if1 .left) (c .finish .ensures .0 .0 .visits) (c .finish .ensures .0 .0 .lines),
   ),
 )
@@ -582,7 +582,7 @@ forall-to-off-requires : (t : ℕ) → forall-lts.Need-to-off-requires (
   finish-reads.Asked,
   finish-reads.Learnt,
 ) (forall-at t) forall.Post
-forall-to-off-requires t c κs = (omega (arith, c .before .before .before .before .before .before .before .before .before .before .before .pre .1 .2 .few, c .before .before .before .before .before .before .before .before .before .before .before .pre .1 .3), visits-small (c .before .before .before .before .before .before .before .before .before .before .before .args .numbers .now) (length (c .before .before .before .before .before .before .before .before .before .before .before .args .saved .now)) (c .before .before .before .before .before .before .before .before .before .before .before .args .p) (c .before .before .before .before .before .before .before .before .before .before .before .pre .1 .2))
+forall-to-off-requires t c κs = (omega (arith, c .before .before .before .before .before .before .before .before .before .before .before .pre .1 .3), visits-small (length (c .before .before .before .before .before .before .before .before .before .before .before .args .saved .now)) (c .before .before .before .before .before .before .before .before .before .before .before .args .p) (c .before .before .before .before .before .before .before .before .before .before .before .pre .1 .2))
 
 forall-side-requires : (t : ℕ) → forall-lts.Need-side-requires (
   to-off-reads.Asked,
@@ -599,8 +599,8 @@ forall-side-requires : (t : ℕ) → forall-lts.Need-side-requires (
   finish-reads.Learnt,
 ) (forall-at t) forall.Post
 forall-side-requires t c κs =
-    let sr = room-off (c .before .before .before .before .before .before .before .before .before .before .before .before .args .numbers .now) (c .before .before .before .before .before .before .before .before .before .before .before .before .args .p) (c .before .before .before .before .before .before .before .before .before .before .before .before .pre .1 .3) (length (c .before .before .before .before .before .before .before .before .before .before .before .before .args .saved .now)) (c .to-off .result) (c .to-off .ensures) (c .before .before .before .before .before .before .before .before .before .before .before .before .pre .1 .2) in
-    (omega (arith, c .before .before .before .before .before .before .before .before .before .before .before .before .pre .0, falls-side (c .before .before .before .before .before .before .before .before .before .before .before .before .args .numbers .now) (c .before .before .before .before .before .before .before .before .before .before .before .before .args .p) (c .before .before .before .before .before .before .before .before .before .before .before .before .pre .1 .3) (c .to-off .result) _ _ (c .to-off .ensures)), (c .before .before .before .before .before .before .before .before .before .before .before .before .pre .1 .0, c .before .before .before .before .before .before .before .before .before .before .before .before .pre .1 .1, sr .room, sr .after, omega arith, sr .own))
+    let sr = room-off (c .before .before .before .before .before .before .before .before .before .before .before .before .args .p) (c .before .before .before .before .before .before .before .before .before .before .before .before .pre .1 .3) (length (c .before .before .before .before .before .before .before .before .before .before .before .before .args .saved .now)) (c .to-off .result) (c .to-off .ensures) (c .before .before .before .before .before .before .before .before .before .before .before .before .pre .1 .2) in
+    (omega (arith, c .before .before .before .before .before .before .before .before .before .before .before .before .pre .0, falls-side (c .before .before .before .before .before .before .before .before .before .before .before .before .args .p) (c .before .before .before .before .before .before .before .before .before .before .before .before .pre .1 .3) (c .to-off .result) _ _ (c .to-off .ensures)), (c .before .before .before .before .before .before .before .before .before .before .before .before .pre .1 .0, c .before .before .before .before .before .before .before .before .before .before .before .before .pre .1 .1, sr .room, sr .after, omega arith, sr .own))
 
 forall-goes-up-requires : (t : ℕ) → forall-lts.Need-goes-up-requires (
   to-off-reads.Asked,
@@ -616,7 +616,7 @@ forall-goes-up-requires : (t : ℕ) → forall-lts.Need-goes-up-requires (
   finish-reads.Asked,
   finish-reads.Learnt,
 ) (forall-at t) forall.Post
-forall-goes-up-requires t c κs = (c .before .before .before .before .before .side .ensures .0 .short, omega (arith, c .before .before .before .before .before .before .before .before .before .before .before .before .before .before .before .before .before .before .pre .1 .2 .few, c .before .before .before .before .before .before .before .before .before .before .before .before .before .before .before .before .before .before .pre .1 .3))
+forall-goes-up-requires t c κs = (c .before .before .before .before .before .side .ensures .0 .short, omega (arith, c .before .before .before .before .before .before .before .before .before .before .before .before .before .before .before .before .before .before .pre .1 .3))
 
 forall-same-length : (t : ℕ) → forall-lts.Need-same-length (
   to-off-reads.Asked,
@@ -665,10 +665,10 @@ forall-returns : (t : ℕ) → forall-lts.Need-returns (
   finish-reads.Learnt,
 ) (forall-at t) forall.Post
 forall-returns t c = (
-  counts-up (c .before .before .before .before .before .before .before .before .before .before .before .before .before .before .before .before .before .before .before .before .args .numbers .now) (c .before .before .before .before .before .before .before .before .before .before .before .before .before .before .before .before .before .before .before .before .args .p) (c .before .before .before .before .before .before .before .before .before .before .before .before .before .before .before .before .before .before .before .before .pre .1 .3) (c .before .before .before .before .before .before .before .before .to-off .result) (c .before .before .before .before .before .before .before .before .to-off .ensures) (c .before .before .before .before .before .before .before .side .result) (c .before .before .before .before .before .before .before .side .ensures .0),
+  counts-up (c .before .before .before .before .before .before .before .before .before .before .before .before .before .before .before .before .before .before .before .before .args .p) (c .before .before .before .before .before .before .before .before .before .before .before .before .before .before .before .before .before .before .before .before .pre .1 .3) (c .before .before .before .before .before .before .before .before .to-off .result) (c .before .before .before .before .before .before .before .before .to-off .ensures) (c .before .before .before .before .before .before .before .side .result) (c .before .before .before .before .before .before .before .side .ensures .0),
   (
-    c .before .before .before .before .before .before .before .side .ensures .1 .0,
-    (λ D s ls R st task alive is. up-result forall 2 refl (c .before .before .before .before .before .before .before .before .before .before .before .before .before .before .before .before .before .before .before .before .args .p) (c .before .before .before .before .before .before .before .before .before .before .before .before .before .before .before .before .before .before .before .before .pre .1 .3) (c .before .before .before .before .before .before .before .before .to-off .result) (c .before .before .before .before .before .before .before .before .to-off .ensures) (c .before .before .before .before .before .before .before .side .result) (c .before .before .before .before .before .before .before .side .ensures .1 .1 .1) (c .before .goes-up .result) (c .before .goes-up .ensures) D s ls R st task alive is (c .if1 .taken)),
+    (kept-up (c .before .before .before .before .before .before .before .before .before .before .before .before .before .before .before .before .before .before .before .before .args .p) (c .before .before .before .before .before .before .before .before .to-off .result) _ _ (c .before .before .before .before .before .before .before .before .to-off .ensures) (c .before .before .before .before .before .before .before .side .ensures .1 .0 .0), c .before .before .before .before .before .before .before .side .ensures .1 .0 .1),
+    (λ D s ls R st task alive inside is. up-result forall 2 refl (c .before .before .before .before .before .before .before .before .before .before .before .before .before .before .before .before .before .before .before .before .args .p) (c .before .before .before .before .before .before .before .before .to-off .result) (c .before .before .before .before .before .before .before .before .to-off .ensures) (c .before .before .before .before .before .before .before .side .result) (c .before .before .before .before .before .before .before .side .ensures .1 .1 .1) (c .before .goes-up .result) (c .before .goes-up .ensures) D s ls R st task alive inside is (c .if1 .taken)),
   ),
 )
 
@@ -686,7 +686,7 @@ forall-put-aside-requires : (t : ℕ) → forall-lts.Need-put-aside-requires (
   finish-reads.Asked,
   finish-reads.Learnt,
 ) (forall-at t) forall.Post
-forall-put-aside-requires t c κs = (c .before .before .before .before .before .before .before .before .before .side .ensures .0 .short, omega (arith, c .before .before .before .before .before .before .before .before .before .side .ensures .0 .short, aside-room (c .before .before .before .before .before .before .before .before .before .before .before .before .before .before .before .before .before .before .before .before .before .before .args .numbers .now) (c .before .before .before .before .before .before .before .before .before .before .before .before .before .before .before .before .before .before .before .before .before .before .args .p) (c .before .before .before .before .before .before .before .before .before .before .before .before .before .before .before .before .before .before .before .before .before .before .pre .1 .3) (length (c .before .before .before .before .before .before .before .before .before .before .before .before .before .before .before .before .before .before .before .before .before .before .args .saved .now)) (c .before .before .before .before .before .before .before .before .before .before .before .before .before .before .before .before .before .before .before .before .before .before .pre .1 .2), c .before .before .before .before .before .before .before .before .before .side .ensures .1 .1 .0 .0))
+forall-put-aside-requires t c κs = (c .before .before .before .before .before .before .before .before .before .side .ensures .0 .short, omega (arith, c .before .before .before .before .before .before .before .before .before .side .ensures .0 .short, aside-room (c .before .before .before .before .before .before .before .before .before .before .before .before .before .before .before .before .before .before .before .before .before .before .args .p) (c .before .before .before .before .before .before .before .before .before .before .before .before .before .before .before .before .before .before .before .before .before .before .pre .1 .3) (length (c .before .before .before .before .before .before .before .before .before .before .before .before .before .before .before .before .before .before .before .before .before .before .args .saved .now)) (c .before .before .before .before .before .before .before .before .before .before .before .before .before .before .before .before .before .before .before .before .before .before .pre .1 .2), c .before .before .before .before .before .before .before .before .before .side .ensures .1 .1 .0 .0))
 
 forall-to-on-requires : (t : ℕ) → forall-lts.Need-to-on-requires (
   to-off-reads.Asked,
@@ -702,7 +702,7 @@ forall-to-on-requires : (t : ℕ) → forall-lts.Need-to-on-requires (
   finish-reads.Asked,
   finish-reads.Learnt,
 ) (forall-at t) forall.Post
-forall-to-on-requires t c κs = omega (arith, c .before .before .before .before .before .before .before .before .before .before .before .before .before .before .before .before .before .before .before .before .before .before .before .before .before .before .before .before .before .before .before .before .before .before .pre .1 .2 .few, c .before .before .before .before .before .before .before .before .before .before .before .before .before .before .before .before .before .before .before .before .before .before .before .before .before .before .before .before .before .before .before .before .before .before .pre .1 .3)
+forall-to-on-requires t c κs = omega (arith, c .before .before .before .before .before .before .before .before .before .before .before .before .before .before .before .before .before .before .before .before .before .before .before .before .before .before .before .before .before .before .before .before .before .before .pre .1 .3)
 
 forall-side-requires-2 : (t : ℕ) → forall-lts.Need-side-requires-2 (
   to-off-reads.Asked,
@@ -719,8 +719,8 @@ forall-side-requires-2 : (t : ℕ) → forall-lts.Need-side-requires-2 (
   finish-reads.Learnt,
 ) (forall-at t) forall.Post
 forall-side-requires-2 t c κs =
-    let sr = room-on (c .before .before .before .before .before .before .before .before .before .before .before .before .before .before .before .before .before .before .before .before .before .before .before .before .before .before .before .before .before .before .before .before .before .before .before .args .numbers .now) (c .before .before .before .before .before .before .before .before .before .before .before .before .before .before .before .before .before .before .before .before .before .before .before .before .before .before .before .before .before .before .before .before .before .before .before .args .p) (c .before .before .before .before .before .before .before .before .before .before .before .before .before .before .before .before .before .before .before .before .before .before .before .before .before .before .before .before .before .before .before .before .before .before .before .pre .1 .3) (c .before .before .before .before .before .before .before .before .before .before .before .before .before .before .before .before .before .before .before .before .before .before .before .to-off .result) (c .before .before .before .before .before .before .before .before .before .before .before .before .before .before .before .before .before .before .before .before .before .before .before .to-off .ensures) (c .before .before .before .before .before .before .before .before .before .before .before .before .before .before .before .before .before .before .before .before .before .before .side .result) (c .before .before .before .before .before .before .before .before .before .before .before .before .before .before .before .before .before .before .before .before .before .before .side .ensures .0) (length (c .before .before .before .before .before .before .before .before .before .before .before .before .before .before .before .before .before .before .before .before .before .before .before .before .before .before .before .before .before .before .before .before .before .before .before .args .saved .now)) _ (c .before .before .before .before .before .before .before .before .before .before .before .before .before .before .before .before .before .before .before .before .before .before .side .result .lines) (c .to-on .result) (c .to-on .ensures) (omega arith) (c .before .before .before .before .before .before .before .before .before .before .before .before .put-aside .ensures .0 ∙ c .before .before .before .before .before .before .before .before .before .before .before .before .before .before .before .before .before .before .before .before .before .before .side .ensures .1 .1 .0 .0) (c .before .before .before .before .before .before .before .before .before .before .before .before .before .before .before .before .before .before .before .before .before .before .before .before .before .before .before .before .before .before .before .before .before .before .before .pre .1 .2) in
-    (omega (arith, c .before .before .before .before .before .before .before .before .before .before .before .before .before .before .before .before .before .before .before .before .before .before .before .before .before .before .before .before .before .before .before .before .before .before .before .pre .0, falls-side (c .before .before .before .before .before .before .before .before .before .before .before .before .before .before .before .before .before .before .before .before .before .before .before .before .before .before .before .before .before .before .before .before .before .before .before .args .numbers .now) (c .before .before .before .before .before .before .before .before .before .before .before .before .before .before .before .before .before .before .before .before .before .before .before .before .before .before .before .before .before .before .before .before .before .before .before .args .p) (c .before .before .before .before .before .before .before .before .before .before .before .before .before .before .before .before .before .before .before .before .before .before .before .before .before .before .before .before .before .before .before .before .before .before .before .pre .1 .3) (c .to-on .result) _ _ (c .to-on .ensures)), (c .before .before .before .before .before .before .before .before .before .before .before .before .before .before .before .before .before .before .before .before .before .before .before .before .before .before .before .before .before .before .before .before .before .before .before .pre .1 .0, c .before .before .before .before .before .before .before .before .before .before .before .before .before .before .before .before .before .before .before .before .before .before .side .ensures .1 .0 .1, sr .room, sr .after, c .before .before .before .before .before .before .before .before .before .before .before .before .before .before .before .before .before .before .before .before .before .before .side .ensures .0 .short, sr .own))
+    let sr = room-on (c .before .before .before .before .before .before .before .before .before .before .before .before .before .before .before .before .before .before .before .before .before .before .before .before .before .before .before .before .before .before .before .before .before .before .before .args .p) (c .before .before .before .before .before .before .before .before .before .before .before .before .before .before .before .before .before .before .before .before .before .before .before .before .before .before .before .before .before .before .before .before .before .before .before .pre .1 .3) (c .before .before .before .before .before .before .before .before .before .before .before .before .before .before .before .before .before .before .before .before .before .before .before .to-off .result) (c .before .before .before .before .before .before .before .before .before .before .before .before .before .before .before .before .before .before .before .before .before .before .before .to-off .ensures) (c .before .before .before .before .before .before .before .before .before .before .before .before .before .before .before .before .before .before .before .before .before .before .side .result) (c .before .before .before .before .before .before .before .before .before .before .before .before .before .before .before .before .before .before .before .before .before .before .side .ensures .0) (length (c .before .before .before .before .before .before .before .before .before .before .before .before .before .before .before .before .before .before .before .before .before .before .before .before .before .before .before .before .before .before .before .before .before .before .before .args .saved .now)) _ (c .before .before .before .before .before .before .before .before .before .before .before .before .before .before .before .before .before .before .before .before .before .before .side .result .lines) (c .to-on .result) (c .to-on .ensures) (omega arith) (c .before .before .before .before .before .before .before .before .before .before .before .before .put-aside .ensures .0 ∙ c .before .before .before .before .before .before .before .before .before .before .before .before .before .before .before .before .before .before .before .before .before .before .side .ensures .1 .1 .0 .0) (c .before .before .before .before .before .before .before .before .before .before .before .before .before .before .before .before .before .before .before .before .before .before .before .before .before .before .before .before .before .before .before .before .before .before .before .pre .1 .2) in
+    (omega (arith, c .before .before .before .before .before .before .before .before .before .before .before .before .before .before .before .before .before .before .before .before .before .before .before .before .before .before .before .before .before .before .before .before .before .before .before .pre .0, falls-side (c .before .before .before .before .before .before .before .before .before .before .before .before .before .before .before .before .before .before .before .before .before .before .before .before .before .before .before .before .before .before .before .before .before .before .before .args .p) (c .before .before .before .before .before .before .before .before .before .before .before .before .before .before .before .before .before .before .before .before .before .before .before .before .before .before .before .before .before .before .before .before .before .before .before .pre .1 .3) (c .to-on .result) _ _ (c .to-on .ensures)), (c .before .before .before .before .before .before .before .before .before .before .before .before .before .before .before .before .before .before .before .before .before .before .before .before .before .before .before .before .before .before .before .before .before .before .before .pre .1 .0, c .before .before .before .before .before .before .before .before .before .before .before .before .before .before .before .before .before .before .before .before .before .before .side .ensures .1 .0 .1, sr .room, sr .after, c .before .before .before .before .before .before .before .before .before .before .before .before .before .before .before .before .before .before .before .before .before .before .side .ensures .0 .short, sr .own))
 
 forall-finish-requires : (t : ℕ) → forall-lts.Need-finish-requires (
   to-off-reads.Asked,
@@ -737,8 +737,8 @@ forall-finish-requires : (t : ℕ) → forall-lts.Need-finish-requires (
   finish-reads.Learnt,
 ) (forall-at t) forall.Post
 forall-finish-requires t c κs =
-    let small = newest-small (c .before .before .before .before .before .before .before .before .before .before .before .before .before .before .before .before .before .before .before .before .before .before .before .before .before .before .before .before .before .before .before .before .before .before .before .before .before .before .before .before .before .before .before .before .before .before .args .numbers .now) (c .before .before .before .before .before .before .before .before .before .before .before .before .before .before .before .before .before .before .before .before .before .before .before .before .before .before .before .before .before .before .before .before .before .before .before .before .before .before .before .before .before .before .before .before .before .before .args .p) (c .before .before .before .before .before .before .before .before .before .before .before .before .before .before .before .before .before .before .before .before .before .before .before .before .before .before .before .before .before .before .before .before .before .before .before .before .before .before .before .before .before .before .before .before .before .before .pre .1 .3) (c .before .before .before .before .before .before .before .before .before .before .before .before .before .before .before .before .before .before .before .before .before .before .before .before .before .before .before .before .before .before .before .before .before .before .to-off .result) (c .before .before .before .before .before .before .before .before .before .before .before .before .before .before .before .before .before .before .before .before .before .before .before .before .before .before .before .before .before .before .before .before .before .before .to-off .ensures) (c .before .before .before .before .before .before .before .before .before .before .before .before .before .before .before .before .before .before .before .before .before .before .before .before .before .before .before .before .before .before .before .before .before .side .result) (c .before .before .before .before .before .before .before .before .before .before .before .before .before .before .before .before .before .before .before .before .before .before .before .before .before .before .before .before .before .before .before .before .before .side .ensures .0) (c .before .before .before .before .before .before .before .before .before .before .before .before .before .before .before .before .before .before .before .before .before .before .before .before .before .before .before .before .before .before .before .before .before .side .result .lines) (c .before .before .before .before .before .before .before .before .before .before .before .to-on .result) (c .before .before .before .before .before .before .before .before .before .before .before .to-on .ensures) (c .before .before .before .before .before .before .before .before .before .before .side2 .result) (c .before .before .before .before .before .before .before .before .before .before .side2 .ensures .0) (length (c .before .before .before .before .before .before .before .before .before .before .before .before .before .before .before .before .before .before .before .before .before .before .before .before .before .before .before .before .before .before .before .before .before .before .before .before .before .before .before .before .before .before .before .before .before .before .args .saved .now)) (c .before .before .before .before .before .before .before .before .before .before .before .before .before .before .before .before .before .before .before .before .before .before .before .before .before .before .before .before .before .before .before .before .before .before .before .before .before .before .before .before .before .before .before .before .before .before .pre .1 .2) in
-    (c .before .before .before .before .before .before .before .before .before .before .before .before .before .before .before .before .before .before .before .before .before .before .before .before .before .before .before .before .before .before .before .before .before .side .ensures .0 .short, c .before .before .before .before .before .before .before .before .before .before .side2 .ensures .0 .short, omega (arith, c .before .before .before .before .before .before .before .before .before .before .before .before .before .before .before .before .before .before .before .before .before .before .before .before .before .before .before .before .before .before .before .before .before .side .ensures .0 .short, aside-room (c .before .before .before .before .before .before .before .before .before .before .before .before .before .before .before .before .before .before .before .before .before .before .before .before .before .before .before .before .before .before .before .before .before .before .before .before .before .before .before .before .before .before .before .before .before .before .args .numbers .now) (c .before .before .before .before .before .before .before .before .before .before .before .before .before .before .before .before .before .before .before .before .before .before .before .before .before .before .before .before .before .before .before .before .before .before .before .before .before .before .before .before .before .before .before .before .before .before .args .p) (c .before .before .before .before .before .before .before .before .before .before .before .before .before .before .before .before .before .before .before .before .before .before .before .before .before .before .before .before .before .before .before .before .before .before .before .before .before .before .before .before .before .before .before .before .before .before .pre .1 .3) (length (c .before .before .before .before .before .before .before .before .before .before .before .before .before .before .before .before .before .before .before .before .before .before .before .before .before .before .before .before .before .before .before .before .before .before .before .before .before .before .before .before .before .before .before .before .before .before .args .saved .now)) (c .before .before .before .before .before .before .before .before .before .before .before .before .before .before .before .before .before .before .before .before .before .before .before .before .before .before .before .before .before .before .before .before .before .before .before .before .before .before .before .before .before .before .before .before .before .before .pre .1 .2), c .before .before .before .before .before .before .before .before .before .before .side2 .ensures .1 .1 .0 .0, c .before .before .before .before .before .before .before .before .before .before .before .before .before .before .before .before .before .before .before .before .before .before .before .put-aside .ensures .0, c .before .before .before .before .before .before .before .before .before .before .before .before .before .before .before .before .before .before .before .before .before .before .before .before .before .before .before .before .before .before .before .before .before .side .ensures .1 .1 .0 .0), omega (arith, c .before .before .before .before .before .before .before .before .before .before .before .before .before .before .before .before .before .before .before .before .before .before .before .before .before .before .before .before .before .before .before .before .before .before .before .before .before .before .before .before .before .before .before .before .before .before .pre .1 .2 .few, c .before .before .before .before .before .before .before .before .before .before .before .before .before .before .before .before .before .before .before .before .before .before .before .before .before .before .before .before .before .before .before .before .before .before .before .before .before .before .before .before .before .before .before .before .before .before .pre .1 .3), c .before .before .before .before .before .before .before .before .before .before .side2 .ensures .1 .0 .1, small .0, small .1)
+    let small = newest-small (c .before .before .before .before .before .before .before .before .before .before .before .before .before .before .before .before .before .before .before .before .before .before .before .before .before .before .before .before .before .before .before .before .before .before .before .before .before .before .before .before .before .before .before .before .before .before .args .p) (c .before .before .before .before .before .before .before .before .before .before .before .before .before .before .before .before .before .before .before .before .before .before .before .before .before .before .before .before .before .before .before .before .before .before .before .before .before .before .before .before .before .before .before .before .before .before .pre .1 .3) (c .before .before .before .before .before .before .before .before .before .before .before .before .before .before .before .before .before .before .before .before .before .before .before .before .before .before .before .before .before .before .before .before .before .before .to-off .result) (c .before .before .before .before .before .before .before .before .before .before .before .before .before .before .before .before .before .before .before .before .before .before .before .before .before .before .before .before .before .before .before .before .before .before .to-off .ensures) (c .before .before .before .before .before .before .before .before .before .before .before .before .before .before .before .before .before .before .before .before .before .before .before .before .before .before .before .before .before .before .before .before .before .side .result) (c .before .before .before .before .before .before .before .before .before .before .before .before .before .before .before .before .before .before .before .before .before .before .before .before .before .before .before .before .before .before .before .before .before .side .ensures .0) (c .before .before .before .before .before .before .before .before .before .before .before .before .before .before .before .before .before .before .before .before .before .before .before .before .before .before .before .before .before .before .before .before .before .side .result .lines) (c .before .before .before .before .before .before .before .before .before .before .before .to-on .result) (c .before .before .before .before .before .before .before .before .before .before .before .to-on .ensures) (c .before .before .before .before .before .before .before .before .before .before .side2 .result) (c .before .before .before .before .before .before .before .before .before .before .side2 .ensures .0) (length (c .before .before .before .before .before .before .before .before .before .before .before .before .before .before .before .before .before .before .before .before .before .before .before .before .before .before .before .before .before .before .before .before .before .before .before .before .before .before .before .before .before .before .before .before .before .before .args .saved .now)) (c .before .before .before .before .before .before .before .before .before .before .before .before .before .before .before .before .before .before .before .before .before .before .before .before .before .before .before .before .before .before .before .before .before .before .before .before .before .before .before .before .before .before .before .before .before .before .pre .1 .2) in
+    (c .before .before .before .before .before .before .before .before .before .before .before .before .before .before .before .before .before .before .before .before .before .before .before .before .before .before .before .before .before .before .before .before .before .side .ensures .0 .short, c .before .before .before .before .before .before .before .before .before .before .side2 .ensures .0 .short, omega (arith, c .before .before .before .before .before .before .before .before .before .before .before .before .before .before .before .before .before .before .before .before .before .before .before .before .before .before .before .before .before .before .before .before .before .side .ensures .0 .short, aside-room (c .before .before .before .before .before .before .before .before .before .before .before .before .before .before .before .before .before .before .before .before .before .before .before .before .before .before .before .before .before .before .before .before .before .before .before .before .before .before .before .before .before .before .before .before .before .before .args .p) (c .before .before .before .before .before .before .before .before .before .before .before .before .before .before .before .before .before .before .before .before .before .before .before .before .before .before .before .before .before .before .before .before .before .before .before .before .before .before .before .before .before .before .before .before .before .before .pre .1 .3) (length (c .before .before .before .before .before .before .before .before .before .before .before .before .before .before .before .before .before .before .before .before .before .before .before .before .before .before .before .before .before .before .before .before .before .before .before .before .before .before .before .before .before .before .before .before .before .before .args .saved .now)) (c .before .before .before .before .before .before .before .before .before .before .before .before .before .before .before .before .before .before .before .before .before .before .before .before .before .before .before .before .before .before .before .before .before .before .before .before .before .before .before .before .before .before .before .before .before .before .pre .1 .2), c .before .before .before .before .before .before .before .before .before .before .side2 .ensures .1 .1 .0 .0, c .before .before .before .before .before .before .before .before .before .before .before .before .before .before .before .before .before .before .before .before .before .before .before .put-aside .ensures .0, c .before .before .before .before .before .before .before .before .before .before .before .before .before .before .before .before .before .before .before .before .before .before .before .before .before .before .before .before .before .before .before .before .before .side .ensures .1 .1 .0 .0), omega (arith, c .before .before .before .before .before .before .before .before .before .before .before .before .before .before .before .before .before .before .before .before .before .before .before .before .before .before .before .before .before .before .before .before .before .before .before .before .before .before .before .before .before .before .before .before .before .before .pre .1 .3), c .before .before .before .before .before .before .before .before .before .before .side2 .ensures .1 .0 .1, small .0, small .1)
 
 forall-same-length-3 : (t : ℕ) → forall-lts.Need-same-length-3 (
   to-off-reads.Asked,
@@ -787,11 +787,11 @@ forall-returns-2 : (t : ℕ) → forall-lts.Need-returns-2 (
   finish-reads.Learnt,
 ) (forall-at t) forall.Post
 forall-returns-2 t c = (
-  counts-quantified (c .before .before .before .before .before .before .before .before .before .before .before .before .before .before .before .before .before .before .before .before .before .before .before .before .before .before .before .before .before .before .before .before .before .before .before .before .before .before .before .before .before .before .before .before .before .before .before .args .numbers .now) (c .before .before .before .before .before .before .before .before .before .before .before .before .before .before .before .before .before .before .before .before .before .before .before .before .before .before .before .before .before .before .before .before .before .before .before .before .before .before .before .before .before .before .before .before .before .before .before .args .p) (c .before .before .before .before .before .before .before .before .before .before .before .before .before .before .before .before .before .before .before .before .before .before .before .before .before .before .before .before .before .before .before .before .before .before .before .before .before .before .before .before .before .before .before .before .before .before .before .pre .1 .3) (c .before .before .before .before .before .before .before .before .before .before .before .before .before .before .before .before .before .before .before .before .before .before .before .before .before .before .before .before .before .before .before .before .before .before .before .to-off .result) (c .before .before .before .before .before .before .before .before .before .before .before .before .before .before .before .before .before .before .before .before .before .before .before .before .before .before .before .before .before .before .before .before .before .before .before .to-off .ensures) (c .before .before .before .before .before .before .before .before .before .before .before .before .before .before .before .before .before .before .before .before .before .before .before .before .before .before .before .before .before .before .before .before .before .before .side .result) (c .before .before .before .before .before .before .before .before .before .before .before .before .before .before .before .before .before .before .before .before .before .before .before .before .before .before .before .before .before .before .before .before .before .before .side .ensures .0) (c .before .before .before .before .before .before .before .before .before .before .before .before .before .before .before .before .before .before .before .before .before .before .before .before .before .before .before .before .before .before .before .before .before .before .side .result .lines) (c .before .before .before .before .before .before .before .before .before .before .before .before .to-on .result) (c .before .before .before .before .before .before .before .before .before .before .before .before .to-on .ensures) (c .before .before .before .before .before .before .before .before .before .before .before .side2 .result) (c .before .before .before .before .before .before .before .before .before .before .before .side2 .ensures .0) refl (c .finish .result) (c .finish .ensures .0 .0) (c .finish .ensures .0 .2),
+  counts-quantified (c .before .before .before .before .before .before .before .before .before .before .before .before .before .before .before .before .before .before .before .before .before .before .before .before .before .before .before .before .before .before .before .before .before .before .before .before .before .before .before .before .before .before .before .before .before .before .before .args .p) (c .before .before .before .before .before .before .before .before .before .before .before .before .before .before .before .before .before .before .before .before .before .before .before .before .before .before .before .before .before .before .before .before .before .before .before .before .before .before .before .before .before .before .before .before .before .before .before .pre .1 .3) (c .before .before .before .before .before .before .before .before .before .before .before .before .before .before .before .before .before .before .before .before .before .before .before .before .before .before .before .before .before .before .before .before .before .before .before .to-off .result) (c .before .before .before .before .before .before .before .before .before .before .before .before .before .before .before .before .before .before .before .before .before .before .before .before .before .before .before .before .before .before .before .before .before .before .before .to-off .ensures) (c .before .before .before .before .before .before .before .before .before .before .before .before .before .before .before .before .before .before .before .before .before .before .before .before .before .before .before .before .before .before .before .before .before .before .side .result) (c .before .before .before .before .before .before .before .before .before .before .before .before .before .before .before .before .before .before .before .before .before .before .before .before .before .before .before .before .before .before .before .before .before .before .side .ensures .0) (c .before .before .before .before .before .before .before .before .before .before .before .before .before .before .before .before .before .before .before .before .before .before .before .before .before .before .before .before .before .before .before .before .before .before .side .result .lines) (c .before .before .before .before .before .before .before .before .before .before .before .before .to-on .result) (c .before .before .before .before .before .before .before .before .before .before .before .before .to-on .ensures) (c .before .before .before .before .before .before .before .before .before .before .before .side2 .result) (c .before .before .before .before .before .before .before .before .before .before .before .side2 .ensures .0) refl (c .finish .result) (c .finish .ensures .0 .0) (c .finish .ensures .0 .2),
   (
-    (record { restored = c .before .before .before .before .before .before .before .before .before .before .before .side2 .ensures .1 .0 .0 .restored ∙ c .before .before .before .before .before .before .before .before .before .before .before .before .before .before .before .before .before .before .before .before .before .before .before .before .before .before .before .before .before .before .before .before .before .before .side .ensures .1 .0 .0 .restored; statuses-restored = c .before .before .before .before .before .before .before .before .before .before .before .side2 .ensures .1 .0 .0 .statuses-restored ∙ c .before .before .before .before .before .before .before .before .before .before .before .before .before .before .before .before .before .before .before .before .before .before .before .before .before .before .before .before .before .before .before .before .before .before .side .ensures .1 .0 .0 .statuses-restored; size = c .before .before .before .before .before .before .before .before .before .before .before .side2 .ensures .1 .0 .0 .size ∙ c .before .before .before .before .before .before .before .before .before .before .before .before .before .before .before .before .before .before .before .before .before .before .before .before .before .before .before .before .before .before .before .before .before .before .side .ensures .1 .0 .0 .size }, c .finish .ensures .0 .1),
-    both-result forall 2 refl (c .before .before .before .before .before .before .before .before .before .before .before .before .before .before .before .before .before .before .before .before .before .before .before .before .before .before .before .before .before .before .before .before .before .before .before .before .before .before .before .before .before .before .before .before .before .before .before .args .p) (c .before .before .before .before .before .before .before .before .before .before .before .before .before .before .before .before .before .before .before .before .before .before .before .before .before .before .before .before .before .before .before .before .before .before .before .before .before .before .before .before .before .before .before .before .before .before .before .pre .1 .3) (c .before .before .before .before .before .before .before .before .before .before .before .before .before .before .before .before .before .before .before .before .before .before .before .before .before .before .before .before .before .before .before .before .before .before .before .to-off .result) (c .before .before .before .before .before .before .before .before .before .before .before .before .before .before .before .before .before .before .before .before .before .before .before .before .before .before .before .before .before .before .before .before .before .before .before .to-off .ensures) (c .before .before .before .before .before .before .before .before .before .before .before .before .before .before .before .before .before .before .before .before .before .before .before .before .before .before .before .before .before .before .before .before .before .before .side .result) (c .before .before .before .before .before .before .before .before .before .before .before .before .before .before .before .before .before .before .before .before .before .before .before .before .before .before .before .before .before .before .before .before .before .before .side .ensures .1 .1 .1) (c .before .before .before .before .before .before .before .before .before .before .before .before .before .before .before .before .before .before .before .before .before .before .before .before .before .before .before .before .goes-up .result) (c .before .before .before .before .before .before .before .before .before .before .before .before .before .before .before .before .before .before .before .before .before .before .before .before .before .before .before .before .goes-up .ensures) (λ qs h. h) (λ qs h. h)
-        (c .before .before .before .before .before .before .before .before .before .before .before .before .before .before .before .before .before .before .before .before .before .before .before .before .before .before .before .before .before .before .before .before .before .before .side .ensures .1 .0 .0 .restored) (c .before .before .before .before .before .before .before .before .before .before .before .before .before .before .before .before .before .before .before .before .before .before .before .before .before .before .before .before .before .before .before .before .before .before .side .ensures .1 .0 .0 .statuses-restored) (c .before .before .before .before .before .before .before .before .before .before .before .before .to-on .result) (c .before .before .before .before .before .before .before .before .before .before .before .before .to-on .ensures) (c .before .before .before .before .before .before .before .before .before .before .before .side2 .result) (c .before .before .before .before .before .before .before .before .before .before .before .side2 .ensures .1 .1 .1) _ (c .before .before .before .before .before .before .before .before .before .before .before .side2 .ensures .1 .1 .0 .1 ∙ c .before .before .before .before .before .before .before .before .before .before .before .before .before .before .before .before .before .before .before .before .before .before .before .before .put-aside .ensures .1) (c .finish .result)
+    (kept-both (c .before .before .before .before .before .before .before .before .before .before .before .before .before .before .before .before .before .before .before .before .before .before .before .before .before .before .before .before .before .before .before .before .before .before .before .before .before .before .before .before .before .before .before .before .before .before .before .args .p) (c .before .before .before .before .before .before .before .before .before .before .before .before .before .before .before .before .before .before .before .before .before .before .before .before .before .before .before .before .before .before .before .before .before .before .before .to-off .result) (c .before .before .before .before .before .before .before .before .before .before .before .before .to-on .result) _ _ _ _ (c .before .before .before .before .before .before .before .before .before .before .before .before .before .before .before .before .before .before .before .before .before .before .before .before .before .before .before .before .before .before .before .before .before .before .before .to-off .ensures) (c .before .before .before .before .before .before .before .before .before .before .before .before .to-on .ensures) (c .before .before .before .before .before .before .before .before .before .before .before .before .before .before .before .before .before .before .before .before .before .before .before .before .before .before .before .before .before .before .before .before .before .before .side .ensures .1 .0 .0) refl (c .before .before .before .before .before .before .before .before .before .before .before .side2 .ensures .1 .0 .0) refl, c .finish .ensures .0 .1),
+    both-result forall 2 refl (c .before .before .before .before .before .before .before .before .before .before .before .before .before .before .before .before .before .before .before .before .before .before .before .before .before .before .before .before .before .before .before .before .before .before .before .before .before .before .before .before .before .before .before .before .before .before .before .args .p) (c .before .before .before .before .before .before .before .before .before .before .before .before .before .before .before .before .before .before .before .before .before .before .before .before .before .before .before .before .before .before .before .before .before .before .before .to-off .result) (c .before .before .before .before .before .before .before .before .before .before .before .before .before .before .before .before .before .before .before .before .before .before .before .before .before .before .before .before .before .before .before .before .before .before .before .to-off .ensures) (c .before .before .before .before .before .before .before .before .before .before .before .before .before .before .before .before .before .before .before .before .before .before .before .before .before .before .before .before .before .before .before .before .before .before .side .result) (c .before .before .before .before .before .before .before .before .before .before .before .before .before .before .before .before .before .before .before .before .before .before .before .before .before .before .before .before .before .before .before .before .before .before .side .ensures .1 .1 .1) (c .before .before .before .before .before .before .before .before .before .before .before .before .before .before .before .before .before .before .before .before .before .before .before .before .before .before .before .before .goes-up .result) (c .before .before .before .before .before .before .before .before .before .before .before .before .before .before .before .before .before .before .before .before .before .before .before .before .before .before .before .before .goes-up .ensures) (λ qs h. h) (λ qs h. h)
+        (c .before .before .before .before .before .before .before .before .before .before .before .before .before .before .before .before .before .before .before .before .before .before .before .before .before .before .before .before .before .before .before .before .before .before .side .ensures .1 .0 .0) (c .before .before .before .before .before .before .before .before .before .before .before .before .to-on .result) (c .before .before .before .before .before .before .before .before .before .before .before .before .to-on .ensures) (c .before .before .before .before .before .before .before .before .before .before .before .side2 .result) (c .before .before .before .before .before .before .before .before .before .before .before .side2 .ensures .1 .1 .1) _ (c .before .before .before .before .before .before .before .before .before .before .before .side2 .ensures .1 .1 .0 .1 ∙ c .before .before .before .before .before .before .before .before .before .before .before .before .before .before .before .before .before .before .before .before .before .before .before .before .put-aside .ensures .1) (c .finish .result)
         (c .finish .ensures .1) (c .before .before .before .before .before .before .before .before .before .before .before .before .before .before .before .before .before .before .before .before .before .before .before .before .before .before .before .if1 .left) (c .finish .ensures .0 .0 .visits) (c .finish .ensures .0 .0 .lines),
   ),
 )
@@ -816,7 +816,7 @@ free-to-off-requires : (t : ℕ) → free-lts.Need-to-off-requires (
   with-lines-reads.Asked,
   with-lines-reads.Learnt,
 ) (free-at t) free.Post
-free-to-off-requires t c κs = (omega (arith, c .before .before .before .before .before .before .before .before .before .before .before .pre .1 .2 .few, c .before .before .before .before .before .before .before .before .before .before .before .pre .1 .3), visits-small (c .before .before .before .before .before .before .before .before .before .before .before .args .numbers .now) (length (c .before .before .before .before .before .before .before .before .before .before .before .args .saved .now)) (c .before .before .before .before .before .before .before .before .before .before .before .args .p) (c .before .before .before .before .before .before .before .before .before .before .before .pre .1 .2))
+free-to-off-requires t c κs = (omega (arith, c .before .before .before .before .before .before .before .before .before .before .before .pre .1 .3), visits-small (length (c .before .before .before .before .before .before .before .before .before .before .before .args .saved .now)) (c .before .before .before .before .before .before .before .before .before .before .before .args .p) (c .before .before .before .before .before .before .before .before .before .before .before .pre .1 .2))
 
 free-side-requires : (t : ℕ) → free-lts.Need-side-requires (
   to-off-reads.Asked,
@@ -839,8 +839,8 @@ free-side-requires : (t : ℕ) → free-lts.Need-side-requires (
   with-lines-reads.Learnt,
 ) (free-at t) free.Post
 free-side-requires t c κs =
-    let sr = room-off (c .before .before .before .before .before .before .before .before .before .before .before .before .args .numbers .now) (c .before .before .before .before .before .before .before .before .before .before .before .before .args .p) (c .before .before .before .before .before .before .before .before .before .before .before .before .pre .1 .3) (length (c .before .before .before .before .before .before .before .before .before .before .before .before .args .saved .now)) (c .to-off .result) (c .to-off .ensures) (c .before .before .before .before .before .before .before .before .before .before .before .before .pre .1 .2) in
-    (omega (arith, c .before .before .before .before .before .before .before .before .before .before .before .before .pre .0, falls-side (c .before .before .before .before .before .before .before .before .before .before .before .before .args .numbers .now) (c .before .before .before .before .before .before .before .before .before .before .before .before .args .p) (c .before .before .before .before .before .before .before .before .before .before .before .before .pre .1 .3) (c .to-off .result) _ _ (c .to-off .ensures)), (c .before .before .before .before .before .before .before .before .before .before .before .before .pre .1 .0, c .before .before .before .before .before .before .before .before .before .before .before .before .pre .1 .1, sr .room, sr .after, omega arith, sr .own))
+    let sr = room-off (c .before .before .before .before .before .before .before .before .before .before .before .before .args .p) (c .before .before .before .before .before .before .before .before .before .before .before .before .pre .1 .3) (length (c .before .before .before .before .before .before .before .before .before .before .before .before .args .saved .now)) (c .to-off .result) (c .to-off .ensures) (c .before .before .before .before .before .before .before .before .before .before .before .before .pre .1 .2) in
+    (omega (arith, c .before .before .before .before .before .before .before .before .before .before .before .before .pre .0, falls-side (c .before .before .before .before .before .before .before .before .before .before .before .before .args .p) (c .before .before .before .before .before .before .before .before .before .before .before .before .pre .1 .3) (c .to-off .result) _ _ (c .to-off .ensures)), (c .before .before .before .before .before .before .before .before .before .before .before .before .pre .1 .0, c .before .before .before .before .before .before .before .before .before .before .before .before .pre .1 .1, sr .room, sr .after, omega arith, sr .own))
 
 free-goes-up-requires : (t : ℕ) → free-lts.Need-goes-up-requires (
   to-off-reads.Asked,
@@ -862,7 +862,7 @@ free-goes-up-requires : (t : ℕ) → free-lts.Need-goes-up-requires (
   with-lines-reads.Asked,
   with-lines-reads.Learnt,
 ) (free-at t) free.Post
-free-goes-up-requires t c κs = (c .before .before .before .before .before .side .ensures .0 .short, omega (arith, c .before .before .before .before .before .before .before .before .before .before .before .before .before .before .before .before .before .before .pre .1 .2 .few, c .before .before .before .before .before .before .before .before .before .before .before .before .before .before .before .before .before .before .pre .1 .3))
+free-goes-up-requires t c κs = (c .before .before .before .before .before .side .ensures .0 .short, omega (arith, c .before .before .before .before .before .before .before .before .before .before .before .before .before .before .before .before .before .before .pre .1 .3))
 
 free-same-length : (t : ℕ) → free-lts.Need-same-length (
   to-off-reads.Asked,
@@ -929,10 +929,10 @@ free-returns : (t : ℕ) → free-lts.Need-returns (
   with-lines-reads.Learnt,
 ) (free-at t) free.Post
 free-returns t c = (
-  counts-up (c .before .before .before .before .before .before .before .before .before .before .before .before .before .before .before .before .before .before .before .before .args .numbers .now) (c .before .before .before .before .before .before .before .before .before .before .before .before .before .before .before .before .before .before .before .before .args .p) (c .before .before .before .before .before .before .before .before .before .before .before .before .before .before .before .before .before .before .before .before .pre .1 .3) (c .before .before .before .before .before .before .before .before .to-off .result) (c .before .before .before .before .before .before .before .before .to-off .ensures) (c .before .before .before .before .before .before .before .side .result) (c .before .before .before .before .before .before .before .side .ensures .0),
+  counts-up (c .before .before .before .before .before .before .before .before .before .before .before .before .before .before .before .before .before .before .before .before .args .p) (c .before .before .before .before .before .before .before .before .before .before .before .before .before .before .before .before .before .before .before .before .pre .1 .3) (c .before .before .before .before .before .before .before .before .to-off .result) (c .before .before .before .before .before .before .before .before .to-off .ensures) (c .before .before .before .before .before .before .before .side .result) (c .before .before .before .before .before .before .before .side .ensures .0),
   (
-    c .before .before .before .before .before .before .before .side .ensures .1 .0,
-    (λ D s ls R st task alive is. up-result free 0 refl (c .before .before .before .before .before .before .before .before .before .before .before .before .before .before .before .before .before .before .before .before .args .p) (c .before .before .before .before .before .before .before .before .before .before .before .before .before .before .before .before .before .before .before .before .pre .1 .3) (c .before .before .before .before .before .before .before .before .to-off .result) (c .before .before .before .before .before .before .before .before .to-off .ensures) (c .before .before .before .before .before .before .before .side .result) (c .before .before .before .before .before .before .before .side .ensures .1 .1 .1) (c .before .goes-up .result) (c .before .goes-up .ensures) D s ls R st task alive is (c .if1 .taken)),
+    (kept-up (c .before .before .before .before .before .before .before .before .before .before .before .before .before .before .before .before .before .before .before .before .args .p) (c .before .before .before .before .before .before .before .before .to-off .result) _ _ (c .before .before .before .before .before .before .before .before .to-off .ensures) (c .before .before .before .before .before .before .before .side .ensures .1 .0 .0), c .before .before .before .before .before .before .before .side .ensures .1 .0 .1),
+    (λ D s ls R st task alive inside is. up-result free 0 refl (c .before .before .before .before .before .before .before .before .before .before .before .before .before .before .before .before .before .before .before .before .args .p) (c .before .before .before .before .before .before .before .before .to-off .result) (c .before .before .before .before .before .before .before .before .to-off .ensures) (c .before .before .before .before .before .before .before .side .result) (c .before .before .before .before .before .before .before .side .ensures .1 .1 .1) (c .before .goes-up .result) (c .before .goes-up .ensures) D s ls R st task alive inside is (c .if1 .taken)),
   ),
 )
 
@@ -956,7 +956,7 @@ free-put-aside-requires : (t : ℕ) → free-lts.Need-put-aside-requires (
   with-lines-reads.Asked,
   with-lines-reads.Learnt,
 ) (free-at t) free.Post
-free-put-aside-requires t c κs = (c .before .before .before .before .before .before .before .before .before .side .ensures .0 .short, omega (arith, c .before .before .before .before .before .before .before .before .before .side .ensures .0 .short, aside-room (c .before .before .before .before .before .before .before .before .before .before .before .before .before .before .before .before .before .before .before .before .before .before .args .numbers .now) (c .before .before .before .before .before .before .before .before .before .before .before .before .before .before .before .before .before .before .before .before .before .before .args .p) (c .before .before .before .before .before .before .before .before .before .before .before .before .before .before .before .before .before .before .before .before .before .before .pre .1 .3) (length (c .before .before .before .before .before .before .before .before .before .before .before .before .before .before .before .before .before .before .before .before .before .before .args .saved .now)) (c .before .before .before .before .before .before .before .before .before .before .before .before .before .before .before .before .before .before .before .before .before .before .pre .1 .2), c .before .before .before .before .before .before .before .before .before .side .ensures .1 .1 .0 .0))
+free-put-aside-requires t c κs = (c .before .before .before .before .before .before .before .before .before .side .ensures .0 .short, omega (arith, c .before .before .before .before .before .before .before .before .before .side .ensures .0 .short, aside-room (c .before .before .before .before .before .before .before .before .before .before .before .before .before .before .before .before .before .before .before .before .before .before .args .p) (c .before .before .before .before .before .before .before .before .before .before .before .before .before .before .before .before .before .before .before .before .before .before .pre .1 .3) (length (c .before .before .before .before .before .before .before .before .before .before .before .before .before .before .before .before .before .before .before .before .before .before .args .saved .now)) (c .before .before .before .before .before .before .before .before .before .before .before .before .before .before .before .before .before .before .before .before .before .before .pre .1 .2), c .before .before .before .before .before .before .before .before .before .side .ensures .1 .1 .0 .0))
 
 free-line-if-requires : (t : ℕ) → free-lts.Need-line-if-requires (
   to-off-reads.Asked,
@@ -978,7 +978,7 @@ free-line-if-requires : (t : ℕ) → free-lts.Need-line-if-requires (
   with-lines-reads.Asked,
   with-lines-reads.Learnt,
 ) (free-at t) free.Post
-free-line-if-requires t c κs = (c .before .before .before .before .before .before .before .before .before .before .before .before .before .before .before .before .before .before .before .before .before .before .before .before .before .before .before .pre .1 .2 .free, lines-small (c .before .before .before .before .before .before .before .before .before .before .before .before .before .before .before .before .before .before .before .before .before .before .before .before .before .before .before .args .numbers .now) (c .before .before .before .before .before .before .before .before .before .before .before .before .before .before .before .before .before .before .before .before .before .before .before .before .before .before .before .args .p) (c .before .before .before .before .before .before .before .before .before .before .before .before .before .before .before .before .before .before .before .before .before .before .before .before .before .before .before .pre .1 .3) (c .before .before .before .before .before .before .before .before .before .before .before .before .before .before .before .to-off .result) (c .before .before .before .before .before .before .before .before .before .before .before .before .before .before .before .to-off .ensures) (c .before .before .before .before .before .before .before .before .before .before .before .before .before .before .side .result) (c .before .before .before .before .before .before .before .before .before .before .before .before .before .before .side .ensures .0) (length (c .before .before .before .before .before .before .before .before .before .before .before .before .before .before .before .before .before .before .before .before .before .before .before .before .before .before .before .args .saved .now)) (c .before .before .before .before .before .before .before .before .before .before .before .before .before .before .before .before .before .before .before .before .before .before .before .before .before .before .before .pre .1 .2))
+free-line-if-requires t c κs = (c .before .before .before .before .before .before .before .before .before .before .before .before .before .before .before .before .before .before .before .before .before .before .before .before .before .before .before .pre .1 .2 .free, lines-small (c .before .before .before .before .before .before .before .before .before .before .before .before .before .before .before .before .before .before .before .before .before .before .before .before .before .before .before .args .p) (c .before .before .before .before .before .before .before .before .before .before .before .before .before .before .before .before .before .before .before .before .before .before .before .before .before .before .before .pre .1 .3) (c .before .before .before .before .before .before .before .before .before .before .before .before .before .before .before .to-off .result) (c .before .before .before .before .before .before .before .before .before .before .before .before .before .before .before .to-off .ensures) (c .before .before .before .before .before .before .before .before .before .before .before .before .before .before .side .result) (c .before .before .before .before .before .before .before .before .before .before .before .before .before .before .side .ensures .0) (length (c .before .before .before .before .before .before .before .before .before .before .before .before .before .before .before .before .before .before .before .before .before .before .before .before .before .before .before .args .saved .now)) (c .before .before .before .before .before .before .before .before .before .before .before .before .before .before .before .before .before .before .before .before .before .before .before .before .before .before .before .pre .1 .2))
 
 free-to-on-requires : (t : ℕ) → free-lts.Need-to-on-requires (
   to-off-reads.Asked,
@@ -1000,7 +1000,7 @@ free-to-on-requires : (t : ℕ) → free-lts.Need-to-on-requires (
   with-lines-reads.Asked,
   with-lines-reads.Learnt,
 ) (free-at t) free.Post
-free-to-on-requires t c κs = omega (arith, c .before .before .before .before .before .before .before .before .before .before .before .before .before .before .before .before .before .before .before .before .before .before .before .before .before .before .before .before .before .before .before .before .before .before .before .before .before .before .before .pre .1 .2 .few, c .before .before .before .before .before .before .before .before .before .before .before .before .before .before .before .before .before .before .before .before .before .before .before .before .before .before .before .before .before .before .before .before .before .before .before .before .before .before .before .pre .1 .3)
+free-to-on-requires t c κs = omega (arith, c .before .before .before .before .before .before .before .before .before .before .before .before .before .before .before .before .before .before .before .before .before .before .before .before .before .before .before .before .before .before .before .before .before .before .before .before .before .before .before .pre .1 .3)
 
 free-side-requires-2 : (t : ℕ) → free-lts.Need-side-requires-2 (
   to-off-reads.Asked,
@@ -1023,8 +1023,8 @@ free-side-requires-2 : (t : ℕ) → free-lts.Need-side-requires-2 (
   with-lines-reads.Learnt,
 ) (free-at t) free.Post
 free-side-requires-2 t c κs =
-    let sr = room-on (c .before .before .before .before .before .before .before .before .before .before .before .before .before .before .before .before .before .before .before .before .before .before .before .before .before .before .before .before .before .before .before .before .before .before .before .before .before .before .before .before .args .numbers .now) (c .before .before .before .before .before .before .before .before .before .before .before .before .before .before .before .before .before .before .before .before .before .before .before .before .before .before .before .before .before .before .before .before .before .before .before .before .before .before .before .before .args .p) (c .before .before .before .before .before .before .before .before .before .before .before .before .before .before .before .before .before .before .before .before .before .before .before .before .before .before .before .before .before .before .before .before .before .before .before .before .before .before .before .before .pre .1 .3) (c .before .before .before .before .before .before .before .before .before .before .before .before .before .before .before .before .before .before .before .before .before .before .before .before .before .before .before .before .to-off .result) (c .before .before .before .before .before .before .before .before .before .before .before .before .before .before .before .before .before .before .before .before .before .before .before .before .before .before .before .before .to-off .ensures) (c .before .before .before .before .before .before .before .before .before .before .before .before .before .before .before .before .before .before .before .before .before .before .before .before .before .before .before .side .result) (c .before .before .before .before .before .before .before .before .before .before .before .before .before .before .before .before .before .before .before .before .before .before .before .before .before .before .before .side .ensures .0) (length (c .before .before .before .before .before .before .before .before .before .before .before .before .before .before .before .before .before .before .before .before .before .before .before .before .before .before .before .before .before .before .before .before .before .before .before .before .before .before .before .before .args .saved .now)) _ (c .before .before .before .before .before .before .before .before .before .before .before .before .line-if .result) (c .to-on .result) (c .to-on .ensures) (off-lines (c .before .before .before .before .before .before .before .before .before .before .before .before .before .before .before .before .before .before .before .before .before .before .before .before .before .before .before .side .result .verdict) (c .before .before .before .before .before .before .before .before .before .before .before .before .before .before .before .before .before .before .before .before .before .before .before .before .before .before .before .side .result .lines) (c .before .before .before .before .before .before .before .before .before .before .before .before .line-if .result) (c .before .before .before .before .before .before .before .before .before .before .before .before .line-if .ensures .0 .1) .1) (c .before .before .before .before .before .before .before .before .before .before .before .before .before .before .before .before .before .put-aside .ensures .0 ∙ c .before .before .before .before .before .before .before .before .before .before .before .before .before .before .before .before .before .before .before .before .before .before .before .before .before .before .before .side .ensures .1 .1 .0 .0) (c .before .before .before .before .before .before .before .before .before .before .before .before .before .before .before .before .before .before .before .before .before .before .before .before .before .before .before .before .before .before .before .before .before .before .before .before .before .before .before .before .pre .1 .2) in
-    (omega (arith, c .before .before .before .before .before .before .before .before .before .before .before .before .before .before .before .before .before .before .before .before .before .before .before .before .before .before .before .before .before .before .before .before .before .before .before .before .before .before .before .before .pre .0, falls-side (c .before .before .before .before .before .before .before .before .before .before .before .before .before .before .before .before .before .before .before .before .before .before .before .before .before .before .before .before .before .before .before .before .before .before .before .before .before .before .before .before .args .numbers .now) (c .before .before .before .before .before .before .before .before .before .before .before .before .before .before .before .before .before .before .before .before .before .before .before .before .before .before .before .before .before .before .before .before .before .before .before .before .before .before .before .before .args .p) (c .before .before .before .before .before .before .before .before .before .before .before .before .before .before .before .before .before .before .before .before .before .before .before .before .before .before .before .before .before .before .before .before .before .before .before .before .before .before .before .before .pre .1 .3) (c .to-on .result) _ _ (c .to-on .ensures)), (c .before .before .before .before .before .before .before .before .before .before .before .before .before .before .before .before .before .before .before .before .before .before .before .before .before .before .before .before .before .before .before .before .before .before .before .before .before .before .before .before .pre .1 .0, c .before .before .before .before .before .before .before .before .before .before .before .before .before .before .before .before .before .before .before .before .before .before .before .before .before .before .before .side .ensures .1 .0 .1, sr .room, sr .after, c .before .before .before .before .before .before .before .before .before .before .before .before .before .before .before .before .before .before .before .before .before .before .before .before .before .before .before .side .ensures .0 .short, sr .own))
+    let sr = room-on (c .before .before .before .before .before .before .before .before .before .before .before .before .before .before .before .before .before .before .before .before .before .before .before .before .before .before .before .before .before .before .before .before .before .before .before .before .before .before .before .before .args .p) (c .before .before .before .before .before .before .before .before .before .before .before .before .before .before .before .before .before .before .before .before .before .before .before .before .before .before .before .before .before .before .before .before .before .before .before .before .before .before .before .before .pre .1 .3) (c .before .before .before .before .before .before .before .before .before .before .before .before .before .before .before .before .before .before .before .before .before .before .before .before .before .before .before .before .to-off .result) (c .before .before .before .before .before .before .before .before .before .before .before .before .before .before .before .before .before .before .before .before .before .before .before .before .before .before .before .before .to-off .ensures) (c .before .before .before .before .before .before .before .before .before .before .before .before .before .before .before .before .before .before .before .before .before .before .before .before .before .before .before .side .result) (c .before .before .before .before .before .before .before .before .before .before .before .before .before .before .before .before .before .before .before .before .before .before .before .before .before .before .before .side .ensures .0) (length (c .before .before .before .before .before .before .before .before .before .before .before .before .before .before .before .before .before .before .before .before .before .before .before .before .before .before .before .before .before .before .before .before .before .before .before .before .before .before .before .before .args .saved .now)) _ (c .before .before .before .before .before .before .before .before .before .before .before .before .line-if .result) (c .to-on .result) (c .to-on .ensures) (off-lines (c .before .before .before .before .before .before .before .before .before .before .before .before .before .before .before .before .before .before .before .before .before .before .before .before .before .before .before .side .result .verdict) (c .before .before .before .before .before .before .before .before .before .before .before .before .before .before .before .before .before .before .before .before .before .before .before .before .before .before .before .side .result .lines) (c .before .before .before .before .before .before .before .before .before .before .before .before .line-if .result) (c .before .before .before .before .before .before .before .before .before .before .before .before .line-if .ensures .0 .1) .1) (c .before .before .before .before .before .before .before .before .before .before .before .before .before .before .before .before .before .put-aside .ensures .0 ∙ c .before .before .before .before .before .before .before .before .before .before .before .before .before .before .before .before .before .before .before .before .before .before .before .before .before .before .before .side .ensures .1 .1 .0 .0) (c .before .before .before .before .before .before .before .before .before .before .before .before .before .before .before .before .before .before .before .before .before .before .before .before .before .before .before .before .before .before .before .before .before .before .before .before .before .before .before .before .pre .1 .2) in
+    (omega (arith, c .before .before .before .before .before .before .before .before .before .before .before .before .before .before .before .before .before .before .before .before .before .before .before .before .before .before .before .before .before .before .before .before .before .before .before .before .before .before .before .before .pre .0, falls-side (c .before .before .before .before .before .before .before .before .before .before .before .before .before .before .before .before .before .before .before .before .before .before .before .before .before .before .before .before .before .before .before .before .before .before .before .before .before .before .before .before .args .p) (c .before .before .before .before .before .before .before .before .before .before .before .before .before .before .before .before .before .before .before .before .before .before .before .before .before .before .before .before .before .before .before .before .before .before .before .before .before .before .before .before .pre .1 .3) (c .to-on .result) _ _ (c .to-on .ensures)), (c .before .before .before .before .before .before .before .before .before .before .before .before .before .before .before .before .before .before .before .before .before .before .before .before .before .before .before .before .before .before .before .before .before .before .before .before .before .before .before .before .pre .1 .0, c .before .before .before .before .before .before .before .before .before .before .before .before .before .before .before .before .before .before .before .before .before .before .before .before .before .before .before .side .ensures .1 .0 .1, sr .room, sr .after, c .before .before .before .before .before .before .before .before .before .before .before .before .before .before .before .before .before .before .before .before .before .before .before .before .before .before .before .side .ensures .0 .short, sr .own))
 
 free-finish-requires : (t : ℕ) → free-lts.Need-finish-requires (
   to-off-reads.Asked,
@@ -1047,8 +1047,8 @@ free-finish-requires : (t : ℕ) → free-lts.Need-finish-requires (
   with-lines-reads.Learnt,
 ) (free-at t) free.Post
 free-finish-requires t c κs =
-    let small = newest-small (c .before .before .before .before .before .before .before .before .before .before .before .before .before .before .before .before .before .before .before .before .before .before .before .before .before .before .before .before .before .before .before .before .before .before .before .before .before .before .before .before .before .before .before .before .before .before .before .before .before .before .before .args .numbers .now) (c .before .before .before .before .before .before .before .before .before .before .before .before .before .before .before .before .before .before .before .before .before .before .before .before .before .before .before .before .before .before .before .before .before .before .before .before .before .before .before .before .before .before .before .before .before .before .before .before .before .before .before .args .p) (c .before .before .before .before .before .before .before .before .before .before .before .before .before .before .before .before .before .before .before .before .before .before .before .before .before .before .before .before .before .before .before .before .before .before .before .before .before .before .before .before .before .before .before .before .before .before .before .before .before .before .before .pre .1 .3) (c .before .before .before .before .before .before .before .before .before .before .before .before .before .before .before .before .before .before .before .before .before .before .before .before .before .before .before .before .before .before .before .before .before .before .before .before .before .before .before .to-off .result) (c .before .before .before .before .before .before .before .before .before .before .before .before .before .before .before .before .before .before .before .before .before .before .before .before .before .before .before .before .before .before .before .before .before .before .before .before .before .before .before .to-off .ensures) (c .before .before .before .before .before .before .before .before .before .before .before .before .before .before .before .before .before .before .before .before .before .before .before .before .before .before .before .before .before .before .before .before .before .before .before .before .before .before .side .result) (c .before .before .before .before .before .before .before .before .before .before .before .before .before .before .before .before .before .before .before .before .before .before .before .before .before .before .before .before .before .before .before .before .before .before .before .before .before .before .side .ensures .0) (c .before .before .before .before .before .before .before .before .before .before .before .before .before .before .before .before .before .before .before .before .before .before .before .line-if .result) (c .before .before .before .before .before .before .before .before .before .before .before .to-on .result) (c .before .before .before .before .before .before .before .before .before .before .before .to-on .ensures) (c .before .before .before .before .before .before .before .before .before .before .side2 .result) (c .before .before .before .before .before .before .before .before .before .before .side2 .ensures .0) (length (c .before .before .before .before .before .before .before .before .before .before .before .before .before .before .before .before .before .before .before .before .before .before .before .before .before .before .before .before .before .before .before .before .before .before .before .before .before .before .before .before .before .before .before .before .before .before .before .before .before .before .before .args .saved .now)) (c .before .before .before .before .before .before .before .before .before .before .before .before .before .before .before .before .before .before .before .before .before .before .before .before .before .before .before .before .before .before .before .before .before .before .before .before .before .before .before .before .before .before .before .before .before .before .before .before .before .before .before .pre .1 .2) in
-    (c .before .before .before .before .before .before .before .before .before .before .before .before .before .before .before .before .before .before .before .before .before .before .before .before .before .before .before .before .before .before .before .before .before .before .before .before .before .before .side .ensures .0 .short, c .before .before .before .before .before .before .before .before .before .before .side2 .ensures .0 .short, omega (arith, c .before .before .before .before .before .before .before .before .before .before .before .before .before .before .before .before .before .before .before .before .before .before .before .before .before .before .before .before .before .before .before .before .before .before .before .before .before .before .side .ensures .0 .short, aside-room (c .before .before .before .before .before .before .before .before .before .before .before .before .before .before .before .before .before .before .before .before .before .before .before .before .before .before .before .before .before .before .before .before .before .before .before .before .before .before .before .before .before .before .before .before .before .before .before .before .before .before .before .args .numbers .now) (c .before .before .before .before .before .before .before .before .before .before .before .before .before .before .before .before .before .before .before .before .before .before .before .before .before .before .before .before .before .before .before .before .before .before .before .before .before .before .before .before .before .before .before .before .before .before .before .before .before .before .before .args .p) (c .before .before .before .before .before .before .before .before .before .before .before .before .before .before .before .before .before .before .before .before .before .before .before .before .before .before .before .before .before .before .before .before .before .before .before .before .before .before .before .before .before .before .before .before .before .before .before .before .before .before .before .pre .1 .3) (length (c .before .before .before .before .before .before .before .before .before .before .before .before .before .before .before .before .before .before .before .before .before .before .before .before .before .before .before .before .before .before .before .before .before .before .before .before .before .before .before .before .before .before .before .before .before .before .before .before .before .before .before .args .saved .now)) (c .before .before .before .before .before .before .before .before .before .before .before .before .before .before .before .before .before .before .before .before .before .before .before .before .before .before .before .before .before .before .before .before .before .before .before .before .before .before .before .before .before .before .before .before .before .before .before .before .before .before .before .pre .1 .2), c .before .before .before .before .before .before .before .before .before .before .side2 .ensures .1 .1 .0 .0, c .before .before .before .before .before .before .before .before .before .before .before .before .before .before .before .before .before .before .before .before .before .before .before .before .before .before .before .before .put-aside .ensures .0, c .before .before .before .before .before .before .before .before .before .before .before .before .before .before .before .before .before .before .before .before .before .before .before .before .before .before .before .before .before .before .before .before .before .before .before .before .before .before .side .ensures .1 .1 .0 .0), omega (arith, c .before .before .before .before .before .before .before .before .before .before .before .before .before .before .before .before .before .before .before .before .before .before .before .before .before .before .before .before .before .before .before .before .before .before .before .before .before .before .before .before .before .before .before .before .before .before .before .before .before .before .before .pre .1 .2 .few, c .before .before .before .before .before .before .before .before .before .before .before .before .before .before .before .before .before .before .before .before .before .before .before .before .before .before .before .before .before .before .before .before .before .before .before .before .before .before .before .before .before .before .before .before .before .before .before .before .before .before .before .pre .1 .3), c .before .before .before .before .before .before .before .before .before .before .side2 .ensures .1 .0 .1, small .0, small .1)
+    let small = newest-small (c .before .before .before .before .before .before .before .before .before .before .before .before .before .before .before .before .before .before .before .before .before .before .before .before .before .before .before .before .before .before .before .before .before .before .before .before .before .before .before .before .before .before .before .before .before .before .before .before .before .before .before .args .p) (c .before .before .before .before .before .before .before .before .before .before .before .before .before .before .before .before .before .before .before .before .before .before .before .before .before .before .before .before .before .before .before .before .before .before .before .before .before .before .before .before .before .before .before .before .before .before .before .before .before .before .before .pre .1 .3) (c .before .before .before .before .before .before .before .before .before .before .before .before .before .before .before .before .before .before .before .before .before .before .before .before .before .before .before .before .before .before .before .before .before .before .before .before .before .before .before .to-off .result) (c .before .before .before .before .before .before .before .before .before .before .before .before .before .before .before .before .before .before .before .before .before .before .before .before .before .before .before .before .before .before .before .before .before .before .before .before .before .before .before .to-off .ensures) (c .before .before .before .before .before .before .before .before .before .before .before .before .before .before .before .before .before .before .before .before .before .before .before .before .before .before .before .before .before .before .before .before .before .before .before .before .before .before .side .result) (c .before .before .before .before .before .before .before .before .before .before .before .before .before .before .before .before .before .before .before .before .before .before .before .before .before .before .before .before .before .before .before .before .before .before .before .before .before .before .side .ensures .0) (c .before .before .before .before .before .before .before .before .before .before .before .before .before .before .before .before .before .before .before .before .before .before .before .line-if .result) (c .before .before .before .before .before .before .before .before .before .before .before .to-on .result) (c .before .before .before .before .before .before .before .before .before .before .before .to-on .ensures) (c .before .before .before .before .before .before .before .before .before .before .side2 .result) (c .before .before .before .before .before .before .before .before .before .before .side2 .ensures .0) (length (c .before .before .before .before .before .before .before .before .before .before .before .before .before .before .before .before .before .before .before .before .before .before .before .before .before .before .before .before .before .before .before .before .before .before .before .before .before .before .before .before .before .before .before .before .before .before .before .before .before .before .before .args .saved .now)) (c .before .before .before .before .before .before .before .before .before .before .before .before .before .before .before .before .before .before .before .before .before .before .before .before .before .before .before .before .before .before .before .before .before .before .before .before .before .before .before .before .before .before .before .before .before .before .before .before .before .before .before .pre .1 .2) in
+    (c .before .before .before .before .before .before .before .before .before .before .before .before .before .before .before .before .before .before .before .before .before .before .before .before .before .before .before .before .before .before .before .before .before .before .before .before .before .before .side .ensures .0 .short, c .before .before .before .before .before .before .before .before .before .before .side2 .ensures .0 .short, omega (arith, c .before .before .before .before .before .before .before .before .before .before .before .before .before .before .before .before .before .before .before .before .before .before .before .before .before .before .before .before .before .before .before .before .before .before .before .before .before .before .side .ensures .0 .short, aside-room (c .before .before .before .before .before .before .before .before .before .before .before .before .before .before .before .before .before .before .before .before .before .before .before .before .before .before .before .before .before .before .before .before .before .before .before .before .before .before .before .before .before .before .before .before .before .before .before .before .before .before .before .args .p) (c .before .before .before .before .before .before .before .before .before .before .before .before .before .before .before .before .before .before .before .before .before .before .before .before .before .before .before .before .before .before .before .before .before .before .before .before .before .before .before .before .before .before .before .before .before .before .before .before .before .before .before .pre .1 .3) (length (c .before .before .before .before .before .before .before .before .before .before .before .before .before .before .before .before .before .before .before .before .before .before .before .before .before .before .before .before .before .before .before .before .before .before .before .before .before .before .before .before .before .before .before .before .before .before .before .before .before .before .before .args .saved .now)) (c .before .before .before .before .before .before .before .before .before .before .before .before .before .before .before .before .before .before .before .before .before .before .before .before .before .before .before .before .before .before .before .before .before .before .before .before .before .before .before .before .before .before .before .before .before .before .before .before .before .before .before .pre .1 .2), c .before .before .before .before .before .before .before .before .before .before .side2 .ensures .1 .1 .0 .0, c .before .before .before .before .before .before .before .before .before .before .before .before .before .before .before .before .before .before .before .before .before .before .before .before .before .before .before .before .put-aside .ensures .0, c .before .before .before .before .before .before .before .before .before .before .before .before .before .before .before .before .before .before .before .before .before .before .before .before .before .before .before .before .before .before .before .before .before .before .before .before .before .before .side .ensures .1 .1 .0 .0), omega (arith, c .before .before .before .before .before .before .before .before .before .before .before .before .before .before .before .before .before .before .before .before .before .before .before .before .before .before .before .before .before .before .before .before .before .before .before .before .before .before .before .before .before .before .before .before .before .before .before .before .before .before .before .pre .1 .3), c .before .before .before .before .before .before .before .before .before .before .side2 .ensures .1 .0 .1, small .0, small .1)
 
 free-settle-lines-requires : (t : ℕ) → free-lts.Need-settle-lines-requires (
   to-off-reads.Asked,
@@ -1072,8 +1072,8 @@ free-settle-lines-requires : (t : ℕ) → free-lts.Need-settle-lines-requires (
 ) (free-at t) free.Post
 free-settle-lines-requires t c κs = (
   c .before .before .before .before .before .before .before .before .before .before .before .before .before .before .before .before .before .before .before .before .before .before .before .before .before .before .before .before .before .before .before .before .before .before .before .before .before .before .before .before .before .before .before .before .before .before .before .before .before .before .before .before .before .before .pre .1 .2 .free,
-  on-lines-small (c .before .before .before .before .before .before .before .before .before .before .before .before .before .before .before .before .before .before .before .before .before .before .before .before .before .before .before .before .before .before .before .before .before .before .before .before .before .before .before .before .before .before .before .before .before .before .before .before .before .before .before .before .before .before .args .numbers .now) (c .before .before .before .before .before .before .before .before .before .before .before .before .before .before .before .before .before .before .before .before .before .before .before .before .before .before .before .before .before .before .before .before .before .before .before .before .before .before .before .before .before .before .before .before .before .before .before .before .before .before .before .before .before .before .args .p) (c .before .before .before .before .before .before .before .before .before .before .before .before .before .before .before .before .before .before .before .before .before .before .before .before .before .before .before .before .before .before .before .before .before .before .before .before .before .before .before .before .before .before .before .before .before .before .before .before .before .before .before .before .before .before .pre .1 .3) (c .before .before .before .before .before .before .before .before .before .before .before .before .before .before .before .before .before .before .before .before .before .before .before .before .before .before .before .before .before .before .before .before .before .before .before .before .before .before .before .before .before .before .to-off .result) (c .before .before .before .before .before .before .before .before .before .before .before .before .before .before .before .before .before .before .before .before .before .before .before .before .before .before .before .before .before .before .before .before .before .before .before .before .before .before .before .before .before .before .to-off .ensures) (c .before .before .before .before .before .before .before .before .before .before .before .before .before .before .before .before .before .before .before .before .before .before .before .before .before .before .before .before .before .before .before .before .before .before .before .before .before .before .before .before .before .side .result) (c .before .before .before .before .before .before .before .before .before .before .before .before .before .before .before .before .before .before .before .before .before .before .before .before .before .before .before .before .before .before .before .before .before .before .before .before .before .before .before .before .before .side .ensures .0) (c .before .before .before .before .before .before .before .before .before .before .before .before .before .before .before .before .before .before .before .before .before .before .before .before .before .before .line-if .result) (c .before .before .before .before .before .before .before .before .before .before .before .before .before .before .to-on .result) (c .before .before .before .before .before .before .before .before .before .before .before .before .before .before .to-on .ensures) (c .before .before .before .before .before .before .before .before .before .before .before .before .before .side2 .result) (c .before .before .before .before .before .before .before .before .before .before .before .before .before .side2 .ensures .0) (c .before .before .before .before .before .before .before .before .before .before .before .before .before .before .before .before .before .before .before .before .before .before .before .before .before .before .line-if .ensures .0 .1) (length (c .before .before .before .before .before .before .before .before .before .before .before .before .before .before .before .before .before .before .before .before .before .before .before .before .before .before .before .before .before .before .before .before .before .before .before .before .before .before .before .before .before .before .before .before .before .before .before .before .before .before .before .before .before .before .args .saved .now)) (c .before .before .before .before .before .before .before .before .before .before .before .before .before .before .before .before .before .before .before .before .before .before .before .before .before .before .before .before .before .before .before .before .before .before .before .before .before .before .before .before .before .before .before .before .before .before .before .before .before .before .before .before .before .before .pre .1 .2),
-  on-lines-one (c .before .before .before .before .before .before .before .before .before .before .before .before .before .before .before .before .before .before .before .before .before .before .before .before .before .before .before .before .before .before .before .before .before .before .before .before .before .before .before .before .before .before .before .before .before .before .before .before .before .before .before .before .before .before .args .numbers .now) (c .before .before .before .before .before .before .before .before .before .before .before .before .before .before .before .before .before .before .before .before .before .before .before .before .before .before .before .before .before .before .before .before .before .before .before .before .before .before .before .before .before .before .before .before .before .before .before .before .before .before .before .before .before .before .args .p) (c .before .before .before .before .before .before .before .before .before .before .before .before .before .before .before .before .before .before .before .before .before .before .before .before .before .before .before .before .before .before .before .before .before .before .before .before .before .before .before .before .before .before .before .before .before .before .before .before .before .before .before .before .before .before .pre .1 .3) (c .before .before .before .before .before .before .before .before .before .before .before .before .before .before .before .before .before .before .before .before .before .before .before .before .before .before .before .before .before .before .before .before .before .before .before .before .before .before .before .before .before .before .to-off .result) (c .before .before .before .before .before .before .before .before .before .before .before .before .before .before .before .before .before .before .before .before .before .before .before .before .before .before .before .before .before .before .before .before .before .before .before .before .before .before .before .before .before .before .to-off .ensures) (c .before .before .before .before .before .before .before .before .before .before .before .before .before .before .before .before .before .before .before .before .before .before .before .before .before .before .before .before .before .before .before .before .before .before .before .before .before .before .before .before .before .side .result) (c .before .before .before .before .before .before .before .before .before .before .before .before .before .before .before .before .before .before .before .before .before .before .before .before .before .before .before .before .before .before .before .before .before .before .before .before .before .before .before .before .before .side .ensures .0) (c .before .before .before .before .before .before .before .before .before .before .before .before .before .before .before .before .before .before .before .before .before .before .before .before .before .before .line-if .result) (c .before .before .before .before .before .before .before .before .before .before .before .before .before .before .to-on .result) (c .before .before .before .before .before .before .before .before .before .before .before .before .before .before .to-on .ensures) (c .before .before .before .before .before .before .before .before .before .before .before .before .before .side2 .result) (c .before .before .before .before .before .before .before .before .before .before .before .before .before .side2 .ensures .0) (c .before .before .before .before .before .before .before .before .before .before .before .before .before .before .before .before .before .before .before .before .before .before .before .before .before .before .line-if .ensures .0 .1),
+  on-lines-small (c .before .before .before .before .before .before .before .before .before .before .before .before .before .before .before .before .before .before .before .before .before .before .before .before .before .before .before .before .before .before .before .before .before .before .before .before .before .before .before .before .before .before .before .before .before .before .before .before .before .before .before .before .before .before .args .p) (c .before .before .before .before .before .before .before .before .before .before .before .before .before .before .before .before .before .before .before .before .before .before .before .before .before .before .before .before .before .before .before .before .before .before .before .before .before .before .before .before .before .before .before .before .before .before .before .before .before .before .before .before .before .before .pre .1 .3) (c .before .before .before .before .before .before .before .before .before .before .before .before .before .before .before .before .before .before .before .before .before .before .before .before .before .before .before .before .before .before .before .before .before .before .before .before .before .before .before .before .before .before .to-off .result) (c .before .before .before .before .before .before .before .before .before .before .before .before .before .before .before .before .before .before .before .before .before .before .before .before .before .before .before .before .before .before .before .before .before .before .before .before .before .before .before .before .before .before .to-off .ensures) (c .before .before .before .before .before .before .before .before .before .before .before .before .before .before .before .before .before .before .before .before .before .before .before .before .before .before .before .before .before .before .before .before .before .before .before .before .before .before .before .before .before .side .result) (c .before .before .before .before .before .before .before .before .before .before .before .before .before .before .before .before .before .before .before .before .before .before .before .before .before .before .before .before .before .before .before .before .before .before .before .before .before .before .before .before .before .side .ensures .0) (c .before .before .before .before .before .before .before .before .before .before .before .before .before .before .before .before .before .before .before .before .before .before .before .before .before .before .line-if .result) (c .before .before .before .before .before .before .before .before .before .before .before .before .before .before .to-on .result) (c .before .before .before .before .before .before .before .before .before .before .before .before .before .before .to-on .ensures) (c .before .before .before .before .before .before .before .before .before .before .before .before .before .side2 .result) (c .before .before .before .before .before .before .before .before .before .before .before .before .before .side2 .ensures .0) (c .before .before .before .before .before .before .before .before .before .before .before .before .before .before .before .before .before .before .before .before .before .before .before .before .before .before .line-if .ensures .0 .1) (length (c .before .before .before .before .before .before .before .before .before .before .before .before .before .before .before .before .before .before .before .before .before .before .before .before .before .before .before .before .before .before .before .before .before .before .before .before .before .before .before .before .before .before .before .before .before .before .before .before .before .before .before .before .before .before .args .saved .now)) (c .before .before .before .before .before .before .before .before .before .before .before .before .before .before .before .before .before .before .before .before .before .before .before .before .before .before .before .before .before .before .before .before .before .before .before .before .before .before .before .before .before .before .before .before .before .before .before .before .before .before .before .before .before .before .pre .1 .2),
+  on-lines-one (c .before .before .before .before .before .before .before .before .before .before .before .before .before .before .before .before .before .before .before .before .before .before .before .before .before .before .before .before .before .before .before .before .before .before .before .before .before .before .before .before .before .before .before .before .before .before .before .before .before .before .before .before .before .before .args .p) (c .before .before .before .before .before .before .before .before .before .before .before .before .before .before .before .before .before .before .before .before .before .before .before .before .before .before .before .before .before .before .before .before .before .before .before .before .before .before .before .before .before .before .before .before .before .before .before .before .before .before .before .before .before .before .pre .1 .3) (c .before .before .before .before .before .before .before .before .before .before .before .before .before .before .before .before .before .before .before .before .before .before .before .before .before .before .before .before .before .before .before .before .before .before .before .before .before .before .before .before .before .before .to-off .result) (c .before .before .before .before .before .before .before .before .before .before .before .before .before .before .before .before .before .before .before .before .before .before .before .before .before .before .before .before .before .before .before .before .before .before .before .before .before .before .before .before .before .before .to-off .ensures) (c .before .before .before .before .before .before .before .before .before .before .before .before .before .before .before .before .before .before .before .before .before .before .before .before .before .before .before .before .before .before .before .before .before .before .before .before .before .before .before .before .before .side .result) (c .before .before .before .before .before .before .before .before .before .before .before .before .before .before .before .before .before .before .before .before .before .before .before .before .before .before .before .before .before .before .before .before .before .before .before .before .before .before .before .before .before .side .ensures .0) (c .before .before .before .before .before .before .before .before .before .before .before .before .before .before .before .before .before .before .before .before .before .before .before .before .before .before .line-if .result) (c .before .before .before .before .before .before .before .before .before .before .before .before .before .before .to-on .result) (c .before .before .before .before .before .before .before .before .before .before .before .before .before .before .to-on .ensures) (c .before .before .before .before .before .before .before .before .before .before .before .before .before .side2 .result) (c .before .before .before .before .before .before .before .before .before .before .before .before .before .side2 .ensures .0) (c .before .before .before .before .before .before .before .before .before .before .before .before .before .before .before .before .before .before .before .before .before .before .before .before .before .before .line-if .ensures .0 .1),
 )
 
 free-with-lines-requires : (t : ℕ) → free-lts.Need-with-lines-requires (
@@ -1163,185 +1163,150 @@ free-returns-2 : (t : ℕ) → free-lts.Need-returns-2 (
   with-lines-reads.Learnt,
 ) (free-at t) free.Post
 free-returns-2 t c = (
-  counts-free (c .before .before .before .before .before .before .before .before .before .before .before .before .before .before .before .before .before .before .before .before .before .before .before .before .before .before .before .before .before .before .before .before .before .before .before .before .before .before .before .before .before .before .before .before .before .before .before .before .before .before .before .before .before .before .before .before .before .before .args .numbers .now) (c .before .before .before .before .before .before .before .before .before .before .before .before .before .before .before .before .before .before .before .before .before .before .before .before .before .before .before .before .before .before .before .before .before .before .before .before .before .before .before .before .before .before .before .before .before .before .before .before .before .before .before .before .before .before .before .before .before .before .args .p) (c .before .before .before .before .before .before .before .before .before .before .before .before .before .before .before .before .before .before .before .before .before .before .before .before .before .before .before .before .before .before .before .before .before .before .before .before .before .before .before .before .before .before .before .before .before .before .before .before .before .before .before .before .before .before .before .before .before .before .pre .1 .3) (c .before .before .before .before .before .before .before .before .before .before .before .before .before .before .before .before .before .before .before .before .before .before .before .before .before .before .before .before .before .before .before .before .before .before .before .before .before .before .before .before .before .before .before .before .before .before .to-off .result) (c .before .before .before .before .before .before .before .before .before .before .before .before .before .before .before .before .before .before .before .before .before .before .before .before .before .before .before .before .before .before .before .before .before .before .before .before .before .before .before .before .before .before .before .before .before .before .to-off .ensures) (c .before .before .before .before .before .before .before .before .before .before .before .before .before .before .before .before .before .before .before .before .before .before .before .before .before .before .before .before .before .before .before .before .before .before .before .before .before .before .before .before .before .before .before .before .before .side .result) (c .before .before .before .before .before .before .before .before .before .before .before .before .before .before .before .before .before .before .before .before .before .before .before .before .before .before .before .before .before .before .before .before .before .before .before .before .before .before .before .before .before .before .before .before .before .side .ensures .0) (c .before .before .before .before .before .before .before .before .before .before .before .before .before .before .before .before .before .before .before .before .before .before .before .before .before .before .before .before .before .before .line-if .result) (c .before .before .before .before .before .before .before .before .before .before .before .before .before .before .before .before .before .before .to-on .result) (c .before .before .before .before .before .before .before .before .before .before .before .before .before .before .before .before .before .before .to-on .ensures) (c .before .before .before .before .before .before .before .before .before .before .before .before .before .before .before .before .before .side2 .result) (c .before .before .before .before .before .before .before .before .before .before .before .before .before .before .before .before .before .side2 .ensures .0) (c .before .before .before .before .before .before .before .before .before .before .before .before .before .before .before .before .before .before .before .before .before .before .before .before .before .before .before .before .before .before .line-if .ensures .0 .1) (c .before .before .before .before .before .before .finish .result) (c .before .before .before .before .before .before .finish .ensures .0 .0) (c .before .before .before .before .before .before .finish .ensures .0 .2) (c .before .before .before .settle-lines .result) (c .before .before .before .settle-lines .ensures .0 .1) (c .with-lines .result) (c .with-lines .ensures),
+  counts-free (c .before .before .before .before .before .before .before .before .before .before .before .before .before .before .before .before .before .before .before .before .before .before .before .before .before .before .before .before .before .before .before .before .before .before .before .before .before .before .before .before .before .before .before .before .before .before .before .before .before .before .before .before .before .before .before .before .before .before .args .p) (c .before .before .before .before .before .before .before .before .before .before .before .before .before .before .before .before .before .before .before .before .before .before .before .before .before .before .before .before .before .before .before .before .before .before .before .before .before .before .before .before .before .before .before .before .before .before .before .before .before .before .before .before .before .before .before .before .before .before .pre .1 .3) (c .before .before .before .before .before .before .before .before .before .before .before .before .before .before .before .before .before .before .before .before .before .before .before .before .before .before .before .before .before .before .before .before .before .before .before .before .before .before .before .before .before .before .before .before .before .before .to-off .result) (c .before .before .before .before .before .before .before .before .before .before .before .before .before .before .before .before .before .before .before .before .before .before .before .before .before .before .before .before .before .before .before .before .before .before .before .before .before .before .before .before .before .before .before .before .before .before .to-off .ensures) (c .before .before .before .before .before .before .before .before .before .before .before .before .before .before .before .before .before .before .before .before .before .before .before .before .before .before .before .before .before .before .before .before .before .before .before .before .before .before .before .before .before .before .before .before .before .side .result) (c .before .before .before .before .before .before .before .before .before .before .before .before .before .before .before .before .before .before .before .before .before .before .before .before .before .before .before .before .before .before .before .before .before .before .before .before .before .before .before .before .before .before .before .before .before .side .ensures .0) (c .before .before .before .before .before .before .before .before .before .before .before .before .before .before .before .before .before .before .before .before .before .before .before .before .before .before .before .before .before .before .line-if .result) (c .before .before .before .before .before .before .before .before .before .before .before .before .before .before .before .before .before .before .to-on .result) (c .before .before .before .before .before .before .before .before .before .before .before .before .before .before .before .before .before .before .to-on .ensures) (c .before .before .before .before .before .before .before .before .before .before .before .before .before .before .before .before .before .side2 .result) (c .before .before .before .before .before .before .before .before .before .before .before .before .before .before .before .before .before .side2 .ensures .0) (c .before .before .before .before .before .before .before .before .before .before .before .before .before .before .before .before .before .before .before .before .before .before .before .before .before .before .before .before .before .before .line-if .ensures .0 .1) (c .before .before .before .before .before .before .finish .result) (c .before .before .before .before .before .before .finish .ensures .0 .0) (c .before .before .before .before .before .before .finish .ensures .0 .2) (c .before .before .before .settle-lines .result) (c .before .before .before .settle-lines .ensures .0 .1) (c .with-lines .result) (c .with-lines .ensures),
   (
-    (record { restored = c .before .before .before .before .before .before .before .before .before .before .before .before .before .before .before .before .before .side2 .ensures .1 .0 .0 .restored ∙ c .before .before .before .before .before .before .before .before .before .before .before .before .before .before .before .before .before .before .before .before .before .before .before .before .before .before .before .before .before .before .before .before .before .before .before .before .before .before .before .before .before .before .before .before .before .side .ensures .1 .0 .0 .restored; statuses-restored = c .before .before .before .before .before .before .before .before .before .before .before .before .before .before .before .before .before .side2 .ensures .1 .0 .0 .statuses-restored ∙ c .before .before .before .before .before .before .before .before .before .before .before .before .before .before .before .before .before .before .before .before .before .before .before .before .before .before .before .before .before .before .before .before .before .before .before .before .before .before .before .before .before .before .before .before .before .side .ensures .1 .0 .0 .statuses-restored; size = c .before .before .before .settle-lines .ensures .0 .0 ∙ c .before .before .before .before .before .before .before .before .before .before .before .before .before .before .before .before .before .side2 .ensures .1 .0 .0 .size ∙ c .before .before .before .before .before .before .before .before .before .before .before .before .before .before .before .before .before .before .before .before .before .before .before .before .before .before .before .before .before .before .line-if .ensures .0 .0 ∙ c .before .before .before .before .before .before .before .before .before .before .before .before .before .before .before .before .before .before .before .before .before .before .before .before .before .before .before .before .before .before .before .before .before .before .before .before .before .before .before .before .before .before .before .before .before .side .ensures .1 .0 .0 .size }, c .before .before .before .before .before .before .finish .ensures .0 .1),
-    (λ D s ls R st task alive is. result-as (sym (c .with-lines .ensures))
-        (free-result (c .before .before .before .before .before .before .before .before .before .before .before .before .before .before .before .before .before .before .before .before .before .before .before .before .before .before .before .before .before .before .before .before .before .before .before .before .before .before .before .before .before .before .before .before .before .before .before .before .before .before .before .before .before .before .before .before .before .before .args .p) (c .before .before .before .before .before .before .before .before .before .before .before .before .before .before .before .before .before .before .before .before .before .before .before .before .before .before .before .before .before .before .before .before .before .before .before .before .before .before .before .before .before .before .before .before .before .before .before .before .before .before .before .before .before .before .before .before .before .before .pre .1 .3) (c .before .before .before .before .before .before .before .before .before .before .before .before .before .before .before .before .before .before .before .before .before .before .before .before .before .before .before .before .before .before .before .before .before .before .before .before .before .before .before .before .before .before .before .before .before .before .to-off .result) (c .before .before .before .before .before .before .before .before .before .before .before .before .before .before .before .before .before .before .before .before .before .before .before .before .before .before .before .before .before .before .before .before .before .before .before .before .before .before .before .before .before .before .before .before .before .before .to-off .ensures) (c .before .before .before .before .before .before .before .before .before .before .before .before .before .before .before .before .before .before .before .before .before .before .before .before .before .before .before .before .before .before .before .before .before .before .before .before .before .before .before .before .before .before .before .before .before .side .result) (c .before .before .before .before .before .before .before .before .before .before .before .before .before .before .before .before .before .before .before .before .before .before .before .before .before .before .before .before .before .before .before .before .before .before .before .before .before .before .before .before .before .before .before .before .before .side .ensures .1 .1 .1) (c .before .before .before .before .before .before .before .before .before .before .before .before .before .before .before .before .before .before .before .before .before .before .before .before .before .before .before .before .before .before .before .before .before .before .before .before .before .before .before .goes-up .result) (c .before .before .before .before .before .before .before .before .before .before .before .before .before .before .before .before .before .before .before .before .before .before .before .before .before .before .before .before .before .before .before .before .before .before .before .before .before .before .before .goes-up .ensures)
-        (c .before .before .before .before .before .before .before .before .before .before .before .before .before .before .before .before .before .before .before .before .before .before .before .before .before .before .before .before .before .before .before .before .before .before .before .before .before .before .before .before .before .before .before .before .before .side .ensures .1 .0 .0 .restored) (c .before .before .before .before .before .before .before .before .before .before .before .before .before .before .before .before .before .before .before .before .before .before .before .before .before .before .before .before .before .before .before .before .before .before .before .before .before .before .before .before .before .before .before .before .before .side .ensures .1 .0 .0 .statuses-restored) (c .before .before .before .before .before .before .before .before .before .before .before .before .before .before .before .before .before .before .before .before .before .before .before .before .before .before .before .before .before .before .line-if .result) (c .before .before .before .before .before .before .before .before .before .before .before .before .before .before .before .before .before .before .before .before .before .before .before .before .before .before .before .before .before .before .line-if .ensures .0 .1) (c .before .before .before .before .before .before .before .before .before .before .before .before .before .before .before .before .before .before .before .before .before .before .before .before .before .before .before .before .before .before .line-if .ensures .1) (c .before .before .before .before .before .before .before .before .before .before .before .before .before .before .before .before .before .before .to-on .result) (c .before .before .before .before .before .before .before .before .before .before .before .before .before .before .before .before .before .before .to-on .ensures) (c .before .before .before .before .before .before .before .before .before .before .before .before .before .before .before .before .before .side2 .result) (c .before .before .before .before .before .before .before .before .before .before .before .before .before .before .before .before .before .side2 .ensures .1 .1 .1) _ (c .before .before .before .before .before .before .before .before .before .before .before .before .before .before .before .before .before .side2 .ensures .1 .1 .0 .1 ∙ c .before .before .before .before .before .before .before .before .before .before .before .before .before .before .before .before .before .before .before .before .before .before .before .before .before .before .before .before .before .before .before .before .before .before .before .put-aside .ensures .1) (c .before .before .before .before .before .before .finish .result)
-        (c .before .before .before .before .before .before .finish .ensures .1) (c .before .before .before .before .before .before .before .before .before .before .before .before .before .before .before .before .before .before .before .before .before .before .before .before .before .before .before .before .before .before .before .before .before .before .before .before .before .before .if1 .left) (c .before .before .before .before .before .before .finish .ensures .0 .0 .visits) (c .before .before .before .before .before .before .before .before .before .before .before .before .before .before .before .before .before .side2 .ensures .1 .0 .0 .restored ∙ c .before .before .before .before .before .before .before .before .before .before .before .before .before .before .before .before .before .before .before .before .before .before .before .before .before .before .before .before .before .before .before .before .before .before .before .before .before .before .before .before .before .before .before .before .before .side .ensures .1 .0 .0 .restored) _ (c .before .before .before .settle-lines .result) (c .before .before .before .settle-lines .ensures .0 .1) (c .before .before .before .settle-lines .ensures .1) D s ls R st task alive is)),
+    (kept-both (c .before .before .before .before .before .before .before .before .before .before .before .before .before .before .before .before .before .before .before .before .before .before .before .before .before .before .before .before .before .before .before .before .before .before .before .before .before .before .before .before .before .before .before .before .before .before .before .before .before .before .before .before .before .before .before .before .before .before .args .p) (c .before .before .before .before .before .before .before .before .before .before .before .before .before .before .before .before .before .before .before .before .before .before .before .before .before .before .before .before .before .before .before .before .before .before .before .before .before .before .before .before .before .before .before .before .before .before .to-off .result) (c .before .before .before .before .before .before .before .before .before .before .before .before .before .before .before .before .before .before .to-on .result) _ _ _ _ (c .before .before .before .before .before .before .before .before .before .before .before .before .before .before .before .before .before .before .before .before .before .before .before .before .before .before .before .before .before .before .before .before .before .before .before .before .before .before .before .before .before .before .before .before .before .before .to-off .ensures) (c .before .before .before .before .before .before .before .before .before .before .before .before .before .before .before .before .before .before .to-on .ensures) (c .before .before .before .before .before .before .before .before .before .before .before .before .before .before .before .before .before .before .before .before .before .before .before .before .before .before .before .before .before .before .before .before .before .before .before .before .before .before .before .before .before .before .before .before .before .side .ensures .1 .0 .0) (c .before .before .before .before .before .before .before .before .before .before .before .before .before .before .before .before .before .before .before .before .before .before .before .before .before .before .before .before .before .before .line-if .ensures .0 .0) (c .before .before .before .before .before .before .before .before .before .before .before .before .before .before .before .before .before .side2 .ensures .1 .0 .0) (c .before .before .before .settle-lines .ensures .0 .0), c .before .before .before .before .before .before .finish .ensures .0 .1),
+    (λ D s ls R st task alive inside is. result-as (sym (c .with-lines .ensures))
+        (free-result (c .before .before .before .before .before .before .before .before .before .before .before .before .before .before .before .before .before .before .before .before .before .before .before .before .before .before .before .before .before .before .before .before .before .before .before .before .before .before .before .before .before .before .before .before .before .before .before .before .before .before .before .before .before .before .before .before .before .before .args .p) (c .before .before .before .before .before .before .before .before .before .before .before .before .before .before .before .before .before .before .before .before .before .before .before .before .before .before .before .before .before .before .before .before .before .before .before .before .before .before .before .before .before .before .before .before .before .before .to-off .result) (c .before .before .before .before .before .before .before .before .before .before .before .before .before .before .before .before .before .before .before .before .before .before .before .before .before .before .before .before .before .before .before .before .before .before .before .before .before .before .before .before .before .before .before .before .before .before .to-off .ensures) (c .before .before .before .before .before .before .before .before .before .before .before .before .before .before .before .before .before .before .before .before .before .before .before .before .before .before .before .before .before .before .before .before .before .before .before .before .before .before .before .before .before .before .before .before .before .side .result) (c .before .before .before .before .before .before .before .before .before .before .before .before .before .before .before .before .before .before .before .before .before .before .before .before .before .before .before .before .before .before .before .before .before .before .before .before .before .before .before .before .before .before .before .before .before .side .ensures .1 .1 .1) (c .before .before .before .before .before .before .before .before .before .before .before .before .before .before .before .before .before .before .before .before .before .before .before .before .before .before .before .before .before .before .before .before .before .before .before .before .before .before .before .goes-up .result) (c .before .before .before .before .before .before .before .before .before .before .before .before .before .before .before .before .before .before .before .before .before .before .before .before .before .before .before .before .before .before .before .before .before .before .before .before .before .before .before .goes-up .ensures)
+        (c .before .before .before .before .before .before .before .before .before .before .before .before .before .before .before .before .before .before .before .before .before .before .before .before .before .before .before .before .before .before .before .before .before .before .before .before .before .before .before .before .before .before .before .before .before .side .ensures .1 .0 .0) (c .before .before .before .before .before .before .before .before .before .before .before .before .before .before .before .before .before .before .before .before .before .before .before .before .before .before .before .before .before .before .line-if .result) (c .before .before .before .before .before .before .before .before .before .before .before .before .before .before .before .before .before .before .before .before .before .before .before .before .before .before .before .before .before .before .line-if .ensures .0 .1) (c .before .before .before .before .before .before .before .before .before .before .before .before .before .before .before .before .before .before .before .before .before .before .before .before .before .before .before .before .before .before .line-if .ensures .1) (c .before .before .before .before .before .before .before .before .before .before .before .before .before .before .before .before .before .before .to-on .result) (c .before .before .before .before .before .before .before .before .before .before .before .before .before .before .before .before .before .before .to-on .ensures) (c .before .before .before .before .before .before .before .before .before .before .before .before .before .before .before .before .before .side2 .result) (c .before .before .before .before .before .before .before .before .before .before .before .before .before .before .before .before .before .side2 .ensures .1 .1 .1) _ (c .before .before .before .before .before .before .before .before .before .before .before .before .before .before .before .before .before .side2 .ensures .1 .1 .0 .1 ∙ c .before .before .before .before .before .before .before .before .before .before .before .before .before .before .before .before .before .before .before .before .before .before .before .before .before .before .before .before .before .before .before .before .before .before .before .put-aside .ensures .1) (c .before .before .before .before .before .before .finish .result)
+        (c .before .before .before .before .before .before .finish .ensures .1) (c .before .before .before .before .before .before .before .before .before .before .before .before .before .before .before .before .before .before .before .before .before .before .before .before .before .before .before .before .before .before .before .before .before .before .before .before .before .before .if1 .left) (c .before .before .before .before .before .before .finish .ensures .0 .0 .visits) (c .before .before .before .before .before .before .before .before .before .before .before .before .before .before .before .before .before .side2 .ensures .1 .0 .0) _ (c .before .before .before .settle-lines .result) (c .before .before .before .settle-lines .ensures .0 .1) (c .before .before .before .settle-lines .ensures .1) D s ls R st task alive inside is)),
   ),
 )
 
-side-number-at-requires : (t : ℕ) → side-lts.Need-number-at-requires (
-  number-at-reads.Asked,
-  number-at-reads.Learnt,
-  give-reads.Asked,
-  give-reads.Learnt,
-  visit-below t,
-  visit.Post,
-  restore-reads.Asked,
-  restore-reads.Learnt,
-) (side-at t) side.Post
-side-number-at-requires t c κs = search needs
-
-side-element-copy-out-was : (t : ℕ) → side-lts.Need-element-copy-out-was (
-  number-at-reads.Asked,
-  number-at-reads.Learnt,
-  give-reads.Asked,
-  give-reads.Learnt,
-  visit-below t,
-  visit.Post,
-  restore-reads.Asked,
-  restore-reads.Learnt,
-) (side-at t) side.Post
-side-element-copy-out-was t c = search needs
-
-side-element-write-values : (t : ℕ) → side-lts.Need-element-write-values (
-  number-at-reads.Asked,
-  number-at-reads.Learnt,
-  give-reads.Asked,
-  give-reads.Learnt,
-  visit-below t,
-  visit.Post,
-  restore-reads.Asked,
-  restore-reads.Learnt,
-) (side-at t) side.Post
-side-element-write-values t c = search needs
-
 side-give-requires : (t : ℕ) → side-lts.Need-give-requires (
-  number-at-reads.Asked,
-  number-at-reads.Learnt,
   give-reads.Asked,
   give-reads.Learnt,
   visit-below t,
   visit.Post,
   restore-reads.Asked,
   restore-reads.Learnt,
+  with-lines-reads.Asked,
+  with-lines-reads.Learnt,
 ) (side-at t) side.Post
-side-give-requires t c κs = omega (arith, c .before .before .before .before .before .before .before .pre .1 .2 .few, c .before .before .before .before .before .before .before .pre .1 .2 .within)
+side-give-requires t c κs = c .before .before .before .before .before .pre .1 .2 .within
 
 side-sub-visit : (t : ℕ) → side-lts.Need-sub-visit (
-  number-at-reads.Asked,
-  number-at-reads.Learnt,
   give-reads.Asked,
   give-reads.Learnt,
   visit-below t,
   visit.Post,
   restore-reads.Asked,
   restore-reads.Learnt,
+  with-lines-reads.Asked,
+  with-lines-reads.Learnt,
 ) (side-at t) side.Post
 side-sub-visit t c = search needs
 
 side-part-visit-start : (t : ℕ) → side-lts.Need-part-visit-start (
-  number-at-reads.Asked,
-  number-at-reads.Learnt,
   give-reads.Asked,
   give-reads.Learnt,
   visit-below t,
   visit.Post,
   restore-reads.Asked,
   restore-reads.Learnt,
+  with-lines-reads.Asked,
+  with-lines-reads.Learnt,
 ) (side-at t) side.Post
 side-part-visit-start t c = search needs
 
 side-part-visit-end : (t : ℕ) → side-lts.Need-part-visit-end (
-  number-at-reads.Asked,
-  number-at-reads.Learnt,
   give-reads.Asked,
   give-reads.Learnt,
   visit-below t,
   visit.Post,
   restore-reads.Asked,
   restore-reads.Learnt,
+  with-lines-reads.Asked,
+  with-lines-reads.Learnt,
 ) (side-at t) side.Post
 side-part-visit-end t c = search needs
 
 side-visit-requires : (t : ℕ) → side-lts.Need-visit-requires (
-  number-at-reads.Asked,
-  number-at-reads.Learnt,
   give-reads.Asked,
   give-reads.Learnt,
   visit-below t,
   visit.Post,
   restore-reads.Asked,
   restore-reads.Learnt,
+  with-lines-reads.Asked,
+  with-lines-reads.Learnt,
 ) (side-at t) side.Post
 side-visit-requires t c κs =
-    (omega (arith, c .before .before .before .before .before .before .before .before .before .before .before .before .before .before .before .before .before .pre .0), (c .before .before .before .before .before .before .before .before .before .before .before .before .before .before .before .before .before .pre .1 .0, c .before .before .before .before .before .before .before .before .before .before .before .before .before .before .before .before .before .pre .1 .1, part-room (length (c .before .before .before .before .before .before .before .before .before .before .before .before .before .before .before .before .before .args .saved .now)) (c .before .before .before .before .before .before .before .before .before .before .before .before .before .before .before .before .before .args .aside) _ (c .before .before .before .before .before .before .before .before .before .before .before .before .before .before .before .before .before .args .p) (c .before .before .before .before .before .before .before .before .before .before .before .before .before .before .before .before .before .pre .1 .2) (c .before .before .before .before .before .before .before .before .before .before .before .before .before .before .before .before .before .pre .1 .4) (c .before .before .before .before .before .before .before .before .before .before .before .before .before .before .before .before .before .pre .1 .5) (simp (length-take, length-drop) (omega (arith, c .before .before .before .before .before .before .before .before .before .before .before .before .before .before .before .before .before .pre .1 .4, c .before .before .before .before .before .before .before .before .before .before .before .before .before .before .before .before .before .pre .1 .5))), c .before .before .before .before .before .before .before .before .before .before .before .before .before .before .before .before .before .pre .1 .3))
+    (omega (arith, c .before .before .before .before .before .before .before .before .before .before .before .before .before .before .before .pre .0), (c .before .before .before .before .before .before .before .before .before .before .before .before .before .before .before .pre .1 .0, c .before .before .before .before .before .before .before .before .before .before .before .before .before .before .before .pre .1 .1, part-room (length (c .before .before .before .before .before .before .before .before .before .before .before .before .before .before .before .args .saved .now)) (c .before .before .before .before .before .before .before .before .before .before .before .before .before .before .before .args .aside) _ (c .before .before .before .before .before .before .before .before .before .before .before .before .before .before .before .args .p) (c .before .before .before .before .before .before .before .before .before .before .before .before .before .before .before .pre .1 .2) (c .before .before .before .before .before .before .before .before .before .before .before .before .before .before .before .pre .1 .4) (c .before .before .before .before .before .before .before .before .before .before .before .before .before .before .before .pre .1 .5) (simp (length-take, length-drop) (omega (arith, c .before .before .before .before .before .before .before .before .before .before .before .before .before .before .before .pre .1 .4, c .before .before .before .before .before .before .before .before .before .before .before .before .before .before .before .pre .1 .5)))))
 
 side-restore-requires : (t : ℕ) → side-lts.Need-restore-requires (
-  number-at-reads.Asked,
-  number-at-reads.Learnt,
   give-reads.Asked,
   give-reads.Learnt,
   visit-below t,
   visit.Post,
   restore-reads.Asked,
   restore-reads.Learnt,
+  with-lines-reads.Asked,
+  with-lines-reads.Learnt,
 ) (side-at t) side.Post
-side-restore-requires t c κs = omega (arith, c .before .before .before .before .before .before .before .before .before .before .before .before .before .before .before .before .before .before .before .before .before .before .before .pre .1 .2 .few, c .before .before .before .before .before .before .before .before .before .before .before .before .before .before .before .before .before .before .before .before .before .before .before .pre .1 .2 .within)
+side-restore-requires t c κs = c .before .before .before .before .before .before .before .before .before .before .before .before .before .before .before .before .before .before .before .before .before .pre .1 .2 .within
 
-side-element-write-values-2 : (t : ℕ) → side-lts.Need-element-write-values-2 (
-  number-at-reads.Asked,
-  number-at-reads.Learnt,
+side-with-lines-requires : (t : ℕ) → side-lts.Need-with-lines-requires (
   give-reads.Asked,
   give-reads.Learnt,
   visit-below t,
   visit.Post,
   restore-reads.Asked,
   restore-reads.Learnt,
+  with-lines-reads.Asked,
+  with-lines-reads.Learnt,
 ) (side-at t) side.Post
-side-element-write-values-2 t c = c .before .before .before .before .before .before .before .before .before .before .before .before .before .before .before .before .before .before .before .before .before .number-at .ensures .0
+side-with-lines-requires t c κs = search needs
 
 side-same-length : (t : ℕ) → side-lts.Need-same-length (
-  number-at-reads.Asked,
-  number-at-reads.Learnt,
   give-reads.Asked,
   give-reads.Learnt,
   visit-below t,
   visit.Post,
   restore-reads.Asked,
   restore-reads.Learnt,
+  with-lines-reads.Asked,
+  with-lines-reads.Learnt,
 ) (side-at t) side.Post
 side-same-length t c = search needs
 
 side-same-length-2 : (t : ℕ) → side-lts.Need-same-length-2 (
-  number-at-reads.Asked,
-  number-at-reads.Learnt,
   give-reads.Asked,
   give-reads.Learnt,
   visit-below t,
   visit.Post,
   restore-reads.Asked,
   restore-reads.Learnt,
+  with-lines-reads.Asked,
+  with-lines-reads.Learnt,
 ) (side-at t) side.Post
 side-same-length-2 t c = search needs
 
 side-returns : (t : ℕ) → side-lts.Need-returns (
-  number-at-reads.Asked,
-  number-at-reads.Learnt,
   give-reads.Asked,
   give-reads.Learnt,
   visit-below t,
   visit.Post,
   restore-reads.Asked,
   restore-reads.Learnt,
+  with-lines-reads.Asked,
+  with-lines-reads.Learnt,
 ) (side-at t) side.Post
 side-returns t c = (
-  c .before .before .before .before .before .before .visit .ensures .0,
+  counts-as (sym (c .with-lines .ensures)) (c .before .before .before .before .before .before .before .visit .ensures .0),
   (
     (
       record {
-        restored = set-back (c .before .before .before .before .before .before .before .before .before .before .before .before .before .before .before .before .before .before .before .before .before .before .before .before .args .values .now) _ (c .before .before .before .before .before .before .before .before .before .before .before .before .before .before .before .before .before .before .before .before .before .number-at .result) (c .before .before .before .before .before .before .before .before .before .before .before .before .before .before .before .before .before .before .before .before .before .before .before .before .args .value) (c .before .before .before .before .before .before .visit .ensures .1 .0 .0 .restored);
-        statuses-restored = c .restore .ensures ∙ statuses-back (c .before .before .before .before .before .before .before .before .before .before .before .before .before .before .before .before .before .before .before .before .before .before .before .before .args .p .at) (c .before .before .before .before .before .before .before .before .before .before .before .before .before .before .before .before .before .before .before .before .before .before .before .before .args .value) _ _ (c .before .before .before .before .before .before .before .before .before .before .before .before .before .before .before .before .before .before .before .before .before .before .before .before .args .statuses .now) _ (omega (arith, c .before .before .before .before .before .before .before .before .before .before .before .before .before .before .before .before .before .before .cells2 .given, c .before .before .before .before .before .before .before .before .before .before .before .before .before .before .before .before .before .before .before .before .before .before .before .before .pre .1 .2 .few, c .before .before .before .before .before .before .before .before .before .before .before .before .before .before .before .before .before .before .before .before .before .before .before .before .pre .1 .2 .within)) (c .before .before .before .before .before .before .visit .ensures .1 .0 .0 .statuses-restored ∙ c .before .before .before .before .before .before .before .before .before .before .before .before .before .before .before .before .give .ensures .0) (c .before .before .before .before .before .before .before .before .before .before .before .before .before .before .before .before .give .ensures .1) (c .before .before .before .before .before .before .before .before .before .before .before .before .before .before .before .before .give .ensures .2);
-        size = c .before .before .before .before .before .before .visit .ensures .1 .0 .0 .size;
+        statuses-restored = c .before .restore .ensures ∙ statuses-back (c .before .before .before .before .before .before .before .before .before .before .before .before .before .before .before .before .before .before .before .before .before .before .before .args .p .at) (c .before .before .before .before .before .before .before .before .before .before .before .before .before .before .before .before .before .before .before .before .before .before .before .args .value) _ _ (c .before .before .before .before .before .before .before .before .before .before .before .before .before .before .before .before .before .before .before .before .before .before .before .args .statuses .now) _ (omega (arith, c .before .before .before .before .before .before .before .before .before .before .before .before .before .before .before .before .before .before .before .cells2 .given, c .before .before .before .before .before .before .before .before .before .before .before .before .before .before .before .before .before .before .before .before .before .before .before .pre .1 .2 .within)) (c .before .before .before .before .before .before .before .visit .ensures .1 .0 .0 .statuses-restored ∙ c .before .before .before .before .before .before .before .before .before .before .before .before .before .before .before .before .before .give .ensures .0) (c .before .before .before .before .before .before .before .before .before .before .before .before .before .before .before .before .before .give .ensures .1) (c .before .before .before .before .before .before .before .before .before .before .before .before .before .before .before .before .before .give .ensures .2);
+        size = c .before .before .before .before .before .before .before .visit .ensures .1 .0 .0 .size;
+        firsts-kept = c .before .before .before .before .before .before .before .visit .ensures .1 .0 .0 .firsts-kept;
       },
-      c .before .before .before .before .before .before .visit .ensures .1 .0 .1,
+      c .before .before .before .before .before .before .before .visit .ensures .1 .0 .1,
     ),
     (
-      (search needs, take-put (c .before .before .before .before .before .before .before .before .before .before .before .before .before .before .before .before .before .before .before .before .before .before .before .before .args .aside) (length (c .before .before .before .before .before .before .before .before .before .before .before .before .before .before .before .before .before .before .before .before .before .before .before .before .args .saved .now) - c .before .before .before .before .before .before .before .before .before .before .before .before .before .before .before .before .before .before .before .before .before .before .before .before .args .aside) (c .before .before .before .before .before .before .before .before .before .before .before .before .before .before .before .before .before .before .before .before .before .before .before .before .args .saved .now) (c .before .before .before .before .before .before .visit .last .1 .1 .1 .1 .1 .1 .1 .1 .1 .1 .1 .1 .1 .1 .0) (omega (arith, c .before .before .before .before .before .before .before .before .before .before .before .before .before .before .before .before .before .before .before .before .before .before .before .before .pre .1 .4, c .before .before .before .before .before .before .before .before .before .before .before .before .before .before .before .before .before .before .before .before .before .before .before .before .pre .1 .5))),
-      (λ D s b ls R st k task alive e v. side-result D s b ls R st k (c .before .before .before .before .before .before .before .before .before .before .before .before .before .before .before .before .before .before .before .before .before .before .before .before .args .p) task alive (c .before .before .before .before .before .before .before .before .before .before .before .before .before .before .before .before .before .before .before .before .before .before .before .before .args .value) (c .before .before .before .before .before .before .before .before .before .before .before .before .before .before .before .before .before .before .before .before .before .number-at .result) (length (c .before .before .before .before .before .before .before .before .before .before .before .before .before .before .before .before .before .before .before .before .before .before .before .before .args .saved .now)) (c .before .before .before .before .before .before .before .before .before .before .before .before .before .before .before .before .before .before .before .before .before .number-at .ensures .1) e v (c .before .before .before .before .before .before .before .before .before .before .before .before .before .before .before .before .before .before .before .before .before .before .before .before .pre .1 .2) (omega (arith, c .before .before .before .before .before .before .before .before .before .before .before .before .before .before .before .before .before .before .cells2 .given)) _ (c .before .before .before .before .before .before .before .before .before .before .before .before .before .before .before .before .give .ensures .0) (c .before .before .before .before .before .before .visit .ensures .1 .1 D _ ls R st)),
+      (search needs, take-put (c .before .before .before .before .before .before .before .before .before .before .before .before .before .before .before .before .before .before .before .before .before .before .before .args .aside) (length (c .before .before .before .before .before .before .before .before .before .before .before .before .before .before .before .before .before .before .before .before .before .before .before .args .saved .now) - c .before .before .before .before .before .before .before .before .before .before .before .before .before .before .before .before .before .before .before .before .before .before .before .args .aside) (c .before .before .before .before .before .before .before .before .before .before .before .before .before .before .before .before .before .before .before .before .before .before .before .args .saved .now) (c .before .before .before .before .before .before .before .visit .last .1 .1 .1 .1 .1 .1 .1 .1 .1 .0) (omega (arith, c .before .before .before .before .before .before .before .before .before .before .before .before .before .before .before .before .before .before .before .before .before .before .before .pre .1 .4, c .before .before .before .before .before .before .before .before .before .before .before .before .before .before .before .before .before .before .before .before .before .before .before .pre .1 .5))),
+      (λ D s b ls R st k task alive inside e v. result-as (sym (c .with-lines .ensures))
+          (side-result D s b ls R st k (c .before .before .before .before .before .before .before .before .before .before .before .before .before .before .before .before .before .before .before .before .before .before .before .args .p) task alive e (c .before .before .before .before .before .before .before .before .before .before .before .before .before .before .before .before .before .before .before .before .before .before .before .pre .1 .2 .within) (omega (arith, c .before .before .before .before .before .before .before .before .before .before .before .before .before .before .before .before .before .before .before .cells2 .given)) (c .before .before .before .before .before .before .before .before .before .before .before .before .before .before .before .before .before .before .before .before .before .before .before .args .value) v _ (c .before .before .before .before .before .before .before .before .before .before .before .before .before .before .before .before .before .give .ensures .0) (λ here entered. c .before .before .before .before .before .before .before .visit .ensures .1 .1 D (s ▹ b) ls R st here entered))),
     ),
   ),
 )
@@ -1355,8 +1320,10 @@ visit-conclude-requires : (t : ℕ) → visit-lts.Need-conclude-requires (
   resumed-reads.Learnt,
   branch-below t,
   branch.Post,
+  with-lines-reads.Asked,
+  with-lines-reads.Learnt,
 ) (visit-at t) visit.Post
-visit-conclude-requires t c κs = (c .before .before .before .before .before .before .before .before .pre .1 .0, c .before .before .before .before .before .before .before .before .pre .1 .1, omega (arith, c .before .before .before .before .before .before .before .before .pre .1 .2 .few, c .before .before .before .before .before .before .before .before .pre .1 .2 .within))
+visit-conclude-requires t c κs = (c .before .before .before .before .before .before .before .before .before .pre .1 .0, c .before .before .before .before .before .before .before .before .before .pre .1 .1, c .before .before .before .before .before .before .before .before .before .pre .1 .2 .within)
 
 visit-enum-known-leaf : (t : ℕ) → visit-lts.Need-enum-known-leaf (
   conclude-reads.Asked,
@@ -1367,6 +1334,8 @@ visit-enum-known-leaf : (t : ℕ) → visit-lts.Need-enum-known-leaf (
   resumed-reads.Learnt,
   branch-below t,
   branch.Post,
+  with-lines-reads.Asked,
+  with-lines-reads.Learnt,
 ) (visit-at t) visit.Post
 visit-enum-known-leaf t c = search needs
 
@@ -1379,8 +1348,10 @@ visit-settled-requires : (t : ℕ) → visit-lts.Need-settled-requires (
   resumed-reads.Learnt,
   branch-below t,
   branch.Post,
+  with-lines-reads.Asked,
+  with-lines-reads.Learnt,
 ) (visit-at t) visit.Post
-visit-settled-requires t c κs = visits-small (c .before .before .before .before .before .before .before .before .before .before .before .before .args .numbers .now) (length (c .before .before .before .before .before .before .before .before .before .before .before .before .args .saved .now)) (c .before .before .before .before .before .before .before .before .before .before .before .before .args .p) (c .before .before .before .before .before .before .before .before .before .before .before .before .pre .1 .2)
+visit-settled-requires t c κs = visits-small (length (c .before .before .before .before .before .before .before .before .before .before .before .before .before .args .saved .now)) (c .before .before .before .before .before .before .before .before .before .before .before .before .before .args .p) (c .before .before .before .before .before .before .before .before .before .before .before .before .before .pre .1 .2)
 
 visit-enum-known-leaf-2 : (t : ℕ) → visit-lts.Need-enum-known-leaf-2 (
   conclude-reads.Asked,
@@ -1391,6 +1362,8 @@ visit-enum-known-leaf-2 : (t : ℕ) → visit-lts.Need-enum-known-leaf-2 (
   resumed-reads.Learnt,
   branch-below t,
   branch.Post,
+  with-lines-reads.Asked,
+  with-lines-reads.Learnt,
 ) (visit-at t) visit.Post
 visit-enum-known-leaf-2 t c = search needs
 
@@ -1403,8 +1376,10 @@ visit-settled-requires-2 : (t : ℕ) → visit-lts.Need-settled-requires-2 (
   resumed-reads.Learnt,
   branch-below t,
   branch.Post,
+  with-lines-reads.Asked,
+  with-lines-reads.Learnt,
 ) (visit-at t) visit.Post
-visit-settled-requires-2 t c κs = visits-small (c .before .before .before .before .before .before .before .before .before .before .before .before .args .numbers .now) (length (c .before .before .before .before .before .before .before .before .before .before .before .before .args .saved .now)) (c .before .before .before .before .before .before .before .before .before .before .before .before .args .p) (c .before .before .before .before .before .before .before .before .before .before .before .before .pre .1 .2)
+visit-settled-requires-2 t c κs = visits-small (length (c .before .before .before .before .before .before .before .before .before .before .before .before .before .args .saved .now)) (c .before .before .before .before .before .before .before .before .before .before .before .before .before .args .p) (c .before .before .before .before .before .before .before .before .before .before .before .before .before .pre .1 .2)
 
 visit-enum-told : (t : ℕ) → visit-lts.Need-enum-told (
   conclude-reads.Asked,
@@ -1415,6 +1390,8 @@ visit-enum-told : (t : ℕ) → visit-lts.Need-enum-told (
   resumed-reads.Learnt,
   branch-below t,
   branch.Post,
+  with-lines-reads.Asked,
+  with-lines-reads.Learnt,
 ) (visit-at t) visit.Post
 visit-enum-told t c = search needs
 
@@ -1427,6 +1404,8 @@ visit-resumed-requires : (t : ℕ) → visit-lts.Need-resumed-requires (
   resumed-reads.Learnt,
   branch-below t,
   branch.Post,
+  with-lines-reads.Asked,
+  with-lines-reads.Learnt,
 ) (visit-at t) visit.Post
 visit-resumed-requires t c κs = search needs
 
@@ -1439,8 +1418,24 @@ visit-branch-requires : (t : ℕ) → visit-lts.Need-branch-requires (
   resumed-reads.Learnt,
   branch-below t,
   branch.Post,
+  with-lines-reads.Asked,
+  with-lines-reads.Learnt,
 ) (visit-at t) visit.Post
-visit-branch-requires t c κs = (omega (arith, c .before .before .before .before .before .before .before .before .before .before .before .before .before .before .before .before .before .before .before .before .before .before .before .pre .0, ap (λ (x : Position). x .at) (c .resumed .ensures)), (c .before .before .before .before .before .before .before .before .before .before .before .before .before .before .before .before .before .before .before .before .before .before .before .pre .1 .0, c .before .before .before .before .before .before .before .before .before .before .before .before .before .before .before .before .before .before .before .before .before .before .before .pre .1 .1, room-resumed (c .before .before .before .before .before .before .before .before .before .before .before .before .before .before .before .before .before .before .before .before .before .before .before .args .p) (c .resumed .result) _ (c .resumed .ensures) (c .before .before .before .before .before .before .before .before .before .before .before .before .before .before .before .before .before .before .before .before .before .before .before .pre .1 .2)))
+visit-branch-requires t c κs = (omega (arith, c .before .before .before .before .before .before .before .before .before .before .before .before .before .before .before .before .before .before .before .before .before .before .pre .0, ap (λ (x : Position). x .at) (c .resumed .ensures)), (c .before .before .before .before .before .before .before .before .before .before .before .before .before .before .before .before .before .before .before .before .before .before .pre .1 .0, c .before .before .before .before .before .before .before .before .before .before .before .before .before .before .before .before .before .before .before .before .before .before .pre .1 .1, room-resumed (c .before .before .before .before .before .before .before .before .before .before .before .before .before .before .before .before .before .before .before .before .before .before .args .p) (c .resumed .result) _ (c .resumed .ensures) (c .before .before .before .before .before .before .before .before .before .before .before .before .before .before .before .before .before .before .before .before .before .before .pre .1 .2)))
+
+visit-with-lines-requires : (t : ℕ) → visit-lts.Need-with-lines-requires (
+  conclude-reads.Asked,
+  conclude-reads.Learnt,
+  settled-reads.Asked,
+  settled-reads.Learnt,
+  resumed-reads.Asked,
+  resumed-reads.Learnt,
+  branch-below t,
+  branch.Post,
+  with-lines-reads.Asked,
+  with-lines-reads.Learnt,
+) (visit-at t) visit.Post
+visit-with-lines-requires t c κs = search needs
 
 visit-returns : (t : ℕ) → visit-lts.Need-returns (
   conclude-reads.Asked,
@@ -1451,14 +1446,17 @@ visit-returns : (t : ℕ) → visit-lts.Need-returns (
   resumed-reads.Learnt,
   branch-below t,
   branch.Post,
+  with-lines-reads.Asked,
+  with-lines-reads.Learnt,
 ) (visit-at t) visit.Post
 visit-returns t c = (
-  counts-settled (c .before .before .before .before .before .before .before .before .before .before .before .before .before .args .numbers .now) (c .before .before .before .before .before .before .before .before .before .before .before .before .before .args .p) (c .settled .result) No _ (c .settled .ensures) (rw (c .before .before .leaf .given .1) at (c .before .before .before .before .conclude .ensures .0)),
+  counts-settled (c .before .before .before .before .before .before .before .before .before .before .before .before .before .before .args .p) (c .settled .result) No _ (c .settled .ensures) (rw (c .before .before .leaf .given .1) at (c .before .before .before .before .conclude .ensures .0 .0)),
   (
-    (record { restored = refl; statuses-restored = refl; size = refl }, c .before .before .before .before .before .before .before .before .before .before .before .before .before .pre .1 .1),
-    (λ D s ls R st task fresh.
-        let found = said-no D R s st _ _ (c .before .before .before .before .conclude .last .1 .1 .1 .1 .1 .1 .1 .1 .1 .1 .0) (c .before .before .leaf .given .1) (c .before .before .before .before .conclude .ensures .1 D R s st (task .shown .quantified) (task .shown .statused) (task .shown .long) (c .before .before .before .before .before .before .before .before .before .before .before .before .before .pre .1 .3) (task .matrix) (task .stored) (task .formed) fresh (task .marked)) in
-        leaf-result (c .before .before .before .before .before .before .before .before .before .before .before .before .before .args .p) task No false (found .0) _ (c .before .before .before .before .conclude .last .1 .1 .1 .1 .1 .1 .1 .1 .1 .1 .0) (found .1) (found .0, refl, found .2) (c .settled .result) (c .settled .ensures)),
+    (record { statuses-restored = refl; size = refl; firsts-kept = c .before .before .before .before .conclude .ensures .0 .2 }, c .before .before .before .before .before .before .before .before .before .before .before .before .before .before .pre .1 .1),
+    (λ D s ls R st task entered.
+        let said = c .before .before .before .before .conclude .ensures .1 D R s st (task .shown .quantified) (task .shown .statused) (task .shown .long) (task .matrix) (task .stored) (task .formed) entered (task .passed) in
+        let found = said-no D R s st (c .before .before .before .before .before .before .before .before .before .before .before .before .before .before .args .start) _ (c .before .before .before .before .conclude .last .1 .1 .1 .1 .1 .1 .1 .1 .0) said _ (c .before .before .leaf .given .1) in
+        leaf-result (c .before .before .before .before .before .before .before .before .before .before .before .before .before .before .args .p) task (c .before .before .before .before .before .before .before .before .before .before .before .before .before .before .args .start) No false (found .0) _ (c .before .before .before .before .conclude .last .1 .1 .1 .1 .1 .1 .1 .1 .0) (found .1) (found .0, refl, found .2) (c .settled .result) (c .settled .ensures)),
   ),
 )
 
@@ -1471,14 +1469,17 @@ visit-returns-2 : (t : ℕ) → visit-lts.Need-returns-2 (
   resumed-reads.Learnt,
   branch-below t,
   branch.Post,
+  with-lines-reads.Asked,
+  with-lines-reads.Learnt,
 ) (visit-at t) visit.Post
 visit-returns-2 t c = (
-  counts-settled (c .before .before .before .before .before .before .before .before .before .before .before .before .before .args .numbers .now) (c .before .before .before .before .before .before .before .before .before .before .before .before .before .args .p) (c .settled2 .result) Yes _ (c .settled2 .ensures) (rw (c .before .before .leaf2 .given .1) at (c .before .before .before .before .conclude .ensures .0)),
+  counts-settled (c .before .before .before .before .before .before .before .before .before .before .before .before .before .before .args .p) (c .settled2 .result) Yes _ (c .settled2 .ensures) (rw (c .before .before .leaf2 .given .1) at (c .before .before .before .before .conclude .ensures .0 .0)),
   (
-    (record { restored = refl; statuses-restored = refl; size = refl }, c .before .before .before .before .before .before .before .before .before .before .before .before .before .pre .1 .1),
-    (λ D s ls R st task fresh.
-        let found = said-yes D R s st _ _ (c .before .before .before .before .conclude .last .1 .1 .1 .1 .1 .1 .1 .1 .1 .1 .0) (c .before .before .leaf2 .given .1) (c .before .before .before .before .conclude .ensures .1 D R s st (task .shown .quantified) (task .shown .statused) (task .shown .long) (c .before .before .before .before .before .before .before .before .before .before .before .before .before .pre .1 .3) (task .matrix) (task .stored) (task .formed) fresh (task .marked)) in
-        leaf-result (c .before .before .before .before .before .before .before .before .before .before .before .before .before .args .p) task Yes true (found .0) _ (c .before .before .before .before .conclude .last .1 .1 .1 .1 .1 .1 .1 .1 .1 .1 .0) (found .1) (found .0, refl, found .2) (c .settled2 .result) (c .settled2 .ensures)),
+    (record { statuses-restored = refl; size = refl; firsts-kept = c .before .before .before .before .conclude .ensures .0 .2 }, c .before .before .before .before .before .before .before .before .before .before .before .before .before .before .pre .1 .1),
+    (λ D s ls R st task entered.
+        let said = c .before .before .before .before .conclude .ensures .1 D R s st (task .shown .quantified) (task .shown .statused) (task .shown .long) (task .matrix) (task .stored) (task .formed) entered (task .passed) in
+        let found = said-yes D R s st (c .before .before .before .before .before .before .before .before .before .before .before .before .before .before .args .start) _ (c .before .before .before .before .conclude .last .1 .1 .1 .1 .1 .1 .1 .1 .0) said _ (c .before .before .leaf2 .given .1) in
+        leaf-result (c .before .before .before .before .before .before .before .before .before .before .before .before .before .before .args .p) task (c .before .before .before .before .before .before .before .before .before .before .before .before .before .before .args .start) Yes true (found .0) _ (c .before .before .before .before .conclude .last .1 .1 .1 .1 .1 .1 .1 .1 .0) (found .1) (found .0, refl, found .2) (c .settled2 .result) (c .settled2 .ensures)),
   ),
 )
 
@@ -1491,6 +1492,8 @@ visit-same-length : (t : ℕ) → visit-lts.Need-same-length (
   resumed-reads.Learnt,
   branch-below t,
   branch.Post,
+  with-lines-reads.Asked,
+  with-lines-reads.Learnt,
 ) (visit-at t) visit.Post
 visit-same-length t c = search needs
 
@@ -1503,6 +1506,8 @@ visit-same-length-2 : (t : ℕ) → visit-lts.Need-same-length-2 (
   resumed-reads.Learnt,
   branch-below t,
   branch.Post,
+  with-lines-reads.Asked,
+  with-lines-reads.Learnt,
 ) (visit-at t) visit.Post
 visit-same-length-2 t c = search needs
 
@@ -1515,14 +1520,16 @@ visit-returns-3 : (t : ℕ) → visit-lts.Need-returns-3 (
   resumed-reads.Learnt,
   branch-below t,
   branch.Post,
+  with-lines-reads.Asked,
+  with-lines-reads.Learnt,
 ) (visit-at t) visit.Post
 visit-returns-3 t c = (
-  counts-resumed (c .before .before .before .before .before .before .before .before .before .before .before .before .before .before .before .before .before .before .before .before .before .before .before .before .before .before .before .before .args .p) (c .before .before .before .before .before .resumed .result) _ (c .before .before .before .before .before .resumed .ensures) (c .before .before .before .before .branch .ensures .0),
+  counts-as (sym (c .with-lines .ensures)) (counts-resumed (c .before .before .before .before .before .before .before .before .before .before .before .before .before .before .before .before .before .before .before .before .before .before .before .before .before .before .before .before .args .p) (c .before .before .before .before .before .before .resumed .result) _ (c .before .before .before .before .before .before .resumed .ensures) (c .before .before .before .before .before .branch .ensures .0)),
   (
-    c .before .before .before .before .branch .ensures .1 .0,
-    (λ D s ls R st task fresh.
-        let said = (c .before .before .before .before .before .before .before .before .before .before .before .before .before .before .before .before .before .before .before .conclude .ensures .1 D R s st (task .shown .quantified) (task .shown .statused) (task .shown .long) (c .before .before .before .before .before .before .before .before .before .before .before .before .before .before .before .before .before .before .before .before .before .before .before .before .before .before .before .before .pre .1 .3) (task .matrix) (task .stored) (task .formed) fresh (task .marked)) in
-        open-result (c .before .before .before .before .before .before .before .before .before .before .before .before .before .before .before .before .before .before .before .before .before .before .before .before .before .before .before .before .args .p) task (c .before .before .before .before .branch .result) (c .before .before .before .before .before .resumed .result) _ (c .before .before .before .before .before .resumed .ensures) (said .marked) (said-open D R s st _ (c .before .before .before .before .before .before .before .before .before .before .before .before .before .before .before .before .before .before .before .conclude .last .1 .1 .1 .1 .1 .1 .1 .1 .1 .1 .0) (c .before .before .before .before .before .before .before .before .before .before .before .before .before .before .before .before .before .enum-told .given .1) said) (c .before .before .before .before .branch .ensures .1 .1 D s ls R st)),
+    (kept-resumed (c .before .before .before .before .before .before .before .before .before .before .before .before .before .before .before .before .before .before .before .before .before .before .before .before .before .before .before .before .args .p) (c .before .before .before .before .before .before .resumed .result) _ (c .before .before .before .before .before .before .resumed .ensures) (c .before .before .before .before .before .before .before .before .before .before .before .before .before .before .before .before .before .before .conclude .ensures .0 .1) (c .before .before .before .before .before .before .before .before .before .before .before .before .before .before .before .before .before .before .conclude .ensures .0 .2) (c .before .before .before .before .before .branch .ensures .1 .0 .0), c .before .before .before .before .before .branch .ensures .1 .0 .1),
+    (λ D s ls R st task entered.
+        let said = c .before .before .before .before .before .before .before .before .before .before .before .before .before .before .before .before .before .before .conclude .ensures .1 D R s st (task .shown .quantified) (task .shown .statused) (task .shown .long) (task .matrix) (task .stored) (task .formed) entered (task .passed) in
+        result-as (sym (c .with-lines .ensures)) (open-result (c .before .before .before .before .before .before .before .before .before .before .before .before .before .before .before .before .before .before .before .before .before .before .before .before .before .before .before .before .args .p) task (c .before .before .before .before .before .before .before .before .before .before .before .before .before .before .before .before .before .before .before .before .before .before .before .before .before .before .before .before .args .start) (c .before .before .before .before .before .branch .result) (c .before .before .before .before .before .before .resumed .result) _ (c .before .before .before .before .before .before .resumed .ensures) (said .passed) entered (said-open D R s st (c .before .before .before .before .before .before .before .before .before .before .before .before .before .before .before .before .before .before .before .before .before .before .before .before .before .before .before .before .args .start) _ (c .before .before .before .before .before .before .before .before .before .before .before .before .before .before .before .before .before .before .conclude .last .1 .1 .1 .1 .1 .1 .1 .1 .0) said (c .before .before .before .before .before .before .before .before .before .before .before .before .before .before .before .before .enum-told .given .1)) (c .before .before .before .before .before .branch .ensures .1 .1 D s ls R st))),
   ),
 )
 
@@ -1654,27 +1661,24 @@ pub +branch+exists+forall+free+side+visit-spec : {M : Type 1} → statement M
     (free-same-length-4 t)
     (free-returns-2 t))
     (λ t. side-lts.spec (
-      number-at-reads.Asked,
-      number-at-reads.Learnt,
       give-reads.Asked,
       give-reads.Learnt,
       visit-below t,
       visit.Post,
       restore-reads.Asked,
       restore-reads.Learnt,
+      with-lines-reads.Asked,
+      with-lines-reads.Learnt,
     )
     (side-at t)
     side.Post
-    (side-number-at-requires t)
-    (side-element-copy-out-was t)
-    (side-element-write-values t)
     (side-give-requires t)
     (side-sub-visit t)
     (side-part-visit-start t)
     (side-part-visit-end t)
     (side-visit-requires t)
     (side-restore-requires t)
-    (side-element-write-values-2 t)
+    (side-with-lines-requires t)
     (side-same-length t)
     (side-same-length-2 t)
     (side-returns t))
@@ -1687,6 +1691,8 @@ pub +branch+exists+forall+free+side+visit-spec : {M : Type 1} → statement M
       resumed-reads.Learnt,
       branch-below t,
       branch.Post,
+      with-lines-reads.Asked,
+      with-lines-reads.Learnt,
     )
     (visit-at t)
     visit.Post
@@ -1698,6 +1704,7 @@ pub +branch+exists+forall+free+side+visit-spec : {M : Type 1} → statement M
     (visit-enum-told t)
     (visit-resumed-requires t)
     (visit-branch-requires t)
+    (visit-with-lines-requires t)
     (visit-returns t)
     (visit-returns-2 t)
     (visit-same-length t)

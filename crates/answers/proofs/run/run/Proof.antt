@@ -2,7 +2,8 @@
 use borrow.Author.Needs.{needs}
 use Rattle.answers.proofs.run.run.Statement.{statement}
 use Rattle.answers.proofs.run.run.Tie as tie
-use Rattle.answers.proofs.Running.{start-no, start-yes, start-open}
+use mathlib.Core.Path.{refl}
+use Rattle.answers.proofs.Running.{decided-few, start-no, start-yes, start-open}
 
 at-start-requires : tie.Need-at-start-requires
 at-start-requires c κs = search needs
@@ -26,16 +27,16 @@ searched-requires : tie.Need-searched-requires
 searched-requires c κs = search needs
 
 returns : tie.Need-returns
-returns c = start-no (c .before .before .before .before .before .before .args .x) (c .before .before .before .before .before .before .pre .0) _ _ _ (c .before .before .before .before .before .before .args .at) (c .before .before .before .before .before .before .args .free) _ (c .before .before .before .before .at-start .result) (c .before .before .before .before .at-start .ensures) _ (c .before .before .start .given .1) (c .decided .ensures)
+returns c = ((refl, decided-few (c .decided .ensures)), λ ls ks v. start-no _ v _ _ _ (c .before .before .before .before .before .before .before .before .before .before .args .at) (c .before .before .before .before .before .before .before .before .before .before .args .free) _ (c .before .before .before .before .at-start .result) (c .before .before .before .before .at-start .ensures _ ls ks v) _ (c .before .before .start .given .1) (c .decided .ensures))
 
 returns-2 : tie.Need-returns-2
-returns-2 c = start-yes (c .before .before .before .before .before .before .args .x) (c .before .before .before .before .before .before .pre .0) _ _ _ (c .before .before .before .before .before .before .args .at) (c .before .before .before .before .before .before .args .free) _ (c .before .before .before .before .at-start .result) (c .before .before .before .before .at-start .ensures) _ (c .before .before .start2 .given .1) (c .decided2 .ensures)
+returns-2 c = ((refl, decided-few (c .decided2 .ensures)), λ ls ks v. start-yes _ v _ _ _ (c .before .before .before .before .before .before .before .before .before .before .args .at) (c .before .before .before .before .before .before .before .before .before .before .args .free) _ (c .before .before .before .before .at-start .result) (c .before .before .before .before .at-start .ensures _ ls ks v) _ (c .before .before .start2 .given .1) (c .decided2 .ensures))
 
 same-length : tie.Need-same-length
 same-length c = search needs
 
 returns-3 : tie.Need-returns-3
-returns-3 c = start-open (c .before .before .before .before .before .before .before .before .args .x) (c .before .before .before .before .before .before .before .before .pre .0) _ _ _ (c .before .before .before .before .before .before .before .before .args .at) (c .before .before .before .before .before .before .before .before .args .free) _ (c .before .before .before .before .before .before .at-start .result) (c .before .before .before .before .before .before .at-start .ensures) (c .before .before .before .before .enum-told .given .1) _ _ (c .before .before .searched .ensures)
+returns-3 c = ((c .before .before .searched .ensures .0 .0, c .before .before .searched .ensures .0 .1), λ ls ks v. start-open _ v _ _ _ (c .before .before .before .before .before .before .before .before .before .before .before .before .before .before .before .before .args .at) (c .before .before .before .before .before .before .before .before .before .before .before .before .before .before .before .before .args .free) _ (c .before .before .before .before .before .before .before .before .before .before .at-start .result) (c .before .before .before .before .before .before .before .before .before .before .at-start .ensures _ ls ks v) (c .before .before .before .before .before .before .before .before .enum-told .given .1) _ _ _ (c .before .before .searched .ensures .1 ls ks v))
 
 pub run-spec : {M : Type 1} → statement M
 run-spec =

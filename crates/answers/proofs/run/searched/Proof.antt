@@ -2,16 +2,15 @@
 use borrow.Author.Needs.{needs}
 use Rattle.answers.proofs.run.searched.Statement.{statement}
 use Rattle.answers.proofs.run.searched.Tie as tie
-use Rattle.shelf.proofs.Empty.{empty-shelf, empty-newest}
-use Rattle.state.proofs.Valid.{valid-tables, valid-numbers}
-use Rattle.state.specs.Reading.{prefixIn}
-use Rattle.answers.proofs.Running.{few-variables, variables-small, variables-numbered}
+use Rattle.coding.proofs.Placewise.{zeros}
+use Rattle.state.proofs.Valid.{valid-numbers}
+use Rattle.answers.proofs.Running.{variables-small, variables-numbered}
 
 quantifiers-of-requires : tie.Need-quantifiers-of-requires
-quantifiers-of-requires c κs = few-variables (c .before .before .before .before .args .t1) (c .before .before .before .before .pre .0)
+quantifiers-of-requires c κs = search needs
 
 load-clauses-requires : tie.Need-load-clauses-requires
-load-clauses-requires c κs = (valid-tables (c .before .before .before .before .before .before .before .before .before .before .before .before .before .args .t1) (c .before .before .before .before .before .before .before .before .before .before .before .before .before .pre .0) (c .before .before .before .before .before .before .before .before .before .before .before .before .before .pre .1) .clauses, empty-shelf 16 256, empty-newest 16 256)
+load-clauses-requires c κs = (c .before .before .before .before .before .pre .clauses-in, λ i h. zeros 512 i)
 
 over-clauses-requires : tie.Need-over-clauses-requires
 over-clauses-requires c κs = search needs
@@ -20,14 +19,15 @@ same-length : tie.Need-same-length
 same-length c = search needs
 
 returns : tie.Need-returns
-returns c =
-    record {
-      size = c .before .before .over-clauses .ensures .size;
-      few = c .before .before .over-clauses .ensures .few;
-      found = λ s ps ks vs wide long frees cov alive.
-          let q = c .before .before .before .before .before .before .before .before .before .before .before .before .before .before .before .before .before .quantifiers-of .ensures (prefixIn (c .before .before .before .before .before .before .before .before .before .before .before .before .before .before .before .before .before .before .before .before .before .before .args .t1)) (valid-numbers (c .before .before .before .before .before .before .before .before .before .before .before .before .before .before .before .before .before .before .before .before .before .before .args .t1) (c .before .before .before .before .before .before .before .before .before .before .before .before .before .before .before .before .before .before .before .before .before .before .pre .0)) ks (variables-numbered (c .before .before .before .before .before .before .before .before .before .before .before .before .before .before .before .before .before .before .before .before .before .before .args .t1) (c .before .before .before .before .before .before .before .before .before .before .before .before .before .before .before .before .before .before .before .before .before .before .pre .0)) in
-          c .before .before .over-clauses .ensures .found s (c .before .before .before .before .before .before .before .before .load-clauses .ensures .1 (prefixIn (c .before .before .before .before .before .before .before .before .before .before .before .before .before .before .before .before .before .before .before .before .before .before .args .t1)) ps q (variables-small (c .before .before .before .before .before .before .before .before .before .before .before .before .before .before .before .before .before .before .before .before .before .before .args .t1) (c .before .before .before .before .before .before .before .before .before .before .before .before .before .before .before .before .before .before .before .before .before .before .pre .0))) q ps ks vs wide long frees cov alive;
-    }
+returns c = (
+  (c .before .before .over-clauses .ensures .0 .0, c .before .before .over-clauses .ensures .0 .1),
+  λ ls ks v.
+      record {
+        found = λ s ps kk vs long frees cov alive.
+            let q = c .before .before .before .before .before .before .before .before .before .before .before .before .before .before .before .quantifiers-of .ensures _ (valid-numbers _ v) kk (variables-numbered _ v) in
+            c .before .before .over-clauses .ensures .1 ls ks _ _ v .found s (c .before .before .before .before .before .before .before .before .before .before .before .load-clauses .ensures .1 _ ps q (variables-small _ v)) q ps vs long frees cov alive;
+      },
+)
 
 pub searched-spec : {M : Type 1} → statement M
 searched-spec =

@@ -1,35 +1,35 @@
--- `coding::list::first_with` meets its contract. The loop keeps the answer for the codes that are left.
+-- `coding::list::first_with` meets its contract. The codes before i have not the status.
 use Rattle.coding.proofs.list.first_with.Statement.{statement}
 use Rattle.coding.proofs.list.first_with.Tie as tie
 use borrow.Author.Needs.{needs}
-use Prim.Native.Nat.{_-_, _≤_}
-use mathlib.Core.Path.{_≡_, refl, sym, _∙_}
+use Prim.Native.Nat.{_-_}
 use native.Mathlib.Omega.{arith}
-use denote.Ref.{now}
-use lib.ListN.{length, drop}
-use Rattle.coding.specs.FirstTrue.{firstOf}
-use Rattle.coding.proofs.Coded.{first-here, first-next, first-end}
+use lib.ListN.{length}
+use Rattle.coding.proofs.Coded.{Without, without-more, first-here, first-none}
 
 abbrev Inv-loop : tie.InvT-loop
-Inv-loop cells statuses want i₀ i = (i ≤ length cells) × (firstOf statuses want cells ≡ firstOf statuses want (drop i cells))
+Inv-loop cells statuses want i₀ i = Without statuses want cells i
 
 abbrev μ-loop : tie.MeasureT-loop
 μ-loop cells statuses want i₀ i = length cells - i
 
 loop-holds : tie.Need-loop-holds Inv-loop μ-loop
-loop-holds c = (search needs, refl)
+loop-holds c = record { within = search needs; none = λ j m. absurd (omega arith) }
 
 shared-slice-read-code : tie.Need-shared-slice-read-code Inv-loop μ-loop
 shared-slice-read-code c = search needs
 
 cast-if1 : tie.Need-cast-if1 Inv-loop μ-loop
-cast-if1 c = omega (arith, c .shared-slice-known .given (c .before .before .loop .i))
+cast-if1 c = omega (arith, c .shared-slice-known2 .given (c .before .before .loop .i))
 
 element-copy-out-if1 : tie.Need-element-copy-out-if1 Inv-loop μ-loop
-element-copy-out-if1 c = omega (arith, c .shared-slice-known .given (c .before .before .loop .i))
+element-copy-out-if1 c = omega (arith, c .shared-slice-known2 .given (c .before .before .loop .i))
+
+wide-requires : tie.Need-wide-requires Inv-loop μ-loop
+wide-requires c κs = search needs
 
 returns : tie.Need-returns Inv-loop μ-loop
-returns c = sym (c .before .before .before .before .loop .inv .1 ∙ first-here (now (c .before .before .before .before .before .args .statuses)) (c .before .before .before .before .before .args .want) (now (c .before .before .before .before .before .args .cells)) (c .before .before .before .before .loop .i) (omega arith) (c .if1 .taken))
+returns c = first-here (c .before .before .before .before .before .loop .inv) (omega arith) (c .before .if1 .taken) (c .wide .ensures .0) (c .wide .ensures .1)
 
 add-i : tie.Need-add-i Inv-loop μ-loop
 add-i c = search needs
@@ -38,10 +38,10 @@ loop-less : tie.Need-loop-less Inv-loop μ-loop
 loop-less c = search needs
 
 loop-again : tie.Need-loop-again Inv-loop μ-loop
-loop-again c = (omega arith, c .before .before .before .before .loop .inv .1 ∙ first-next (now (c .before .before .before .before .before .args .statuses)) (c .before .before .before .before .before .args .want) (now (c .before .before .before .before .before .args .cells)) (c .before .before .before .before .loop .i) (omega arith) (c .if1 .left))
+loop-again c = without-more (c .before .before .before .before .loop .inv) (omega arith) (c .if1 .left)
 
 returns-2 : tie.Need-returns-2 Inv-loop μ-loop
-returns-2 c = sym (c .before .loop .inv .1 ∙ first-end (now (c .before .before .args .statuses)) (c .before .before .args .want) (now (c .before .before .args .cells)) (c .before .loop .i) (omega arith))
+returns-2 c = first-none (c .before .loop .inv) (omega arith)
 
 pub first-with-spec : {M : Type 1} → statement M
 first-with-spec =
@@ -53,6 +53,7 @@ first-with-spec =
     shared-slice-read-code
     cast-if1
     element-copy-out-if1
+    wide-requires
     returns
     add-i
     loop-less

@@ -32,8 +32,20 @@ cell-at-requires c κs = search needs
 cast-count : tie.Need-cast-count Inv-loop μ-loop
 cast-count c = search needs
 
+cast-put : tie.Need-cast-put Inv-loop μ-loop
+cast-put c = search needs
+
+put-requires : tie.Need-put-requires Inv-loop μ-loop
+put-requires c κs = search needs
+
 loop-holds : tie.Need-loop-holds Inv-loop μ-loop
-loop-holds c = (omega arith, c .cell-at .ensures, c .before .before .pre, refl, λ D n k o. filled-none D 256)
+loop-holds c = (
+  omega arith,
+  c .before .before .cell-at .ensures,
+  c .before .before .before .before .pre,
+  ap length (c .put .ensures),
+  λ D n k o. subst (Filled D 0) (sym (c .put .ensures)) (filled-none D),
+)
 
 add-place : tie.Need-add-place Inv-loop μ-loop
 add-place c = search needs
@@ -41,8 +53,8 @@ add-place c = search needs
 kind-at-requires : tie.Need-kind-at-requires Inv-loop μ-loop
 kind-at-requires c κs = search needs
 
-put-requires : tie.Need-put-requires Inv-loop μ-loop
-put-requires c κs = search needs
+put-requires-2 : tie.Need-put-requires-2 Inv-loop μ-loop
+put-requires-2 c κs = search needs
 
 loop-less : tie.Need-loop-less Inv-loop μ-loop
 loop-less c = search needs
@@ -52,10 +64,10 @@ loop-again c = (
   omega arith,
   omega arith,
   omega arith,
-  ap length (c .put .ensures) ∙ stored-length (c .before .before .before .before .loop .place + 1) (c .before .before .kind-at .result) (c .before .before .kind-at .result) (c .before .before .before .before .loop .table) ∙ c .before .before .before .before .loop .inv .3,
+  ap length (c .put2 .ensures) ∙ stored-length (c .before .before .before .before .loop .place + 1) (c .before .before .kind-at .result) (c .before .before .kind-at .result) (c .before .before .before .before .loop .table) ∙ c .before .before .before .before .loop .inv .3,
   λ D n k o.
-      subst (Filled D (c .before .before .before .before .loop .place + 1)) (sym (c .put .ensures))
-      (filled-more D (now (c .before .before .before .before .before .before .before .args .numbers)) (now (c .before .before .before .before .before .before .before .args .kinds)) n k o (c .before .before .before .before .loop .place) (c .before .before .before .before .loop .table) (c .before .before .before .before .loop .inv .4 D n k o) (omega (arith, n .count)) (omega (arith, c .before .before .before .before .loop .inv .3)) (c .before .before .kind-at .ensures)),
+      subst (Filled D (c .before .before .before .before .loop .place + 1)) (sym (c .put2 .ensures))
+      (filled-more D (now (c .before .before .before .before .before .before .before .before .before .args .numbers)) (now (c .before .before .before .before .before .before .before .before .before .args .kinds)) n k o (c .before .before .before .before .loop .place) (c .before .before .before .before .loop .table) (c .before .before .before .before .loop .inv .4 D n k o) (omega (arith, n .count)) (omega (arith, c .before .before .before .before .loop .inv .3)) (c .before .before .kind-at .ensures)),
 )
 
 returns : tie.Need-returns Inv-loop μ-loop
@@ -69,10 +81,12 @@ quantifiers-of-spec =
     μ-loop
     cell-at-requires
     cast-count
+    cast-put
+    put-requires
     loop-holds
     add-place
     kind-at-requires
-    put-requires
+    put-requires-2
     loop-less
     loop-again
     returns)

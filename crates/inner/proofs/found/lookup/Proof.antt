@@ -5,7 +5,7 @@ use Rattle.inner.proofs.found.lookup.Tie as tie
 use native.Mathlib.Omega.{arith}
 use denote.Ref.{now}
 use mathlib.Core.Path.{_∙_}
-use Rattle.inner.proofs.Lookups.{found-row, found-nothing}
+use Rattle.inner.proofs.Lookups.{found-row, found-nothing, slot-row, slot-none}
 
 code-here-requires : tie.Need-code-here-requires
 code-here-requires c κs = search needs
@@ -30,9 +30,8 @@ returns c =
       omega (arith, row .1, c .before .before .before .before .before .before .before .before .before .pre .2),
       λ D s es shown long inner rows.
           let e =
-          found-row (a .stride) (a .slots) (now (a .cells)) (now (a .links)) (now (a .statuses)) (a .cube) (slot .result) (a .at)
-          (c .before .before .before .before .before .before .code-here .ensures) (c .before .before .before .before .before .wanted .ensures) (slot .ensures)
-          D s es shown long inner rows (c .before .before .before .if1 .taken) (row .0) in
+          found-row (a .cube) (c .before .before .before .before .before .before .code-here .ensures) (c .before .before .before .before .before .wanted .ensures) (slot .ensures) D s es shown long inner rows
+          (slot-row (a .stride) (a .slots) (now (a .cells)) (slot .result) (c .before .before .before .if1 .taken) (row .0)) in
           (e .0, e .1, c .copy .ensures ∙ e .2),
     )
 
@@ -42,8 +41,8 @@ returns-2 c =
     let slot = c .before .find in (
       omega arith,
       λ D s es shown long inner rows.
-          found-nothing (a .stride) (a .slots) (now (a .cells)) (now (a .links)) (now (a .statuses)) (a .cube) (slot .result) (a .at)
-          (c .before .before .before .code-here .ensures) (c .before .before .wanted .ensures) (slot .ensures) D s es shown long inner rows (c .if1 .left),
+          found-nothing (a .cube) (c .before .before .before .code-here .ensures) (c .before .before .wanted .ensures) (slot .ensures) D s es shown long inner rows
+          (slot-none (a .stride) (a .slots) (now (a .cells)) (slot .result) (c .if1 .left)),
     )
 
 pub lookup-spec : {M : Type 1} → statement M

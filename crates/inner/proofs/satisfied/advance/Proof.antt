@@ -1,4 +1,4 @@
--- `inner::satisfied::advance` meets its contract. The loop passes the clauses that are satisfied and marks a place for each.
+-- `inner::satisfied::advance` meets its contract. The loop passes the clauses that are satisfied and notes a code for each.
 use Rattle.inner.proofs.satisfied.advance.Statement.{statement}
 use Rattle.inner.proofs.satisfied.advance.Tie as tie
 use borrow.Author.Needs.{needs}
@@ -7,10 +7,10 @@ use native.Mathlib.Omega.{arith}
 use Rattle.inner.proofs.Advancing.{Reached, reached-none, reached-more, reached-stop, reached-all}
 
 abbrev Inv-loop : tie.InvT-loop
-Inv-loop table sizes statuses passed marks count reached₀ marked₀ reached marked = Reached table sizes statuses passed marks reached marked
+Inv-loop clauses links statuses passed firsts₀ count reached₀ firsts reached = Reached clauses links statuses passed firsts₀ reached firsts
 
 abbrev μ-loop : tie.MeasureT-loop
-μ-loop table sizes statuses passed marks count reached₀ marked₀ reached marked = count - reached
+μ-loop clauses links statuses passed firsts₀ count reached₀ firsts reached = count - reached
 
 element-copy-out-count : tie.Need-element-copy-out-count Inv-loop μ-loop
 element-copy-out-count c = search needs
@@ -22,13 +22,20 @@ loop-holds : tie.Need-loop-holds Inv-loop μ-loop
 loop-holds c = reached-none _ _ _ _ _
 
 true-code-requires : tie.Need-true-code-requires Inv-loop μ-loop
-true-code-requires c κs = search needs
+true-code-requires c κs = (c .before .before .before .pre, c .loop-test .taken)
 
 returns : tie.Need-returns Inv-loop μ-loop
-returns c = reached-stop (c .before .before .before .loop .inv) (c .before .before .loop-test .taken) (c .before .true-code .ensures) (c .if1 .taken)
+returns c =
+    let h = c .before .before in (
+      (h .before .loop .inv .grown, h .before .loop .inv .kept),
+      reached-stop (h .before .loop .inv) (h .loop-test .taken) (c .before .true-code .ensures) (c .if1 .taken),
+    )
 
-mark-requires : tie.Need-mark-requires Inv-loop μ-loop
-mark-requires c κs = search needs
+cast-note : tie.Need-cast-note Inv-loop μ-loop
+cast-note c = search needs
+
+note-requires : tie.Need-note-requires Inv-loop μ-loop
+note-requires c κs = let h = c .before .before .before in omega (arith, h .loop-test .taken, h .before .before .before .pre .few)
 
 add-reached : tie.Need-add-reached Inv-loop μ-loop
 add-reached c = search needs
@@ -37,10 +44,13 @@ loop-less : tie.Need-loop-less Inv-loop μ-loop
 loop-less c = search needs
 
 loop-again : tie.Need-loop-again Inv-loop μ-loop
-loop-again c = reached-more (c .before .before .before .before .before .loop .inv) (c .before .before .before .before .loop-test .taken) (c .before .before .before .true-code .ensures) (c .before .before .if1 .left) (c .mark .ensures .1) (c .mark .ensures .0)
+loop-again c =
+    let h = c .before .before .before .before in
+    reached-more (h .before .loop .inv) (h .loop-test .taken) (c .before .before .before .true-code .ensures) (omega arith)
+    (omega (arith, h .loop-test .taken, h .before .before .before .pre .few, c .note .ensures .1)) (c .note .ensures .0)
 
 returns-2 : tie.Need-returns-2 Inv-loop μ-loop
-returns-2 c = reached-all (c .before .loop .inv) (c .loop-test .left)
+returns-2 c = ((c .before .loop .inv .grown, c .before .loop .inv .kept), reached-all (c .before .loop .inv) (c .loop-test .left))
 
 pub advance-spec : {M : Type 1} → statement M
 advance-spec =
@@ -53,7 +63,8 @@ advance-spec =
     loop-holds
     true-code-requires
     returns
-    mark-requires
+    cast-note
+    note-requires
     add-reached
     loop-less
     loop-again

@@ -1,21 +1,23 @@
--- `loading::clauses::code_clauses` meets its contract: after k turns the first k clauses are in the table, and reduced on the shelf.
+-- `loading::clauses::code_clauses` meets its contract: after k turns the first k clauses are in their rows.
 use Rattle.loading.proofs.clauses.code_clauses.Statement.{statement}
 use Rattle.loading.proofs.clauses.code_clauses.Tie as tie
 use borrow.Author.Needs.{needs}
-use denote.Ref.{now}
 use Prim.Native.Nat.{_-_, _*_, _≤_}
 use native.Mathlib.Omega.{arith}
 use mathlib.Core.Path.{_≡_, sym, _∙_}
+use native.Mathlib.Nat.{not-suc-le-zero}
+use denote.Ref.{now}
 use lib.ListN.{length, getD}
 use Rattle.qbf.specs.Formula.{paper}
 use Rattle.tables.specs.Formed.{Clauses}
-use Rattle.loading.proofs.Loading.{Coded, code-none, code-more, code-end}
+use Rattle.tables.specs.Matrices.{clauseRow}
+use Rattle.loading.proofs.Coding.{CodedBelow, coded-more}
 
 abbrev Inv-loop : tie.InvT-loop
-Inv-loop clauses sizes places quantifiers table₀ dying₀ dying-links₀ count k₀ table dying dying-links k = (count ≡ getD sizes 0 0) × (k ≤ count) × Clauses clauses sizes × (length table ≡ paper .clauses * paper .literals) × Coded clauses sizes places quantifiers k table dying dying-links
+Inv-loop clauses sizes places quantifiers rows₀ count k₀ rows k = (count ≡ getD sizes 0 0) × (k ≤ count) × Clauses clauses sizes × (length rows ≡ paper .clauses * clauseRow) × CodedBelow clauses sizes places quantifiers k rows
 
 abbrev μ-loop : tie.MeasureT-loop
-μ-loop clauses sizes places quantifiers table₀ dying₀ dying-links₀ count k₀ table dying dying-links k = count - k
+μ-loop clauses sizes places quantifiers rows₀ count k₀ rows k = count - k
 
 element-copy-out-count : tie.Need-element-copy-out-count Inv-loop μ-loop
 element-copy-out-count c = search needs
@@ -24,13 +26,10 @@ cast-count : tie.Need-cast-count Inv-loop μ-loop
 cast-count c = search needs
 
 loop-holds : tie.Need-loop-holds Inv-loop μ-loop
-loop-holds c = (search needs, search needs, c .before .before .pre .0, c .before .before .pre .3, code-none (now (c .before .before .args .clauses)) (now (c .before .before .args .sizes)) (now (c .before .before .args .places)) (now (c .before .before .args .quantifiers)) (now (c .before .before .args .table)) (now (c .before .before .args .dying)) (now (c .before .before .args .dying-links)) (c .before .before .pre .1) (c .before .before .pre .2))
+loop-holds c = (search needs, search needs, c .before .before .pre .0, c .before .before .pre .1, λ j h. absurd (not-suc-le-zero h))
 
-encode-clause-requires : tie.Need-encode-clause-requires Inv-loop μ-loop
-encode-clause-requires c κs = (c .before .before .loop .inv .2, omega (arith, c .before .before .loop .inv .0), c .before .before .loop .inv .3)
-
-shelve-reduced-requires : tie.Need-shelve-reduced-requires Inv-loop μ-loop
-shelve-reduced-requires c κs = (c .before .before .before .before .before .encode-clause .ensures .0, omega (arith, c .before .before .before .before .before .before .before .before .loop .inv .0, c .before .before .before .before .before .before .before .before .loop .inv .2 .few), c .before .before .before .before .before .before .before .before .loop .inv .2 .short (c .before .before .before .before .before .before .before .before .loop .k) (omega (arith, c .before .before .before .before .before .before .before .before .loop .inv .0)), c .before .before .before .before .before .before .before .before .loop .inv .4 .shelf, c .before .before .before .before .before .before .before .before .loop .inv .4 .newest)
+code-clause-requires : tie.Need-code-clause-requires Inv-loop μ-loop
+code-clause-requires c κs = (c .before .before .loop .inv .2, omega (arith, c .before .before .loop .inv .0), c .before .before .loop .inv .3)
 
 add-k : tie.Need-add-k Inv-loop μ-loop
 add-k c = search needs
@@ -39,13 +38,13 @@ loop-less : tie.Need-loop-less Inv-loop μ-loop
 loop-less c = search needs
 
 loop-again : tie.Need-loop-again Inv-loop μ-loop
-loop-again c = (c .before .before .before .before .before .before .before .before .before .loop .inv .0, omega arith, c .before .before .before .before .before .before .before .before .before .loop .inv .2, c .before .before .before .before .before .before .encode-clause .ensures .0, code-more (c .before .before .before .before .before .before .before .before .before .loop .inv .4) (c .before .before .before .before .before .before .before .before .before .loop .inv .2) (omega (arith, c .before .before .before .before .before .before .before .before .before .loop .inv .0)) _ _ _ (c .before .before .before .before .before .before .encode-clause .ensures .1) (c .before .before .before .before .before .before .encode-clause .ensures .2) (c .shelve-reduced .ensures .0) (c .shelve-reduced .ensures .1) (c .shelve-reduced .ensures .2))
+loop-again c = (c .before .before .before .before .before .loop .inv .0, omega arith, c .before .before .before .before .before .loop .inv .2, c .before .before .code-clause .ensures .0, coded-more (now (c .before .before .before .before .before .before .before .before .args .places)) (now (c .before .before .before .before .before .before .before .before .args .quantifiers)) (c .before .before .before .before .before .loop .k) (c .before .before .before .before .before .loop .rows) (c .before .before .code-clause .last .1 .1 .1 .1 .0) (c .before .before .before .before .before .loop .inv .2) (omega (arith, c .before .before .before .before .before .loop .inv .0)) (c .before .before .before .before .before .loop .inv .4) (c .before .before .code-clause .ensures .1) (c .before .before .code-clause .ensures .2))
 
 same-length : tie.Need-same-length Inv-loop μ-loop
-same-length c = c .before .loop .inv .3 ∙ sym (c .before .before .before .before .pre .3)
+same-length c = c .before .loop .inv .3 ∙ sym (c .before .before .before .before .pre .1)
 
 returns : tie.Need-returns Inv-loop μ-loop
-returns c = code-end (c .before .loop .inv .4) (c .before .loop .inv .2) (c .before .loop .inv .3) (omega (arith, c .before .loop .inv .0))
+returns c = (c .before .loop .inv .3, λ j h. c .before .loop .inv .4 j (omega (arith, c .before .loop .inv .0)))
 
 pub code-clauses-spec : {M : Type 1} → statement M
 code-clauses-spec =
@@ -56,8 +55,7 @@ code-clauses-spec =
     element-copy-out-count
     cast-count
     loop-holds
-    encode-clause-requires
-    shelve-reduced-requires
+    code-clause-requires
     add-k
     loop-less
     loop-again

@@ -6,7 +6,7 @@ use mathlib.Core.Path.{refl, sym}
 use native.Mathlib.Omega.{arith}
 
 returns : tie.Need-returns
-returns c = (refl, λ D s b ls task e. absurd (omega (arith, task .inside, c .if1 .taken)))
+returns c = (refl, λ s b ls task e. absurd (omega (arith, task .inside, c .if1 .taken)))
 
 push-line-requires : tie.Need-push-line-requires
 push-line-requires c κs = search needs
@@ -15,7 +15,7 @@ same-length : tie.Need-same-length
 same-length c = search needs
 
 returns-2 : tie.Need-returns-2
-returns-2 c = (c .before .before .push-line .ensures .0, λ D s b ls task e. c .before .before .push-line .ensures .1 D s b ls (task .numbered) (task .valued) (task .long) (task .frees) (task .numbers-ok) e (sym (task .counted)) (task .covers))
+returns-2 c = (c .before .before .push-line .ensures .0, λ s b ls task e. c .before .before .push-line .ensures .1 s b ls (task .statused) (task .long) e (sym (task .counted)) (task .covers))
 
 pub add-line-spec : {M : Type 1} → statement M
 add-line-spec = tie.close (tie.spec returns push-line-requires same-length returns-2)

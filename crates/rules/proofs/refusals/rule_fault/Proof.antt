@@ -2,47 +2,69 @@
 use borrow.Author.Needs.{needs}
 use Rattle.rules.proofs.refusals.rule_fault.Statement.{statement}
 use Rattle.rules.proofs.refusals.rule_fault.Tie as tie
+use Prim.Native.Nat.{ℕ}
 use native.Mathlib.Omega.{arith}
-use mathlib.Core.Path.{sym, _∙_}
+use mathlib.Core.Path.{_≡_, _∙_}
+use mathlib.Core.Bool.{true}
 use borrow.Author.Tests.{not-true, not-false}
 use denote.Ref.{now}
 use lib.ListN.{getD}
+use Rattle.qbf.specs.Formula.{Prefix}
+use Rattle.tables.specs.Views.{Places}
+use Rattle.rules.specs.Faults.{faultOf, faultAfter, Judged}
 use Rattle.rules.proofs.Refusing.{fault-full, fault-empty, fault-long, fault-literals, judged-malformed, judged-valid}
 
-check-requires : tie.Need-check-requires
-check-requires c κs = search needs
+-- how many clauses stand
+abbrev standing : tie.Start → ℕ
+standing s = getD (now (s .args .sizes)) 0 0
 
 returns : tie.Need-returns
-returns c = judged-malformed (c .before .before .args .x) (now (c .before .before .args .lits)) (now (c .before .before .args .places)) (sym (c .before .check .ensures) ∙ not-true (c .before .check .result) (c .if1 .taken))
+returns c =
+    let s = c .before in
+    judged-malformed (s .args .ok) (standing s) (now (s .args .lits)) (now (s .args .places)) (not-true (s .args .ok) (c .if1 .taken))
 
-array-read-count : tie.Need-array-read-count
-array-read-count c = search needs
+cell-at-requires : tie.Need-cell-at-requires
+cell-at-requires c κs = search needs
 
 cast-count : tie.Need-cast-count
 cast-count c = search needs
 
+-- a valid state: the fault is that of the tests that follow
+found : (s : tie.Start) → s .args .ok ≡ true → (r : ℕ)
+    → ((D : Prefix) → Places D (now (s .args .places)) → faultOf r ≡ faultAfter (standing s) D (now (s .args .lits)))
+    → Judged (s .args .ok) (standing s) (now (s .args .lits)) (now (s .args .places)) r
+found s = judged-valid (s .args .ok) (standing s) (now (s .args .lits)) (now (s .args .places))
+
 returns-2 : tie.Need-returns-2
-returns-2 c = judged-valid (c .before .before .before .before .args .x) (now (c .before .before .before .before .args .lits)) (now (c .before .before .before .before .args .places)) (sym (c .before .before .before .check .ensures) ∙ not-false (c .before .before .before .check .result) (c .before .before .if1 .left)) 20 (λ D s. fault-full (getD (c .before .before .before .before .args .x .«clause_sizes») 0 0) D (now (c .before .before .before .before .args .lits)) (omega arith))
+returns-2 c =
+    let s = c .before .before .before .before in
+    found s (not-false (s .args .ok) (c .before .before .before .if1 .left)) 20 (λ D h. fault-full (standing s) D (now (s .args .lits)) (omega (arith, c .before .cell-at .ensures)))
 
 returns-3 : tie.Need-returns-3
-returns-3 c = judged-valid (c .before .before .before .before .before .args .x) (now (c .before .before .before .before .before .args .lits)) (now (c .before .before .before .before .before .args .places)) (sym (c .before .before .before .before .check .ensures) ∙ not-false (c .before .before .before .before .check .result) (c .before .before .before .if1 .left)) 7 (λ D s. fault-empty (getD (c .before .before .before .before .before .args .x .«clause_sizes») 0 0) D (now (c .before .before .before .before .before .args .lits)) (omega arith) (omega arith))
+returns-3 c =
+    let s = c .before .before .before .before .before in
+    found s (not-false (s .args .ok) (c .before .before .before .before .if1 .left)) 7 (λ D h. fault-empty (standing s) D (now (s .args .lits)) (omega (arith, c .before .before .cell-at .ensures)) (omega arith))
 
 returns-4 : tie.Need-returns-4
-returns-4 c = judged-valid (c .before .before .before .before .before .before .args .x) (now (c .before .before .before .before .before .before .args .lits)) (now (c .before .before .before .before .before .before .args .places)) (sym (c .before .before .before .before .before .check .ensures) ∙ not-false (c .before .before .before .before .before .check .result) (c .before .before .before .before .if1 .left)) 7 (λ D s. fault-long (getD (c .before .before .before .before .before .before .args .x .«clause_sizes») 0 0) D (now (c .before .before .before .before .before .before .args .lits)) (omega arith) (omega arith))
+returns-4 c =
+    let s = c .before .before .before .before .before .before in
+    found s (not-false (s .args .ok) (c .before .before .before .before .before .if1 .left)) 7 (λ D h. fault-long (standing s) D (now (s .args .lits)) (omega (arith, c .before .before .before .cell-at .ensures)) (omega arith))
 
 literals-fault-requires : tie.Need-literals-fault-requires
 literals-fault-requires c κs = search needs
 
 returns-5 : tie.Need-returns-5
-returns-5 c = judged-valid (c .before .before .before .before .before .before .before .args .x) (now (c .before .before .before .before .before .before .before .args .lits)) (now (c .before .before .before .before .before .before .before .args .places)) (sym (c .before .before .before .before .before .before .check .ensures) ∙ not-false (c .before .before .before .before .before .before .check .result) (c .before .before .before .before .before .if1 .left)) _ (λ D s. c .literals-fault .ensures D s ∙ fault-literals (getD (c .before .before .before .before .before .before .before .args .x .«clause_sizes») 0 0) D (now (c .before .before .before .before .before .before .before .args .lits)) (omega arith) (omega arith) (omega arith))
+returns-5 c =
+    let s = c .before .before .before .before .before .before .before in
+    found s (not-false (s .args .ok) (c .before .before .before .before .before .before .if1 .left)) (c .literals-fault .result)
+    (λ D h. c .literals-fault .ensures D h ∙ fault-literals (standing s) D (now (s .args .lits)) (omega (arith, c .before .before .before .before .cell-at .ensures)) (omega arith) (omega arith))
 
 pub rule-fault-spec : {M : Type 1} → statement M
 rule-fault-spec =
     tie.close
     (tie.spec
-    check-requires
     returns
-    array-read-count
+    cell-at-requires
     cast-count
     returns-2
     returns-3

@@ -3,10 +3,9 @@ use borrow.Author.Needs.{needs}
 use Rattle.shelf.proofs.store.write_links.Statement.{statement}
 use Rattle.shelf.proofs.store.write_links.Tie as tie
 use native.Mathlib.Omega.{arith}
-use Prim.Native.Nat.{_+_}
 use denote.Ref.{now}
-use lib.ListN.{length-set, getD}
-use Rattle.shelf.proofs.Linking.{relinked-as, second-within}
+use lib.ListN.{length-set}
+use Rattle.shelf.proofs.Linking.{relinked-as}
 
 mul-links : tie.Need-mul-links
 mul-links c = search needs
@@ -39,7 +38,7 @@ add-links-4 : tie.Need-add-links-4
 add-links-4 c = search needs
 
 slice-write-links-3 : tie.Need-slice-write-links-3
-slice-write-links-3 c = second-within (now (c .before .args .links)) (257 + c .before .args .slot) (getD (now (c .before .args .links)) (c .before .args .code) 0) (c .before .args .code) (c .before .args .newest + 1) (omega (arith, c .before .pre .0))
+slice-write-links-3 c = simp length-set (omega (arith, c .before .pre .0))
 
 same-length : tie.Need-same-length
 same-length c = search needs

@@ -1,0 +1,213 @@
+// The calls query and card on lent tables, open to outsiders: the learned constraints are written where they stand.
+ghost use mathlib.Core.Path.{_≡_};
+ghost use mathlib.Core.List.{List, []};
+ghost use Prim.Native.Nat.{ℕ};
+ghost use lib.ListN.{length};
+ghost use Rattle.qbf.specs.Calls.{query, card};
+ghost use Rattle.state.specs.Reading.{stateOf};
+ghost use Rattle.serving.specs.Serves.{said, Serves};
+ghost use Rattle.answers.specs.Answers.{rulingSaid, cardSaid};
+use crate::MALFORMED;
+use crate::NOT_FREE;
+use crate::Printed;
+use crate::Ruling;
+use crate::TOO_MANY_LINES;
+use crate::ruling_for;
+use crate::run::run;
+use crate::total_lines;
+
+pub struct Ruled {
+    pub ruling: Ruling,
+    pub visits: u64,
+}
+
+pub struct Listed {
+    pub printed: Printed,
+    pub visits: u64,
+}
+
+// "A refusal returns its number, 0 lines, 0 visits and the state as given": a query's.
+fn not_ruled(number: u16) -> Ruled
+    ensures { λ r. ⌜ rulingSaid (r .ruling) (r .visits) ≡ said number 0 0 0 [] ⌝ }
+{
+    Ruled {
+        ruling: Ruling::Refused(number),
+        visits: 0,
+    }
+}
+
+// A card's: "Only 21 differs: the walk runs to its end first, its visits are returned and its store is kept."
+fn not_listed(number: u16, visits: u64) -> Listed
+    ensures { λ r. ⌜ ((tb : List ℕ) → cardSaid (r .printed) (r .visits) tb ≡ said number 0 0 visits tb) ⌝ }
+{
+    Listed {
+        printed: Printed::Refused(number),
+        visits: visits,
+    }
+}
+
+// "Query takes the numbers of the flags that are on; a flag not named is off. It returns swap or keep, and the visits."
+pub fn query<'a>(
+    numbers: &'a [u16; tables::BY_NUMBER],
+    levels: &'a [u16; tables::BY_NUMBER],
+    kinds: &'a [u16; tables::BY_NUMBER],
+    clauses: &'a [i16; tables::CLAUSE_CELLS],
+    clause_sizes: &'a [u16; tables::CLAUSE_SIZES],
+    learned_clauses: &mut [i16; tables::CONSTRAINT_CELLS],
+    learned_clause_sizes: &mut [u16; tables::CONSTRAINT_SIZES],
+    learned_cubes: &mut [i16; tables::CONSTRAINT_CELLS],
+    learned_cube_sizes: &mut [u16; tables::CONSTRAINT_SIZES],
+    on: &'a [i16],
+) -> Ruled
+    ensures { λ r. ⌜
+        Serves
+        (stateOf
+        (now (numbers .entry))
+        (now (levels .entry))
+        (now (kinds .entry))
+        (now (clauses .entry))
+        (now («clause_sizes» .entry))
+        (now («learned_clauses» .entry))
+        (now («learned_clause_sizes» .entry))
+        (now («learned_cubes» .entry))
+        (now («learned_cube_sizes» .entry)))
+        (query (now (on .entry)))
+        (rulingSaid (r .ruling) (r .visits))
+        (stateOf
+        (now (numbers .entry))
+        (now (levels .entry))
+        (now (kinds .entry))
+        (now (clauses .entry))
+        (now («clause_sizes» .entry))
+        (now («learned_clauses» .exit))
+        (now («learned_clause_sizes» .exit))
+        (now («learned_cubes» .exit))
+        (now («learned_cube_sizes» .exit)))
+        ⌝ }
+{
+    let prefix = state::check_tables(
+        numbers,
+        levels,
+        kinds,
+        clauses,
+        clause_sizes,
+        learned_clauses,
+        learned_clause_sizes,
+        learned_cubes,
+        learned_cube_sizes,
+    );
+    if !prefix.ok {
+        return not_ruled(MALFORMED);
+    }
+    let free = state::kinds::free_count(numbers, levels, kinds);
+    let reading = reading::read(numbers, &prefix.places, free, on);
+    if !reading.ok {
+        return not_ruled(NOT_FREE);
+    }
+    let at = free; // each free variable has its value at the start node
+    let mut no_table = [0u8; 1];
+    let found = run(
+        numbers,
+        clauses,
+        clause_sizes,
+        learned_clauses,
+        learned_clause_sizes,
+        learned_cubes,
+        learned_cube_sizes,
+        &prefix.places,
+        &prefix.kinds,
+        &reading.values,
+        at,
+        free,
+        &mut no_table,
+    );
+    let verdict = found.verdict;
+    Ruled {
+        ruling: ruling_for(verdict),
+        visits: found.visits,
+    }
+}
+
+// "Card writes to a lent byte table and returns lines and visits."
+pub fn card<'a>(
+    numbers: &'a [u16; tables::BY_NUMBER],
+    levels: &'a [u16; tables::BY_NUMBER],
+    kinds: &'a [u16; tables::BY_NUMBER],
+    clauses: &'a [i16; tables::CLAUSE_CELLS],
+    clause_sizes: &'a [u16; tables::CLAUSE_SIZES],
+    learned_clauses: &mut [i16; tables::CONSTRAINT_CELLS],
+    learned_clause_sizes: &mut [u16; tables::CONSTRAINT_SIZES],
+    learned_cubes: &mut [i16; tables::CONSTRAINT_CELLS],
+    learned_cube_sizes: &mut [u16; tables::CONSTRAINT_SIZES],
+    table: &mut [u8],
+) -> Listed
+    ensures { λ r. ⌜
+        Serves
+        (stateOf
+        (now (numbers .entry))
+        (now (levels .entry))
+        (now (kinds .entry))
+        (now (clauses .entry))
+        (now («clause_sizes» .entry))
+        (now («learned_clauses» .entry))
+        (now («learned_clause_sizes» .entry))
+        (now («learned_cubes» .entry))
+        (now («learned_cube_sizes» .entry)))
+        (card (length (now (table .entry))))
+        (cardSaid (r .printed) (r .visits) (now (table .exit)))
+        (stateOf
+        (now (numbers .entry))
+        (now (levels .entry))
+        (now (kinds .entry))
+        (now (clauses .entry))
+        (now («clause_sizes» .entry))
+        (now («learned_clauses» .exit))
+        (now («learned_clause_sizes» .exit))
+        (now («learned_cubes» .exit))
+        (now («learned_cube_sizes» .exit)))
+        ⌝ }
+{
+    cover::clear(table);
+    let prefix = state::check_tables(
+        numbers,
+        levels,
+        kinds,
+        clauses,
+        clause_sizes,
+        learned_clauses,
+        learned_clause_sizes,
+        learned_cubes,
+        learned_cube_sizes,
+    );
+    if !prefix.ok {
+        return not_listed(MALFORMED, 0);
+    }
+    let free = state::kinds::free_count(numbers, levels, kinds);
+    let values = [tables::OPEN; tables::BY_NUMBER];
+    let found = run(
+        numbers,
+        clauses,
+        clause_sizes,
+        learned_clauses,
+        learned_clause_sizes,
+        learned_cubes,
+        learned_cube_sizes,
+        &prefix.places,
+        &prefix.kinds,
+        &values,
+        0,
+        free,
+        table,
+    );
+    let verdict = found.verdict;
+    let lines = total_lines(verdict, found.lines);
+    let visits = found.visits;
+    if cover::fits(table.len(), free, lines) {
+        return Listed {
+            printed: Printed::Lines(lines),
+            visits: visits,
+        };
+    }
+    cover::clear(table);
+    not_listed(TOO_MANY_LINES, visits)
+}

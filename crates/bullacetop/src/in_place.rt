@@ -1,0 +1,258 @@
+// The four calls on a state whose tables the caller lends, in the order of the state: what a call changes is written where it stands, and
+// nothing is copied.
+use crate::calls::NONE;
+use crate::calls::ruling_refusal;
+use crate::calls::verdict_of;
+use rules::Change;
+ghost use mathlib.Core.Path.{_≡_};
+ghost use mathlib.Core.List.{[]};
+ghost use lib.ListN.{length};
+ghost use Rattle.qbf.specs.Calls.{rule, query, card, forget};
+ghost use Rattle.state.specs.Reading.{stateOf};
+ghost use Rattle.serving.specs.Serves.{Serves};
+ghost use Rattle.rules.specs.Rules.{changeSaid};
+ghost use Rattle.bullacetop.specs.Answers.{replySaid};
+
+// The numbers of an answer, as those of `Answer`; the state stays with the caller.
+#[repr(C)]
+pub struct Reply {
+    pub refusal: u16,
+    pub verdict: u16,
+    pub lines: usize,
+    pub visits: u64,
+}
+
+fn changed(c: Change) -> Reply
+    ensures { λ r. ⌜ replySaid r [] ≡ changeSaid c ⌝ }
+{
+    Reply {
+        refusal: rules::refusal_of(c),
+        verdict: NONE,
+        lines: 0,
+        visits: 0,
+    }
+}
+
+#[no_mangle]
+pub extern "C" fn bullacetop_rule_in_place<'a>(
+    numbers: &'a [u16; tables::BY_NUMBER],
+    levels: &'a [u16; tables::BY_NUMBER],
+    kinds: &'a [u16; tables::BY_NUMBER],
+    clauses: &mut [i16; tables::CLAUSE_CELLS],
+    clause_sizes: &mut [u16; tables::CLAUSE_SIZES],
+    learned_clauses: &'a [i16; tables::CONSTRAINT_CELLS],
+    learned_clause_sizes: &'a [u16; tables::CONSTRAINT_SIZES],
+    learned_cubes: &'a [i16; tables::CONSTRAINT_CELLS],
+    learned_cube_sizes: &mut [u16; tables::CONSTRAINT_SIZES],
+    lits: &'a [i16],
+) -> Reply
+    ensures { λ r. ⌜
+        Serves
+        (stateOf
+        (now (numbers .entry))
+        (now (levels .entry))
+        (now (kinds .entry))
+        (now (clauses .entry))
+        (now («clause_sizes» .entry))
+        (now («learned_clauses» .entry))
+        (now («learned_clause_sizes» .entry))
+        (now («learned_cubes» .entry))
+        (now («learned_cube_sizes» .entry)))
+        (rule (now (lits .entry)))
+        (replySaid r [])
+        (stateOf
+        (now (numbers .entry))
+        (now (levels .entry))
+        (now (kinds .entry))
+        (now (clauses .exit))
+        (now («clause_sizes» .exit))
+        (now («learned_clauses» .entry))
+        (now («learned_clause_sizes» .entry))
+        (now («learned_cubes» .entry))
+        (now («learned_cube_sizes» .exit)))
+        ⌝ }
+{
+    changed(rules::in_place::rule(
+        numbers,
+        levels,
+        kinds,
+        clauses,
+        clause_sizes,
+        learned_clauses,
+        learned_clause_sizes,
+        learned_cubes,
+        learned_cube_sizes,
+        lits,
+    ))
+}
+
+#[no_mangle]
+pub extern "C" fn bullacetop_forget_in_place<'a>(
+    numbers: &'a [u16; tables::BY_NUMBER],
+    levels: &'a [u16; tables::BY_NUMBER],
+    kinds: &'a [u16; tables::BY_NUMBER],
+    clauses: &'a [i16; tables::CLAUSE_CELLS],
+    clause_sizes: &'a [u16; tables::CLAUSE_SIZES],
+    learned_clauses: &'a [i16; tables::CONSTRAINT_CELLS],
+    learned_clause_sizes: &mut [u16; tables::CONSTRAINT_SIZES],
+    learned_cubes: &'a [i16; tables::CONSTRAINT_CELLS],
+    learned_cube_sizes: &mut [u16; tables::CONSTRAINT_SIZES],
+) -> Reply
+    ensures { λ r. ⌜
+        Serves
+        (stateOf
+        (now (numbers .entry))
+        (now (levels .entry))
+        (now (kinds .entry))
+        (now (clauses .entry))
+        (now («clause_sizes» .entry))
+        (now («learned_clauses» .entry))
+        (now («learned_clause_sizes» .entry))
+        (now («learned_cubes» .entry))
+        (now («learned_cube_sizes» .entry)))
+        forget
+        (replySaid r [])
+        (stateOf
+        (now (numbers .entry))
+        (now (levels .entry))
+        (now (kinds .entry))
+        (now (clauses .entry))
+        (now («clause_sizes» .entry))
+        (now («learned_clauses» .entry))
+        (now («learned_clause_sizes» .exit))
+        (now («learned_cubes» .entry))
+        (now («learned_cube_sizes» .exit)))
+        ⌝ }
+{
+    changed(rules::in_place::forget(
+        numbers,
+        levels,
+        kinds,
+        clauses,
+        clause_sizes,
+        learned_clauses,
+        learned_clause_sizes,
+        learned_cubes,
+        learned_cube_sizes,
+    ))
+}
+
+#[no_mangle]
+pub extern "C" fn bullacetop_query_in_place<'a>(
+    numbers: &'a [u16; tables::BY_NUMBER],
+    levels: &'a [u16; tables::BY_NUMBER],
+    kinds: &'a [u16; tables::BY_NUMBER],
+    clauses: &'a [i16; tables::CLAUSE_CELLS],
+    clause_sizes: &'a [u16; tables::CLAUSE_SIZES],
+    learned_clauses: &mut [i16; tables::CONSTRAINT_CELLS],
+    learned_clause_sizes: &mut [u16; tables::CONSTRAINT_SIZES],
+    learned_cubes: &mut [i16; tables::CONSTRAINT_CELLS],
+    learned_cube_sizes: &mut [u16; tables::CONSTRAINT_SIZES],
+    on: &'a [i16],
+) -> Reply
+    ensures { λ r. ⌜
+        Serves
+        (stateOf
+        (now (numbers .entry))
+        (now (levels .entry))
+        (now (kinds .entry))
+        (now (clauses .entry))
+        (now («clause_sizes» .entry))
+        (now («learned_clauses» .entry))
+        (now («learned_clause_sizes» .entry))
+        (now («learned_cubes» .entry))
+        (now («learned_cube_sizes» .entry)))
+        (query (now (on .entry)))
+        (replySaid r [])
+        (stateOf
+        (now (numbers .entry))
+        (now (levels .entry))
+        (now (kinds .entry))
+        (now (clauses .entry))
+        (now («clause_sizes» .entry))
+        (now («learned_clauses» .exit))
+        (now («learned_clause_sizes» .exit))
+        (now («learned_cubes» .exit))
+        (now («learned_cube_sizes» .exit)))
+        ⌝ }
+{
+    let asked = answers::in_place::query(
+        numbers,
+        levels,
+        kinds,
+        clauses,
+        clause_sizes,
+        learned_clauses,
+        learned_clause_sizes,
+        learned_cubes,
+        learned_cube_sizes,
+        on,
+    );
+    let ruling = asked.ruling;
+    Reply {
+        refusal: ruling_refusal(ruling),
+        verdict: verdict_of(ruling),
+        lines: 0,
+        visits: asked.visits,
+    }
+}
+
+#[no_mangle]
+pub extern "C" fn bullacetop_card_in_place<'a>(
+    numbers: &'a [u16; tables::BY_NUMBER],
+    levels: &'a [u16; tables::BY_NUMBER],
+    kinds: &'a [u16; tables::BY_NUMBER],
+    clauses: &'a [i16; tables::CLAUSE_CELLS],
+    clause_sizes: &'a [u16; tables::CLAUSE_SIZES],
+    learned_clauses: &mut [i16; tables::CONSTRAINT_CELLS],
+    learned_clause_sizes: &mut [u16; tables::CONSTRAINT_SIZES],
+    learned_cubes: &mut [i16; tables::CONSTRAINT_CELLS],
+    learned_cube_sizes: &mut [u16; tables::CONSTRAINT_SIZES],
+    table: &mut [u8],
+) -> Reply
+    ensures { λ r. ⌜
+        Serves
+        (stateOf
+        (now (numbers .entry))
+        (now (levels .entry))
+        (now (kinds .entry))
+        (now (clauses .entry))
+        (now («clause_sizes» .entry))
+        (now («learned_clauses» .entry))
+        (now («learned_clause_sizes» .entry))
+        (now («learned_cubes» .entry))
+        (now («learned_cube_sizes» .entry)))
+        (card (length (now (table .entry))))
+        (replySaid r (now (table .exit)))
+        (stateOf
+        (now (numbers .entry))
+        (now (levels .entry))
+        (now (kinds .entry))
+        (now (clauses .entry))
+        (now («clause_sizes» .entry))
+        (now («learned_clauses» .exit))
+        (now («learned_clause_sizes» .exit))
+        (now («learned_cubes» .exit))
+        (now («learned_cube_sizes» .exit)))
+        ⌝ }
+{
+    let shown = answers::in_place::card(
+        numbers,
+        levels,
+        kinds,
+        clauses,
+        clause_sizes,
+        learned_clauses,
+        learned_clause_sizes,
+        learned_cubes,
+        learned_cube_sizes,
+        table,
+    );
+    let printed = shown.printed;
+    Reply {
+        refusal: answers::refusal_of(printed),
+        verdict: NONE,
+        lines: answers::lines_of(printed),
+        visits: shown.visits,
+    }
+}

@@ -1,0 +1,12 @@
+-- The first code of a list at which a test passes, as code gives it: the code, or a number that is no code's.
+use Prim.Native.Nat.{ℕ, _≤_, _<_}
+use mathlib.Core.Path.{_≡_}
+use mathlib.Core.Bool.{Bool}
+use mathlib.Core.List.{List}
+use lib.ListN.{length, getD}
+use Rattle.tables.specs.Views.{indexOf}
+use Rattle.tables.specs.Shelves.{codeCount}
+
+pub record FirstWith (f : ℕ → Bool) (cs : List ℕ) (r : ℕ) : Type 0 where
+  pub found : r < codeCount → (indexOf f cs < length cs) × (r ≡ getD cs (indexOf f cs) 0)
+  pub none : codeCount ≤ r → indexOf f cs ≡ length cs

@@ -1,0 +1,128 @@
+// The calls on a state whose tables the caller lends: what changes is written where it stands.
+ghost use mathlib.Core.Path.{_≡_};
+ghost use Rattle.qbf.specs.Calls.{rule, forget};
+ghost use Rattle.state.specs.Reading.{stateOf};
+ghost use Rattle.serving.specs.Serves.{Serves};
+ghost use Rattle.rules.specs.Rules.{changeSaid};
+use crate::Change;
+use crate::clauses::accept;
+use crate::refusals;
+use learned::store::clear;
+use state::check_tables;
+
+// "Forget empties the store."
+pub fn forget<'a>(
+    numbers: &'a [u16; tables::BY_NUMBER],
+    levels: &'a [u16; tables::BY_NUMBER],
+    kinds: &'a [u16; tables::BY_NUMBER],
+    clauses: &'a [i16; tables::CLAUSE_CELLS],
+    clause_sizes: &'a [u16; tables::CLAUSE_SIZES],
+    learned_clauses: &'a [i16; tables::CONSTRAINT_CELLS],
+    learned_clause_sizes: &mut [u16; tables::CONSTRAINT_SIZES],
+    learned_cubes: &'a [i16; tables::CONSTRAINT_CELLS],
+    learned_cube_sizes: &mut [u16; tables::CONSTRAINT_SIZES],
+) -> Change
+    ensures { λ r. ⌜
+        Serves
+        (stateOf
+        (now (numbers .entry))
+        (now (levels .entry))
+        (now (kinds .entry))
+        (now (clauses .entry))
+        (now («clause_sizes» .entry))
+        (now («learned_clauses» .entry))
+        (now («learned_clause_sizes» .entry))
+        (now («learned_cubes» .entry))
+        (now («learned_cube_sizes» .entry)))
+        forget
+        (changeSaid r)
+        (stateOf
+        (now (numbers .entry))
+        (now (levels .entry))
+        (now (kinds .entry))
+        (now (clauses .entry))
+        (now («clause_sizes» .entry))
+        (now («learned_clauses» .entry))
+        (now («learned_clause_sizes» .exit))
+        (now («learned_cubes» .entry))
+        (now («learned_cube_sizes» .exit)))
+        ⌝ }
+{
+    let read = check_tables(
+        numbers,
+        levels,
+        kinds,
+        clauses,
+        clause_sizes,
+        learned_clauses,
+        learned_clause_sizes,
+        learned_cubes,
+        learned_cube_sizes,
+    );
+    let ok = read.ok;
+    if !ok {
+        return Change::Refused(refusals::MALFORMED);
+    }
+    clear(learned_clause_sizes);
+    clear(learned_cube_sizes);
+    Change::Done
+}
+
+// "Rule adds a rule; if accepted, all passes go and bars remain."
+pub fn rule<'a>(
+    numbers: &'a [u16; tables::BY_NUMBER],
+    levels: &'a [u16; tables::BY_NUMBER],
+    kinds: &'a [u16; tables::BY_NUMBER],
+    clauses: &mut [i16; tables::CLAUSE_CELLS],
+    clause_sizes: &mut [u16; tables::CLAUSE_SIZES],
+    learned_clauses: &'a [i16; tables::CONSTRAINT_CELLS],
+    learned_clause_sizes: &'a [u16; tables::CONSTRAINT_SIZES],
+    learned_cubes: &'a [i16; tables::CONSTRAINT_CELLS],
+    learned_cube_sizes: &mut [u16; tables::CONSTRAINT_SIZES],
+    lits: &'a [i16],
+) -> Change
+    ensures { λ r. ⌜
+        Serves
+        (stateOf
+        (now (numbers .entry))
+        (now (levels .entry))
+        (now (kinds .entry))
+        (now (clauses .entry))
+        (now («clause_sizes» .entry))
+        (now («learned_clauses» .entry))
+        (now («learned_clause_sizes» .entry))
+        (now («learned_cubes» .entry))
+        (now («learned_cube_sizes» .entry)))
+        (rule (now (lits .entry)))
+        (changeSaid r)
+        (stateOf
+        (now (numbers .entry))
+        (now (levels .entry))
+        (now (kinds .entry))
+        (now (clauses .exit))
+        (now («clause_sizes» .exit))
+        (now («learned_clauses» .entry))
+        (now («learned_clause_sizes» .entry))
+        (now («learned_cubes» .entry))
+        (now («learned_cube_sizes» .exit)))
+        ⌝ }
+{
+    let read = check_tables(
+        numbers,
+        levels,
+        kinds,
+        clauses,
+        clause_sizes,
+        learned_clauses,
+        learned_clause_sizes,
+        learned_cubes,
+        learned_cube_sizes,
+    );
+    let places = read.places;
+    let fault = refusals::rule_fault(read.ok, clause_sizes, lits, &places);
+    if fault != refusals::NONE {
+        return Change::Refused(fault);
+    }
+    accept(clauses, clause_sizes, learned_cube_sizes, lits, &places);
+    Change::Done
+}
