@@ -13,17 +13,20 @@
 #define FILL 0xEE
 
 static struct bullacetop_state book;
+/* What a call in place works on. */
+static struct bullacetop_state lent;
 static struct bullacetop_answer answer;
+static struct bullacetop_reply reply;
 static struct bullacetop_turn turn;
 static uint8_t table[65536], page[1 << 20];
 /* The same book, as text. */
 static char text[4096] = "(book 1)\n(flags)\n(exists";
 
-/* One function for each call, so that a frame holds the state handed over and the answer of one call only. */
+static const int16_t literals[] = {1, -2, 3};
+
+/* One function for each call, so that a frame holds what is handed over and answered by one call only. */
 static void rule(void)
 {
-    static const int16_t literals[] = {1, -2, 3};
-
     answer = bullacetop_rule(book, literals, 3);
 }
 
@@ -40,6 +43,26 @@ static void query(void)
 static void card(void)
 {
     answer = bullacetop_card(book, table, sizeof table);
+}
+
+static void rule_in_place(void)
+{
+    reply = bullacetop_rule_at(&lent, literals, 3);
+}
+
+static void forget_in_place(void)
+{
+    reply = bullacetop_forget_at(&lent);
+}
+
+static void query_in_place(void)
+{
+    reply = bullacetop_query_at(&lent, NULL, 0);
+}
+
+static void card_in_place(void)
+{
+    reply = bullacetop_card_at(&lent, table, sizeof table);
 }
 
 static void print(void)
@@ -62,7 +85,19 @@ static void line(void)
 static const struct {
     const char *name;
     void (*make)(void);
-} calls[] = {{"rule", rule}, {"forget", forget}, {"query", query}, {"card", card}, {"print", print}, {"open", open}, {"line", line}};
+} calls[] = {
+    {"rule", rule},
+    {"forget", forget},
+    {"query", query},
+    {"card", card},
+    {"rule in place", rule_in_place},
+    {"forget in place", forget_in_place},
+    {"query in place", query_in_place},
+    {"card in place", card_in_place},
+    {"print", print},
+    {"open", open},
+    {"line", line},
+};
 
 static size_t written(const unsigned char *stack)
 {
@@ -95,6 +130,7 @@ int main(void)
     book.rule_sizes[2] = 1;
     book.rules[BULLACETOP_LITERALS] = -39;
     for (size_t i = 0; i < sizeof calls / sizeof *calls; i++) {
+        lent = book;
         memset(stack, FILL, SIZE);
         getcontext(&there);
         there.uc_stack.ss_sp = stack;
@@ -102,7 +138,7 @@ int main(void)
         there.uc_link = &here;
         makecontext(&there, calls[i].make, 0);
         swapcontext(&here, &there);
-        printf("%s: %zu bytes, refusal %u, text %zu\n", calls[i].name, written(stack), (unsigned)answer.refusal, turn.length);
+        printf("%s: %zu bytes, refusal %u, text %zu\n", calls[i].name, written(stack), (unsigned)(answer.refusal + reply.refusal), turn.length);
     }
     free(stack);
     return 0;

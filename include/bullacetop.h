@@ -3,16 +3,17 @@
  *
  * Link target/staticlib/libbullacetop.a, which `rt staticlib bullacetop` makes (x86-64 Linux; size_t has 64 bits).
  *
- * A state is a value. Every call takes one and answers with the next one; the caller keeps it. The library has no memory of its own: it
- * allocates nothing, keeps no pointer after a call returns and has no global data, so calls on different states may run at once.
+ * A state is a value. Every call takes one and answers with the next one; the caller keeps it. Rule, forget, query and card also work in
+ * place, on a state that is lent. The library has no memory of its own: it allocates nothing, keeps no pointer after a call returns and has
+ * no global data, so calls on different states may run at once.
  *
  * Whatever bytes a state has, no call faults or runs without end: each call checks its state in full and refuses a malformed one with 22.
  * Nothing else needs to be checked before a call but the pointers: a list or a table of n items has to be readable (the card table
  * writable) for n items. Where n is 0 nothing is read or written, and the pointer may be NULL. Lent lists are not written. A table must
  * not overlap another argument.
  *
- * Stack: the deepest call, a query on 40 variables, was seen to take 248 KiB, with the state handed over, the answer (19 KiB each) and the
- * tables of its search in it; the functions on texts up to 312 KiB: have 512 KiB.
+ * Stack: have 512 KiB, for a call in place 128 KiB. The deepest call, on 40 variables, was seen to take less (docs/BENCHMARKS.md), with the
+ * state handed over, the answer (19 KiB each) and the tables of its search in it.
  */
 #ifndef BULLACETOP_H
 #define BULLACETOP_H
@@ -119,6 +120,104 @@ struct bullacetop_answer bullacetop_query(struct bullacetop_state x, const int16
  * where there are more than n / f lines. With no flag a line has no byte and always fits.
  */
 struct bullacetop_answer bullacetop_card(struct bullacetop_state x, uint8_t *table, size_t n);
+
+/*
+ * The four calls in place: the state stays with the caller and nothing of it is copied. It is lent as its nine tables, which need not stand
+ * in one struct; bullacetop_rule_at, bullacetop_forget_at, bullacetop_query_at and bullacetop_card_at take the struct.
+ *
+ * The answer, the card table and the next state are those of the same call by value. What a call may write:
+ *
+ *   rule         rules, rule_sizes, pass_sizes
+ *   forget       bar_sizes, pass_sizes
+ *   query, card  bars, bar_sizes, passes, pass_sizes
+ *
+ * The other tables are only read, so that several calls may have them at once. A refusal leaves all nine as they were, byte for byte; only
+ * after 21 the four that a card may write keep what the search learned.
+ *
+ * Each table has to be readable, and writable where the call may write it, for the length declared here; none may be NULL. No table may
+ * overlap another one, the list or the card table. A table that a call may write belongs to that call alone until it returns.
+ */
+struct bullacetop_reply {
+    /* As in struct bullacetop_answer. */
+    uint16_t refusal;
+    uint16_t verdict;
+    size_t lines;
+    uint64_t visits;
+};
+
+struct bullacetop_reply bullacetop_rule_in_place(
+    const uint16_t numbers[BULLACETOP_NUMBERS + 1],
+    const uint16_t levels[BULLACETOP_NUMBERS + 1],
+    const uint16_t kinds[BULLACETOP_NUMBERS + 1],
+    int16_t rules[BULLACETOP_RULES * BULLACETOP_LITERALS],
+    uint16_t rule_sizes[BULLACETOP_RULES + 1],
+    const int16_t bars[BULLACETOP_ENTRIES * BULLACETOP_NUMBERS],
+    const uint16_t bar_sizes[BULLACETOP_ENTRIES + 1],
+    const int16_t passes[BULLACETOP_ENTRIES * BULLACETOP_NUMBERS],
+    uint16_t pass_sizes[BULLACETOP_ENTRIES + 1],
+    const int16_t *literals,
+    size_t n);
+
+struct bullacetop_reply bullacetop_forget_in_place(
+    const uint16_t numbers[BULLACETOP_NUMBERS + 1],
+    const uint16_t levels[BULLACETOP_NUMBERS + 1],
+    const uint16_t kinds[BULLACETOP_NUMBERS + 1],
+    const int16_t rules[BULLACETOP_RULES * BULLACETOP_LITERALS],
+    const uint16_t rule_sizes[BULLACETOP_RULES + 1],
+    const int16_t bars[BULLACETOP_ENTRIES * BULLACETOP_NUMBERS],
+    uint16_t bar_sizes[BULLACETOP_ENTRIES + 1],
+    const int16_t passes[BULLACETOP_ENTRIES * BULLACETOP_NUMBERS],
+    uint16_t pass_sizes[BULLACETOP_ENTRIES + 1]);
+
+struct bullacetop_reply bullacetop_query_in_place(
+    const uint16_t numbers[BULLACETOP_NUMBERS + 1],
+    const uint16_t levels[BULLACETOP_NUMBERS + 1],
+    const uint16_t kinds[BULLACETOP_NUMBERS + 1],
+    const int16_t rules[BULLACETOP_RULES * BULLACETOP_LITERALS],
+    const uint16_t rule_sizes[BULLACETOP_RULES + 1],
+    int16_t bars[BULLACETOP_ENTRIES * BULLACETOP_NUMBERS],
+    uint16_t bar_sizes[BULLACETOP_ENTRIES + 1],
+    int16_t passes[BULLACETOP_ENTRIES * BULLACETOP_NUMBERS],
+    uint16_t pass_sizes[BULLACETOP_ENTRIES + 1],
+    const int16_t *on,
+    size_t n);
+
+struct bullacetop_reply bullacetop_card_in_place(
+    const uint16_t numbers[BULLACETOP_NUMBERS + 1],
+    const uint16_t levels[BULLACETOP_NUMBERS + 1],
+    const uint16_t kinds[BULLACETOP_NUMBERS + 1],
+    const int16_t rules[BULLACETOP_RULES * BULLACETOP_LITERALS],
+    const uint16_t rule_sizes[BULLACETOP_RULES + 1],
+    int16_t bars[BULLACETOP_ENTRIES * BULLACETOP_NUMBERS],
+    uint16_t bar_sizes[BULLACETOP_ENTRIES + 1],
+    int16_t passes[BULLACETOP_ENTRIES * BULLACETOP_NUMBERS],
+    uint16_t pass_sizes[BULLACETOP_ENTRIES + 1],
+    uint8_t *table,
+    size_t n);
+
+static inline struct bullacetop_reply bullacetop_rule_at(struct bullacetop_state *x, const int16_t *literals, size_t n)
+{
+    return bullacetop_rule_in_place(
+        x->numbers, x->levels, x->kinds, x->rules, x->rule_sizes, x->bars, x->bar_sizes, x->passes, x->pass_sizes, literals, n);
+}
+
+static inline struct bullacetop_reply bullacetop_forget_at(struct bullacetop_state *x)
+{
+    return bullacetop_forget_in_place(
+        x->numbers, x->levels, x->kinds, x->rules, x->rule_sizes, x->bars, x->bar_sizes, x->passes, x->pass_sizes);
+}
+
+static inline struct bullacetop_reply bullacetop_query_at(struct bullacetop_state *x, const int16_t *on, size_t n)
+{
+    return bullacetop_query_in_place(
+        x->numbers, x->levels, x->kinds, x->rules, x->rule_sizes, x->bars, x->bar_sizes, x->passes, x->pass_sizes, on, n);
+}
+
+static inline struct bullacetop_reply bullacetop_card_at(struct bullacetop_state *x, uint8_t *table, size_t n)
+{
+    return bullacetop_card_in_place(
+        x->numbers, x->levels, x->kinds, x->rules, x->rule_sizes, x->bars, x->bar_sizes, x->passes, x->pass_sizes, table, n);
+}
 
 /*
  * Books and call lines as text. An answer's text is written to the first bytes of `out`, for which the caller has m bytes, at least

@@ -2,6 +2,10 @@
 //! changed. A literal is one code, twice its place and one more where it is positive, against one table
 //! of statuses; clauses and entries are found by their last literal; the test of satisfied clauses goes
 //! on where the parent's stopped. The tables are derived once the start node is open.
+//!
+//! What differs from the library: lists of rows for each last literal, not links; a reduced clause in a
+//! row of its own; one struct, not tables lent one by one; and the places of the first true literals as
+//! one word of bits, which ends at 64 places, where the library has a table by clause.
 
 use crate::search::{self, Polarity, Solver, Value, ENTRIES};
 use compare::Quantifier;

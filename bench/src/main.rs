@@ -1,9 +1,10 @@
 //! `bench`: measures and writes docs/BENCHMARKS.md and docs/benchmarks.svg. `bench --card NAME`
 //! makes one card of an example by the library alone, `bench --card NAME scan` or `index` by a design
-//! in Rust alone, for a tool that counts instructions.
+//! in Rust alone, for a tool that counts instructions. `bench --calls` measures calls by themselves and
+//! writes nothing.
 
 use bench::books::{self, formula, Book, Order, Plan};
-use bench::measure::{call_time, measure, Task, Times};
+use bench::measure::{call_times, measure, Task, Times};
 use bench::plot::{svg, Panel, Series};
 use bench::report::{self, HEADS};
 use bench::search::{card, Design};
@@ -23,7 +24,11 @@ fn main() -> io::Result<()> {
         [flag, name, side] if flag == "--card" && side == "index" => {
             one_card(name, Some(Design::Index))
         }
-        _ => Err(io::Error::other("bench [--card NAME [scan|index]]")),
+        [flag] if flag == "--calls" => {
+            print!("{}", calls()?);
+            Ok(())
+        }
+        _ => Err(io::Error::other("bench [--calls | --card NAME [scan|index]]")),
     }
 }
 
@@ -38,8 +43,8 @@ fn one_card(name: &str, rust: Option<Design>) -> io::Result<()> {
             (lines.unwrap_or(0), visits)
         }
         None => {
-            let (_, lines, visits) = bare::card(&mut raw, &mut table);
-            (lines, visits)
+            let reply = bare::card(&mut raw, &mut table);
+            (reply.lines, reply.visits)
         }
     };
     println!("lines {lines}, visits {visits}");
@@ -74,22 +79,33 @@ fn run() -> io::Result<()> {
     let ratios = |task, of| report::ratios(&all, task, of);
     let gains = (ratios(Task::Card, Times::gain), ratios(Task::Queries, Times::gain));
     let designs = (ratios(Task::Card, Times::ratio), ratios(Task::Queries, Times::ratio));
-    let examples = books::examples()?;
-    let calls: Vec<f64> =
-        examples.iter().map(|book| call_time(&book.formula).as_nanos() as f64 / 1e3).collect();
-    let (small, large) = (calls[0], calls[calls.len() - 1]);
     let after = report::load();
     let words = format!(
         "Times of the thread, the shortest of at least 3 runs; {load} before, {after} after.\n\
          Times faster than the straightforward design in Rust, geometric mean with the least and the \
          largest: cards {}, lists of 200 queries {}.\n\
-         Library to the same design in Rust: cards {}, lists of 200 queries {}.\n\
-         A call that searches nothing (forget) takes {small:.1} \u{b5}s on `a.book` and {large:.1} \
-         \u{b5}s on `parlour_board.book`: the state is checked and copied.\n\n",
+         Library to the same design in Rust: cards {}, lists of 200 queries {}.\n\n",
         gains.0, gains.1, designs.0, designs.1
     );
-    print!("{words}");
-    report::write(&(words + &table), &svg(&panels))
+    let calls = calls()?;
+    print!("{words}{calls}");
+    report::write(&(words + &table), &calls, &svg(&panels))
+}
+
+/// Calls by themselves, on the smallest example and on the largest.
+fn calls() -> io::Result<String> {
+    let mut books = books::examples()?;
+    books.retain(|book| {
+        ["a.book", "parlour_board.book"].iter().any(|name| book.name.ends_with(name))
+    });
+    let measured: Vec<_> = books
+        .into_iter()
+        .map(|book| {
+            let times = call_times(&book.formula);
+            (book, times)
+        })
+        .collect();
+    Ok(report::calls(&measured))
 }
 
 fn plan(flags: usize, loads: usize, faults: usize, rules: usize, literals: (usize, usize)) -> Plan {

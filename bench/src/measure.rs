@@ -6,7 +6,7 @@ use compare::solver::start_node;
 use compare::{Formula, State, Store};
 use native::budget::{self, Walk};
 use native::library::bare;
-use native::raw::{Raw, SWAP};
+use native::raw::{Raw, Reply, SWAP};
 use native::reading;
 use std::time::Duration;
 
@@ -125,31 +125,52 @@ fn run_library(raw: &Raw, task: Task, readings: &[Vec<i16>]) -> (Found, Duration
     let start = cpu_time();
     match task {
         Task::Card => {
-            let (refusal, lines, visits) = bare::card(&mut raw, &mut found.table);
-            assert_eq!(refusal, 0, "the table is large enough");
-            (found.lines, found.visits) = (lines, visits);
+            let reply = bare::card(&mut raw, &mut found.table);
+            assert_eq!(reply.refusal, 0, "the table is large enough");
+            (found.lines, found.visits) = (reply.lines, reply.visits);
         }
         Task::Queries => {
             for on in readings {
-                let (verdict, visits) = bare::query(&mut raw, on);
-                found.verdicts.push(verdict == SWAP);
-                found.visits += visits;
+                let reply = bare::query(&mut raw, on);
+                found.verdicts.push(reply.verdict == SWAP);
+                found.visits += reply.visits;
             }
         }
     }
     (found, cpu_time() - start)
 }
 
-/// A call that searches nothing: the state is checked, copied in and copied out.
-pub fn call_time(formula: &Formula) -> Duration {
+/// What a call takes by itself.
+pub struct CallTimes {
+    /// A query that its start node decides.
+    pub query_by_value: Duration,
+    pub query_in_place: Duration,
+    /// The state is checked, and by value copied in and copied out.
+    pub forget_by_value: Duration,
+    pub forget_in_place: Duration,
+}
+
+pub fn call_times(formula: &Formula) -> CallTimes {
+    let raw = reading::write(&State { formula: formula.clone(), store: Store::default() });
+    let readings = readings(formula);
+    let decided = |on: &&Vec<i16>| bare::query(&mut raw.clone(), on).visits == 1;
+    let on = readings.iter().find(decided).expect("a reading that the start node decides");
+    CallTimes {
+        query_by_value: call_time(&raw, |raw| bare::query_by_value(raw, on)),
+        query_in_place: call_time(&raw, |raw| bare::query(raw, on)),
+        forget_by_value: call_time(&raw, bare::forget_by_value),
+        forget_in_place: call_time(&raw, bare::forget),
+    }
+}
+
+fn call_time(raw: &Raw, call: impl Fn(&mut Raw) -> Reply) -> Duration {
     const CALLS: u32 = 1_000;
-    let state = State { formula: formula.clone(), store: Store::default() };
-    let mut raw = reading::write(&state);
+    let mut raw = Box::new(*raw);
     let mut least = Duration::MAX;
     for _ in 0..20 {
         let start = cpu_time();
         for _ in 0..CALLS {
-            assert_eq!(bare::forget(&mut raw), 0, "nothing is refused");
+            assert_eq!(call(&mut raw).refusal, 0, "nothing is refused");
         }
         least = least.min((cpu_time() - start) / CALLS);
     }

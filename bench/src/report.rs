@@ -1,14 +1,12 @@
 //! The tables of docs/BENCHMARKS.md and the plot beside it.
 
 use crate::books::Book;
-use crate::measure::{Task, Times};
+use crate::measure::{CallTimes, Task, Times};
 use crate::plot::grouped;
 use std::fmt::Write;
 use std::path::{Path, PathBuf};
+use std::time::Duration;
 use std::{fs, io};
-
-const BEGIN: &str = "<!-- times: begin -->\n";
-const END: &str = "<!-- times: end -->\n";
 
 pub const HEADS: &str = "| Book | Rules | Call | Lines | Visits | Plain visits | Library | ns a visit | Straightforward Rust | Times faster | Same design in Rust | Ratio |\n\
                          |---|---|---|---|---|---|---|---|---|---|---|---|\n";
@@ -27,13 +25,35 @@ pub fn row(book: &Book, times: &Times) -> String {
     row
 }
 
-fn milliseconds(time: std::time::Duration) -> String {
+fn milliseconds(time: Duration) -> String {
     let milliseconds = time.as_secs_f64() * 1e3;
     match milliseconds {
         0.0..10.0 => format!("{milliseconds:.3} ms"),
         10.0..1_000.0 => format!("{milliseconds:.1} ms"),
         _ => format!("{:.2} s", milliseconds / 1e3),
     }
+}
+
+/// What a call takes by itself on each book.
+pub fn calls(measured: &[(Book, CallTimes)]) -> String {
+    let mut table = String::from("| Call |");
+    measured.iter().for_each(|(book, _)| table += &format!(" `{}` |", book.name));
+    table += "\n|---|";
+    measured.iter().for_each(|_| table += "---|");
+    type Of = fn(&CallTimes) -> Duration;
+    let kinds: [(&str, Of); 4] = [
+        ("query of one visit, by value", |times| times.query_by_value),
+        ("query of one visit, in place", |times| times.query_in_place),
+        ("forget, by value", |times| times.forget_by_value),
+        ("forget, in place", |times| times.forget_in_place),
+    ];
+    for (name, of) in kinds {
+        let _ = write!(table, "\n| {name} |");
+        for (_, times) in measured {
+            let _ = write!(table, " {:.2} \u{b5}s |", of(times).as_nanos() as f64 / 1e3);
+        }
+    }
+    table + "\n"
 }
 
 fn docs() -> PathBuf {
@@ -58,12 +78,18 @@ pub fn load() -> String {
 }
 
 /// Puts the tables between their markers and leaves the rest of the file as it is.
-pub fn write(tables: &str, svg: &str) -> io::Result<()> {
+pub fn write(times: &str, calls: &str, svg: &str) -> io::Result<()> {
     let path = docs().join("BENCHMARKS.md");
     let text = fs::read_to_string(&path)?;
-    let parts = text.split_once(BEGIN).zip(text.split_once(END));
-    let ((before, _), (_, after)) =
-        parts.ok_or_else(|| io::Error::other(format!("{} has no line {BEGIN}", path.display())))?;
-    fs::write(&path, format!("{before}{BEGIN}{tables}{END}{after}"))?;
+    let text = between(&text, "times", times)?;
+    fs::write(&path, between(&text, "calls", calls)?)?;
     fs::write(docs().join("benchmarks.svg"), svg)
+}
+
+fn between(text: &str, name: &str, table: &str) -> io::Result<String> {
+    let (begin, end) = (format!("<!-- {name}: begin -->\n"), format!("<!-- {name}: end -->\n"));
+    let parts = text.split_once(&begin).zip(text.split_once(&end));
+    let ((before, _), (_, after)) =
+        parts.ok_or_else(|| io::Error::other(format!("BENCHMARKS.md has no line {begin}")))?;
+    Ok(format!("{before}{begin}{table}{end}{after}"))
 }

@@ -1,5 +1,5 @@
 /*
- * Book A of paper 01 through the C calls: its card, two queries, one more rule and a few refusals.
+ * Book A of paper 01 through the C calls in place, and a few refusals.
  *
  * From the repository's root:
  *   rt staticlib bullacetop
@@ -29,18 +29,24 @@ static void declare(struct bullacetop_state *x, uint16_t number, uint16_t kind)
 
 static void rule(struct bullacetop_state *x, const int16_t *literals, size_t n)
 {
-    struct bullacetop_answer a = bullacetop_rule(*x, literals, n);
+    struct bullacetop_reply a = bullacetop_rule_at(x, literals, n);
 
-    *x = a.state;
     if (a.refusal)
         printf("rule refused with %u\n", (unsigned)a.refusal);
 }
 
+static void forget(struct bullacetop_state *x)
+{
+    struct bullacetop_reply a = bullacetop_forget_at(x);
+
+    if (a.refusal)
+        printf("forget refused with %u\n", (unsigned)a.refusal);
+}
+
 static void query(struct bullacetop_state *x, const int16_t *on, size_t n)
 {
-    struct bullacetop_answer a = bullacetop_query(*x, on, n);
+    struct bullacetop_reply a = bullacetop_query_at(x, on, n);
 
-    *x = a.state;
     if (a.refusal)
         printf("query refused with %u\n", (unsigned)a.refusal);
     else
@@ -50,9 +56,8 @@ static void query(struct bullacetop_state *x, const int16_t *on, size_t n)
 static void card(struct bullacetop_state *x, uint8_t *table, size_t length, size_t flags)
 {
     static const char *const words[] = {"open", "off", "on"};
-    struct bullacetop_answer a = bullacetop_card(*x, table, length);
+    struct bullacetop_reply a = bullacetop_card_at(x, table, length);
 
-    *x = a.state;
     if (a.refusal) {
         printf("card refused with %u, visits %" PRIu64 "\n", (unsigned)a.refusal, a.visits);
         return;
@@ -90,8 +95,10 @@ int main(void)
     query(&book, load, 1);
     rule(&book, undeclared, 1);
     card(&book, table, 3, 2);
+    /* After 21 what the search learned is kept; this empties it. */
+    forget(&book);
 
-    /* A number twice: the state is malformed, and comes back as it went. */
+    /* A number twice: the state is malformed, and stays as it is. */
     book.numbers[2] = 1;
     query(&book, heat, 1);
     return 0;

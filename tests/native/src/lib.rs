@@ -1,11 +1,13 @@
 //! The compiled calls of the proved solver against the independent implementation of paper 01.
 //!
-//! `library` makes a call, `reading` tells what a state's tables hold, `input` draws states and
-//! lists of calls from a seed, `hold` makes the calls on both sides and compares.
+//! `library` makes a call, `in_place` lends it the tables of a state, `reading` tells what they hold,
+//! `input` draws states and lists of calls from a seed, `hold` makes the calls on both sides and
+//! compares.
 
 pub mod budget;
 pub mod generate;
 pub mod hold;
+pub mod in_place;
 pub mod input;
 pub mod library;
 pub mod raw;

@@ -1,16 +1,17 @@
-//! The library's calls. Every lent table stands between guard bytes.
+//! The library's calls, each both by value and in place. Every lent table stands between guard bytes.
 
-use crate::raw::{Raw, Reply, KEEP, SWAP};
+use crate::in_place::{self, FORGET, RULE, SEARCH};
+use crate::raw::{Raw, Reply, Returned, KEEP, SWAP};
 use crate::reading;
 use compare::answer::LENT_BYTE;
 use compare::{Answer, Call, Formula, Said, State, Store, Subject};
 use std::ptr;
 
 extern "C" {
-    fn bullacetop_rule(x: Raw, literals: *const i16, count: usize) -> Reply;
-    fn bullacetop_forget(x: Raw) -> Reply;
-    fn bullacetop_query(x: Raw, on: *const i16, count: usize) -> Reply;
-    fn bullacetop_card(x: Raw, table: *mut u8, length: usize) -> Reply;
+    fn bullacetop_rule(x: Raw, literals: *const i16, count: usize) -> Returned;
+    fn bullacetop_forget(x: Raw) -> Returned;
+    fn bullacetop_query(x: Raw, on: *const i16, count: usize) -> Returned;
+    fn bullacetop_card(x: Raw, table: *mut u8, length: usize) -> Returned;
 }
 
 const GUARD: u8 = 0x5C;
@@ -31,25 +32,57 @@ impl Native {
         Native::new(reading::write(&State { formula, store: Store::default() }))
     }
 
-    /// An error says which bytes the call should not have touched, or which number of its reply
-    /// belongs to no answer.
+    /// An error says which bytes the call should not have touched, which number of its reply belongs
+    /// to no answer, or where the call in place differs from the one by value.
     pub fn answer(&mut self, call: &Call) -> Result<Answer, String> {
+        let state = &*self.state;
         let mut table = vec![];
-        let reply = match call {
-            Call::Rule(literals) => {
-                lend(literals, |list, count| unsafe { bullacetop_rule(*self.state, list, count) })?
-            }
-            Call::Query(on) => {
-                lend(on, |list, count| unsafe { bullacetop_query(*self.state, list, count) })?
-            }
+        let (by_value, in_place) = match call {
+            Call::Rule(literals) => (
+                lend(literals, |list, count| Ok(unsafe { bullacetop_rule(*state, list, count) }))?,
+                lend(literals, |list, count| {
+                    in_place::lend(state, RULE, |at| unsafe { in_place::rule(at, list, count) })
+                })?,
+            ),
+            Call::Forget => (
+                unsafe { bullacetop_forget(*state) },
+                in_place::lend(state, FORGET, |at| unsafe { in_place::forget(at) })?,
+            ),
+            Call::Query(on) => (
+                lend(on, |list, count| Ok(unsafe { bullacetop_query(*state, list, count) }))?,
+                lend(on, |list, count| {
+                    in_place::lend(state, SEARCH, |at| unsafe { in_place::query(at, list, count) })
+                })?,
+            ),
             Call::Card(length) => {
                 table = vec![LENT_BYTE; *length];
-                card(&self.state, &mut table)?
+                let mut other = table.clone();
+                let by_value = lend_table(&mut table, |bytes, length| {
+                    Ok(unsafe { bullacetop_card(*state, bytes, length) })
+                })?;
+                let in_place = lend_table(&mut other, |bytes, length| {
+                    in_place::lend(state, SEARCH, |at| unsafe { in_place::card(at, bytes, length) })
+                })?;
+                if table != other {
+                    return Err("the card tables by value and in place differ".into());
+                }
+                (by_value, in_place)
             }
-            Call::Forget => unsafe { bullacetop_forget(*self.state) },
         };
-        *self.state = reply.state;
+        let Returned { reply, state: next } = same(by_value, in_place)?;
+        *self.state = next;
         Ok(Answer { said: said(call, &reply)?, table, visits: reply.visits })
+    }
+}
+
+/// A call that was made both ways.
+fn same(by_value: Returned, in_place: Returned) -> Result<Returned, String> {
+    if by_value.reply != in_place.reply {
+        return Err(format!("by value {:?}, in place {:?}", by_value.reply, in_place.reply));
+    }
+    match by_value.state == in_place.state {
+        true => Ok(by_value),
+        false => Err("the next states by value and in place differ".into()),
     }
 }
 
@@ -59,68 +92,83 @@ impl Subject for Native {
     }
 }
 
-/// A card into a lent table, for a caller that has its own.
-pub fn card(state: &Raw, table: &mut [u8]) -> Result<Reply, String> {
+/// The calls without guards, for measurements.
+pub mod bare {
+    use super::*;
+
+    pub fn forget_by_value(state: &mut Raw) -> Reply {
+        let Returned { reply, state: next } = unsafe { bullacetop_forget(*state) };
+        *state = next;
+        reply
+    }
+
+    pub fn query_by_value(state: &mut Raw, on: &[i16]) -> Reply {
+        let Returned { reply, state: next } =
+            unsafe { bullacetop_query(*state, on.as_ptr(), on.len()) };
+        *state = next;
+        reply
+    }
+
+    /// In place.
+    pub fn rule(state: &mut Raw, literals: &[i16]) -> Reply {
+        unsafe { in_place::rule(in_place::tables_of(state), literals.as_ptr(), literals.len()) }
+    }
+
+    /// In place.
+    pub fn forget(state: &mut Raw) -> Reply {
+        unsafe { in_place::forget(in_place::tables_of(state)) }
+    }
+
+    /// In place.
+    pub fn query(state: &mut Raw, on: &[i16]) -> Reply {
+        unsafe { in_place::query(in_place::tables_of(state), on.as_ptr(), on.len()) }
+    }
+
+    /// In place.
+    pub fn card(state: &mut Raw, table: &mut [u8]) -> Reply {
+        unsafe { in_place::card(in_place::tables_of(state), table.as_mut_ptr(), table.len()) }
+    }
+}
+
+/// A list that is only read. An empty one has no address.
+fn lend(
+    list: &[i16],
+    call: impl FnOnce(*const i16, usize) -> Result<Returned, String>,
+) -> Result<Returned, String> {
+    if list.is_empty() {
+        return call(ptr::null(), 0);
+    }
+    // A list of its own length, so that a tool that watches memory sees a read past its end.
+    let lent: Box<[i16]> = list.into();
+    let returned = call(lent.as_ptr(), lent.len())?;
+    match *lent == *list {
+        true => Ok(returned),
+        false => Err("a list of numbers is written".into()),
+    }
+}
+
+/// A table that the call writes.
+fn lend_table(
+    table: &mut [u8],
+    call: impl FnOnce(*mut u8, usize) -> Result<Returned, String>,
+) -> Result<Returned, String> {
     let length = table.len();
     let mut lent = vec![GUARD; GUARDS];
     lent.extend_from_slice(table);
     lent.resize(GUARDS + length + GUARDS, GUARD);
-    let reply = unsafe { bullacetop_card(*state, lent[GUARDS..].as_mut_ptr(), length) };
+    let returned = call(lent[GUARDS..].as_mut_ptr(), length)?;
     let (before, rest) = lent.split_at(GUARDS);
     let (written, after) = rest.split_at(length);
     if before.iter().chain(after).any(|&byte| byte != GUARD) {
         return Err("a byte outside the card table is written".into());
     }
     table.copy_from_slice(written);
-    Ok(reply)
-}
-
-/// The same calls without guards, for measurements.
-pub mod bare {
-    use super::*;
-
-    pub fn rule(state: &mut Raw, literals: &[i16]) -> u16 {
-        let reply = unsafe { bullacetop_rule(*state, literals.as_ptr(), literals.len()) };
-        *state = reply.state;
-        reply.refusal
-    }
-
-    pub fn forget(state: &mut Raw) -> u16 {
-        let reply = unsafe { bullacetop_forget(*state) };
-        *state = reply.state;
-        reply.refusal
-    }
-
-    pub fn query(state: &mut Raw, on: &[i16]) -> (u16, u64) {
-        let reply = unsafe { bullacetop_query(*state, on.as_ptr(), on.len()) };
-        *state = reply.state;
-        (reply.verdict, reply.visits)
-    }
-
-    pub fn card(state: &mut Raw, table: &mut [u8]) -> (u16, usize, u64) {
-        let reply = unsafe { bullacetop_card(*state, table.as_mut_ptr(), table.len()) };
-        *state = reply.state;
-        (reply.refusal, reply.lines, reply.visits)
-    }
-}
-
-/// A list that is only read. An empty one has no address.
-fn lend(list: &[i16], call: impl FnOnce(*const i16, usize) -> Reply) -> Result<Reply, String> {
-    if list.is_empty() {
-        return Ok(call(ptr::null(), 0));
-    }
-    // A list of its own length, so that a tool that watches memory sees a read past its end.
-    let lent: Box<[i16]> = list.into();
-    let reply = call(lent.as_ptr(), lent.len());
-    match *lent == *list {
-        true => Ok(reply),
-        false => Err("a list of numbers is written".into()),
-    }
+    Ok(returned)
 }
 
 /// The reply's numbers as an answer: each call has its own, and a refusal has no other.
 fn said(call: &Call, reply: &Reply) -> Result<Said, String> {
-    let Reply { refusal, verdict, lines, visits, .. } = *reply;
+    let Reply { refusal, verdict, lines, visits } = *reply;
     let said = match (call, refusal, verdict, lines, visits) {
         (Call::Card(_), 21, 0, 0, _) => Some(Said::Refused(21)),
         (_, 1.., 0, 0, 0) => u8::try_from(refusal).ok().map(Said::Refused),

@@ -1,4 +1,4 @@
-//! The state and the answer as the library has them: plain structs of numbers.
+//! The state and the answers as the library has them: plain structs of numbers.
 
 /// A table by place: a count or nothing in cell 0, then one cell for each of 40 places.
 pub const BY_PLACE: usize = 41;
@@ -50,8 +50,9 @@ impl Raw {
     };
 }
 
+/// What a call says.
 #[repr(C)]
-#[derive(Clone, Copy)]
+#[derive(Clone, Copy, Debug, PartialEq, Eq)]
 pub struct Reply {
     /// 0 is none.
     pub refusal: u16,
@@ -59,7 +60,42 @@ pub struct Reply {
     pub verdict: u16,
     pub lines: usize,
     pub visits: u64,
+}
+
+/// .. and the next state.
+#[repr(C)]
+#[derive(Clone, Copy)]
+pub struct Returned {
+    pub reply: Reply,
     pub state: Raw,
 }
 
-const _: () = assert!(std::mem::size_of::<Raw>() == 19_418);
+/// How many cells each table of a state has, in the order of the state.
+pub const LENGTHS: [usize; 9] = [
+    BY_PLACE,
+    BY_PLACE,
+    BY_PLACE,
+    CLAUSES * CLAUSE_WIDTH,
+    CLAUSES + 1,
+    ENTRIES * ENTRY_WIDTH,
+    ENTRIES + 1,
+    ENTRIES * ENTRY_WIDTH,
+    ENTRIES + 1,
+];
+
+/// The cells of all tables.
+pub const CELLS: usize = 9_709;
+
+impl Raw {
+    /// The tables one after another.
+    pub fn cells(&self) -> &[u16; CELLS] {
+        // Every cell has 16 bits and every value of them is a number.
+        unsafe { &*(self as *const Raw).cast() }
+    }
+
+    pub fn cells_mut(&mut self) -> &mut [u16; CELLS] {
+        unsafe { &mut *(self as *mut Raw).cast() }
+    }
+}
+
+const _: () = assert!(std::mem::size_of::<Raw>() == 2 * CELLS);

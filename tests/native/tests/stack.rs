@@ -1,7 +1,10 @@
-//! The calls and the functions on texts run on a stack of 512 KiB, as the C header says.
+//! The calls and the functions on texts run on a stack of 512 KiB, calls in place on one of 128 KiB,
+//! as the C header says.
 
-use compare::{Call, Formula, Quantifier, Said, Subject, Variable};
-use native::library::Native;
+use compare::{Call, Formula, Quantifier, Said, State, Store, Subject, Variable};
+use native::library::{bare, Native};
+use native::raw::{Reply, SWAP};
+use native::reading;
 use std::thread;
 
 /// 40 variables of which the search sets every one.
@@ -26,6 +29,21 @@ fn a_call_needs_less_than_512_kib() {
         assert_eq!((query.said, query.visits), (Said::Swap, 42));
         assert_eq!(native.call(&Call::Rule(vec![1, -2, 3])).said, Said::Added);
         assert_eq!(native.call(&Call::Forget).said, Said::Forgotten);
+    });
+}
+
+#[test]
+fn a_call_in_place_needs_less_than_128_kib() {
+    let mut state = reading::write(&State { formula: deepest(), store: Store::default() });
+    let mut table = vec![0; 65_536];
+    on_a_stack_of(128 << 10, move || {
+        let card = bare::card(&mut state, &mut table);
+        assert_eq!(card, Reply { refusal: 0, verdict: 0, lines: 1, visits: 42 });
+        let query = bare::query(&mut state, &[]);
+        assert_eq!(query, Reply { refusal: 0, verdict: SWAP, lines: 0, visits: 42 });
+        let changed = Reply { refusal: 0, verdict: 0, lines: 0, visits: 0 };
+        assert_eq!(bare::rule(&mut state, &[1, -2, 3]), changed);
+        assert_eq!(bare::forget(&mut state), changed);
     });
 }
 
