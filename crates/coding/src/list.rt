@@ -24,10 +24,11 @@ pub fn last_code<'a>(cells: &'a [u8], n: usize) -> u8
 // No code: codes are bytes.
 pub const NO_CODE: u16 = tables::CODES as u16;
 
-fn wide(code: u8) -> u16
-    ensures { λ r. ⌜ (r ≡ code) × (r < codeCount) ⌝ }
+// A byte in a wider number, where more than bytes are to be told apart.
+pub fn wide(byte: u8) -> u16
+    ensures { λ r. ⌜ (r ≡ byte) × (r < codeCount) ⌝ }
 {
-    code as u16
+    byte as u16
 }
 
 // The first code that has a status, or NO_CODE.

@@ -1,4 +1,5 @@
 // Step 5 of a visit: what a node's two sides give, without the sides themselves; and the lines of a card that they add or take back.
+use coding::list::wide;
 use coding::list::write;
 ghost use mathlib.Core.Path.{_≡_};
 ghost use mathlib.Core.Bool.{Bool, true, false, cond};
@@ -43,12 +44,6 @@ pub struct Position {
     pub visits: u64,
     pub lines: usize,
     pub satisfied: usize,
-}
-
-fn wide(kind: u8) -> u16
-    ensures { λ r. ⌜ r ≡ kind ⌝ }
-{
-    kind as u16
 }
 
 // The quantifier of the next place; END where none is left.

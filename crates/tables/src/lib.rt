@@ -56,5 +56,5 @@ pub const EXISTS: u16 = 1;
 
 pub const FORALL: u16 = 2;
 
-// In a table by code: the code of a place after the last variable's.
+// In a table by code: no quantifier, after the last variable's place.
 pub const END: u8 = 3;

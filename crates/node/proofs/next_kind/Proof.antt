@@ -26,7 +26,7 @@ returns : tie.Need-returns
 returns c =
     let s = c .before .before .before in
     let z : s .args .at * 2 + 2 ≡ codeAt (suc (s .args .at)) false = omega arith in record {
-      more = λ h. c .wide .ensures ∙ ap (λ (k : ℕ). getD (now (s .args .quantifiers)) k 0) z;
+      more = λ h. c .wide .ensures .0 ∙ ap (λ (k : ℕ). getD (now (s .args .quantifiers)) k 0) z;
       none = λ h. absurd (omega (arith, h, c .before .before .if1 .taken));
     }
 
