@@ -53,8 +53,8 @@ pub cleared-length : (size : ℕ) {zeros : List ℕ} → zeros ≡ zeroTable siz
 cleared-length size e = ap length e ∙ length-replicate size 0
 
 -- a malformed state: 22, and the table is zero
-pub malformed-card : (x : State) (size : ℕ) (zeros : List ℕ) → zeros ≡ zeroTable size → valid x ≡ false → Serves x (card size) (said 22 0 0 0 zeros) x
-malformed-card x size zeros z e = subst (λ (tb : List ℕ). Serves x (card size) (said 22 0 0 0 tb) x) (sym z) (malformed x (card size) e)
+pub malformed-card : (x : State) (size : ℕ) (zeros : List ℕ) → zeros ≡ zeroTable size → valid x ≡ false → Serves x (card size) (said (some 22) 0 0 0 zeros) x
+malformed-card x size zeros z e = subst (λ (tb : List ℕ). Serves x (card size) (said (some 22) 0 0 0 tb) x) (sym z) (malformed x (card size) e)
 
 module _ (x : State) (v : valid x ≡ true) where
   abbrev b : Formula
@@ -104,7 +104,7 @@ module _ (x : State) (v : valid x ≡ true) where
         (ran .found (startNode ls (prefixIn x)) ps ks (read .shown good frees fine) (start-length ls (prefixIn x) ∙ sym frees ∙ sym here) frees (covers-none free 1 (0 ∷ []) refl))))
 
     -- refused with 8: the state is as given
-    pub refused-query : ok ≡ false → Serves x (query ls) (said 8 0 0 0 []) x
+    pub refused-query : ok ≡ false → Serves x (query ls) (said (some 8) 0 0 0 []) x
     refused-query bad =
         subst (λ (a : Said). Serves x (query ls) a x) (ap (λ (o : Option ℕ). saidOf (learningQuery o b (storeIn x) ls .out)) e)
         (unchanged x (query ls) v (ap (λ (o : Option ℕ). record { formula = b; store = learningQuery o b (storeIn x) ls .store }) e))
@@ -160,7 +160,7 @@ module _ (x : State) (v : valid x ≡ true) where
             ∙ (λ i. tableOf (frees i) (sized i) ls)
 
         whole : saidOf (guarded true (stateIn x) (card size) .out) ≡ cardSaid (shown.Lines n) (r .visits) table
-        whole = ap saidOf (out-by true e) ∙ sym (λ i. said 0 0 ((counted ∙ both .1) i) (f .visits i) (table-is i))
+        whole = ap saidOf (out-by true e) ∙ sym (λ i. said none 0 ((counted ∙ both .1) i) (f .visits i) (table-is i))
 
     -- they do not: 21, with the visits and the store of the search
     pub full-card : (zeros : List ℕ) → zeros ≡ zeroTable size → leb (n * free) size ≡ false → Serves x (card size) (cardSaid (shown.Refused 21) (r .visits) zeros) y
@@ -169,4 +169,4 @@ module _ (x : State) (v : valid x ≡ true) where
         (moved-on x (card size) v y (f .state) (subst (λ (a : Answer). Passes (refusalOf (a .reply))) (sym (out-by false e)) refl))
       where
         whole : saidOf (guarded true (stateIn x) (card size) .out) ≡ cardSaid (shown.Refused 21) (r .visits) zeros
-        whole = ap saidOf (out-by false e) ∙ sym (λ i. said 21 0 0 (f .visits i) (z i))
+        whole = ap saidOf (out-by false e) ∙ sym (λ i. said (some 21) 0 0 (f .visits i) (z i))

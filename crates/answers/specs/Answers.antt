@@ -1,6 +1,7 @@
 -- What the answer of a query or a card says, in the paper's numbers.
 use Prim.Native.Nat.{ℕ, _+_}
 use mathlib.Core.List.{List, []}
+use mathlib.Core.Option.{none, some}
 use Rattle.serving.specs.Serves.{Said, said}
 use Rattle.node.specs.declared.Verdict.{Verdict}
 use Rattle.node.specs.declared.Verdict.the-variants as verdict
@@ -11,13 +12,13 @@ use Rattle.answers.specs.declared.Printed.the-variants as card
 
 -- keep 1, swap 2
 abbrev pub rulingSaid : Ruling → ℕ → Said
-rulingSaid ruling.Swap k = said 0 2 0 k []
-rulingSaid ruling.Keep k = said 0 1 0 k []
-rulingSaid (ruling.Refused n) k = said n 0 0 k []
+rulingSaid ruling.Swap k = said none 2 0 k []
+rulingSaid ruling.Keep k = said none 1 0 k []
+rulingSaid (ruling.Refused n) k = said (some n) 0 0 k []
 
 abbrev pub cardSaid : Printed → ℕ → List ℕ → Said
-cardSaid (card.Lines n) k tb = said 0 0 n k tb
-cardSaid (card.Refused n) k tb = said n 0 0 k tb
+cardSaid (card.Lines n) k tb = said none 0 n k tb
+cardSaid (card.Refused n) k tb = said (some n) 0 0 k tb
 
 abbrev pub rulingFor : Verdict → Ruling
 rulingFor verdict.Yes = ruling.Swap

@@ -1,6 +1,7 @@
 // The calls query and card on lent tables, open to outsiders: the learned constraints are written where they stand.
 ghost use mathlib.Core.Path.{_≡_};
 ghost use mathlib.Core.List.{List, []};
+ghost use mathlib.Core.Option.{none, some};
 ghost use Prim.Native.Nat.{ℕ};
 ghost use lib.ListN.{length};
 ghost use Rattle.qbf.specs.Calls.{query, card};
@@ -28,7 +29,7 @@ pub struct Listed {
 
 // "A refusal returns its number, 0 lines, 0 visits and the state as given": a query's.
 fn not_ruled(number: u16) -> Ruled
-    ensures { λ r. ⌜ rulingSaid (r .ruling) (r .visits) ≡ said number 0 0 0 [] ⌝ }
+    ensures { λ r. ⌜ rulingSaid (r .ruling) (r .visits) ≡ said (some number) 0 0 0 [] ⌝ }
 {
     Ruled {
         ruling: Ruling::Refused(number),
@@ -38,10 +39,21 @@ fn not_ruled(number: u16) -> Ruled
 
 // A card's: "Only 21 differs: the walk runs to its end first, its visits are returned and its store is kept."
 fn not_listed(number: u16, visits: u64) -> Listed
-    ensures { λ r. ⌜ ((tb : List ℕ) → cardSaid (r .printed) (r .visits) tb ≡ said number 0 0 visits tb) ⌝ }
+    ensures { λ r. ⌜ ((tb : List ℕ) → cardSaid (r .printed) (r .visits) tb ≡ said (some number) 0 0 visits tb) ⌝ }
 {
     Listed {
         printed: Printed::Refused(number),
+        visits: visits,
+    }
+}
+
+// A card with its lines.
+fn with_lines(lines: usize, visits: u64) -> Listed
+    ensures { λ r. ⌜ ((tb : List ℕ) → cardSaid (r .printed) (r .visits) tb ≡ said none 0 lines visits tb) ⌝ }
+{
+    let printed = Printed::Lines(lines);
+    Listed {
+        printed: printed,
         visits: visits,
     }
 }
@@ -203,10 +215,7 @@ pub fn card<'a>(
     let lines = total_lines(verdict, found.lines);
     let visits = found.visits;
     if cover::fits(table.len(), free, lines) {
-        return Listed {
-            printed: Printed::Lines(lines),
-            visits: visits,
-        };
+        return with_lines(lines, visits);
     }
     cover::clear(table);
     not_listed(TOO_MANY_LINES, visits)

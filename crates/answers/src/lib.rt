@@ -4,7 +4,7 @@ ghost use mathlib.Core.List.{[]};
 ghost use Prim.Native.Nat.{_<_, _^_};
 ghost use lib.ListN.{length};
 ghost use Rattle.qbf.specs.Calls.{query, card};
-ghost use Rattle.serving.specs.Serves.{Serves};
+ghost use Rattle.serving.specs.Serves.{number, Serves};
 ghost use Rattle.answers.specs.Answers.{rulingSaid, cardSaid, rulingFor, total};
 use node::Verdict;
 use state::State;
@@ -44,7 +44,7 @@ pub struct Shown {
 
 // The number of a card's refusal, 0 where there is none.
 pub fn refusal_of(p: Printed) -> u16
-    ensures { λ r. ⌜ r ≡ cardSaid p 0 [] .refusal ⌝ }
+    ensures { λ r. ⌜ r ≡ number (cardSaid p 0 [] .refusal) ⌝ }
 {
     match p {
         Printed::Lines(n) => 0,

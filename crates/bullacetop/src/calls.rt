@@ -6,7 +6,7 @@ ghost use mathlib.Core.Path.{_≡_};
 ghost use mathlib.Core.List.{[]};
 ghost use lib.ListN.{length};
 ghost use Rattle.qbf.specs.Calls.{rule, query, card, forget};
-ghost use Rattle.serving.specs.Serves.{Serves};
+ghost use Rattle.serving.specs.Serves.{number, told, Serves};
 ghost use Rattle.rules.specs.Rules.{changeSaid};
 ghost use Rattle.answers.specs.Answers.{rulingSaid};
 ghost use Rattle.bullacetop.specs.Answers.{answerSaid};
@@ -27,7 +27,7 @@ const KEEP: u16 = 1;
 const SWAP: u16 = 2;
 
 pub fn ruling_refusal(r: Ruling) -> u16
-    ensures { λ n. ⌜ n ≡ rulingSaid r 0 .refusal ⌝ }
+    ensures { λ n. ⌜ n ≡ number (rulingSaid r 0 .refusal) ⌝ }
 {
     match r {
         Ruling::Swap => NONE,
@@ -47,7 +47,7 @@ pub fn verdict_of(r: Ruling) -> u16
 }
 
 fn changed(c: Changed) -> Answer
-    ensures { λ r. ⌜ (answerSaid r [] ≡ changeSaid (c .change)) × (r .state ≡ c .state) ⌝ }
+    ensures { λ r. ⌜ (answerSaid r [] ≡ told (changeSaid (c .change))) × (r .state ≡ c .state) ⌝ }
 {
     let change = c.change;
     let next = c.state;

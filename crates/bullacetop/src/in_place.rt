@@ -9,7 +9,7 @@ ghost use mathlib.Core.List.{[]};
 ghost use lib.ListN.{length};
 ghost use Rattle.qbf.specs.Calls.{rule, query, card, forget};
 ghost use Rattle.state.specs.Reading.{stateOf};
-ghost use Rattle.serving.specs.Serves.{Serves};
+ghost use Rattle.serving.specs.Serves.{told, Serves};
 ghost use Rattle.rules.specs.Rules.{changeSaid};
 ghost use Rattle.bullacetop.specs.Answers.{replySaid};
 
@@ -23,7 +23,7 @@ pub struct Reply {
 }
 
 fn changed(c: Change) -> Reply
-    ensures { λ r. ⌜ replySaid r [] ≡ changeSaid c ⌝ }
+    ensures { λ r. ⌜ replySaid r [] ≡ told (changeSaid c) ⌝ }
 {
     Reply {
         refusal: rules::refusal_of(c),

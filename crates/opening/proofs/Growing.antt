@@ -15,7 +15,7 @@ use Rattle.constraint.proofs.Lists.{drop-more, drop-end}
 use Rattle.state.specs.Reading.{quantifierOf, prefixOf}
 use Rattle.state.specs.Declare.{variableFault, withVariable, refusalOf, Declarable, Declared}
 use Rattle.state.proofs.SoundPrefix.{sound-free-first}
-use Rattle.rules.specs.Faults.{faultOf}
+use Rattle.serving.specs.Serves.{faultOf}
 use Rattle.layout.specs.Opening.{variable, declareFault}
 use Rattle.layout_laws.proofs.Blocks.{Before, before-more, in-range, prefix-more}
 use Rattle.opening.specs.Blocks.{Growable, Grown, withVariables}

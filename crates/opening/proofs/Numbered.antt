@@ -1,19 +1,13 @@
--- No refusal has the number 0, so that a number tells whether there is one.
-use Prim.Native.Nat.{ℕ, zero, suc}
-use mathlib.Core.Path.{_≡_, refl}
+-- No refusal of a rule has the number 0, whatever the formula.
+use Prim.Native.Nat.{ℕ, suc}
 use mathlib.Core.Bool.{Bool, true, false, _||_}
 use mathlib.Core.List.{List, [], _∷_}
-use mathlib.Core.Option.{Option, none, some}
+use mathlib.Core.Option.{Option}
 use lib.Dec.{eqb, leb, ltb}
 use lib.ListN.{length}
 use Rattle.qbf.specs.Formula.{Limits, Prefix, Literal, Formula, numberOf, any, placeOf}
 use Rattle.qbf.specs.Calls.{given, literalFault, ruleFault, _orElse_}
-use Rattle.rules.specs.Faults.{faultOf}
-
-abbrev pub Numbered : Option ℕ → Type 0
-Numbered none = Unit {0}
-Numbered (some zero) = ⊥
-Numbered (some (suc n)) = Unit {0}
+use Rattle.serving.proofs.Numbered.{Numbered}
 
 pub numbered-given : (t : Bool) (n : ℕ) (o : Option ℕ) → Numbered o → Numbered (given t (suc n) orElse o)
 numbered-given true n o h = tt
@@ -29,14 +23,3 @@ pub rule-numbered : (b : Formula) (ls : List Literal) → Numbered (ruleFault b 
 rule-numbered b ls =
     numbered-given (leb (b .limits .clauses) (length (b .clauses))) 19 _
     (numbered-given (eqb (length ls) 0 || ltb (b .limits .literals) (length ls)) 6 _ (numbered-literals (b .limits) (b .prefix) [] ls))
-
--- the number of a refusal, 0 where there is none
-unfoldable pub number : Option ℕ → ℕ
-number none = 0
-number (some n) = n
-
-pub numbered-is : (o : Option ℕ) → Numbered o → o ≡ faultOf (number o)
-unfolding number
-numbered-is none h = refl
-numbered-is (some zero) h = absurd h
-numbered-is (some (suc n)) h = refl

@@ -11,7 +11,7 @@ use Rattle.qbf.specs.Runs.{fresh}
 use Rattle.state.specs.declared.State.{State}
 use Rattle.state.specs.Reading.{readState, formulaIn, storeIn, stateIn, wellFormedRead, valid}
 use Rattle.state.proofs.Valid.{valid-facts}
-use Rattle.rules.specs.Faults.{faultOf}
+use Rattle.serving.specs.Serves.{faultOf}
 use Rattle.layout.specs.Forms.{Form}
 use Rattle.layout.specs.Opening.{rank, allowed, stageAfter, formFault, lineFault, withForm}
 use Rattle.layout_laws.proofs.Opened.{Reached, line-reached, fresh-formed}

@@ -17,8 +17,8 @@ use Rattle.state.specs.declared.State.{State}
 use Rattle.state.specs.Reading.{quantifierOf, rowsFit, prefixOf, prefixIn, formulaIn, storeIn, stateIn, fits, readState, valid}
 use Rattle.state.proofs.Valid.{valid-facts}
 use Rattle.state.proofs.SoundPrefix.{valid-sound, sound-valid}
-use Rattle.serving.specs.Serves.{Said, said, saidOf, outOf, nextOf, Serves}
-use Rattle.rules.specs.Faults.{faultOf}
+use Rattle.serving.specs.Serves.{Said, saidOf, number, faultOf, outOf, nextOf, Serves}
+use Rattle.serving.proofs.Numbered.{numbered-is}
 use Rattle.layout.specs.Forms.{book, block, clause, end}
 use Rattle.layout.specs.Opening.{rank, allowed, stageAfter, variable}
 use Rattle.layout_laws.proofs.Blocks.{Before}
@@ -27,7 +27,7 @@ use Rattle.reader.specs.Items.{narrow}
 use Rattle.opening.specs.Blocks.{blockRank, Growable, Grown}
 use Rattle.opening.specs.declared.line.Taken.{Taken}
 use Rattle.opening.specs.Opened.{Standing, TookForm, BlockTook, RuleTook}
-use Rattle.opening.proofs.Numbered.{rule-numbered, number, numbered-is}
+use Rattle.opening.proofs.Numbered.{rule-numbered}
 use Rattle.opening.proofs.Standing.{standing-valid, nothing-stored, fresh-read, misplaced, judged}
 
 abbrev taken : ℕ → ℕ → State → Taken
@@ -138,17 +138,21 @@ module _ {stage : ℕ} {x : State} (s : Standing stage x) {t : Bool} (a : t ≡ 
   pub rule-misplaced : not t ≡ true → {r : Taken} → r .refusal ≡ 1 → RuleTook stage x lits r
   rule-misplaced g k = λ ls p q. misplaced stage (formulaIn x) (clause ls) a g k
 
-  module _ (g : not t ≡ false) {n : ℕ} {x′ : State} (w : Serves x (rule lits) (said n 0 0 0 []) x′) where
+  module _ (g : not t ≡ false) {v : Said} {n : ℕ} {x′ : State} (w : Serves x (rule lits) v x′) (told : n ≡ number (v .refusal)) where
     formed : wellFormed (fresh (formulaIn x)) ≡ true
     formed = fresh-formed (formulaIn x) (s .reached .facts)
 
     fault-is : ruleFault (formulaIn x) lits ≡ faultOf n
-    unfolding number
-    fault-is = numbered-is (ruleFault (formulaIn x) lits) (rule-numbered (formulaIn x) lits) ∙ ap faultOf (sym (ap (λ (q : Said). q .refusal) (w .answered) ∙ ap (λ (o : Option Read). saidOf (outOf o (rule lits)) .refusal) (s .read) ∙ ap (λ (u : Bool). saidOf (guarded u (fresh (formulaIn x)) (rule lits) .out) .refusal) formed ∙ refusal-is (ruleFault (formulaIn x) lits)))
+    fault-is = sym (ap faultOf (told ∙ ap number refused) ∙ numbered-is (ruleFault (formulaIn x) lits) (rule-numbered (formulaIn x) lits))
       where
-        refusal-is : (o : Option ℕ) → saidOf (answer (ruleReply o) 0) .refusal ≡ number o
-        refusal-is none = refl
-        refusal-is (some k) = refl
+        reply : (o : Option ℕ) → saidOf (answer (ruleReply o) 0) .refusal ≡ o
+        reply none = refl
+        reply (some k) = refl
+
+        refused : v .refusal ≡ ruleFault (formulaIn x) lits
+        refused =
+            ap (λ (q : Said). q .refusal) (w .answered) ∙ ap (λ (o : Option Read). saidOf (outOf o (rule lits)) .refusal) (s .read)
+            ∙ ap (λ (u : Bool). saidOf (guarded u (fresh (formulaIn x)) (rule lits) .out) .refusal) formed ∙ reply (ruleFault (formulaIn x) lits)
 
     pub rule-taken : RuleTook stage x lits (taken n 3 x′)
     rule-taken = λ ls p q.

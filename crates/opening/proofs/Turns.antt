@@ -14,7 +14,7 @@ use Rattle.qbf.specs.Calls.{State as Read}
 use Rattle.qbf.specs.Runs.{fresh}
 use Rattle.state.specs.declared.State.{State}
 use Rattle.state.specs.Reading.{readState, formulaIn, emptyState}
-use Rattle.rules.specs.Faults.{faultOf}
+use Rattle.serving.specs.Serves.{faultOf}
 use Rattle.layout.specs.Words.{Bytes, newline, split}
 use Rattle.layout.specs.Forms.{Form, formOf}
 use Rattle.layout.specs.Opening.{textBytes, rank, stageAfter, withForm, Opened, refused, opened, refusedOr, readLine, atEnd, isEnd, readLines, emptyFormula, openText}

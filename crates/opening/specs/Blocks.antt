@@ -7,7 +7,7 @@ use Rattle.qbf.specs.Formula.{paper, Quantifier, forall, Prefix, quantifiers, n
 use Rattle.tables.specs.Views.{quantifierCode}
 use Rattle.state.specs.Reading.{quantifierOf, prefixOf}
 use Rattle.state.specs.Declare.{Sound}
-use Rattle.rules.specs.Faults.{faultOf}
+use Rattle.serving.specs.Serves.{faultOf}
 use Rattle.layout.specs.Opening.{variable, declareFault}
 use Rattle.layout_laws.proofs.Blocks.{Before}
 

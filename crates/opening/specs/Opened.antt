@@ -9,7 +9,7 @@ use Rattle.qbf.specs.Calls.{ruleFault}
 use Rattle.qbf.specs.Runs.{fresh}
 use Rattle.state.specs.declared.State.{State}
 use Rattle.state.specs.Reading.{quantifierOf, readState, prefixIn, formulaIn, emptyState}
-use Rattle.rules.specs.Faults.{faultOf}
+use Rattle.serving.specs.Serves.{faultOf}
 use Rattle.layout.specs.Forms.{Form, block, clause}
 use Rattle.layout.specs.Opening.{rank, stageAfter, declareFault, lineFault, withForm, refused, opened}
 use Rattle.layout.specs.Opening as text

@@ -23,8 +23,8 @@ use Rattle.state.specs.declared.State.{State}
 use Rattle.state.specs.Reading.{rowsFit, prefixFits, stateOf, prefixIn, formulaIn, storeIn, stateIn, fits, valid}
 use Rattle.state.specs.Derived.{Checked}
 use Rattle.state.proofs.Valid.{valid-facts, table-rows, valid-tables}
-use Rattle.serving.specs.Serves.{Said, said, saidOf, Serves}
-use Rattle.rules.specs.Faults.{faultOf, faultAfter, Judged}
+use Rattle.serving.specs.Serves.{Said, said, saidOf, faultOf, Serves}
+use Rattle.rules.specs.Faults.{faultAfter, Judged}
 use Rattle.rules.specs.Accepted.{Appended, Accepted}
 use Rattle.serving.proofs.Calls.{malformed, served, unchanged}
 use Rattle.rules.proofs.Emptied.{none-left, none-fit, none-stand}
@@ -64,15 +64,15 @@ module _ (x : State) (ls : List Literal) where
     judged : valid x ≡ true → ruleFault (formulaIn x) ls ≡ faultOf r
     judged v = sym (j .fault (checked .said ∙ v) (prefixIn x) (checked .placed v) ∙ fault-is)
 
-    pub rule-refused : (r ≡ 0 → ⊥) → Serves x (rule ls) (said r 0 0 0 []) x
+    pub rule-refused : (r ≡ 0 → ⊥) → Serves x (rule ls) (said (some r) 0 0 0 []) x
     rule-refused h = by-test (dichotomy (valid x))
       where
         some-fault : (n : ℕ) → (n ≡ 0 → ⊥) → faultOf n ≡ some n
         some-fault zero e = absurd (e refl)
         some-fault (suc n) e = refl
 
-        by-test : (valid x ≡ true) ⊎ (valid x ≡ false) → Serves x (rule ls) (said r 0 0 0 []) x
-        by-test (inr e) = subst (λ (n : ℕ). Serves x (rule ls) (said n 0 0 0 []) x) (sym (j .malformed (checked .said ∙ e))) (malformed x (rule ls) e)
+        by-test : (valid x ≡ true) ⊎ (valid x ≡ false) → Serves x (rule ls) (said (some r) 0 0 0 []) x
+        by-test (inr e) = subst (λ (n : ℕ). Serves x (rule ls) (said (some n) 0 0 0 []) x) (sym (j .malformed (checked .said ∙ e))) (malformed x (rule ls) e)
         by-test (inl v) =
             let q : ruleFault (formulaIn x) ls ≡ some r = judged v ∙ some-fault r h in
             subst (λ (a : Said). Serves x (rule ls) a x) (ap (λ (o : Option ℕ). saidOf (answer (ruleReply o) 0)) q) (unchanged x (rule ls) v (ap after q))
@@ -123,7 +123,7 @@ module _ (x : State) (ls : List Literal) where
           };
         }
 
-        pub rule-accepted : Serves x (rule ls) (said 0 0 0 0 []) y
+        pub rule-accepted : Serves x (rule ls) (said none 0 0 0 []) y
         rule-accepted =
             subst (λ (r : Said). Serves x (rule ls) r y) (ap (λ (o : Option ℕ). saidOf (answer (ruleReply o) 0)) q)
             (served x (rule ls) v y still-fits (reads ∙ ap after (sym q)) (ap (λ (o : Option ℕ). refusalOf (ruleReply o)) q))

@@ -4,6 +4,7 @@ use native.Mathlib.Omega.{arith}
 use mathlib.Core.Path.{_≡_, refl, ap, _∙_}
 use mathlib.Core.Bool.{Bool, true, _&&_}
 use mathlib.Core.List.{List, []}
+use mathlib.Core.Option.{none}
 use lib.ListN.{length, getD, set}
 use lib.Seq.{getD-set-same}
 use lib.Dec.{leb}
@@ -25,17 +26,17 @@ use Rattle.serving.proofs.Calls.{served}
 pub none-left : (l : List ℕ) → 0 < length l → {s : List ℕ} → s ≡ set l 0 0 → getD s 0 0 ≡ 0
 none-left l long is = ap (λ (t : List ℕ). getD t 0 0) is ∙ getD-set-same l 0 0 0 long
 
-module _ (w cap : ℕ) (s : List ℕ) (none : getD s 0 0 ≡ 0) where
+module _ (w cap : ℕ) (s : List ℕ) (empty : getD s 0 0 ≡ 0) where
   pub none-fit : rowsFit w cap s ≡ true
-  none-fit = ap (λ (n : ℕ). leb n cap && atMost w (listing (entryAt s) 0 n)) none ∙ ap (λ (b : Bool). b && true) (le-leb 0 cap zero-le)
+  none-fit = ap (λ (n : ℕ). leb n cap && atMost w (listing (entryAt s) 0 n)) empty ∙ ap (λ (b : Bool). b && true) (le-leb 0 cap zero-le)
 
   pub none-stand : (f : List ℤ) → rowsOf w f s ≡ []
-  none-stand f = none-rows w cap f s none
+  none-stand f = none-rows w cap f s empty
 
 -- ---- "Forget empties the store."
 module _ (x : State) (v : valid x ≡ true) (z : Sized x) where
   pub forgotten : {s t : List ℕ} → s ≡ set (x .«learned_clause_sizes») 0 0 → t ≡ set (x .«learned_cube_sizes») 0 0
-      → Serves x forget (said 0 0 0 0 [])
+      → Serves x forget (said none 0 0 0 [])
       (stateOf (x .numbers) (x .levels) (x .kinds) (x .clauses) (x .«clause_sizes») (x .«learned_clauses») s (x .«learned_cubes») t)
   forgotten {s} {t} e h =
       let clauses : getD s 0 0 ≡ 0 = none-left (x .«learned_clause_sizes») (omega (arith, z .learned-clause-sizes-room)) e in

@@ -1,3 +1,4 @@
 pub mod Emptied
 pub mod Refusing
 pub mod Adding
+pub mod Told

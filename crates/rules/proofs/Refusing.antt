@@ -17,7 +17,8 @@ use Rattle.qbf.specs.Calls.{_orElse_, given, literalFault}
 use Rattle.theory.proofs.Basics.{or-right, or-false, or-false-right, dichotomy, eqb-true}
 use Rattle.theory.proofs.AcceptedRule.{given-none}
 use Rattle.tables.specs.Views.{Places}
-use Rattle.rules.specs.Faults.{faultOf, numberFault, faultAfter, Judged}
+use Rattle.serving.specs.Serves.{faultOf}
+use Rattle.rules.specs.Faults.{numberFault, faultAfter, Judged}
 
 given-joins : (a b c : Bool) (o : Option ℕ) → (given a 3 orElse given b 5 orElse given c 6 orElse o) ≡ ((given a 3 orElse given b 5 orElse given c 6) orElse o)
 given-joins true b c o = refl

@@ -1,18 +1,15 @@
 -- The faults of a rule, as code gives them: a number, 0 where there is none.
-use Prim.Native.Nat.{ℕ, zero, suc}
+use Prim.Native.Nat.{ℕ}
 use mathlib.Core.Path.{_≡_}
 use mathlib.Core.Bool.{Bool, true, false, not, _||_}
 use mathlib.Core.List.{List, []}
-use mathlib.Core.Option.{Option, none, some}
+use mathlib.Core.Option.{Option}
 use lib.Dec.{leb, ltb, eqb}
 use lib.ListN.{length}
 use Rattle.qbf.specs.Formula.{paper, Literal, Prefix}
 use Rattle.qbf.specs.Calls.{_orElse_, given, literalFault}
 use Rattle.tables.specs.Views.{Places}
-
-abbrev pub faultOf : ℕ → Option ℕ
-faultOf zero = none
-faultOf (suc n) = some (suc n)
+use Rattle.serving.specs.Serves.{faultOf}
 
 -- the fault of a literal's number, from its place and its mark, which is 0 where the number is new to the rule
 abbrev pub numberFault : ℕ → ℕ → ℕ → Option ℕ

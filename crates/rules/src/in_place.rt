@@ -120,9 +120,9 @@ pub fn rule<'a>(
     );
     let places = read.places;
     let fault = refusals::rule_fault(read.ok, clause_sizes, lits, &places);
-    if fault != refusals::NONE {
-        return Change::Refused(fault);
+    if fault == refusals::NONE {
+        accept(clauses, clause_sizes, learned_cube_sizes, lits, &places);
+        return Change::Done;
     }
-    accept(clauses, clause_sizes, learned_cube_sizes, lits, &places);
-    Change::Done
+    Change::Refused(fault)
 }

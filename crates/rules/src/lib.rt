@@ -1,8 +1,7 @@
 // The calls rule and forget, open to outsiders: they change what a state holds, and ask for no search.
 ghost use mathlib.Core.Path.{_≡_};
-ghost use mathlib.Core.List.{[]};
 ghost use Rattle.qbf.specs.Calls.{rule, forget};
-ghost use Rattle.serving.specs.Serves.{said, Serves};
+ghost use Rattle.serving.specs.Serves.{number, Serves};
 ghost use Rattle.rules.specs.Rules.{changeSaid};
 
 mod clauses; // an accepted rule
@@ -23,7 +22,7 @@ pub struct Changed {
 
 // The number of a refusal, 0 where there is none.
 pub fn refusal_of(c: Change) -> u16
-    ensures { λ r. ⌜ changeSaid c ≡ said r 0 0 0 [] ⌝ }
+    ensures { λ r. ⌜ r ≡ number (changeSaid c .refusal) ⌝ }
 {
     match c {
         Change::Done => refusals::NONE,

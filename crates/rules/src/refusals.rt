@@ -5,7 +5,8 @@ ghost use lib.ListN.{getD};
 ghost use Rattle.qbf.specs.Formula.{paper, Prefix};
 ghost use Rattle.qbf.specs.Calls.{literalFault};
 ghost use Rattle.tables.specs.Views.{Places};
-ghost use Rattle.rules.specs.Faults.{faultOf, numberFault, Judged};
+ghost use Rattle.serving.specs.Serves.{faultOf};
+ghost use Rattle.rules.specs.Faults.{numberFault, Judged};
 
 // The rule is accepted.
 pub const NONE: u16 = 0;

@@ -13,10 +13,11 @@ use Rattle.layout.specs.Words.{Bytes}
 use Rattle.layout.specs.Session.{doneText, answerText}
 use Rattle.state.specs.declared.State.{State}
 use Rattle.state.specs.Reading.{readState}
-use Rattle.serving.specs.Serves.{Said, saidReply, saidOf, outOf, Serves}
+use Rattle.serving.specs.Serves.{Said, saidReply, saidOf, number, outOf, Serves}
 use Rattle.rules.specs.Rules.{changeSaid}
 use Rattle.rules.specs.declared.Change.{Change}
-use Rattle.opening.proofs.Numbered.{Numbered, rule-numbered}
+use Rattle.serving.proofs.Numbered.{Numbered}
+use Rattle.opening.proofs.Numbered.{rule-numbered}
 use Rattle.answers.specs.Answers.{rulingSaid}
 use Rattle.answers.specs.declared.Ruling.{Ruling}
 use Rattle.answers.specs.declared.Ruling.the-variants as ruling
@@ -55,11 +56,11 @@ forget-changing (some y) = by (wellFormed y)
     by true = tt
     by false = tt
 
-change-text : (D : Prefix) (c : Call) (n : ℕ) (a : Answer) → Changing (a .reply) → changeText (doneText c) (saidOf a .refusal) n ≡ answerText D c n a
+change-text : (D : Prefix) (c : Call) (n : ℕ) (a : Answer) → Changing (a .reply) → changeText (doneText c) (number (saidOf a .refusal)) n ≡ answerText D c n a
 unfolding answerText
 change-text D c n a h = by (a .reply) (a .visits) h
   where
-    by : (r : Reply) (k : ℕ) → Changing r → changeText (doneText c) (saidReply r k .refusal) n ≡ answerText D c n (answer r k)
+    by : (r : Reply) (k : ℕ) → Changing r → changeText (doneText c) (number (saidReply r k .refusal)) n ≡ answerText D c n (answer r k)
     by done k h = refl
     by (refused zero) k h = absurd h
     by (refused (suc m)) k h = refl
@@ -70,10 +71,10 @@ change-text D c n a h = by (a .reply) (a .visits) h
 
 -- a call that is done or refused, from its contract and the text
 pub change-served : (x : State) (c : Call) (n : ℕ) (ch : Change) (x′ : State) (t : Bytes) → ((o : Option Read) → Changing (outOf o c .reply)) → Serves x c (changeSaid ch) x′
-    → t ≡ changeText (doneText c) (changeSaid ch .refusal) n → CallServed x (some c) n t x′
+    → t ≡ changeText (doneText c) (number (changeSaid ch .refusal)) n → CallServed x (some c) n t x′
 change-served x c n ch x′ t h s e =
     record {
-      text = e ∙ ap (λ (q : Said). changeText (doneText c) (q .refusal) n) (s .answered) ∙ change-text (prefixRead (readState x)) c n (outOf (readState x) c) (h (readState x));
+      text = e ∙ ap (λ (q : Said). changeText (doneText c) (number (q .refusal)) n) (s .answered) ∙ change-text (prefixRead (readState x)) c n (outOf (readState x) c) (h (readState x));
       next = s .next;
       kept = s .kept;
     }
@@ -114,7 +115,7 @@ query-text D c n q k a h e = by q (a .reply) (a .visits) h e
     by q (cardRefused m tb) v h e = absurd h
     by ruling.Swap swap v h e = ap (λ (s : Said). rulingText ruling.Swap (s .visits) n) e
     by ruling.Keep keep v h e = ap (λ (s : Said). rulingText ruling.Keep (s .visits) n) e
-    by (ruling.Refused m) (refused p) v h e = ap (λ (s : Said). rulingText (ruling.Refused (s .refusal)) 0 n) e
+    by (ruling.Refused m) (refused p) v h e = ap (λ (s : Said). rulingText (ruling.Refused (number (s .refusal))) 0 n) e
     by ruling.Swap keep v h e = absurd (omega (arith, ap (λ (s : Said). s .verdict) e))
     by ruling.Swap (refused p) v h e = absurd (omega (arith, ap (λ (s : Said). s .verdict) e))
     by ruling.Keep swap v h e = absurd (omega (arith, ap (λ (s : Said). s .verdict) e))

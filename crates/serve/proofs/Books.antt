@@ -25,7 +25,7 @@ use Rattle.layout.specs.Opening.{rank, allowed, stageAfter, variable, declareFa
 use Rattle.layout_laws.proofs.Opened.{opened-formula, fresh-formed}
 use Rattle.state.specs.declared.State.{State}
 use Rattle.state.specs.Reading.{readState, emptyState}
-use Rattle.serving.specs.Serves.{Said, saidOf, outOf, Serves}
+use Rattle.serving.specs.Serves.{Said, saidOf, number, outOf, Serves}
 use Rattle.answers.specs.Answers.{cardSaid}
 use Rattle.answers.specs.declared.Printed.{Printed}
 use Rattle.opening.specs.Opened.{OpenedAs}
@@ -34,7 +34,8 @@ use Rattle.writer.specs.Wrote.{Wrote}
 use Rattle.serve.specs.Line.{prefixRead, lineAnswer, answerBytes}
 use Rattle.serve.specs.Books.{BookOpened, OpensBook, PrintsCard}
 use Rattle.answers.proofs.Told.{card-said}
-use Rattle.opening.proofs.Numbered.{Numbered, numbered-given, rule-numbered}
+use Rattle.serving.proofs.Numbered.{Numbered}
+use Rattle.opening.proofs.Numbered.{numbered-given, rule-numbered}
 use Rattle.serve.proofs.Room.{within}
 use Rattle.serve.proofs.FreeLines.{cardLines}
 use Rattle.serve.proofs.CardTexts.{Listed, Refused, formed-cases, said-by, text-by}
@@ -145,7 +146,7 @@ module _ (s d₀ d : Bytes) (room : answerBytes ≤ length d₀) (q : Answered) 
         by (opened b) i (e, x) n = w b x (opened-formula paper refl s b i)
 
 -- ---- the card of a state with an empty store
-module _ (x : State) (size : ℕ) (p : Printed) (k : ℕ) (tb : List ℕ) (x′ : State) (s : Serves x (card size) (cardSaid p k tb) x′) (r : ℕ) (q : r ≡ cardSaid p 0 [] .refusal) (b : Formula) (e : readState x ≡ some (fresh b)) (ok : formulaOk b ≡ true) where
+module _ (x : State) (size : ℕ) (p : Printed) (k : ℕ) (tb : List ℕ) (x′ : State) (s : Serves x (card size) (cardSaid p k tb) x′) (r : ℕ) (q : r ≡ number (cardSaid p 0 [] .refusal)) (b : Formula) (e : readState x ≡ some (fresh b)) (ok : formulaOk b ≡ true) where
   abbrev a : Answer
   a = learningCard true b emptyStore size .out
 
@@ -158,8 +159,8 @@ module _ (x : State) (size : ℕ) (p : Printed) (k : ℕ) (tb : List ℕ) (x′ 
   out-is : outOf (readState x) (card size) ≡ a
   out-is = ap (λ (o : Option Read). outOf o (card size)) e ∙ ap (λ (g : Bool). guarded g (fresh b) (card size) .out) formed
 
-  refusal-is : (reply : Reply) → a .reply ≡ reply → r ≡ saidOf (record { reply = reply; visits = a .visits }) .refusal
-  refusal-is reply z = q ∙ ap (λ (w : Said). w .refusal) (sym (card-said p k tb) ∙ s .answered ∙ ap saidOf out-is ∙ said-by a reply z)
+  refusal-is : (reply : Reply) → a .reply ≡ reply → r ≡ number (saidOf (record { reply = reply; visits = a .visits }) .refusal)
+  refusal-is reply z = q ∙ ap (λ (w : Said). number (w .refusal)) (sym (card-said p k tb) ∙ s .answered ∙ ap saidOf out-is ∙ said-by a reply z)
 
   printed-by : (reply : Reply) → a .reply ≡ reply → answerPrinted (b .prefix) a ≡ cardPrinted (b .prefix) reply (a .visits)
   printed-by reply z = ap (λ (w : Reply). cardPrinted (b .prefix) w (a .visits)) z

@@ -14,6 +14,7 @@ use Rattle.qbf.specs.Formula.{paper, Prefix}
 use Rattle.qbf.specs.Truth.{freeVariables}
 use Rattle.qbf.specs.Card.{tableOf, zeroTable}
 use Rattle.qbf.specs.Calls.{Call, card, Reply, lines, cardRefused, Answer, guarded, numbersOk, State as Read, wellFormed}
+use Rattle.theory.proofs.AcceptedRule.{some-none}
 use Rattle.theory.proofs.WellFormed.{state-facts, numbers-ok}
 use Rattle.layout.specs.Words.{Bytes}
 use Rattle.layout.specs.Output.{refusalText, overflowText, cardText}
@@ -24,7 +25,8 @@ use Rattle.state.specs.declared.State.{State}
 use Rattle.state.specs.Reading.{readState, valid, prefixIn, stateIn}
 use Rattle.state.specs.Derived.{Quantified}
 use Rattle.state.proofs.Valid.{valid-facts, valid-numbers, valid-quantified}
-use Rattle.serving.specs.Serves.{Said, said, saidReply, saidOf, outOf, Serves}
+use Rattle.serving.specs.Serves.{Said, said, saidReply, saidOf, number, faultOf, told, outOf, Serves}
+use Rattle.serving.proofs.Numbered.{served-told}
 use Rattle.serving.proofs.Calls.{malformed}
 use Rattle.answers.specs.Answers.{cardSaid}
 use Rattle.answers.proofs.Told.{card-said}
@@ -78,8 +80,9 @@ pub text-by : (D : Prefix) (c : Call) (line : ℕ) (a : Answer) (r : Reply) → 
 unfolding answerText
 text-by D c line a r e = ap (λ (q : Reply). replyPrinted D c line q (a .visits)) e
 
-refused-text : (o : Option Read) (D : Prefix) (size line r n k : ℕ) (tb : List ℕ) → (r ≡ 0 → ⊥) → said r 0 n k tb ≡ saidOf (outOf o (card size)) → cardRefusalText r line k ≡ answerText D (card size) line (outOf o (card size))
-refused-text o D size line r n k tb h s = by (card-cases size o)
+refused-text : (o : Option Read) (D : Prefix) (size line : ℕ) (f : Option ℕ) (r n k : ℕ) (tb : List ℕ) → r ≡ number f → (r ≡ 0 → ⊥) → said f 0 n k tb ≡ saidOf (outOf o (card size))
+    → cardRefusalText r line k ≡ answerText D (card size) line (outOf o (card size))
+refused-text o D size line f r n k tb q h s = by (card-cases size o)
   where
     a : Answer
     a = outOf o (card size)
@@ -87,15 +90,15 @@ refused-text o D size line r n k tb h s = by (card-cases size o)
     by : Refused size (a .reply) ⊎ ((y : Read) × (o ≡ some y) × (wellFormed y ≡ true) × Listed size y (a .reply)) → cardRefusalText r line k ≡ answerText D (card size) line a
     by (inl (m, tb′, e)) =
         let w = s ∙ said-by a (cardRefused (suc m) tb′) e in
-        ap (λ (z : Said). cardRefusalText (z .refusal) line (z .visits)) w ∙ sym (text-by D (card size) line a (cardRefused (suc m) tb′) e)
-    by (inr (y, q, g, l)) = absurd (h (ap (λ (z : Said). z .refusal) (s ∙ said-by a (lines (cardLines y) (tableOf (freeVariables (y .formula .prefix)) size (cardLines y))) (l .0))))
+        ap (λ (j : ℕ). cardRefusalText j line k) q ∙ ap (λ (z : Said). cardRefusalText (number (z .refusal)) line (z .visits)) w ∙ sym (text-by D (card size) line a (cardRefused (suc m) tb′) e)
+    by (inr (y, i, g, l)) = absurd (h (q ∙ ap (λ (z : Said). number (z .refusal)) (s ∙ said-by a (lines (cardLines y) (tableOf (freeVariables (y .formula .prefix)) size (cardLines y))) (l .0))))
 
 -- a refused card, from its contract and the text
-pub refused-served : (x : State) (size line r : ℕ) (p : Printed) (k : ℕ) (tb : List ℕ) (x′ : State) (t : Bytes) → Serves x (card size) (cardSaid p k tb) x′ → r ≡ cardSaid p 0 [] .refusal → (r ≡ 0 → ⊥)
+pub refused-served : (x : State) (size line r : ℕ) (p : Printed) (k : ℕ) (tb : List ℕ) (x′ : State) (t : Bytes) → Serves x (card size) (cardSaid p k tb) x′ → r ≡ number (cardSaid p 0 [] .refusal) → (r ≡ 0 → ⊥)
     → t ≡ cardRefusalText r line k → CallServed x (some (card size)) line t x′
 refused-served x size line r p k tb x′ t s q h e =
     record {
-      text = e ∙ refused-text (readState x) (prefixRead (readState x)) size line r (cardSaid p 0 [] .lines) k tb h (ap (λ (m : ℕ). said m 0 (cardSaid p 0 [] .lines) k tb) q ∙ sym (card-said p k tb) ∙ s .answered);
+      text = e ∙ refused-text (readState x) (prefixRead (readState x)) size line (cardSaid p 0 [] .refusal) r (cardSaid p 0 [] .lines) k tb q h (sym (card-said p k tb) ∙ s .answered);
       next = s .next;
       kept = s .kept;
     }
@@ -105,12 +108,13 @@ pub shown-served : (x : State) (size line : ℕ) (a : Said) (x′ : State) (t : 
 shown-served x size line a x′ t s e = record { text = e; next = s .next; kept = s .kept }
 
 -- what the lines' table owes to the writer, from the contract
-pub shown-said : (x : State) (size r n : ℕ) (p : Printed) (k : ℕ) (tb : List ℕ) (x′ : State) → length tb ≡ size → Serves x (card size) (cardSaid p k tb) x′ → r ≡ cardSaid p 0 [] .refusal → r ≡ 0 → n ≡ cardSaid p 0 [] .lines
-    → said 0 0 n k tb ≡ saidOf (outOf (readState x) (card (length tb)))
+pub shown-said : (x : State) (size r n : ℕ) (p : Printed) (k : ℕ) (tb : List ℕ) (x′ : State) → length tb ≡ size → Serves x (card size) (cardSaid p k tb) x′ → r ≡ number (cardSaid p 0 [] .refusal) → r ≡ 0 → n ≡ cardSaid p 0 [] .lines
+    → said none 0 n k tb ≡ saidOf (outOf (readState x) (card (length tb)))
 shown-said x size r n p k tb x′ long s q z m =
-    (λ i. said (sym z i) 0 (m i) k tb)
-    ∙ ap (λ (j : ℕ). said j 0 (cardSaid p 0 [] .lines) k tb) q
-    ∙ sym (card-said p k tb)
+    (λ i. said (faultOf (sym z i)) 0 (m i) k tb)
+    ∙ ap (λ (j : ℕ). said (faultOf j) 0 (cardSaid p 0 [] .lines) k tb) q
+    ∙ sym (ap told (card-said p k tb))
+    ∙ served-told s
     ∙ s .answered
     ∙ ap (λ (j : ℕ). saidOf (outOf (readState x) (card j))) (sym long)
 
@@ -134,7 +138,7 @@ pub record CardWritten (x : State) (tb : List ℕ) (n k f : ℕ) : Type 0 where
   pub short : length (cardRows f (x .numbers) tb n k) ≤ answerBytes
   pub text : (line : ℕ) → cardRows f (x .numbers) tb n k ≡ lineAnswer (readState x) line (some (card (length tb)))
 
-module _ (x : State) (tb : List ℕ) (n k : ℕ) (s : said 0 0 n k tb ≡ saidOf (outOf (readState x) (card (length tb)))) (bound : length tb ≤ tableBytes) (visits : k < 2 ^ 64) where
+module _ (x : State) (tb : List ℕ) (n k : ℕ) (s : said none 0 n k tb ≡ saidOf (outOf (readState x) (card (length tb)))) (bound : length tb ≤ tableBytes) (visits : k < 2 ^ 64) where
   abbrev size : ℕ
   size = length tb
 
@@ -143,7 +147,7 @@ module _ (x : State) (tb : List ℕ) (n k : ℕ) (s : said 0 0 n k tb ≡ saidOf
     where
       by : (b : Bool) → valid x ≡ b → valid x ≡ true
       by true e = e
-      by false e = absurd (omega (arith, ap (λ (z : Said). z .refusal) (s ∙ sym (malformed x (card size) e .answered))))
+      by false e = absurd (some-none (sym (ap (λ (z : Said). z .refusal) (s ∙ sym (malformed x (card size) e .answered)))))
 
   abbrev y : Read
   y = stateIn x
@@ -164,7 +168,7 @@ module _ (x : State) (tb : List ℕ) (n k : ℕ) (s : said 0 0 n k tb ≡ saidOf
   fine = numbers-ok (y .formula) (state-facts y formed .formula-ok)
 
   module _ (f : ℕ) (e : f ≡ freeVariables D) (shown : a .reply ≡ lines (cardLines y) (tableOf (freeVariables D) size (cardLines y))) (fits : length (cardLines y) * freeVariables D ≤ size) where
-    w : said 0 0 n k tb ≡ said 0 0 (length (cardLines y)) (a .visits) (tableOf (freeVariables D) size (cardLines y))
+    w : said none 0 n k tb ≡ said none 0 (length (cardLines y)) (a .visits) (tableOf (freeVariables D) size (cardLines y))
     w = s ∙ ap saidOf out-is ∙ said-by a (lines (cardLines y) (tableOf (freeVariables D) size (cardLines y))) shown
 
     count : n ≡ length (cardLines y)
@@ -195,5 +199,5 @@ module _ (x : State) (tb : List ℕ) (n k : ℕ) (s : said 0 0 n k tb ≡ saidOf
   card-written f frees = by (formed-cases size y)
     where
       by : Refused size (a .reply) ⊎ Listed size y (a .reply) → CardWritten x tb n k f
-      by (inl (m, tb′, e)) = absurd (omega (arith, ap (λ (z : Said). z .refusal) (s ∙ ap saidOf out-is ∙ said-by a (cardRefused (suc m) tb′) e)))
+      by (inl (m, tb′, e)) = absurd (some-none (sym (ap (λ (z : Said). z .refusal) (s ∙ ap saidOf out-is ∙ said-by a (cardRefused (suc m) tb′) e))))
       by (inr (e, fits)) = written f (frees D (valid-numbers x is-valid) (valid-quantified x is-valid)) e fits

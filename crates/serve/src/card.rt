@@ -8,7 +8,7 @@ use writer::answer::put_overflow;
 use writer::card::put_card;
 ghost use mathlib.Core.Path.{_≡_};
 ghost use mathlib.Core.List.{[]};
-ghost use mathlib.Core.Option.{some};
+ghost use mathlib.Core.Option.{none, some};
 ghost use Prim.Native.Nat.{ℕ, _≤_};
 ghost use lib.ListN.{length};
 ghost use Rattle.qbf.specs.Calls.{card};
@@ -34,7 +34,7 @@ fn put_card_refusal(out: &mut [u8], refusal: u16, visits: u64, line: u64) -> usi
 // The card whose lines stand in the table.
 pub fn put_shown(out: &mut [u8], x: State, table: &[u8], lines: usize, visits: u64) -> usize
     requires { ⌜ length (now table) ≤ tableBytes ⌝ }
-    requires { ⌜ said 0 0 lines visits (now table) ≡ saidOf (outOf (readState x) (card (length (now table)))) ⌝ }
+    requires { ⌜ said none 0 lines visits (now table) ≡ saidOf (outOf (readState x) (card (length (now table)))) ⌝ }
     requires { ⌜ answerBytes ≤ length (now out) ⌝ }
     ensures { λ r. ⌜ ((n : ℕ)
         → Wrote (now (out .entry)) 0 (lineAnswer (readState x) n (some (card (length (now (table .entry)))))) (now (out .exit)) r) ⌝ }

@@ -1,6 +1,6 @@
 -- What a call on a state by value owes for every state and argument: its answer, its next state and the card table are those of the
 -- definitions' step. Every call's contract is `Serves`, and demand 3 is a theorem about lists of calls that meet it.
-use Prim.Native.Nat.{ℕ, _≤_}
+use Prim.Native.Nat.{ℕ, zero, suc, _≤_}
 use mathlib.Core.Path.{_≡_}
 use mathlib.Core.List.{List, [], _∷_}
 use mathlib.Core.Option.{Option, none, some}
@@ -10,28 +10,42 @@ use Rattle.qbf.specs.Demands.{refusalOf}
 use Rattle.state.specs.declared.State.{State}
 use Rattle.state.specs.Reading.{readState}
 
--- An answer in numbers, as code gives it: the refusal (0 where there is none), keep 1 or swap 2 (0 where the call is no query), the
--- count of the lines, the visits, and the bytes of the card table (none where the call is no card).
+-- An answer as code gives it: the refusal, if there is one; keep 1 or swap 2 (0 where the call is no query); the count of the lines; the
+-- visits; and the bytes of the card table (none where the call is no card).
 pub record Said : Type 0 where
-  pub refusal : ℕ
+  pub refusal : Option ℕ
   pub verdict : ℕ
   pub lines : ℕ
   pub visits : ℕ
   pub table : List ℕ
 
-abbrev pub said : ℕ → ℕ → ℕ → ℕ → List ℕ → Said
+abbrev pub said : Option ℕ → ℕ → ℕ → ℕ → List ℕ → Said
 said r v n k tb = record { refusal = r; verdict = v; lines = n; visits = k; table = tb }
 
 abbrev pub saidReply : Reply → ℕ → Said
-saidReply done k = said 0 0 0 k []
-saidReply (refused n) k = said n 0 0 k []
-saidReply swap k = said 0 2 0 k []
-saidReply keep k = said 0 1 0 k []
-saidReply (lines ls tb) k = said 0 0 (length ls) k tb
-saidReply (cardRefused n tb) k = said n 0 0 k tb
+saidReply done k = said none 0 0 k []
+saidReply (refused n) k = said (some n) 0 0 k []
+saidReply swap k = said none 2 0 k []
+saidReply keep k = said none 1 0 k []
+saidReply (lines ls tb) k = said none 0 (length ls) k tb
+saidReply (cardRefused n tb) k = said (some n) 0 0 k tb
 
 abbrev pub saidOf : Answer → Said
 saidOf a = saidReply (a .reply) (a .visits)
+
+-- A refusal as one number, as functions and the exported structs hand it on: 0 where there is none.
+abbrev pub number : Option ℕ → ℕ
+number none = 0
+number (some n) = n
+
+-- the refusal that such a number tells
+abbrev pub faultOf : ℕ → Option ℕ
+faultOf zero = none
+faultOf (suc n) = some (suc n)
+
+-- an answer whose refusal went through such a number; law `served-told`: no answer of a call is changed by it, for no refusal is 0
+abbrev pub told : Said → Said
+told a = said (faultOf (number (a .refusal))) (a .verdict) (a .lines) (a .visits) (a .table)
 
 -- ---- one call
 -- A state that does not read is malformed: "22 the state is malformed". A state that reads is judged by the definitions' step.

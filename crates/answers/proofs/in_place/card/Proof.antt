@@ -46,17 +46,21 @@ total-lines-requires c κs = search needs
 fits-requires : tie.Need-fits-requires
 fits-requires c κs = search needs
 
+with-lines-requires : tie.Need-with-lines-requires
+with-lines-requires c κs = search needs
+
 same-length-2 : tie.Need-same-length-2
-same-length-2 c = c .before .before .before .before .before .run .ensures .0 .0 ∙ cleared-length (length (now (c .before .before .before .before .before .before .before .before .before .before .before .before .before .before .before .before .before .before .before .before .before .before .before .before .before .before .before .args .table))) (c .before .before .before .before .before .before .before .before .before .before .before .before .before .before .before .before .before .before .before .before .before .before .before .before .clear .ensures)
+same-length-2 c = c .before .before .before .before .before .before .run .ensures .0 .0 ∙ cleared-length (length (now (c .before .before .before .before .before .before .before .before .before .before .before .before .before .before .before .before .before .before .before .before .before .before .before .before .before .before .before .before .args .table))) (c .before .before .before .before .before .before .before .before .before .before .before .before .before .before .before .before .before .before .before .before .before .before .before .before .before .clear .ensures)
 
 returns-2 : tie.Need-returns-2
 returns-2 c =
-    let v = sym (c .before .before .before .before .before .before .before .before .before .before .before .before .before .before .before .before .before .check-tables .ensures .said) ∙ not-false _ (c .before .before .before .before .before .before .before .before .before .before .before .before .before .before .before .before .if1 .left) in
-    let frees = c .before .before .before .before .before .before .before .before .before .before .before .before .before .before .before .free-count .ensures _ (valid-numbers _ v) (valid-quantified _ v) in
-    let sized = c .before .before .before .before .before .run .ensures .0 .0 ∙ cleared-length (length (now (c .before .before .before .before .before .before .before .before .before .before .before .before .before .before .before .before .before .before .before .before .before .before .before .before .before .before .before .args .table))) (c .before .before .before .before .before .before .before .before .before .before .before .before .before .before .before .before .before .before .before .before .before .before .before .before .clear .ensures) in
-    shown-card _ v _ (c .before .before .before .before .before .before .before .before .before .before .before .before .before .before .before .free-count .result) (c .before .before .before .before .before .run .result) _ _ frees sized
-    (c .before .before .before .before .before .run .ensures .1 _ _ v .found [] (c .before .before .before .before .before .before .before .before .before .before .before .before .before .before .before .before .before .check-tables .ensures .placed v) (c .before .before .before .before .before .before .before .before .before .before .before .before .before .before .before .before .before .check-tables .ensures .kinded v) (open-values _) refl frees (covers-none (c .before .before .before .before .before .before .before .before .before .before .before .before .before .before .before .free-count .result) (length (now (c .before .before .before .before .before .before .before .before .before .before .before .before .before .before .before .before .before .before .before .before .before .before .before .before .before .before .before .args .table))) _ (c .before .before .before .before .before .before .before .before .before .before .before .before .before .before .before .before .before .before .before .before .before .before .before .before .clear .ensures)))
-    (c .before .before .total-lines .result) (c .before .before .total-lines .ensures) (ap (λ k. leb (c .before .before .total-lines .result * c .before .before .before .before .before .before .before .before .before .before .before .before .before .before .before .free-count .result) k) (sym sized) ∙ sym (c .before .fits2 .ensures) ∙ c .if2 .taken)
+    let v = sym (c .before .before .before .before .before .before .before .before .before .before .before .before .before .before .before .before .before .before .check-tables .ensures .said) ∙ not-false _ (c .before .before .before .before .before .before .before .before .before .before .before .before .before .before .before .before .before .if1 .left) in
+    let frees = c .before .before .before .before .before .before .before .before .before .before .before .before .before .before .before .before .free-count .ensures _ (valid-numbers _ v) (valid-quantified _ v) in
+    let sized = c .before .before .before .before .before .before .run .ensures .0 .0 ∙ cleared-length (length (now (c .before .before .before .before .before .before .before .before .before .before .before .before .before .before .before .before .before .before .before .before .before .before .before .before .before .before .before .before .args .table))) (c .before .before .before .before .before .before .before .before .before .before .before .before .before .before .before .before .before .before .before .before .before .before .before .before .before .clear .ensures) in
+    served-as _ (card _) (c .with-lines .ensures _)
+    (shown-card _ v _ (c .before .before .before .before .before .before .before .before .before .before .before .before .before .before .before .before .free-count .result) (c .before .before .before .before .before .before .run .result) _ _ frees sized
+    (c .before .before .before .before .before .before .run .ensures .1 _ _ v .found [] (c .before .before .before .before .before .before .before .before .before .before .before .before .before .before .before .before .before .before .check-tables .ensures .placed v) (c .before .before .before .before .before .before .before .before .before .before .before .before .before .before .before .before .before .before .check-tables .ensures .kinded v) (open-values _) refl frees (covers-none (c .before .before .before .before .before .before .before .before .before .before .before .before .before .before .before .before .free-count .result) (length (now (c .before .before .before .before .before .before .before .before .before .before .before .before .before .before .before .before .before .before .before .before .before .before .before .before .before .before .before .before .args .table))) _ (c .before .before .before .before .before .before .before .before .before .before .before .before .before .before .before .before .before .before .before .before .before .before .before .before .before .clear .ensures)))
+    (c .before .before .before .total-lines .result) (c .before .before .before .total-lines .ensures) (ap (λ k. leb (c .before .before .before .total-lines .result * c .before .before .before .before .before .before .before .before .before .before .before .before .before .before .before .before .free-count .result) k) (sym sized) ∙ sym (c .before .before .fits2 .ensures) ∙ c .before .if2 .taken))
 
 clear-requires-2 : tie.Need-clear-requires-2
 clear-requires-2 c κs = search needs
@@ -90,6 +94,7 @@ card-spec =
     run-requires
     total-lines-requires
     fits-requires
+    with-lines-requires
     same-length-2
     returns-2
     clear-requires-2

@@ -2,10 +2,7 @@
 use borrow.Author.Needs.{needs}
 use Rattle.opening.proofs.line.take_rule.Statement.{statement}
 use Rattle.opening.proofs.line.take_rule.Tie as tie
-use mathlib.Core.Path.{subst}
 use denote.Ref.{now}
-use Rattle.qbf.specs.Calls.{rule}
-use Rattle.serving.specs.Serves.{Said, Serves}
 use Rattle.opening.proofs.Taking.{rule-misplaced, rule-taken}
 
 may-stand-requires : tie.Need-may-stand-requires
@@ -24,7 +21,9 @@ refusal-of-requires : tie.Need-refusal-of-requires
 refusal-of-requires c κs = search needs
 
 returns-2 : tie.Need-returns-2
-returns-2 c = rule-taken (c .before .before .before .before .before .pre) (c .before .before .before .before .may-stand .ensures) (now (c .before .before .before .before .before .args .lits)) (c .before .before .before .if1 .left) (subst (λ (a : Said). Serves (c .before .before .before .before .before .args .x) (rule (now (c .before .before .before .before .before .args .lits))) a (c .before .before .rule .result .state)) (c .refusal-of .ensures) (c .before .before .rule .ensures))
+returns-2 c =
+    let s = c .before .before .before .before .before in
+    rule-taken (s .pre) (c .before .before .before .before .may-stand .ensures) (now (s .args .lits)) (c .before .before .before .if1 .left) (c .before .before .rule .ensures) (c .refusal-of .ensures)
 
 pub take-rule-spec : {M : Type 1} → statement M
 take-rule-spec =

@@ -19,24 +19,24 @@ check-tables-requires c κs = search needs
 rule-fault-requires : tie.Need-rule-fault-requires
 rule-fault-requires c κs = search needs
 
-returns : tie.Need-returns
-returns c =
-    let s = c .before .before .before .before .before .before .before .before .before in
-    rule-refused (lent s) (now (s .args .lits)) (c .before .before .before .before .before .check-tables .ensures) (c .before .rule-fault .ensures) (c .if1 .taken)
-
 accept-requires : tie.Need-accept-requires
 accept-requires c κs =
     let s = c .before .before .before .before .before .before .before .before .before .before .before .before .before in
     rule-room (lent s) (now (s .args .lits)) (c .before .before .before .before .before .before .before .before .before .check-tables .ensures)
-    (c .before .before .before .before .before .rule-fault .ensures) (c .before .before .before .before .if1 .left)
+    (c .before .before .before .before .before .rule-fault .ensures) (c .before .before .before .before .if1 .taken)
+
+returns : tie.Need-returns
+returns c =
+    let s = c .before .before .before .before .before .before .before .before .before .before .before .before .before .before in
+    rule-accepted (lent s) (now (s .args .lits)) (c .before .before .before .before .before .before .before .before .before .before .check-tables .ensures)
+    (c .before .before .before .before .before .before .rule-fault .ensures) (c .before .before .before .before .before .if1 .taken) (c .accept .ensures)
 
 returns-2 : tie.Need-returns-2
 returns-2 c =
-    let s = c .before .before .before .before .before .before .before .before .before .before .before .before .before .before in
-    rule-accepted (lent s) (now (s .args .lits)) (c .before .before .before .before .before .before .before .before .before .before .check-tables .ensures)
-    (c .before .before .before .before .before .before .rule-fault .ensures) (c .before .before .before .before .before .if1 .left) (c .accept .ensures)
+    let s = c .before .before .before .before .before .before .before .before .before in
+    rule-refused (lent s) (now (s .args .lits)) (c .before .before .before .before .before .check-tables .ensures) (c .before .rule-fault .ensures) (c .if1 .left)
 
 pub rule-spec : {M : Type 1} → statement M
 rule-spec =
     tie.close
-    (tie.spec check-tables-requires rule-fault-requires returns accept-requires returns-2)
+    (tie.spec check-tables-requires rule-fault-requires accept-requires returns returns-2)

@@ -11,7 +11,8 @@ use denote.Ref.{now}
 use lib.ListN.{getD}
 use Rattle.qbf.specs.Formula.{Prefix}
 use Rattle.tables.specs.Views.{Places}
-use Rattle.rules.specs.Faults.{faultOf, faultAfter, Judged}
+use Rattle.serving.specs.Serves.{faultOf}
+use Rattle.rules.specs.Faults.{faultAfter, Judged}
 use Rattle.rules.proofs.Refusing.{fault-full, fault-empty, fault-long, fault-literals, judged-malformed, judged-valid}
 
 -- how many clauses stand

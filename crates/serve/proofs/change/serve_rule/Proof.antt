@@ -2,14 +2,13 @@
 use borrow.Author.Needs.{needs}
 use Rattle.serve.proofs.change.serve_rule.Statement.{statement}
 use Rattle.serve.proofs.change.serve_rule.Tie as tie
-use mathlib.Core.Path.{_∙_, ap, sym}
+use mathlib.Core.Path.{_∙_, ap}
 use mathlib.Core.Option.{some}
 use denote.Ref.{now}
 use Rattle.qbf.specs.Calls.{rule}
 use Rattle.layout.specs.Output.{acceptedText}
 use Rattle.serve.specs.Texts.{changeText}
 use Rattle.serve.proofs.Answered.{rule-changing, change-served}
-use Rattle.serving.specs.Serves.{Said}
 use Rattle.serve.proofs.Room.{turned}
 
 rule-requires : tie.Need-rule-requires
@@ -28,7 +27,7 @@ same-length : tie.Need-same-length
 same-length c = search needs
 
 returns : tie.Need-returns
-returns c = turned (c .before .before .before .before .before .before .before .before .before .args .x) (some (rule (now (c .before .before .before .before .before .before .before .before .before .args .lits)))) (c .before .before .before .before .before .before .before .before .before .args .line) (c .before .before .before .before .before .before .before .rule .result .state) (c .before .before .put-change .ensures) (λ u e. change-served (c .before .before .before .before .before .before .before .before .before .args .x) (rule (now (c .before .before .before .before .before .before .before .before .before .args .lits))) (c .before .before .before .before .before .before .before .before .before .args .line) (c .before .before .before .before .before .before .before .rule .result .change) (c .before .before .before .before .before .before .before .rule .result .state) u (rule-changing (now (c .before .before .before .before .before .before .before .before .before .args .lits))) (c .before .before .before .before .before .before .before .rule .ensures) (e ∙ ap (λ k. changeText acceptedText k (c .before .before .before .before .before .before .before .before .before .args .line)) (sym (ap (λ (a : Said). a .refusal) (c .before .before .before .before .before .refusal-of .ensures)))))
+returns c = turned (c .before .before .before .before .before .before .before .before .before .args .x) (some (rule (now (c .before .before .before .before .before .before .before .before .before .args .lits)))) (c .before .before .before .before .before .before .before .before .before .args .line) (c .before .before .before .before .before .before .before .rule .result .state) (c .before .before .put-change .ensures) (λ u e. change-served (c .before .before .before .before .before .before .before .before .before .args .x) (rule (now (c .before .before .before .before .before .before .before .before .before .args .lits))) (c .before .before .before .before .before .before .before .before .before .args .line) (c .before .before .before .before .before .before .before .rule .result .change) (c .before .before .before .before .before .before .before .rule .result .state) u (rule-changing (now (c .before .before .before .before .before .before .before .before .before .args .lits))) (c .before .before .before .before .before .before .before .rule .ensures) (e ∙ ap (λ k. changeText acceptedText k (c .before .before .before .before .before .before .before .before .before .args .line)) (c .before .before .before .before .before .refusal-of .ensures)))
 
 pub serve-rule-spec : {M : Type 1} → statement M
 serve-rule-spec =

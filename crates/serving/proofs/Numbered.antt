@@ -1,0 +1,67 @@
+-- No refusal has the number 0, so that a number tells whether there is one.
+use Prim.Native.Nat.{ℕ, zero, suc}
+use mathlib.Core.Path.{_≡_, refl, sym, ap, _∙_, subst}
+use mathlib.Core.Bool.{true, true≢false}
+use lib.Dec.{ltb}
+use Rattle.qbf.specs.Formula.{all}
+use mathlib.Core.Option.{Option, none, some}
+use Rattle.qbf.specs.Card.{Mem}
+use Rattle.qbf.specs.Calls.{Call, rule, query, card, forget, Reply, done, refused, swap, keep, lines, cardRefused, Answer, State as Read, step}
+use Rattle.qbf.specs.Demands.{refusalOf}
+use Rattle.theory.proofs.Basics.{all→}
+use Rattle.theory.proofs.Refusals.{refusals}
+use Rattle.theory.proofs.Demands.{refusal-known}
+use Rattle.state.specs.declared.State.{State}
+use Rattle.state.specs.Reading.{readState}
+use Rattle.serving.specs.Serves.{Said, said, saidReply, saidOf, number, faultOf, told, outOf, Serves}
+
+abbrev pub Numbered : Option ℕ → Type 0
+Numbered none = Unit {0}
+Numbered (some zero) = ⊥
+Numbered (some (suc n)) = Unit {0}
+
+pub numbered-is : (o : Option ℕ) → Numbered o → faultOf (number o) ≡ o
+numbered-is none h = refl
+numbered-is (some zero) h = absurd h
+numbered-is (some (suc n)) h = refl
+
+-- ---- the refusals of the calls
+above-zero : (c : Call) → all (ltb 0) (refusals c) ≡ true
+above-zero (rule ls) = refl
+above-zero (query ls) = refl
+above-zero (card size) = refl
+above-zero forget = refl
+
+known-numbered : (c : Call) (o : Option ℕ) → ((n : ℕ) → o ≡ some n → Mem n (refusals c)) → Numbered o
+known-numbered c none h = tt
+known-numbered c (some zero) h = absurd (true≢false (sym (all→ (ltb 0) (refusals c) (above-zero c) zero (h zero refl))))
+known-numbered c (some (suc n)) h = tt
+
+-- what is said of the refusal is the reply's
+pub said-refusal : (r : Reply) (k : ℕ) → saidReply r k .refusal ≡ refusalOf r
+said-refusal done k = refl
+said-refusal (refused n) k = refl
+said-refusal swap k = refl
+said-refusal keep k = refl
+said-refusal (lines ls tb) k = refl
+said-refusal (cardRefused n tb) k = refl
+
+malformed-numbered : (c : Call) → Numbered (refusalOf (outOf none c .reply))
+malformed-numbered (rule ls) = tt
+malformed-numbered (query ls) = tt
+malformed-numbered (card size) = tt
+malformed-numbered forget = tt
+
+pub out-numbered : (o : Option Read) (c : Call) → Numbered (refusalOf (outOf o c .reply))
+out-numbered none c = malformed-numbered c
+out-numbered (some y) c = known-numbered c (refusalOf (step y c .out .reply)) (refusal-known y c)
+
+-- an answer of a call is what its number tells
+pub served-told : {x : State} {c : Call} {a : Said} {y : State} → Serves x c a y → told a ≡ a
+served-told {x} {c} {a} {y} s = λ i. said (numbered-is (a .refusal) numbered i) (a .verdict) (a .lines) (a .visits) (a .table)
+  where
+    out : Answer
+    out = outOf (readState x) c
+
+    numbered : Numbered (a .refusal)
+    numbered = subst Numbered (sym (ap (λ (q : Said). q .refusal) (s .answered) ∙ said-refusal (out .reply) (out .visits))) (out-numbered (readState x) c)
