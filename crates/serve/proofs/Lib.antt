@@ -3,6 +3,7 @@ pub mod Cut
 pub mod FreeLines
 pub mod Answered
 pub mod Session
+pub mod Demands
 pub mod Room
 pub mod CardTexts
 pub mod Called

@@ -1,3 +1,4 @@
 pub mod Numbered
 pub mod Calls
+pub mod Refused
 pub mod Demands

@@ -1,1 +1,2 @@
 pub mod Serves
+pub mod Demands

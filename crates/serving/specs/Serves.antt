@@ -1,6 +1,6 @@
 -- What a call on a state by value owes for every state and argument: its answer, its next state and the card table are those of the
--- definitions' step. Every call's contract is `Serves`, and demand 3 is a theorem about lists of calls that meet it.
-use Prim.Native.Nat.{ℕ, zero, suc, _≤_}
+-- definitions' step. Every call's contract is `Serves`; the demands are theorems about lists of calls that meet it (Demands.antt).
+use Prim.Native.Nat.{ℕ, zero, suc}
 use mathlib.Core.Path.{_≡_}
 use mathlib.Core.List.{List, [], _∷_}
 use mathlib.Core.Option.{Option, none, some}
@@ -70,17 +70,3 @@ Served x [] [] = Unit {0}
 Served x [] (a ∷ qs) = ⊥
 Served x (c ∷ cs) [] = ⊥
 Served x (c ∷ cs) (a ∷ qs) = (x′ : State) × Serves x c a x′ × Served x′ cs qs
-
--- the answer a is the plain run's answer p but for the visits, which are no more
-pub record SaidAgrees (a : Said) (p : Answer) : Type 0 where
-  pub refusal : a .refusal ≡ saidOf p .refusal
-  pub verdict : a .verdict ≡ saidOf p .verdict
-  pub lines : a .lines ≡ saidOf p .lines
-  pub table : a .table ≡ saidOf p .table
-  pub visits : a .visits ≤ p .visits
-
-abbrev pub AllSaid : List Said → List Answer → Type 0
-AllSaid [] [] = Unit {0}
-AllSaid [] (p ∷ ps) = ⊥
-AllSaid (a ∷ qs) [] = ⊥
-AllSaid (a ∷ qs) (p ∷ ps) = SaidAgrees a p × AllSaid qs ps

@@ -1,0 +1,130 @@
+-- Demand 1 of one call: what a refused call answers and leaves, from `Serves`.
+use Prim.Native.Nat.{ℕ, _*_}
+use mathlib.Core.Path.{_≡_, refl, sym, ap, subst, _∙_}
+use mathlib.Core.Logic.{inl}
+use mathlib.Core.Bool.{Bool, true, false, cond}
+use mathlib.Core.List.{List, []}
+use mathlib.Core.Option.{Option, none, some}
+use lib.ListN.{length}
+use lib.Dec.{leb}
+use Rattle.qbf.specs.Formula.{Formula, Node, Literal, quantifiers}
+use Rattle.qbf.specs.Truth.{Outcome, decided, mixed, outline, bound, select, decidedNodes, freeVariables}
+use Rattle.qbf.specs.Learning.{learningSearch}
+use Rattle.qbf.specs.Card.{Mem, tableOf, zeroTable}
+use Rattle.qbf.specs.Calls.{Call, rule, query, card, forget, Reply, done, refused, swap, keep, lines, cardRefused, Answer, answer, refusal, ruleFault, ruleReply, queryFault, queryReply, learningQuery, startNode, guarded, wellFormed, State as Read, step}
+use Rattle.qbf.specs.Demands.{refusalOf}
+use Rattle.theory.proofs.AcceptedRule.{some-none}
+use Rattle.theory.proofs.Refusals.{refusals}
+use Rattle.theory.proofs.Demands.{demand-1, refusal-known}
+use Rattle.state.specs.declared.State.{State}
+use Rattle.state.specs.Reading.{readState}
+use Rattle.serving.specs.Serves.{Said, said, saidReply, saidOf, number, outOf, nextOf, Serves}
+use Rattle.serving.specs.Demands.{formulaOf, zeroed, Refused, LeavesIfRefused}
+use Rattle.serving.proofs.Numbered.{said-refusal}
+
+-- ---- a refused reply is the refusal of the call
+same-number : {k n : ℕ} → some k ≡ some n → k ≡ n
+same-number e = ap number e
+
+refused-as : (c : Call) {k n : ℕ} → k ≡ n → refusal k c ≡ refusal n c
+refused-as c e = ap (λ (m : ℕ). refusal m c) e
+
+refusal-number : (c : Call) (k : ℕ) → refusalOf (refusal k c) ≡ some k
+refusal-number (rule ls) k = refl
+refusal-number (query ls) k = refl
+refusal-number (card size) k = refl
+refusal-number forget k = refl
+
+module _ (n : ℕ) where
+  -- the reply to c is the refusal with n, if it is refused with n
+  abbrev AsRefused : Call → Reply → Type 0
+  AsRefused c r = refusalOf r ≡ some n → r ≡ refusal n c
+
+  as-malformed : (c : Call) → AsRefused c (refusal 22 c)
+  as-malformed c e = refused-as c (same-number (sym (refusal-number c 22) ∙ e))
+
+  as-rule : (ls : List Literal) (o : Option ℕ) → AsRefused (rule ls) (ruleReply o)
+  as-rule ls none e = absurd (some-none (sym e))
+  as-rule ls (some k) e = refused-as (rule ls) (same-number e)
+
+  module _ (y : Read) where
+    abbrev b : Formula
+    b = y .formula
+
+    as-query : (ls : List Literal) (o : Option ℕ) → AsRefused (query ls) (learningQuery o b (y .store) ls .out .reply)
+    as-query ls none e =
+        verdict (outline (learningSearch (b .limits) (b .prefix) (b .clauses) (bound (quantifiers (b .prefix))) (startNode ls (b .prefix)) (y .store) .outcome)) e
+      where
+        verdict : (o : Outcome (Unit {0})) → AsRefused (query ls) (queryReply o)
+        verdict (decided true u) q = absurd (some-none (sym q))
+        verdict (decided false u) q = absurd (some-none (sym q))
+        verdict (mixed ds) q = absurd (some-none (sym q))
+    as-query ls (some k) e = refused-as (query ls) (same-number e)
+
+    as-card : (size : ℕ) → AsRefused (card size) (guarded true y (card size) .out .reply)
+    as-card size e = by (leb (length them * freeVariables (b .prefix)) size) e
+      where
+        them : List Node
+        them = select true (decidedNodes [] (outline (learningSearch (b .limits) (b .prefix) (b .clauses) (quantifiers (b .prefix)) [] (y .store) .outcome)))
+
+        by : (t : Bool) → AsRefused (card size) (cond t (lines them (tableOf (freeVariables (b .prefix)) size them)) (cardRefused 21 (zeroTable size)))
+        by true q = absurd (some-none (sym q))
+        by false q = refused-as (card size) (same-number q)
+
+    as-guarded : (g : Bool) (c : Call) → AsRefused c (guarded g y c .out .reply)
+    as-guarded false c e = as-malformed c e
+    as-guarded true (rule ls) e = as-rule ls (ruleFault b ls) e
+    as-guarded true (query ls) e = as-query ls (queryFault b [] ls) e
+    as-guarded true (card size) e = as-card size e
+    as-guarded true forget e = absurd (some-none (sym e))
+
+  as-refused : (o : Option Read) (c : Call) → AsRefused c (outOf o c .reply)
+  as-refused none c e = as-malformed c e
+  as-refused (some y) c e = as-guarded y (wellFormed y) c e
+
+-- ---- what it says, and what it leaves
+refusal-said : (c : Call) (n k : ℕ) → saidReply (refusal n c) k ≡ said (some n) 0 0 k (zeroed c)
+refusal-said (rule ls) n k = refl
+refusal-said (query ls) n k = refl
+refusal-said (card size) n k = refl
+refusal-said forget n k = refl
+
+known : (n : ℕ) (o : Option Read) (c : Call) → refusalOf (outOf o c .reply) ≡ some n → Mem n (refusals c)
+known n none c e = subst (λ (k : ℕ). Mem k (refusals c)) (same-number (sym (refusal-number c 22) ∙ e)) (first c)
+  where
+    first : (c : Call) → Mem 22 (refusals c)
+    first (rule ls) = inl refl
+    first (query ls) = inl refl
+    first (card size) = inl refl
+    first forget = inl refl
+known n (some y) c e = refusal-known y c n e
+
+no-visits : (n : ℕ) (o : Option Read) (c : Call) → refusalOf (outOf o c .reply) ≡ some n → (n ≡ 21 → ⊥) → outOf o c .visits ≡ 0
+no-visits n none c e h = refl
+no-visits n (some y) c e h = demand-1 y c n e .visits h
+
+same-formula : (n : ℕ) (o : Option Read) (c : Call) → refusalOf (outOf o c .reply) ≡ some n → formulaOf (nextOf o c) ≡ formulaOf o
+same-formula n none c e = refl
+same-formula n (some y) c e = ap some (demand-1 y c n e .formula)
+
+pub refused-leaves : (x : State) (c : Call) (a : Said) (x′ : State) → Serves x c a x′ → LeavesIfRefused x c a x′
+refused-leaves x c a x′ s n e =
+    record {
+      known = known n o c r;
+      answer = says ∙ ap (λ (k : ℕ). said (some n) 0 0 k (zeroed c)) (sym (ap (λ (q : Said). q .visits) says));
+      visits = λ h. ap (λ (q : Said). q .visits) says ∙ no-visits n o c r h;
+      state = s .kept n r;
+      formula = ap formulaOf (s .next) ∙ same-formula n o c r;
+    }
+  where
+    o : Option Read
+    o = readState x
+
+    out : Answer
+    out = outOf o c
+
+    r : refusalOf (out .reply) ≡ some n
+    r = sym (said-refusal (out .reply) (out .visits)) ∙ sym (ap (λ (q : Said). q .refusal) (s .answered)) ∙ e
+
+    says : a ≡ said (some n) 0 0 (out .visits) (zeroed c)
+    says = s .answered ∙ ap (λ (q : Reply). saidReply q (out .visits)) (as-refused n o c r) ∙ refusal-said c n (out .visits)
