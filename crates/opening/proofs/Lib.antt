@@ -4,3 +4,4 @@ pub mod Growing
 pub mod Taking
 pub mod Lines
 pub mod Turns
+pub mod Closed
