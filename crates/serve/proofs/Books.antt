@@ -1,6 +1,5 @@
--- A book opened and its card printed, from the contracts of the calls: a refusal of a text has a number, and the text of a card on an
--- empty store.
-use Prim.Native.Nat.{ℕ, zero, suc, _≤_, _<_}
+-- What is printed for a text, from the contracts of the calls: a refusal of a text has a number, and the text of a card on an empty store.
+use Prim.Native.Nat.{ℕ, zero, suc}
 use native.Mathlib.Omega.{arith}
 use mathlib.Core.Path.{_≡_, refl, sym, ap, _∙_}
 use mathlib.Core.Logic.{_⊎_, inl, inr}
@@ -24,19 +23,18 @@ use Rattle.layout.specs.Session.{answerText}
 use Rattle.layout.specs.Opening.{rank, allowed, stageAfter, variable, declareFault, formFault, lineFault, withForm, Opened, refused, opened, refusedOr, readLine, atEnd, isEnd, readLines, emptyFormula, openText, textBytes}
 use Rattle.layout_laws.proofs.Opened.{opened-formula, fresh-formed}
 use Rattle.state.specs.declared.State.{State}
-use Rattle.state.specs.Reading.{readState, emptyState}
+use Rattle.state.specs.Reading.{readState}
 use Rattle.serving.specs.Serves.{Said, saidOf, number, outOf, Serves}
 use Rattle.answers.specs.Answers.{cardSaid}
 use Rattle.answers.specs.declared.Printed.{Printed}
 use Rattle.opening.specs.Opened.{OpenedAs}
 use Rattle.opening.specs.declared.Opened.{Opened as Answered}
 use Rattle.writer.specs.Wrote.{Wrote}
-use Rattle.serve.specs.Line.{prefixRead, lineAnswer, answerBytes}
-use Rattle.serve.specs.Books.{BookOpened, OpensBook, PrintsCard}
+use Rattle.serve.specs.Line.{prefixRead, lineAnswer}
 use Rattle.answers.proofs.Told.{card-said}
 use Rattle.serving.proofs.Numbered.{Numbered}
 use Rattle.opening.proofs.Numbered.{numbered-given, rule-numbered}
-use Rattle.serve.proofs.Room.{within}
+use Rattle.serve.proofs.Room.{wrote-as}
 use Rattle.serve.proofs.FreeLines.{cardLines}
 use Rattle.serve.proofs.CardTexts.{Listed, Refused, formed-cases, said-by, text-by}
 
@@ -101,49 +99,27 @@ text-numbered L s = by (ltb textBytes (length s))
     by true = tt
     by false = lines-numbered 1 0 (emptyFormula L) (split newline s)
 
--- ---- a book
-pub book-short : (s d : Bytes) (x : State) → length d < answerBytes → readState x ≡ some emptyState → OpensBook s d (record { state = x; length = 0 }) d
-book-short s d x h e = record { short = λ q. (refl, e, refl); opened = λ q. absurd (omega (arith, h, q)) }
-
-pub card-short : (s d : Bytes) → length d < answerBytes → PrintsCard s d 0 d
-card-short s d h = record { short = λ q. (refl, refl); printed = λ q. absurd (omega (arith, h, q)) }
-
-module _ (s d₀ d : Bytes) (room : answerBytes ≤ length d₀) (q : Answered) (told : OpenedAs (openText paper s) q) where
+-- ---- what is printed for a text
+module _ (s : Bytes) (q : Answered) (told : OpenedAs (openText paper s) q) {d₀ d : Bytes} {r : ℕ} where
   -- a refused text
-  module _ (r : ℕ) (h : q .refusal ≡ 0 → ⊥) (w : Wrote d₀ 0 (refusalText (q .refusal) (q .line)) d r) where
-    pub book-refused : OpensBook s d₀ (record { state = q .state; length = r }) d
-    book-refused = record { short = λ z. absurd (omega (arith, room, z)); opened = λ z. by (openText paper s) told }
-      where
-        by : (o : Opened) → OpenedAs o q → BookOpened o (record { state = q .state; length = r }) d
-        by (refused n k) (e, l, x) = (within w, w .is ∙ (λ i. refusalText (e i) (l i)), x)
-        by (opened b) (e, x) = absurd (h e)
-
-    pub text-refused : PrintsCard s d₀ r d
-    unfolding cardProgram
-    text-refused = record { short = λ z. absurd (omega (arith, room, z)); printed = λ z. (within w, w .is ∙ by (openText paper s) told) }
-      where
-        by : (o : Opened) → OpenedAs o q → refusalText (q .refusal) (q .line) ≡ openedPrinted tableBytes o
-        by (refused n k) (e, l, x) = λ i. refusalText (e i) (l i)
-        by (opened b) (e, x) = absurd (h e)
+  pub text-refused : (q .refusal ≡ 0 → ⊥) → Wrote d₀ 0 (refusalText (q .refusal) (q .line)) d r → Wrote d₀ 0 (cardProgram paper tableBytes s) d r
+  unfolding cardProgram
+  text-refused h w = wrote-as (by (openText paper s) told) w
+    where
+      by : (o : Opened) → OpenedAs o q → refusalText (q .refusal) (q .line) ≡ openedPrinted tableBytes o
+      by (refused n k) (e, l, x) = λ i. refusalText (e i) (l i)
+      by (opened b) (e, l, x) = absurd (h e)
 
   -- a text that opens
-  module _ (h : q .refusal ≡ 0) where
-    pub book-opened : OpensBook s d₀ (record { state = q .state; length = 0 }) d
-    book-opened = record { short = λ z. absurd (omega (arith, room, z)); opened = λ z. by (openText paper s) told (text-numbered paper s) }
-      where
-        by : (o : Opened) → OpenedAs o q → NumberedText o → BookOpened o (record { state = q .state; length = 0 }) d
-        by (refused zero k) t n = absurd n
-        by (refused (suc m) k) (e, l, x) n = absurd (omega (arith, e, h))
-        by (opened b) (e, x) n = (refl, x)
-
-    pub text-printed : (r : ℕ) → ((b : Formula) → readState (q .state) ≡ some (fresh b) → formulaOk b ≡ true → Wrote d₀ 0 (answerPrinted (b .prefix) (learningCard true b emptyStore tableBytes .out)) d r) → PrintsCard s d₀ r d
-    unfolding cardProgram
-    text-printed r w = record { short = λ z. absurd (omega (arith, room, z)); printed = λ z. let v = by (openText paper s) refl told (text-numbered paper s) in (within v, v .is) }
-      where
-        by : (o : Opened) → openText paper s ≡ o → OpenedAs o q → NumberedText o → Wrote d₀ 0 (openedPrinted tableBytes o) d r
-        by (refused zero k) i t n = absurd n
-        by (refused (suc m) k) i (e, l, x) n = absurd (omega (arith, e, h))
-        by (opened b) i (e, x) n = w b x (opened-formula paper refl s b i)
+  pub text-printed : q .refusal ≡ 0 → ((b : Formula) → readState (q .state) ≡ some (fresh b) → formulaOk b ≡ true → Wrote d₀ 0 (answerPrinted (b .prefix) (learningCard true b emptyStore tableBytes .out)) d r)
+      → Wrote d₀ 0 (cardProgram paper tableBytes s) d r
+  unfolding cardProgram
+  text-printed h w = by (openText paper s) refl told (text-numbered paper s)
+    where
+      by : (o : Opened) → openText paper s ≡ o → OpenedAs o q → NumberedText o → Wrote d₀ 0 (openedPrinted tableBytes o) d r
+      by (refused zero k) i t n = absurd n
+      by (refused (suc m) k) i (e, l, x) n = absurd (omega (arith, e, h))
+      by (opened b) i (e, l, x) n = w b x (opened-formula paper refl s b i)
 
 -- ---- the card of a state with an empty store
 module _ (x : State) (size : ℕ) (p : Printed) (k : ℕ) (tb : List ℕ) (x′ : State) (s : Serves x (card size) (cardSaid p k tb) x′) (r : ℕ) (q : r ≡ number (cardSaid p 0 [] .refusal)) (b : Formula) (e : readState x ≡ some (fresh b)) (ok : formulaOk b ≡ true) where
