@@ -9,10 +9,10 @@ mod cells;
 pub mod declare;
 pub mod kinds;
 mod lengths;
-pub mod levels;
-pub mod numbers;
+mod levels;
+mod numbers;
 pub mod prefix;
-pub mod rows;
+mod rows;
 
 #[repr(C)]
 pub struct State {
