@@ -5,3 +5,4 @@ pub mod Taking
 pub mod Lines
 pub mod Turns
 pub mod Closed
+pub mod Apart
