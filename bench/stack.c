@@ -17,6 +17,8 @@ static struct bullacetop_state book;
 static struct bullacetop_state lent;
 static struct bullacetop_answer answer;
 static struct bullacetop_reply reply;
+static struct bullacetop_opened opened;
+static struct bullacetop_written printed;
 static struct bullacetop_turn turn;
 static uint8_t table[65536], page[1 << 20];
 /* The same book, as text. */
@@ -67,12 +69,12 @@ static void card_in_place(void)
 
 static void print(void)
 {
-    turn.length = bullacetop_print((const uint8_t *)text, strlen(text), page, sizeof page);
+    printed = bullacetop_print((const uint8_t *)text, strlen(text), page, sizeof page);
 }
 
 static void open(void)
 {
-    turn = bullacetop_open((const uint8_t *)text, strlen(text), page, sizeof page);
+    opened = bullacetop_open((const uint8_t *)text, strlen(text));
 }
 
 static void line(void)
@@ -131,6 +133,7 @@ int main(void)
     book.rules[BULLACETOP_LITERALS] = -39;
     for (size_t i = 0; i < sizeof calls / sizeof *calls; i++) {
         lent = book;
+        printed.length = turn.length = 0;
         memset(stack, FILL, SIZE);
         getcontext(&there);
         there.uc_stack.ss_sp = stack;
@@ -138,7 +141,8 @@ int main(void)
         there.uc_link = &here;
         makecontext(&there, calls[i].make, 0);
         swapcontext(&here, &there);
-        printf("%s: %zu bytes, refusal %u, text %zu\n", calls[i].name, written(stack), (unsigned)(answer.refusal + reply.refusal), turn.length);
+        printf("%s: %zu bytes, refusals %u, text %zu\n", calls[i].name, written(stack),
+               (unsigned)(answer.refusal + reply.refusal + printed.refusal + opened.refusal + turn.refusal), printed.length + turn.length);
     }
     free(stack);
     return 0;

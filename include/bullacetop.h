@@ -60,6 +60,7 @@ extern "C" {
 #define BULLACETOP_RULES_FULL 20
 #define BULLACETOP_TABLE_TOO_SMALL 21
 #define BULLACETOP_MALFORMED 22
+#define BULLACETOP_TEXT_TABLE_TOO_SHORT 31
 
 /*
  * A book and what was learned on it. All zero bytes are the empty book: no variable, no rule, nothing learned.
@@ -220,29 +221,46 @@ static inline struct bullacetop_reply bullacetop_card_at(struct bullacetop_state
 }
 
 /*
- * Books and call lines as text. An answer's text is written to the first bytes of `out`, for which the caller has m bytes, at least
- * bullacetop_room(); what stands there after the told length means nothing. Where m is less nothing is done: the length is 0, `out` is as
- * it was, and the state is empty (open) or the one that was given (line).
+ * Books and call lines as text. A text is written to the first bytes of `out`, for which the caller has m bytes, at least bullacetop_room();
+ * what stands there after the told length means nothing, and the refusal is 0, whatever the text says. Where m is less nothing is done: the
+ * refusal is BULLACETOP_TEXT_TABLE_TOO_SHORT, the length is 0, all m bytes are zero, and the state is the one that was given.
  */
-struct bullacetop_turn {
-    struct bullacetop_state state;
+struct bullacetop_written {
+    uint16_t refusal;
     size_t length;
+};
+
+struct bullacetop_turn {
+    /* As in struct bullacetop_written. */
+    uint16_t refusal;
+    size_t length;
+    struct bullacetop_state state;
 };
 
 /* The bytes that an answer's text may need. */
 size_t bullacetop_room(void);
 
-/* What the program `card` prints for a text of n bytes; returns its length. */
-size_t bullacetop_print(const uint8_t *text, size_t n, uint8_t *out, size_t m);
-
-/* Opens a text of n bytes: length 0 and the book's state, nothing learned. Refused: the text `(refused N L)` and an empty state. */
-struct bullacetop_turn bullacetop_open(const uint8_t *text, size_t n, uint8_t *out, size_t m);
+/* What the program `card` prints for a text of n bytes. */
+struct bullacetop_written bullacetop_print(const uint8_t *text, size_t n, uint8_t *out, size_t m);
 
 /*
  * One call, as a line of n bytes without its newline: `(rule 1 (no 2))`, `(query 1)`, `(card)`, `(card 64)` for a table of 64 bytes,
  * `(forget)`. The number is the line's, for the text of a refusal. A line that is no call is refused with 1.
  */
 struct bullacetop_turn bullacetop_line(struct bullacetop_state x, const uint8_t *line, size_t n, uint64_t number, uint8_t *out, size_t m);
+
+/*
+ * What a text opens. Opened: refusal and line are 0, and the state has the book, with nothing learned. Refused: the number, the line from 1 (0
+ * for 9), and a state that is no book: every call refuses it with 22.
+ */
+struct bullacetop_opened {
+    uint16_t refusal;
+    size_t line;
+    struct bullacetop_state state;
+};
+
+/* Opens a text of n bytes. Refusals 9, then line by line 1, 2, and as the calls. */
+struct bullacetop_opened bullacetop_open(const uint8_t *text, size_t n);
 
 /* The arrays follow one another without a gap. */
 typedef char bullacetop_state_has_no_gap[sizeof(struct bullacetop_state) == 19418 ? 1 : -1];

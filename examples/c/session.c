@@ -1,5 +1,5 @@
 /*
- * A book as text, then calls as lines, each answered in text.
+ * A book as text, then calls as lines, each answered in text; a refused text, and a table that is too short.
  *
  * From the repository's root:
  *   rt staticlib bullacetop
@@ -24,27 +24,56 @@ static const char book[] =
 
 static const char *const calls[] = {"(card)", "(query 1)", "(query 2)", "(rule 3)", "(card)", "(card 3)", "(query 3)", "(query)x"};
 
+/* Variable 3 is not declared. */
+static const char faulty[] =
+    "(book 1)\n"
+    "(flags 1 2)\n"
+    "(rule 1 3)\n"
+    "(end)\n";
+
 static const uint8_t *bytes(const char *text)
 {
     return (const uint8_t *)text;
+}
+
+/* The lines of a session on an opened book, which has so many lines. */
+static void serve(struct bullacetop_state x, uint64_t lines, uint8_t *out, size_t room)
+{
+    struct bullacetop_turn turn;
+
+    turn.state = x;
+    for (size_t i = 0; i < sizeof calls / sizeof *calls; i++) {
+        printf("%s\n", calls[i]);
+        turn = bullacetop_line(turn.state, bytes(calls[i]), strlen(calls[i]), lines + 1 + i, out, room);
+        fwrite(out, 1, turn.length, stdout);
+    }
 }
 
 int main(void)
 {
     size_t room = bullacetop_room();
     uint8_t *out = malloc(room);
+    struct bullacetop_opened opened;
     struct bullacetop_turn turn;
+    struct bullacetop_written card;
 
     if (!out)
         return 1;
-    turn = bullacetop_open(bytes(book), strlen(book), out, room);
+    opened = bullacetop_open(bytes(book), strlen(book));
+    if (!opened.refusal)
+        serve(opened.state, 8, out, room);
+
+    /* A refused text leaves a state that is no book: every call refuses it. */
+    opened = bullacetop_open(bytes(faulty), strlen(faulty));
+    printf("refused with %u at line %zu\n", (unsigned)opened.refusal, opened.line);
+    turn = bullacetop_line(opened.state, bytes(calls[0]), strlen(calls[0]), 5, out, room);
     fwrite(out, 1, turn.length, stdout);
-    for (size_t i = 0; turn.length == 0 && i < sizeof calls / sizeof *calls; i++) {
-        printf("%s\n", calls[i]);
-        turn = bullacetop_line(turn.state, bytes(calls[i]), strlen(calls[i]), 9 + i, out, room);
-        fwrite(out, 1, turn.length, stdout);
-        turn.length = 0;
-    }
+
+    /* What the program `card` prints, and a table that is one byte too short. */
+    card = bullacetop_print(bytes(book), strlen(book), out, room);
+    fwrite(out, 1, card.length, stdout);
+    card = bullacetop_print(bytes(book), strlen(book), out, room - 1);
+    printf("refused with %u, length %zu, first byte %u\n", (unsigned)card.refusal, card.length, (unsigned)out[0]);
     free(out);
     return 0;
 }

@@ -72,7 +72,7 @@ pub extern "C" fn bullacetop_rule_in_place<'a>(
         (now («learned_cube_sizes» .exit)))
         ⌝ }
 {
-    changed(rules::in_place::rule(
+    let added = rules::in_place::rule(
         numbers,
         levels,
         kinds,
@@ -83,7 +83,8 @@ pub extern "C" fn bullacetop_rule_in_place<'a>(
         learned_cubes,
         learned_cube_sizes,
         lits,
-    ))
+    );
+    changed(added)
 }
 
 #[no_mangle]
@@ -124,7 +125,7 @@ pub extern "C" fn bullacetop_forget_in_place<'a>(
         (now («learned_cube_sizes» .exit)))
         ⌝ }
 {
-    changed(rules::in_place::forget(
+    let emptied = rules::in_place::forget(
         numbers,
         levels,
         kinds,
@@ -134,7 +135,8 @@ pub extern "C" fn bullacetop_forget_in_place<'a>(
         learned_clause_sizes,
         learned_cubes,
         learned_cube_sizes,
-    ))
+    );
+    changed(emptied)
 }
 
 #[no_mangle]

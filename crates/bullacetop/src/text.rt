@@ -1,27 +1,15 @@
-// Books and call lines as text. Answers are written into a lent table of at least as many bytes as `bullacetop_room` says; in a shorter one
-// nothing is done.
+// Books and call lines as text. A text is written into a lent table of at least as many bytes as `bullacetop_room` says; a shorter one is zeroed
+// and refused with 31.
+use opening::Opened;
+use serve::Spoken;
+use serve::Written;
 use state::State;
 ghost use mathlib.Core.Path.{_≡_};
+ghost use Rattle.qbf.specs.Formula.{paper};
+ghost use Rattle.layout.specs.Opening.{openText};
+ghost use Rattle.opening.specs.Opened.{OpenedAs};
 ghost use Rattle.serve.specs.Line.{answerBytes, ServesLine};
-ghost use Rattle.serve.specs.Books.{OpensBook, PrintsCard};
-ghost use Rattle.bullacetop.specs.Answers.{spokenTurn};
-
-// The answer's text stands in the first bytes of the lent table.
-#[repr(C)]
-pub struct Spoken {
-    pub state: State,
-    pub length: usize,
-}
-
-fn told(t: serve::Turn) -> Spoken
-    ensures { λ r. ⌜ spokenTurn r ≡ t ⌝ }
-{
-    let next = t.state;
-    Spoken {
-        state: next,
-        length: t.length,
-    }
-}
+ghost use Rattle.serve.specs.Books.{PrintsCard};
 
 #[no_mangle]
 pub extern "C" fn bullacetop_room() -> usize
@@ -32,24 +20,24 @@ pub extern "C" fn bullacetop_room() -> usize
 
 // What the program `card` prints for a text.
 #[no_mangle]
-pub extern "C" fn bullacetop_print(text: &[u8], out: &mut [u8]) -> usize
+pub extern "C" fn bullacetop_print(text: &[u8], out: &mut [u8]) -> Written
     ensures { λ r. ⌜ PrintsCard (now (text .entry)) (now (out .entry)) r (now (out .exit)) ⌝ }
 {
     serve::book::print_card(text, out)
 }
 
-// A text opened: no answer and its state, or the refusal and an empty state.
+// A text opened: its state; or the refusal, its line, and a state on which every call is refused with 22.
 #[no_mangle]
-pub extern "C" fn bullacetop_open(text: &[u8], out: &mut [u8]) -> Spoken
-    ensures { λ r. ⌜ OpensBook (now (text .entry)) (now (out .entry)) (spokenTurn r) (now (out .exit)) ⌝ }
+pub extern "C" fn bullacetop_open(text: &[u8]) -> Opened
+    ensures { λ r. ⌜ OpenedAs (openText paper (now (text .entry))) r ⌝ }
 {
-    told(serve::book::open_book(text, out))
+    opening::open_text(text)
 }
 
 // One call line, without its byte 10, and its number in the input.
 #[no_mangle]
 pub extern "C" fn bullacetop_line(x: State, line: &[u8], number: u64, out: &mut [u8]) -> Spoken
-    ensures { λ r. ⌜ ServesLine x (now (line .entry)) number (now (out .entry)) (spokenTurn r) (now (out .exit)) ⌝ }
+    ensures { λ r. ⌜ ServesLine x (now (line .entry)) number (now (out .entry)) r (now (out .exit)) ⌝ }
 {
-    told(serve::serve_line(x, line, number, out))
+    serve::serve_line(x, line, number, out)
 }

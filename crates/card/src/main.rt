@@ -5,8 +5,8 @@ use libc::STDIN_FILENO;
 const ROOM: usize = reader::text::TEXT + 1;
 
 fn print_card(text: &[u8], answer: &mut [u8; serve::ANSWER]) {
-    let length = serve::book::print_card(text, answer);
-    output::print(answer, length);
+    let written = serve::book::print_card(text, answer);
+    output::print(answer, written.length);
 }
 
 fn main() {

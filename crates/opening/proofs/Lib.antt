@@ -4,3 +4,5 @@ pub mod Growing
 pub mod Taking
 pub mod Lines
 pub mod Turns
+pub mod Closed
+pub mod Apart

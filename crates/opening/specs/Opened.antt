@@ -1,6 +1,7 @@
 -- What stands while the lines of a text are read, and what the answers say.
 use Prim.Native.Nat.{ℕ}
 use mathlib.Core.Path.{_≡_}
+use mathlib.Core.Bool.{false}
 use mathlib.Core.List.{List, map}
 use mathlib.Core.Option.{Option, none, some}
 use lib.IntN.{ℤ}
@@ -8,7 +9,7 @@ use Rattle.qbf.specs.Formula.{Formula, paper, Literal, numberOf}
 use Rattle.qbf.specs.Calls.{ruleFault}
 use Rattle.qbf.specs.Runs.{fresh}
 use Rattle.state.specs.declared.State.{State}
-use Rattle.state.specs.Reading.{quantifierOf, readState, prefixIn, formulaIn, emptyState}
+use Rattle.state.specs.Reading.{quantifierOf, readState, prefixIn, formulaIn, valid}
 use Rattle.serving.specs.Serves.{faultOf}
 use Rattle.layout.specs.Forms.{Form, block, clause}
 use Rattle.layout.specs.Opening.{rank, stageAfter, declareFault, lineFault, withForm, refused, opened}
@@ -47,7 +48,8 @@ abbrev pub Took : ℕ → Formula → Option Form → Taken → Type 0
 Took stage b none r = r .refusal ≡ 1
 Took stage b (some f) r = TookForm stage b f r
 
--- the answer is what the text opens: the number and the line of its refusal, or a state with its formula and an empty store
+-- the answer is what the text opens: the number and the line of its refusal, and no state that a call accepts; or no number, no line, and a state
+-- with its formula and an empty store
 abbrev pub OpenedAs : text.Opened → Opened → Type 0
-OpenedAs (refused n k) r = (r .refusal ≡ n) × (r .line ≡ k) × (readState (r .state) ≡ some emptyState)
-OpenedAs (opened b) r = (r .refusal ≡ 0) × (readState (r .state) ≡ some (fresh b))
+OpenedAs (refused n k) r = (r .refusal ≡ n) × (r .line ≡ k) × (valid (r .state) ≡ false)
+OpenedAs (opened b) r = (r .refusal ≡ 0) × (r .line ≡ 0) × (readState (r .state) ≡ some (fresh b))

@@ -21,7 +21,11 @@ const NO_LINE: usize = 0;
 
 const MISSING: u16 = 1;
 
-// What a text opens: where the refusal is 0 its state, else the refusal with its line, and an empty state: "opens no book".
+// Nothing is refused.
+pub const NONE: u16 = 0;
+
+// What a text opens: its state, with no refusal and no line; or the refusal with its line, and a state on which every call is refused with 22.
+#[repr(C)]
 pub struct Opened {
     pub refusal: u16,
     pub line: usize,
@@ -31,7 +35,7 @@ pub struct Opened {
 fn refuse(number: u16, line: usize) -> Opened
     ensures { λ r. ⌜ OpenedAs (refused number line) r ⌝ }
 {
-    let none = state::empty();
+    let none = state::closed();
     Opened {
         refusal: number,
         line: line,
@@ -49,7 +53,7 @@ fn ended(x: State, left: usize, number: usize) -> Opened
         return refuse(MISSING, number);
     }
     Opened {
-        refusal: line::NONE,
+        refusal: NONE,
         line: NO_LINE,
         state: x,
     }
@@ -71,7 +75,7 @@ pub fn open_text(text: &[u8]) -> Opened
             return refuse(MISSING, number);
         }
         let taken = line::take_line(x, stage, &text[at..end]);
-        if taken.refusal != line::NONE {
+        if taken.refusal != NONE {
             return refuse(taken.refusal, number);
         }
         at = end + 1;

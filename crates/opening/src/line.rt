@@ -7,6 +7,7 @@ ghost use Rattle.state.specs.Reading.{formulaIn};
 ghost use Rattle.layout.specs.Forms.{book, end, formOf};
 ghost use Rattle.reader.specs.Items.{narrow};
 ghost use Rattle.opening.specs.Opened.{Standing, TookForm, BlockTook, RuleTook, Took};
+use crate::NONE;
 use crate::block::declare_all;
 use crate::stage;
 use literal::Number;
@@ -17,9 +18,7 @@ use reader::line::read_line;
 use rules::refusal_of;
 use state::State;
 
-// Nothing is refused; "1 not in the layout"; "2 edition not 1"
-pub const NONE: u16 = 0;
-
+// "1 not in the layout"; "2 edition not 1"
 const NOT_IN_LAYOUT: u16 = 1;
 
 const NOT_EDITION: u16 = 2;

@@ -23,7 +23,8 @@ use Rattle.reader.specs.Calls.{CallRead}
 use Rattle.reader.specs.declared.call.CallLine.{CallLine}
 use Rattle.reader.specs.declared.call.CallLine.the-variants as line
 use Rattle.serve.specs.declared.Turn.{Turn}
-use Rattle.serve.specs.Line.{CallServed, Turned, ServesLine, answerBytes}
+use Rattle.serve.specs.declared.Spoken.{Spoken}
+use Rattle.serve.specs.Line.{CallServed, Turned, TooShort, spokenTurn, ServesLine, answerBytes}
 use Rattle.serve.specs.Calls.{Small}
 use Rattle.serve.proofs.Cut.{rule-served, query-served}
 
@@ -119,11 +120,11 @@ module _ {x : State} {number : ℕ} {r : Turn} {d : Bytes} (lits : List ℤ) (q 
   called-none e t = meant c none (subst (λ (z : CallLine). CallRead c z lits) e h) t
 
 -- ---- the whole line
-pub not-served : (x : State) (l : Bytes) (n : ℕ) (d : Bytes) → length d < answerBytes → ServesLine x l n d (record { state = x; length = 0 }) d
-not-served x l n d h = record { short = λ q. (refl, refl, refl); served = λ q. absurd (omega (arith, h, q)) }
+pub not-served : {x : State} {l : Bytes} {n : ℕ} {r : Spoken} (d₀ d : Bytes) → length d₀ < answerBytes → TooShort (r .refusal) (r .length) d₀ d → r .state ≡ x → ServesLine x l n d₀ r d
+not-served d₀ d h t e = record { short = λ q. (t, e); served = λ q. absurd (omega (arith, h, q)) }
 
-pub line-served : {x : State} {l : Bytes} {n : ℕ} {r : Turn} {d : Bytes} (d₀ : Bytes) → answerBytes ≤ length d₀ → Turned x (callOf l) n r d → ServesLine x l n d₀ r d
-line-served d₀ h t = record { short = λ q. absurd (omega (arith, h, q)); served = λ q. t }
+pub line-served : {x : State} {l : Bytes} {n : ℕ} {r : Spoken} {d : Bytes} (d₀ : Bytes) → answerBytes ≤ length d₀ → r .refusal ≡ 0 → Turned x (callOf l) n (spokenTurn r) d → ServesLine x l n d₀ r d
+line-served d₀ h e t = record { short = λ q. absurd (omega (arith, h, q)); served = λ q. (e, t) }
 
 -- a line that is no call
 pub none-served : (x : State) (n : ℕ) (t : Bytes) → t ≡ refusalText 1 n → CallServed x none n t x

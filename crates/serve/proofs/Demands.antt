@@ -16,7 +16,7 @@ use Rattle.opening.specs.Opened.{OpenedAs}
 use Rattle.opening.specs.declared.Opened.{Opened as Answered}
 
 opened-reads : (b : Formula) (r : Answered) → OpenedAs (opened b) r → readState (r .state) ≡ some (fresh b)
-opened-reads b r told = told .1
+opened-reads b r told = told .2
 
 -- The text opens as b, and r is what `open_text` answers for it (its `ensures`). Then for every list of calls, whatever functions serve
 -- them, each on the state that the last one returned: each refusal leaves what the paper says, each card is right, and every answer is

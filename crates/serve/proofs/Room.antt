@@ -1,7 +1,7 @@
 -- Every answer that is no card is short, whatever numbers of 64 bits stand in it; and what stands at the start of the lent table.
 use Prim.Native.Nat.{ℕ, zero, suc, _≤_, _<_, _^_}
 use native.Mathlib.Omega.{arith}
-use mathlib.Core.Path.{_≡_, refl, ap, subst}
+use mathlib.Core.Path.{_≡_, refl, ap, subst, _∙_}
 use mathlib.Core.Bool.{Bool}
 use mathlib.Core.Option.{Option, some}
 use lib.ListN.{length, take, length-take}
@@ -13,7 +13,9 @@ use Rattle.state.specs.declared.State.{State}
 use Rattle.writer.specs.Wrote.{Wrote}
 use Rattle.writer.proofs.Lengths.{refusal-length, overflow-length, query-length}
 use Rattle.serve.specs.declared.Turn.{Turn}
-use Rattle.serve.specs.Line.{CallServed, Turned}
+use Rattle.serve.specs.declared.Written.{Written}
+use Rattle.serve.specs.Line.{CallServed, answerBytes, Turned, TooShort}
+use Rattle.serve.specs.Books.{Prints}
 use Rattle.serve.specs.Texts.{changeText}
 
 -- a number of 64 bits has at most 20 digits
@@ -49,6 +51,14 @@ within {d₀} {d} {t} {r} w = omega (arith, w .next, ap length (w .is), length-t
 pub turned : {d₀ d t : Bytes} {r : ℕ} (x : State) (c : Option Call) (n : ℕ) (x′ : State) → Wrote d₀ 0 t d r → ((u : Bytes) → u ≡ t → CallServed x c n u x′)
     → Turned x c n (record { state = x′; length = r }) d
 turned {d₀} {d} {t} {r} x c n x′ w s = record { within = within w; served = s (take r d) (w .is) }
+
+pub prints : (t d₀ : Bytes) {d : Bytes} {n : ℕ} {r : Written} → answerBytes ≤ length d₀ → Wrote d₀ 0 t d n → (r .refusal ≡ 0) × (r .length ≡ n) → Prints t d₀ r d
+prints t d₀ {d} {n} {r} h w (z, e) =
+    record { short = λ q. absurd (omega (arith, h, q)); printed = λ q. (z, omega (arith, within w, e), ap (λ (k : ℕ). take k d) e ∙ w .is) }
+
+-- .. or a table that is too short
+pub prints-short : (t d₀ : Bytes) {d : Bytes} {r : Written} → length d₀ < answerBytes → TooShort (r .refusal) (r .length) d₀ d → Prints t d₀ r d
+prints-short t d₀ h s = record { short = λ q. s; printed = λ q. absurd (omega (arith, h, q)) }
 
 -- a card in a part of a table
 pub card-sized : {x : State} {line : ℕ} {r : Turn} {d : Bytes} (m size : ℕ) → m ≡ size → Turned x (some (card m)) line r d → Turned x (some (card size)) line r d

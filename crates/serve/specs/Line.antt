@@ -5,6 +5,7 @@ use mathlib.Core.List.{List, [], _∷_, _++_}
 use mathlib.Core.Option.{Option, none, some}
 use lib.ListN.{length, take}
 use Rattle.qbf.specs.Formula.{Prefix}
+use Rattle.qbf.specs.Card.{zeroTable}
 use Rattle.qbf.specs.Calls.{Call, State as Read}
 use Rattle.qbf.specs.Demands.{refusalOf}
 use Rattle.layout.specs.Words.{Bytes}
@@ -15,6 +16,7 @@ use Rattle.state.specs.declared.State.{State}
 use Rattle.state.specs.Reading.{readState}
 use Rattle.serving.specs.Serves.{outOf, nextOf}
 use Rattle.serve.specs.declared.Turn.{Turn}
+use Rattle.serve.specs.declared.Spoken.{Spoken}
 
 -- ---- a call, or none, on a state that reads or does not
 abbrev pub prefixRead : Option Read → Prefix
@@ -55,10 +57,17 @@ pub record Turned (x : State) (c : Option Call) (n : ℕ) (r : Turn) (d : Bytes)
   pub within : r .length ≤ length d
   pub served : CallServed x c n (take (r .length) d) (r .state)
 
--- In a table that is too short for some answers nothing is served.
-pub record ServesLine (x : State) (l : Bytes) (n : ℕ) (d₀ : Bytes) (r : Turn) (d : Bytes) : Type 0 where
-  pub short : length d₀ < answerBytes → (r .length ≡ 0) × (r .state ≡ x) × (d ≡ d₀)
-  pub served : answerBytes ≤ length d₀ → Turned x (callOf l) n r d
+-- "A table too short is 31 .. and zeroed" (paper 02): one that is too short for some answers. Nothing else is done, and nothing is written.
+abbrev pub TooShort : ℕ → ℕ → Bytes → Bytes → Type 0
+TooShort refusal written d₀ d = (refusal ≡ 31) × (written ≡ 0) × (d ≡ zeroTable (length d₀))
+
+abbrev pub spokenTurn : Spoken → Turn
+spokenTurn r = record { state = r .state; length = r .length }
+
+-- An answer that is written has no number, whatever its text says.
+pub record ServesLine (x : State) (l : Bytes) (n : ℕ) (d₀ : Bytes) (r : Spoken) (d : Bytes) : Type 0 where
+  pub short : length d₀ < answerBytes → TooShort (r .refusal) (r .length) d₀ d × (r .state ≡ x)
+  pub served : answerBytes ≤ length d₀ → (r .refusal ≡ 0) × Turned x (callOf l) n (spokenTurn r) d
 
 -- ---- lines one after another, numbered from n on, each on the state that the last one left
 abbrev pub ServedLines : State → ℕ → List Bytes → List Bytes → Type 0

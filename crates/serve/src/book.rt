@@ -1,5 +1,7 @@
-// A book opened from its text, and the card that the program `card` prints for one.
-use crate::Turn;
+// What the program `card` prints for a text, and what a session prints for one that is refused.
+use crate::NONE;
+use crate::TEXT_TABLE_TOO_SHORT;
+use crate::Written;
 use crate::card::put_shown;
 use crate::refusal::refuse;
 use answers::lines_of;
@@ -10,46 +12,36 @@ ghost use mathlib.Core.Bool.{true};
 ghost use mathlib.Core.Option.{some};
 ghost use Prim.Native.Nat.{_≤_};
 ghost use lib.ListN.{length};
-ghost use Rattle.qbf.specs.Formula.{Formula};
+ghost use Rattle.qbf.specs.Formula.{Formula, paper};
 ghost use Rattle.qbf.specs.Learning.{emptyStore};
 ghost use Rattle.qbf.specs.Calls.{formulaOk, learningCard};
 ghost use Rattle.qbf.specs.Runs.{fresh};
-ghost use Rattle.layout.specs.Program.{tableBytes, answerPrinted};
+ghost use Rattle.layout.specs.Program.{tableBytes, answerPrinted, cardProgram};
 ghost use Rattle.state.specs.Reading.{readState};
 ghost use Rattle.writer.specs.Wrote.{Wrote};
-ghost use Rattle.serve.specs.Line.{answerBytes};
-ghost use Rattle.serve.specs.Books.{OpensBook, PrintsCard};
-
-// no refusal
-const NONE: u16 = 0;
+ghost use Rattle.serve.specs.Line.{answerBytes, TooShort};
+ghost use Rattle.serve.specs.Books.{PrintsCard, PrintsRefusal};
 
 // "a card too large prints only `(refused 21 0)`"
 const NO_LINE: u64 = 0;
 
-// A text opened: its state; or the refusal in the first bytes of the lent table, and an empty state. In a table of fewer than ANSWER
-// bytes nothing is opened.
-pub fn open_book(text: &[u8], out: &mut [u8]) -> Turn
-    ensures { λ r. ⌜ OpensBook (now (text .entry)) (now (out .entry)) r (now (out .exit)) ⌝ }
+// In a table of fewer than ANSWER bytes nothing is written.
+fn short(out: &mut [u8]) -> Written
+    ensures { λ r. ⌜ TooShort (r .refusal) (r .length) (now (out .entry)) (now (out .exit)) ⌝ }
 {
-    if out.len() < crate::ANSWER {
-        let none = state::empty();
-        return Turn {
-            state: none,
-            length: 0,
-        };
-    }
-    let opened = opening::open_text(text);
-    let next = opened.state;
-    if opened.refusal != NONE {
-        let length = refuse(out, opened.refusal, opened.line as u64);
-        return Turn {
-            state: next,
-            length: length,
-        };
-    }
-    Turn {
-        state: next,
+    cover::clear(out);
+    Written {
+        refusal: TEXT_TABLE_TOO_SHORT,
         length: 0,
+    }
+}
+
+fn told(length: usize) -> Written
+    ensures { λ r. ⌜ (r .refusal ≡ 0) × (r .length ≡ length) ⌝ }
+{
+    Written {
+        refusal: NONE,
+        length: length,
     }
 }
 
@@ -85,17 +77,35 @@ fn print_opened(x: State, out: &mut [u8]) -> usize
     print_in(x, &mut table, out)
 }
 
-// What the program `card` prints for a text, in the first bytes of the lent table; in one of fewer than ANSWER bytes nothing.
-pub fn print_card(text: &[u8], out: &mut [u8]) -> usize
-    ensures { λ r. ⌜ PrintsCard (now (text .entry)) (now (out .entry)) r (now (out .exit)) ⌝ }
+// A text's card, or its refusal.
+fn print_text(text: &[u8], out: &mut [u8]) -> usize
+    requires { ⌜ answerBytes ≤ length (now out) ⌝ }
+    ensures { λ r. ⌜ Wrote (now (out .entry)) 0 (cardProgram paper tableBytes (now (text .entry))) (now (out .exit)) r ⌝ }
 {
-    if out.len() < crate::ANSWER {
-        return 0;
-    }
     let opened = opening::open_text(text);
-    if opened.refusal != NONE {
+    if opened.refusal != opening::NONE {
         return refuse(out, opened.refusal, opened.line as u64);
     }
     let next = opened.state;
     print_opened(next, out)
+}
+
+// What the program `card` prints for a text, in the first bytes of the lent table.
+pub fn print_card(text: &[u8], out: &mut [u8]) -> Written
+    ensures { λ r. ⌜ PrintsCard (now (text .entry)) (now (out .entry)) r (now (out .exit)) ⌝ }
+{
+    if out.len() < crate::ANSWER {
+        return short(out);
+    }
+    told(print_text(text, out))
+}
+
+// What a session prints for a text that is refused.
+pub fn print_refusal(refusal: u16, line: usize, out: &mut [u8]) -> Written
+    ensures { λ r. ⌜ PrintsRefusal refusal line (now (out .entry)) r (now (out .exit)) ⌝ }
+{
+    if out.len() < crate::ANSWER {
+        return short(out);
+    }
+    told(refuse(out, refusal, line as u64))
 }

@@ -3,12 +3,18 @@ mod book;
 mod input;
 mod lines;
 
+// A refused book.
+fn print_refusal(refusal: u16, line: usize, answer: &mut [u8; serve::ANSWER]) {
+    let written = serve::book::print_refusal(refusal, line, answer);
+    output::print(answer, written.length);
+}
+
 // The lines are counted from the book's first.
 fn serve_book(text: &mut [u8], answer: &mut [u8; serve::ANSWER]) {
     let read = book::read_book(text);
-    let opened = serve::book::open_book(&text[..read.end], answer);
-    if opened.length > 0 {
-        output::print(answer, opened.length);
+    let opened = opening::open_text(&text[..read.end]);
+    if opened.refusal != opening::NONE {
+        print_refusal(opened.refusal, opened.line, answer);
         return;
     }
     let before = reader::text::line_count(&text[..read.end]);

@@ -1,6 +1,6 @@
 // The state by value or in lent tables, as anyone may hand it in: its check (refusal 22), and the tables that are derived from it.
 ghost use mathlib.Core.Path.{_≡_};
-ghost use mathlib.Core.Bool.{true};
+ghost use mathlib.Core.Bool.{true, false};
 ghost use mathlib.Core.Option.{some};
 ghost use Rattle.state.specs.Reading.{stateOf, readState, emptyState, valid};
 ghost use Rattle.state.specs.Derived.{Checked};
@@ -9,10 +9,10 @@ mod cells;
 pub mod declare;
 pub mod kinds;
 mod lengths;
-pub mod levels;
-pub mod numbers;
+mod levels;
+mod numbers;
 pub mod prefix;
-pub mod rows;
+mod rows;
 
 #[repr(C)]
 pub struct State {
@@ -54,6 +54,20 @@ pub fn empty() -> State
         learned_cubes: learned_cubes,
         learned_cube_sizes: learned_cube_sizes,
     }
+}
+
+// One variable more than there may be.
+const TOO_MANY: u16 = tables::BY_NUMBER as u16;
+
+// "opens no book": a state that is malformed, so that every call on it is refused with 22.
+pub fn closed() -> State
+    ensures { λ r. ⌜ valid r ≡ false ⌝ }
+{
+    let mut numbers = [0u16; tables::BY_NUMBER];
+    numbers[0] = TOO_MANY;
+    let mut x = empty();
+    x.numbers = numbers;
+    x
 }
 
 // The check of a state whose tables are lent, with the prefix that it reads on the way.

@@ -19,6 +19,7 @@ pub mod plain;
 pub mod plain_run;
 pub mod random;
 pub mod refusal;
+pub mod rows;
 pub mod session;
 pub mod slip;
 pub mod solver;

@@ -5,15 +5,31 @@ use std::ptr;
 
 #[repr(C)]
 #[derive(Clone, Copy)]
-struct Turn {
-    state: Raw,
+struct Written {
+    refusal: u16,
     length: usize,
+}
+
+#[repr(C)]
+#[derive(Clone, Copy)]
+struct Turn {
+    refusal: u16,
+    length: usize,
+    state: Raw,
+}
+
+#[repr(C)]
+#[derive(Clone, Copy)]
+struct RawOpened {
+    refusal: u16,
+    line: usize,
+    state: Raw,
 }
 
 extern "C" {
     fn bullacetop_room() -> usize;
-    fn bullacetop_print(text: *const u8, count: usize, out: *mut u8, room: usize) -> usize;
-    fn bullacetop_open(text: *const u8, count: usize, out: *mut u8, room: usize) -> Turn;
+    fn bullacetop_print(text: *const u8, count: usize, out: *mut u8, room: usize) -> Written;
+    fn bullacetop_open(text: *const u8, count: usize) -> RawOpened;
     fn bullacetop_line(
         x: Raw,
         line: *const u8,
@@ -23,6 +39,9 @@ extern "C" {
         room: usize,
     ) -> Turn;
 }
+
+/// "A table too short is 31."
+const TOO_SHORT: u16 = 31;
 
 const GUARD: u8 = 0x5C;
 const GUARDS: usize = 96;
@@ -37,10 +56,24 @@ pub struct Page {
     length: usize,
 }
 
-/// A state and an answer's text.
+/// The next state and an answer's text; none where the page is too short.
 pub struct Answered {
     pub state: Box<Raw>,
-    pub text: Vec<u8>,
+    pub text: Option<Vec<u8>>,
+}
+
+/// What a text opens: where the refusal is 0 its state.
+pub struct Opened {
+    pub refusal: u16,
+    pub line: usize,
+    pub state: Box<Raw>,
+}
+
+pub fn open(text: &[u8]) -> Result<Opened, String> {
+    let lent = Lent::new(text);
+    let RawOpened { refusal, line, state } = unsafe { bullacetop_open(lent.address(), text.len()) };
+    lent.kept(text)?;
+    Ok(Opened { refusal, line, state: Box::new(state) })
 }
 
 impl Page {
@@ -53,40 +86,36 @@ impl Page {
         self.bytes[GUARDS..].as_mut_ptr()
     }
 
-    /// The first bytes of the page; an error where the told length or a guard is wrong. A page
-    /// that is too short stays as it was.
-    fn answer(&self, told: usize) -> Result<Vec<u8>, String> {
+    /// The first bytes of the page, or none where it is too short and all zero; an error where a
+    /// number or a byte is none of either.
+    fn answer(&self, told: Written) -> Result<Option<Vec<u8>>, String> {
         let (before, rest) = self.bytes.split_at(GUARDS);
         let (page, after) = rest.split_at(self.length);
         if before.iter().chain(after).any(|&byte| byte != GUARD) {
             return Err("a byte outside the page is written".into());
         }
-        if self.length < room() && (told > 0 || page.iter().any(|&byte| byte != GUARD)) {
-            return Err("a page that is too short is written".into());
+        let Written { refusal, length } = told;
+        match (refusal, length) {
+            (TOO_SHORT, 0) if page.iter().all(|&byte| byte == 0) => Ok(None),
+            (0, _) if length <= self.length => Ok(Some(page[..length].to_vec())),
+            _ => Err(format!("refusal {refusal}, length {length} on a page of {}", self.length)),
         }
-        page.get(..told).map(<[u8]>::to_vec).ok_or(format!("length {told}"))
     }
 
-    pub fn print(&mut self, text: &[u8]) -> Result<Vec<u8>, String> {
+    pub fn print(&mut self, text: &[u8]) -> Result<Option<Vec<u8>>, String> {
         let (length, out, lent) = (self.length, self.out(), Lent::new(text));
         let told = unsafe { bullacetop_print(lent.address(), text.len(), out, length) };
         lent.kept(text)?;
         self.answer(told)
     }
 
-    pub fn open(&mut self, text: &[u8]) -> Result<Answered, String> {
-        let (length, out, lent) = (self.length, self.out(), Lent::new(text));
-        let turn = unsafe { bullacetop_open(lent.address(), text.len(), out, length) };
-        lent.kept(text)?;
-        Ok(Answered { state: Box::new(turn.state), text: self.answer(turn.length)? })
-    }
-
     pub fn line(&mut self, state: &Raw, line: &[u8], number: u64) -> Result<Answered, String> {
         let (length, out, lent) = (self.length, self.out(), Lent::new(line));
-        let turn =
+        let Turn { refusal, length, state } =
             unsafe { bullacetop_line(*state, lent.address(), line.len(), number, out, length) };
         lent.kept(line)?;
-        Ok(Answered { state: Box::new(turn.state), text: self.answer(turn.length)? })
+        let text = self.answer(Written { refusal, length })?;
+        Ok(Answered { state: Box::new(state), text })
     }
 }
 

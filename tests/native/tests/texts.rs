@@ -10,10 +10,11 @@ use native::budget::{self, Walk};
 use native::generate::{Shape, SHAPES};
 use native::hold::Case;
 use native::input::{draw, Source};
+use native::library::Native;
 use native::raw::Raw;
 use native::reading;
 use native::run::{amount, seed, timed, Amount};
-use native::text::{room, Page};
+use native::text::{self as library, room, Page};
 use native::texts;
 use std::time::Instant;
 
@@ -46,25 +47,37 @@ fn hold_text(input: &[u8], page: &mut Page) -> Option<Formula> {
             return None;
         }
     }
-    let printed = page.print(input).unwrap();
+    let printed = page.print(input).unwrap().expect("the page is large enough");
     let expected = text::card_program(input, &options).into_bytes();
     assert_eq!(shown(&printed), shown(&expected), "{}", shown(input));
     assert_eq!(printed, expected);
-    let found = page.open(input).unwrap();
-    let state = reading::read_well_formed(&found.state);
+    let found = library::open(input).unwrap();
     match opened {
         Ok(formula) => {
-            assert!(found.text.is_empty(), "{}", shown(input));
+            assert_eq!((found.refusal, found.line), (0, 0), "{}", shown(input));
             let expected = State { formula: formula.clone(), store: Store::default() };
+            let state = reading::read_well_formed(&found.state);
             assert_eq!(state, Some(expected), "{}", shown(input));
             Some(formula)
         }
         Err(refused) => {
-            let expected = format!("(refused {} {})\n", refused.number, refused.line);
-            assert_eq!(shown(&found.text), expected, "{}", shown(input));
-            assert_eq!(state, Some(State::default()), "{}", shown(input));
+            let expected = (refused.number.into(), refused.line);
+            assert_eq!((found.refusal, found.line), expected, "{}", shown(input));
+            no_book(&found.state);
             None
         }
+    }
+}
+
+/// "22 the state is malformed", for every call, by value and in place.
+fn no_book(state: &Raw) {
+    let calls = [Call::Rule(vec![1]), Call::Query(vec![]), Call::Card(3), Call::Forget];
+    for call in calls {
+        let mut native = Native::new(Box::new(*state));
+        let answer = native.answer(&call).unwrap();
+        let table = vec![0; if call == Call::Card(3) { 3 } else { 0 }];
+        assert_eq!(answer, Answer { said: Said::Refused(22), table, visits: 0 }, "{call}");
+        assert!(*native.state == *state, "{call}");
     }
 }
 
@@ -85,8 +98,9 @@ fn hold_line(
     };
     let expected = session::print(&formula, &answer, number as usize);
     let found = page.line(state, line, number).unwrap();
-    assert_eq!(shown(&found.text), shown(expected.as_bytes()), "line {}", shown(line));
-    assert_eq!(found.text, expected.as_bytes());
+    let text = found.text.expect("the page is large enough");
+    assert_eq!(shown(&text), shown(expected.as_bytes()), "line {}", shown(line));
+    assert_eq!(text, expected.as_bytes());
     if matches!(answer.said, Said::Refused(number) if number != 21) {
         assert!(found.state == *state, "the state is not the given one: {}", shown(line));
     }
@@ -102,7 +116,7 @@ fn stored_books() {
     let page = &mut page();
     let stored = [cases::stored(Program::Card), cases::examples()].map(|cases| cases.unwrap());
     for case in stored.concat() {
-        let printed = page.print(&case.input).unwrap();
+        let printed = page.print(&case.input).unwrap().expect("the page is large enough");
         assert!(printed == case.expected, "{}: {}", case.name, shown(&printed));
     }
 }
@@ -124,11 +138,13 @@ fn stored_sessions() {
     let page = &mut page();
     for case in cases::stored(Program::Session).unwrap() {
         let (book, rest) = split_book(&case.input);
-        let opened = page.open(book).unwrap();
-        let mut output = opened.text;
+        let opened = library::open(book).unwrap();
+        let mut output = vec![];
         let mut state = opened.state;
         let mut number = book.iter().filter(|&&byte| byte == b'\n').count() as u64;
-        if output.is_empty() {
+        if opened.refusal != 0 {
+            output.extend(format!("(refused {} {})\n", opened.refusal, opened.line).bytes());
+        } else {
             for line in rest.split_inclusive(|&byte| byte == b'\n') {
                 number += 1;
                 let Some(line) = line.strip_suffix(b"\n") else {
@@ -136,7 +152,7 @@ fn stored_sessions() {
                     continue;
                 };
                 let answered = page.line(&state, line, number).unwrap();
-                output.extend(answered.text);
+                output.extend(answered.text.expect("the page is large enough"));
                 state = answered.state;
             }
         }
@@ -208,7 +224,7 @@ fn random_lines() {
             0 | 1 => {
                 let formula = SMALL.formula(Walk::Plain, random);
                 let calls = SMALL.calls(&formula, Walk::Plain, random);
-                (page.open(&texts::book(&formula, random)).unwrap().state, calls, true)
+                (library::open(&texts::book(&formula, random)).unwrap().state, calls, true)
             }
             2 => given(draw(Source::GivenStore, seed, index)),
             _ => given(draw(Source::Malformed, seed, index)),
@@ -251,18 +267,23 @@ fn kind(said: Said) -> String {
     }
 }
 
-/// In a page that is too short nothing is done.
+/// A page that is too short is zeroed, and nothing else is done; one that is just long enough is
+/// written, whatever the answer is.
 #[test]
 fn short_pages() {
     let case = draw(Source::Opened, seed(), 3).case;
-    let book = b"(book 1)\n(flags 1)\n(rule 1)\n(end)\n";
-    for length in [0, 1, 15, 1_000, room() - 1] {
-        let mut page = Page::new(length);
-        assert!(page.print(book).unwrap().is_empty());
-        let opened = page.open(book).unwrap();
-        assert!(opened.text.is_empty());
-        assert_eq!(reading::read_well_formed(&opened.state), Some(State::default()));
-        let answered = page.line(&case.raw, b"(forget)", 7).unwrap();
-        assert!(answered.text.is_empty() && answered.state == case.raw);
+    let books: [&[u8]; 2] = [b"(book 1)\n(flags 1)\n(rule 1)\n(end)\n", b"(book 2)\n"];
+    let lines: [&[u8]; 4] = [b"(forget)", b"(rule)", b"(card)", b"x"];
+    for length in [0, 1, 15, 1_000, room() - 1, room()] {
+        let fits = length == room();
+        for book in books {
+            let printed = Page::new(length).print(book).unwrap();
+            assert_eq!(printed.is_some(), fits, "{length} bytes");
+        }
+        for line in lines {
+            let answered = Page::new(length).line(&case.raw, line, 7).unwrap();
+            assert_eq!(answered.text.is_some(), fits, "{length} bytes");
+            assert!(fits || answered.state == case.raw, "{length} bytes");
+        }
     }
 }

@@ -8,17 +8,19 @@ use lib.ListN.{length-take}
 read-book-requires : tie.Need-read-book-requires
 read-book-requires c κs = search needs
 
-slice-reshare-prefix-open-book : tie.Need-slice-reshare-prefix-open-book
-slice-reshare-prefix-open-book c = search needs
+slice-reshare-prefix-open-text : tie.Need-slice-reshare-prefix-open-text
+slice-reshare-prefix-open-text c = search needs
 
-slice-aggregate-open-book : tie.Need-slice-aggregate-open-book
-slice-aggregate-open-book c = omega (arith, c .before .before .before .read-book .ensures .0, c .before .before .before .read-book .ensures .1, length-take (c .before .before .before .read-book .result .end) (c .before .before .before .read-book .last .0))
+slice-aggregate-open-text : tie.Need-slice-aggregate-open-text
+slice-aggregate-open-text c =
+    let b = c .before .before .before .read-book in
+    omega (arith, b .ensures .0, b .ensures .1, length-take (b .result .end) (b .last .0))
 
-open-book-requires : tie.Need-open-book-requires
-open-book-requires c κs = search needs
+open-text-requires : tie.Need-open-text-requires
+open-text-requires c κs = search needs
 
-print-requires : tie.Need-print-requires
-print-requires c κs = search needs
+print-refusal-requires : tie.Need-print-refusal-requires
+print-refusal-requires c κs = search needs
 
 same-length : tie.Need-same-length
 same-length c = search needs
@@ -30,7 +32,9 @@ slice-reshare-prefix-line-count : tie.Need-slice-reshare-prefix-line-count
 slice-reshare-prefix-line-count c = search needs
 
 slice-aggregate-line-count : tie.Need-slice-aggregate-line-count
-slice-aggregate-line-count c = omega (arith, c .before .before .before .before .before .before .before .before .read-book .ensures .0, c .before .before .before .before .before .before .before .before .read-book .ensures .1, length-take (c .before .before .before .before .before .before .before .before .read-book .result .end) (c .before .before .before .before .before .before .before .before .read-book .last .0))
+slice-aggregate-line-count c =
+    let b = c .before .before .before .before .before .before .before .read-book in
+    omega (arith, b .ensures .0, b .ensures .1, length-take (b .result .end) (b .last .0))
 
 line-count-requires : tie.Need-line-count-requires
 line-count-requires c κs = search needs
@@ -52,10 +56,10 @@ serve-book-spec =
     tie.close
     (tie.spec
     read-book-requires
-    slice-reshare-prefix-open-book
-    slice-aggregate-open-book
-    open-book-requires
-    print-requires
+    slice-reshare-prefix-open-text
+    slice-aggregate-open-text
+    open-text-requires
+    print-refusal-requires
     same-length
     returns
     slice-reshare-prefix-line-count

@@ -1,0 +1,341 @@
+//! The rows of the computed tables in `crates/qbf/proofs`: the definitions answer each of them by a
+//! theorem, and here they are read from the same files, to be answered by this implementation.
+
+use crate::answer::{Answer, Call, Said};
+use crate::formula::{Formula, Literal, Quantifier, Variable};
+use crate::options::Limits;
+use crate::solver::State;
+use crate::store::Store;
+use std::collections::BTreeMap;
+use std::path::Path;
+use std::{fs, io};
+
+/// Calls on a state, and what they answer. Where the formula is freshly opened the plain run answers
+/// alike, in the visits that are given for it.
+#[derive(Clone, Debug)]
+pub struct Row {
+    pub limits: Limits,
+    pub state: State,
+    pub calls: Vec<Call>,
+    pub answers: Vec<Answer>,
+    pub plain: Option<Vec<Answer>>,
+}
+
+/// The rows that a file lists under a name.
+pub fn read(file: &str, name: &str) -> io::Result<Vec<Row>> {
+    let folder = Path::new(env!("CARGO_MANIFEST_DIR")).join("../../crates/qbf/proofs");
+    let source = Source::new(&fs::read_to_string(folder.join(file))?);
+    Ok(source.list(&source.named(name)).iter().map(|term| source.row(term)).collect())
+}
+
+#[derive(Clone, Debug)]
+enum Term {
+    Number(i64),
+    /// A name, applied to as many terms as follow it. `∷` and `++` are names too.
+    Name(String, Vec<Term>),
+    Record(BTreeMap<String, Term>),
+}
+
+/// What the rows are written with. A name without arguments may stand for what the file says it is.
+struct Source {
+    definitions: BTreeMap<String, String>,
+}
+
+impl Source {
+    fn new(text: &str) -> Source {
+        let mut definitions = BTreeMap::new();
+        let mut name = None;
+        for line in text.lines().map(|line| line.split("--").next().unwrap_or_default()) {
+            if !line.starts_with(' ') {
+                let named = line.split_once(" =").filter(|(name, _)| !name.contains(' '));
+                name = named.map(|(name, _)| name.to_owned());
+                if let Some((name, rest)) = named {
+                    definitions.insert(name.to_owned(), rest.to_owned());
+                }
+            } else if let Some(text) = name.as_ref().and_then(|name| definitions.get_mut(name)) {
+                text.push_str(line);
+            }
+        }
+        Source { definitions }
+    }
+
+    fn named(&self, name: &str) -> Term {
+        let text = self.definitions.get(name).unwrap_or_else(|| panic!("{name} is not defined"));
+        let mut parser = Parser { words: words(text), at: 0 };
+        let term = parser.term();
+        assert!(parser.at == parser.words.len(), "{name} does not end with its term");
+        term
+    }
+
+    /// A term by its head and arguments.
+    fn open(&self, term: &Term) -> (String, Vec<Term>) {
+        match term {
+            Term::Name(name, args) if args.is_empty() && self.definitions.contains_key(name) => {
+                self.open(&self.named(name))
+            }
+            Term::Name(name, args) => (name.clone(), args.clone()),
+            other => panic!("{other:?} is no application"),
+        }
+    }
+
+    fn list(&self, term: &Term) -> Vec<Term> {
+        let (name, args) = self.open(term);
+        match (&*name, &args[..]) {
+            ("[]", []) => vec![],
+            ("∷", [first, rest]) => [vec![first.clone()], self.list(rest)].concat(),
+            ("replicate", [count, one]) => vec![one.clone(); number(count) as usize],
+            _ => panic!("{name} is no list"),
+        }
+    }
+
+    fn numbers(&self, term: &Term) -> Vec<i64> {
+        self.list(term).iter().map(number).collect()
+    }
+
+    fn literal(&self, term: &Term) -> Literal {
+        let (name, args) = self.open(term);
+        let number = number(&args[0]);
+        match &*name {
+            "y" => number.try_into(),
+            "n" => (-number).try_into(),
+            _ => panic!("{name} is no literal"),
+        }
+        .expect("a literal has 16 bits")
+    }
+
+    fn literals(&self, term: &Term) -> Vec<Literal> {
+        match self.open(term) {
+            (name, args) if name == "all-on" => (1..=number(&args[0]) as i16).collect(),
+            _ => self.list(term).iter().map(|literal| self.literal(literal)).collect(),
+        }
+    }
+
+    fn clauses(&self, term: &Term) -> Vec<Vec<Literal>> {
+        self.list(term).iter().map(|clause| self.literals(clause)).collect()
+    }
+
+    fn prefix(&self, term: &Term) -> Vec<Variable> {
+        let (name, args) = self.open(term);
+        match (&*name, &args[..]) {
+            ("[]", []) => vec![],
+            ("++", [first, rest]) => [self.prefix(first), self.prefix(rest)].concat(),
+            ("dec", [quantifier, numbers]) => {
+                let quantifier = match &*self.open(quantifier).0 {
+                    "free" => Quantifier::Free,
+                    "exists" => Quantifier::Exists,
+                    "forall" => Quantifier::Forall,
+                    name => panic!("{name} is no quantifier"),
+                };
+                let variable = |number| Variable { number: number as i16, quantifier };
+                self.numbers(numbers).into_iter().map(variable).collect()
+            }
+            _ => panic!("{name} is no prefix"),
+        }
+    }
+
+    fn limits(&self, term: &Term) -> Limits {
+        let Term::Record(fields) = term else {
+            assert_eq!(self.open(term).0, "paper");
+            return Limits::PAPER;
+        };
+        let field = |name: &str| number(&fields[name]) as usize;
+        Limits {
+            numbers: field("numbers") as i16,
+            clauses: field("clauses"),
+            literals: field("literals"),
+            entries: field("constraints"),
+        }
+    }
+
+    fn formula(&self, term: &Term) -> (Limits, Formula) {
+        if let Term::Record(fields) = term {
+            let clauses = self.clauses(&fields["clauses"]);
+            let prefix = self.prefix(&fields["prefix"]);
+            return (self.limits(&fields["limits"]), Formula { prefix, clauses });
+        }
+        let (name, args) = self.open(term);
+        let ordered = |limits, prefix, rules: &Term| {
+            let mut formula = Formula { prefix: self.prefix(prefix), clauses: vec![] };
+            self.clauses(rules).iter().for_each(|literals| formula.add(literals));
+            (limits, formula)
+        };
+        match (&*name, &args[..]) {
+            ("opened", [prefix, rules]) => ordered(Limits::PAPER, prefix, rules),
+            ("under", [limits, prefix, rules]) => ordered(self.limits(limits), prefix, rules),
+            ("held", [limits, prefix, clauses]) => {
+                let (prefix, clauses) = (self.prefix(prefix), self.clauses(clauses));
+                (self.limits(limits), Formula { prefix, clauses })
+            }
+            ("wide", [count]) => {
+                let variable = |number| Variable { number, quantifier: Quantifier::Exists };
+                let prefix = (1..=number(count) as i16).map(variable).collect();
+                (Limits::PAPER, Formula { prefix, clauses: vec![] })
+            }
+            _ => panic!("{name} is no formula"),
+        }
+    }
+
+    fn store(&self, term: &Term) -> Store {
+        let (name, args) = self.open(term);
+        assert_eq!(name, "store");
+        Store { clauses: self.clauses(&args[0]), cubes: self.clauses(&args[1]) }
+    }
+
+    fn call(&self, term: &Term) -> Call {
+        let (name, args) = self.open(term);
+        match (&*name, &args[..]) {
+            ("rule", [literals]) => Call::Rule(self.literals(literals)),
+            ("query", [on]) => Call::Query(self.literals(on)),
+            ("card", [size]) => Call::Card(number(size) as usize),
+            ("forget", []) => Call::Forget,
+            _ => panic!("{name} is no call"),
+        }
+    }
+
+    fn answer(&self, call: &Call, reply: &Term, visits: u64) -> Answer {
+        let (name, args) = self.open(reply);
+        let refused = |number: &Term| Said::Refused(self::number(number) as u8);
+        let bytes = |table| self.numbers(table).into_iter().map(|byte| byte as u8).collect();
+        let (said, table) = match (&*name, &args[..], call) {
+            ("done", [], Call::Rule(_)) => (Said::Added, vec![]),
+            ("done", [], Call::Forget) => (Said::Forgotten, vec![]),
+            ("swap", [], Call::Query(_)) => (Said::Swap, vec![]),
+            ("keep", [], Call::Query(_)) => (Said::Keep, vec![]),
+            ("refused", [number], _) => (refused(number), vec![]),
+            ("lines", [lines, table], Call::Card(_)) => {
+                (Said::Lines(self.list(lines).len()), bytes(table))
+            }
+            ("cardRefused", [number, table], Call::Card(_)) => (refused(number), bytes(table)),
+            _ => panic!("{name} is no reply to {call}"),
+        };
+        Answer { said, table, visits }
+    }
+
+    fn answers(&self, calls: &[Call], replies: &Term, visits: &Term) -> Vec<Answer> {
+        let (replies, visits) = (self.list(replies), self.numbers(visits));
+        assert_eq!((replies.len(), visits.len()), (calls.len(), calls.len()));
+        let told = calls.iter().zip(&replies).zip(visits);
+        told.map(|((call, reply), visits)| self.answer(call, reply, visits as u64)).collect()
+    }
+
+    fn row(&self, term: &Term) -> Row {
+        let (name, args) = self.open(term);
+        let calls = |term| self.list(term).iter().map(|call| self.call(call)).collect::<Vec<_>>();
+        let (limits, formula) = self.formula(&args[0]);
+        match (&*name, &args[1..]) {
+            ("row", [list, replies, learning, plain]) => {
+                let (state, calls) = (State { formula, store: Store::default() }, calls(list));
+                let answers = self.answers(&calls, replies, learning);
+                let plain = Some(self.answers(&calls, replies, plain));
+                Row { limits, state, calls, answers, plain }
+            }
+            ("given", [store, list, replies, visits]) => {
+                let (state, calls) = (State { formula, store: self.store(store) }, calls(list));
+                let answers = self.answers(&calls, replies, visits);
+                Row { limits, state, calls, answers, plain: None }
+            }
+            // The calls of `broken` in Cases.antt, each refused with 22.
+            ("broken", [store]) => {
+                let calls =
+                    vec![Call::Forget, Call::Card(2), Call::Rule(vec![]), Call::Query(vec![0])];
+                let mut answers = vec![Answer::new(Said::Refused(22)); calls.len()];
+                answers[1].table = vec![0, 0];
+                let state = State { formula, store: self.store(store) };
+                Row { limits, state, calls, answers, plain: None }
+            }
+            _ => panic!("{name} is no row"),
+        }
+    }
+}
+
+fn number(term: &Term) -> i64 {
+    match term {
+        Term::Number(number) => *number,
+        other => panic!("{other:?} is no number"),
+    }
+}
+
+fn words(text: &str) -> Vec<String> {
+    let mut spaced = String::new();
+    for c in text.chars() {
+        match "(){};".contains(c) {
+            true => spaced.extend([' ', c, ' ']),
+            false => spaced.push(c),
+        }
+    }
+    spaced.split_whitespace().map(str::to_owned).collect()
+}
+
+struct Parser {
+    words: Vec<String>,
+    at: usize,
+}
+
+impl Parser {
+    fn peek(&self) -> &str {
+        self.words.get(self.at).map_or("", |word| word)
+    }
+
+    fn take(&mut self, expected: &str) {
+        assert_eq!(self.peek(), expected);
+        self.at += 1;
+    }
+
+    /// An application, or two terms with an operator between them; what follows belongs to the
+    /// second.
+    fn term(&mut self) -> Term {
+        let first = self.application();
+        let operator = self.peek().to_owned();
+        if operator != "∷" && operator != "++" {
+            return first;
+        }
+        self.at += 1;
+        let rest = self.term();
+        Term::Name(operator, vec![first, rest])
+    }
+
+    fn application(&mut self) -> Term {
+        let head = self.atom();
+        let mut args = vec![];
+        while !["", ")", ";", "}", "∷", "++"].contains(&self.peek()) {
+            args.push(self.atom());
+        }
+        match head {
+            Term::Name(name, none) if none.is_empty() => Term::Name(name, args),
+            head => {
+                assert!(args.is_empty(), "{head:?} is applied");
+                head
+            }
+        }
+    }
+
+    fn atom(&mut self) -> Term {
+        let word = self.peek().to_owned();
+        self.at += 1;
+        match &*word {
+            "(" => {
+                let term = self.term();
+                self.take(")");
+                term
+            }
+            "record" => self.record(),
+            _ => word.parse().map_or(Term::Name(word, vec![]), Term::Number),
+        }
+    }
+
+    fn record(&mut self) -> Term {
+        let mut fields = BTreeMap::new();
+        self.take("{");
+        while self.peek() != "}" {
+            let name = self.peek().to_owned();
+            self.at += 1;
+            self.take("=");
+            fields.insert(name, self.term());
+            if self.peek() == ";" {
+                self.at += 1;
+            }
+        }
+        self.take("}");
+        Term::Record(fields)
+    }
+}

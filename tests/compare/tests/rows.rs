@@ -1,0 +1,60 @@
+//! The rows that the definitions answer by computation (`crates/qbf/proofs/Bench.antt` and
+//! `Cases.antt`), answered by this implementation.
+
+use compare::rows::{read, Row};
+use compare::slip::{Slip, ALL};
+use compare::{Answer, Call, Options, PlainRun, Said, Solver, Subject};
+
+/// Each table with how many rows it has at least.
+const TABLES: [(&str, &str, usize); 5] = [
+    ("Bench.antt", "table", 10),
+    ("Bench.antt", "others", 6),
+    ("Cases.antt", "table", 28),
+    ("Cases.antt", "on-states", 3),
+    ("Cases.antt", "malformed", 16),
+];
+
+fn rows(file: &str, name: &str) -> Vec<Row> {
+    read(file, name).expect("the computed tables can be read")
+}
+
+#[test]
+fn every_row() {
+    for (file, name, least) in TABLES {
+        let rows = rows(file, name);
+        assert!(rows.len() >= least, "only {} rows in {name} of {file}", rows.len());
+        for (index, row) in rows.into_iter().enumerate() {
+            let words = format!("row {} of {name} in {file}: {:?}", index + 1, row.calls);
+            if let Some(answers) = &row.plain {
+                let mut plain = PlainRun::new(row.state.formula.clone(), row.limits);
+                assert_eq!(plain.run(&row.calls), *answers, "plain run, {words}");
+            }
+            let mut solver = Solver::new(row.state, Options::with(row.limits));
+            assert_eq!(solver.run(&row.calls), row.answers, "{words}");
+        }
+    }
+}
+
+/// Whether a slip changes what a row answers. A search on a malformed state means nothing, so what a
+/// check omits is shown by forget alone.
+fn changes(row: &Row, slip: Slip) -> bool {
+    let judges_state = slip.is_of_check();
+    let options = Options { slip: Some(slip), judges_state, ..Options::with(row.limits) };
+    let answers = |call: &Call| Solver::new(row.state.clone(), options).call(call);
+    match slip {
+        Slip::CheckOmits(_) => answers(&Call::Forget) != Answer::new(Said::Refused(22)),
+        _ => Solver::new(row.state.clone(), options).run(&row.calls) != row.answers,
+    }
+}
+
+/// The rows are strong enough: every slip changes what one of them answers.
+#[test]
+fn every_slip_changes_a_row() {
+    let (last, others) = TABLES.split_last().expect("there are tables");
+    let malformed = rows(last.0, last.1);
+    let sound: Vec<Row> = others.iter().flat_map(|table| rows(table.0, table.1)).collect();
+    for (slip, words) in ALL {
+        let rows = if slip.is_of_check() { &malformed } else { &sound };
+        assert!(rows.iter().any(|row| changes(row, *slip)), "{slip:?}: {words}");
+    }
+}
