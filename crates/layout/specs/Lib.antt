@@ -4,3 +4,4 @@ pub mod Opening
 pub mod Output
 pub mod Program
 pub mod Session
+pub mod Page
