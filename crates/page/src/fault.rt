@@ -1,23 +1,12 @@
 // Refusal 36: whether the card has a page, and whether the table has the card.
-use crate::LINES;
 use crate::MOST_LINES;
+use crate::pages;
 ghost use mathlib.Core.Path.{_≡_};
 ghost use Prim.Native.Nat.{_*_, _≤_};
 ghost use lib.ListN.{length, take};
 ghost use lib.Dec.{ltb};
 ghost use Rattle.qbf.specs.Formula.{any};
-ghost use Rattle.layout.specs.Page.{pages as pagesOf, noPage};
-
-// "A card without lines is one page."
-pub fn pages(lines: usize) -> usize
-    ensures { λ r. ⌜ r ≡ pagesOf lines ⌝ }
-{
-    if lines == 0 {
-        1
-    } else {
-        (lines - 1) / LINES + 1
-    }
-}
+ghost use Rattle.layout.specs.Page.{noPage};
 
 // A byte above 2 among the first n.
 fn byte_above(table: &[u8], n: usize) -> bool

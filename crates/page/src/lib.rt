@@ -2,7 +2,7 @@
 use fault::refused;
 use row::page_row;
 ghost use mathlib.Core.Path.{_≡_};
-ghost use Rattle.layout.specs.Page.{printed, pageRefusal};
+ghost use Rattle.layout.specs.Page.{pages as pagesOf, printed, pageRefusal};
 
 mod fault; // 36
 pub mod lent; // a page in a lent table
@@ -22,6 +22,17 @@ pub const MOST_LINES: usize = 99999;
 const NO_PAGE: u16 = 36;
 
 pub const NONE: u16 = 0;
+
+// "A card without lines is one page."
+pub fn pages(lines: usize) -> usize
+    ensures { λ r. ⌜ r ≡ pagesOf lines ⌝ }
+{
+    if lines == 0 {
+        1
+    } else {
+        (lines - 1) / LINES + 1
+    }
+}
 
 // "A page the card does not have, more than 99,999 lines or than the table holds, or a byte above 2 in any line is 36"
 pub fn refusal<'a>(table: &'a [u8], lines: usize, f: usize, number: usize) -> u16

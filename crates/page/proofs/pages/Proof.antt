@@ -1,7 +1,7 @@
--- `page::fault::pages` meets its contract. By the test.
+-- `page::pages` meets its contract. By the test.
 use borrow.Author.Needs.{needs}
-use Rattle.page.proofs.fault.pages.Statement.{statement}
-use Rattle.page.proofs.fault.pages.Tie as tie
+use Rattle.page.proofs.pages.Statement.{statement}
+use Rattle.page.proofs.pages.Tie as tie
 use Prim.Native.Nat.{ℕ, _+_, _-_, _/_}
 use native.Mathlib.Omega.{arith}
 use mathlib.Core.Path.{_≡_, sym, ap, _∙_}
