@@ -61,6 +61,12 @@ extern "C" {
 #define BULLACETOP_TABLE_TOO_SMALL 21
 #define BULLACETOP_MALFORMED 22
 #define BULLACETOP_TEXT_TABLE_TOO_SHORT 31
+#define BULLACETOP_NO_PAGE 36
+
+/* A printed page: its rows, the bytes of a row, each row's last one being '\n', and all of them. */
+#define BULLACETOP_PAGE_ROWS 24
+#define BULLACETOP_PAGE_COLUMNS 72
+#define BULLACETOP_PAGE_BYTES (BULLACETOP_PAGE_ROWS * BULLACETOP_PAGE_COLUMNS)
 
 /*
  * A book and what was learned on it. All zero bytes are the empty book: no variable, no rule, nothing learned.
@@ -219,6 +225,15 @@ static inline struct bullacetop_reply bullacetop_card_at(struct bullacetop_state
     return bullacetop_card_in_place(
         x->numbers, x->levels, x->kinds, x->rules, x->rule_sizes, x->bars, x->bar_sizes, x->passes, x->pass_sizes, table, n);
 }
+
+/*
+ * Page `number`, from 1, of a card that stands in a table of n bytes and has so many lines of so many flags: the numbers that
+ * bullacetop_card told. Its rows are written one after another to the first BULLACETOP_PAGE_BYTES bytes of `out`, for which the caller has m
+ * bytes; the bytes after them are zero, and all are zero after a refusal. Returns the refusal: BULLACETOP_NO_PAGE for a page that the card does
+ * not have, more than 99,999 lines or than the table holds, or a byte above 2 in any line; then BULLACETOP_TEXT_TABLE_TOO_SHORT. A card has
+ * lines / 22 pages, rounded up, and one where it has no line.
+ */
+uint16_t bullacetop_page(const uint8_t *table, size_t n, size_t lines, size_t flags, size_t number, uint8_t *out, size_t m);
 
 /*
  * Books and call lines as text. A text is written to the first bytes of `out`, for which the caller has m bytes, at least bullacetop_room();

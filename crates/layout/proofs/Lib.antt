@@ -1,3 +1,4 @@
 pub mod Cases
 pub mod Cards
 pub mod Sessions
+pub mod Pages

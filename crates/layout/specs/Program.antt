@@ -1,12 +1,15 @@
--- What the program `card` prints for the bytes of its input. Paper 01, "Text and program".
-use Prim.Native.Nat.{ℕ}
+-- What the programs `card` and `pages` print for the bytes of their input. Paper 01, "Text and program"; paper 02, wish 11.
+use Prim.Native.Nat.{ℕ, zero, suc}
 use mathlib.Core.Bool.{true}
-use mathlib.Core.List.{[]}
+use mathlib.Core.List.{[], _++_}
+use lib.ListN.{length}
 use Rattle.qbf.specs.Formula.{Limits, Prefix}
+use Rattle.qbf.specs.Truth.{freeVariables}
 use Rattle.qbf.specs.Learning.{emptyStore}
 use Rattle.qbf.specs.Calls.{Reply, done, refused, swap, keep, lines, cardRefused, Answer, learningCard}
-use Rattle.layout.specs.Words.{Bytes}
+use Rattle.layout.specs.Words.{Bytes, joined}
 use Rattle.layout.specs.Output.{cardText, refusalText}
+use Rattle.layout.specs.Page.{pages, printed}
 use Rattle.layout.specs.Opening as opening
 
 -- "The program's card table has 65,536 bytes"
@@ -32,3 +35,29 @@ openedPrinted size (opening.opened b) = answerPrinted (b .prefix) (learningCard 
 -- the output for an input, with a card table of so many bytes
 unfoldable pub cardProgram : Limits → ℕ → Bytes → Bytes
 cardProgram L size s = openedPrinted size (opening.openText L s)
+
+-- ---- the pages of a card
+-- k pages, from page n on
+unfoldable pub pagesFrom : Bytes → ℕ → ℕ → ℕ → ℕ → Bytes
+pagesFrom table count f zero n = []
+pagesFrom table count f (suc k) n = joined (printed table count f n) ++ pagesFrom table count f k (suc n)
+
+-- all of them
+abbrev pub pagesText : Bytes → ℕ → ℕ → Bytes
+pagesText table count f = pagesFrom table count f (pages count) 1
+
+-- refused as the program `card` is
+abbrev pub pagesPrinted : Prefix → Reply → Bytes
+pagesPrinted D (lines ls table) = pagesText table (length ls) (freeVariables D)
+pagesPrinted D (cardRefused n table) = refusalText n 0
+pagesPrinted D done = []
+pagesPrinted D (refused n) = []
+pagesPrinted D swap = []
+pagesPrinted D keep = []
+
+abbrev pub openedPages : ℕ → opening.Opened → Bytes
+openedPages size (opening.refused n line) = refusalText n line
+openedPages size (opening.opened b) = pagesPrinted (b .prefix) (learningCard true b emptyStore size .out .reply)
+
+unfoldable pub pagesProgram : Limits → ℕ → Bytes → Bytes
+pagesProgram L size s = openedPages size (opening.openText L s)

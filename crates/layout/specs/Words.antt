@@ -3,7 +3,7 @@ use Prim.Native.Nat.{ℕ, _+_, _*_, _-_}
 use Prim.Native.Char.{code}
 use Prim.Native.String.{String, [] as ε, _∷_ as _▸_}
 use mathlib.Core.Bool.{Bool, true, false, cond, not, _&&_, _||_}
-use mathlib.Core.List.{List, [], _∷_}
+use mathlib.Core.List.{List, [], _∷_, _++_}
 use mathlib.Core.Option.{Option, none, some}
 use lib.ListN.{length, getD, take, drop}
 use lib.Dec.{leb, eqb}
@@ -39,6 +39,11 @@ onFirst b (w ∷ ws) = (b ∷ w) ∷ ws
 unfoldable pub split : ℕ → Bytes → List Bytes
 split c [] = [] ∷ []
 split c (b ∷ s) = cond (eqb b c) ([] ∷ split c s) (onFirst b (split c s))
+
+-- texts one after another
+abbrev pub joined : List Bytes → Bytes
+joined [] = []
+joined (t ∷ ts) = t ++ joined ts
 
 unfoldable pub same : Bytes → Bytes → Bool
 same [] [] = true

@@ -2,6 +2,7 @@
 //! print.
 
 use crate::options::Options;
+use crate::page::pages_program;
 use crate::{session, text};
 use std::path::{Path, PathBuf};
 use std::process::Command;
@@ -11,6 +12,7 @@ use std::{fs, io};
 pub enum Program {
     Card,
     Session,
+    Pages,
 }
 
 #[derive(Clone, Debug)]
@@ -31,6 +33,7 @@ pub fn stored(program: Program) -> io::Result<Vec<StoredCase>> {
     let folder = folder(match program {
         Program::Card => "tests/cases/card",
         Program::Session => "tests/cases/session",
+        Program::Pages => "tests/cases/pages",
     });
     read_all(&folder, program, "in", "out")
 }
@@ -82,6 +85,7 @@ impl StoredCase {
     pub fn printed(&self, options: &Options) -> Vec<u8> {
         match self.program {
             Program::Card => text::card_program(&self.input, options).into_bytes(),
+            Program::Pages => pages_program(&self.input, options, None),
             Program::Session => {
                 let mut output = vec![];
                 session::run(&self.input[..], &mut output, options).expect("bytes in, bytes out");

@@ -15,6 +15,7 @@ pub mod formula;
 pub mod layout;
 pub mod learning;
 pub mod options;
+pub mod page;
 pub mod plain;
 pub mod plain_run;
 pub mod random;

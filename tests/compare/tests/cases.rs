@@ -1,6 +1,7 @@
 //! The stored cases, the examples and the vectors of the source documents, on this implementation.
 
 use compare::cases::{self, Program, StoredCase};
+use compare::page::{self, PageSlip};
 use compare::slip::{Slip, ALL};
 use compare::{session, text, truth, Call, Options, PlainRun, Said, Solver, Subject};
 
@@ -29,6 +30,33 @@ fn cards() {
 #[test]
 fn sessions() {
     hold(cases::stored(Program::Session).expect("cases can be read"), 80, as_printed);
+}
+
+#[test]
+fn pages() {
+    hold(cases::stored(Program::Pages).expect("cases can be read"), 14, as_printed);
+}
+
+/// Every slip of a page that the program can meet changes what some case prints.
+#[test]
+fn every_slip_of_a_page_changes_a_case() {
+    use PageSlip::*;
+    // No card of the program has so many lines, a table that is too short for them or a byte above 2,
+    // and so none of its pages is refused.
+    let hidden = [
+        BytesAfterJudged,
+        OtherPagesNotJudged,
+        LineMore,
+        TableRoundedUp,
+        FlaglessLineNeedsByte,
+        PageKeptWhenRefused,
+    ];
+    let cases = cases::stored(Program::Pages).expect("cases can be read");
+    for (slip, words) in page::ALL.iter().filter(|(slip, _)| !hidden.contains(slip)) {
+        let printed =
+            |case: &StoredCase| page::pages_program(&case.input, &Options::paper(), Some(*slip));
+        assert!(cases.iter().any(|case| printed(case) != case.expected), "{slip:?}: {words}");
+    }
 }
 
 #[test]

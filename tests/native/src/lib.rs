@@ -10,6 +10,7 @@ pub mod hold;
 pub mod in_place;
 pub mod input;
 pub mod library;
+pub mod page;
 pub mod raw;
 pub mod reading;
 pub mod run;
