@@ -107,14 +107,14 @@ fn decided(verdict: Verdict) -> Answer
 
 // The search below an open start node, with its scratch space.
 fn below<'a>(
-    rows: &'a [u8; tables::CLAUSE_ROWS],
+    rows: &'a [u16; tables::CLAUSE_ROWS],
     links: &'a [u16; tables::CLAUSE_LINKS],
     numbers: &'a [u16; tables::BY_NUMBER],
     quantifiers: &'a [u8; tables::CODES],
     values: &'a [u8; tables::BY_NUMBER],
-    learned: &mut [u8; tables::CONSTRAINT_CODES],
+    learned: &mut [u16; tables::CONSTRAINT_CODES],
     learned_links: &mut [u64; tables::CONSTRAINT_LINKS],
-    cubes: &mut [u8; tables::CONSTRAINT_CODES],
+    cubes: &mut [u16; tables::CONSTRAINT_CODES],
     cube_links: &mut [u64; tables::CONSTRAINT_LINKS],
     table: &mut [u8],
     at: usize,
@@ -157,9 +157,9 @@ fn below<'a>(
         ⌝ }
 {
     let mut statuses = statuses_of(numbers, values, at);
-    let mut firsts = [0u8; tables::CLAUSES];
-    let mut up = [0u8; tables::AREA];
-    let mut saved = [0u8; SAVED];
+    let mut firsts = [0u16; tables::CLAUSES];
+    let mut up = [0u16; tables::AREA];
+    let mut saved = [0u16; SAVED];
     let start = Position {
         at: at,
         free: free,
@@ -187,7 +187,7 @@ fn below<'a>(
 
 // .. over the derived tables of the clauses: those of the learned constraints are derived here, and written back.
 fn over_clauses<'a>(
-    rows: &'a [u8; tables::CLAUSE_ROWS],
+    rows: &'a [u16; tables::CLAUSE_ROWS],
     links: &'a [u16; tables::CLAUSE_LINKS],
     quantifiers: &'a [u8; tables::CODES],
     numbers: &'a [u16; tables::BY_NUMBER],
@@ -256,9 +256,9 @@ fn over_clauses<'a>(
         (now (table .exit)))
         ⌝ }
 {
-    let mut learned = [0u8; tables::CONSTRAINT_CODES];
+    let mut learned = [0u16; tables::CONSTRAINT_CODES];
     let mut learned_links = [0u64; tables::CONSTRAINT_LINKS];
-    let mut cubes = [0u8; tables::CONSTRAINT_CODES];
+    let mut cubes = [0u16; tables::CONSTRAINT_CODES];
     let mut cube_links = [0u64; tables::CONSTRAINT_LINKS];
     load(
         learned_clauses,
@@ -380,7 +380,7 @@ fn searched<'a>(
         ⌝ }
 {
     let quantifiers = quantifiers_of(numbers, by_number);
-    let mut rows = [0u8; tables::CLAUSE_ROWS];
+    let mut rows = [0u16; tables::CLAUSE_ROWS];
     let mut links = [0u16; tables::CLAUSE_LINKS];
     load_clauses(
         clauses,

@@ -1,6 +1,7 @@
 -- Cells that hold the codes of a list of literals: their last code, the first code that has a status, their count and their elements.
-use Prim.Native.Nat.{ℕ, _+_, _-_, _≤_, _<_}
+use Prim.Native.Nat.{ℕ, zero, suc, _+_, _-_, _≤_, _<_}
 use native.Mathlib.Omega.{arith}
+use native.Mathlib.Numerals.{unary-clauses}
 use mathlib.Core.Path.{_≡_, refl, sym, ap, _∙_}
 use mathlib.Core.Logic.{_⊎_, inl, inr}
 use mathlib.Core.Bool.{false}
@@ -13,10 +14,9 @@ use Rattle.qbf.specs.Formula.{Prefix, Literal}
 use Rattle.qbf.specs.Learning.{Constraint}
 use Rattle.theory.proofs.Basics.{le-or-lt}
 use Rattle.tables.specs.Views.{indexOf}
-use Rattle.tables.specs.Shelves.{codeCount}
 use Rattle.tables.proofs.Lists.{index-at, index-none}
 use Rattle.tables.specs.Codes.{codeOf, codes, lastFrom, lastCode}
-use Rattle.coding.specs.First.{FirstWith}
+use Rattle.coding.specs.First.{noCode, FirstWith}
 use Rattle.coding.proofs.Ends.{take-last, take-image, getD-image}
 
 -- ---- the last code
@@ -28,6 +28,11 @@ last-of q (k ∷ cs) c = last-of k cs c
 pub last-cell : (cs : List ℕ) (n : ℕ) → (n ≡ 0 → ⊥) → n ≤ length cs → getD cs (n - 1) 0 ≡ lastCode (take n cs)
 last-cell cs n h k =
     sym (ap lastCode (take-last cs n 0 (omega (arith, h)) k) ∙ last-of 0 (take (n - 1) cs) (getD cs (n - 1) 0))
+
+-- it is below k where the first n are
+pub last-below : (cs : List ℕ) (n k : ℕ) → 0 < k → n ≤ length cs → ((i : ℕ) → i < n → getD cs i 0 < k) → lastCode (take n cs) < k
+last-below cs zero k some h low = some
+last-below cs (suc n) k some h low = rw (sym (last-cell cs (suc n) (λ e. absurd (omega (arith, e))) h)) (simp unary-clauses (low n (omega arith)))
 
 -- ---- the codes before i have not the status
 pub record Without (t : List ℕ) (w : ℕ) (cs : List ℕ) (i : ℕ) : Type 0 where
@@ -46,7 +51,7 @@ module _ {t : List ℕ} {w : ℕ} {cs : List ℕ} {i : ℕ} (before : Without t 
       by j m (inr q) = before .none j q
 
   -- the next has it
-  pub first-here : i < length cs → getD t (getD cs i 0) 0 ≡ w → {r : ℕ} → r ≡ getD cs i 0 → r < codeCount → FirstWith (λ (c : ℕ). eqb (getD t c 0) w) cs r
+  pub first-here : i < length cs → getD t (getD cs i 0) 0 ≡ w → {r : ℕ} → r ≡ getD cs i 0 → r < noCode → FirstWith (λ (c : ℕ). eqb (getD t c 0) w) cs r
   first-here low h {r} e small =
       let is : indexOf (λ (c : ℕ). eqb (getD t c 0) w) cs ≡ i =
       index-at (λ (c : ℕ). eqb (getD t c 0) w) 0 cs i low (before .none) (eq-eqb (getD t (getD cs i 0) 0) w h) in
@@ -56,7 +61,7 @@ module _ {t : List ℕ} {w : ℕ} {cs : List ℕ} {i : ℕ} (before : Without t 
       }
 
   -- there is no next
-  pub first-none : length cs ≤ i → FirstWith (λ (c : ℕ). eqb (getD t c 0) w) cs codeCount
+  pub first-none : length cs ≤ i → FirstWith (λ (c : ℕ). eqb (getD t c 0) w) cs noCode
   first-none high = record {
     found = λ q. absurd (omega arith);
     none = λ q. index-none (λ (c : ℕ). eqb (getD t c 0) w) 0 cs (λ j m. before .none j (omega arith));

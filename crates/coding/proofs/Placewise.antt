@@ -16,6 +16,7 @@ use Rattle.theory.proofs.Basics.{value-some, le-or-lt}
 use Rattle.theory.proofs.Prefixes.{numbers, place-of-number}
 use Rattle.tables.specs.Views.{quantifierCode, valueCode, Kinds, Values, Numbers}
 use Rattle.tables.specs.Codes.{codeAt, Statuses, statusOf, given, Quantified}
+use Rattle.tables.specs.Shelves.{codeCount}
 use Rattle.coding.proofs.Given.{stored-positive, stored-negative, stored-other, statuses-below}
 
 -- a table of zeros has 0 everywhere, past its end too
@@ -67,17 +68,17 @@ pub record Filled (D : Prefix) (p : ℕ) (t : List ℕ) : Type 0 where
   pub high : (q : ℕ) (b : Bool) → p < q → q ≤ paper .numbers → getD t (codeAt q b) 0 ≡ 3
 
 -- of no place: only the place of no variable counts as free
-pub filled-none : (D : Prefix) → Filled D 0 (set (set (replicate 256 3) (codeAt 0 false) 0) (codeAt 0 true) 0)
+pub filled-none : (D : Prefix) → Filled D 0 (set (set (replicate codeCount 3) (codeAt 0 false) 0) (codeAt 0 true) 0)
 filled-none D = record {
   low = λ q b h. zero-at q b h;
-  high = λ q b h k. stored-other 0 0 0 (replicate 256 3) q b (λ e. omega (arith, e, h)) ∙ getD-replicate 256 (codeAt q b) 3 0 (in-table q b k);
+  high = λ q b h k. stored-other 0 0 0 (replicate codeCount 3) q b (λ e. omega (arith, e, h)) ∙ getD-replicate codeCount (codeAt q b) 3 0 (in-table q b k);
 }
   where
-    in-table : (q : ℕ) (b : Bool) → q ≤ paper .numbers → codeAt q b < 256
+    in-table : (q : ℕ) (b : Bool) → q ≤ paper .numbers → codeAt q b < codeCount
     in-table q true k = omega (arith, k)
     in-table q false k = omega (arith, k)
 
-    zero-at : (q : ℕ) (b : Bool) → q ≤ 0 → getD (set (set (replicate 256 3) (codeAt 0 false) 0) (codeAt 0 true) 0) (codeAt q b) 0 ≡ quantifierCode (quantifierAt D q)
+    zero-at : (q : ℕ) (b : Bool) → q ≤ 0 → getD (set (set (replicate codeCount 3) (codeAt 0 false) 0) (codeAt 0 true) 0) (codeAt q b) 0 ≡ quantifierCode (quantifierAt D q)
     zero-at zero true h = refl
     zero-at zero false h = refl
     zero-at (suc q) b h = absurd (omega (arith, h))

@@ -5,8 +5,11 @@ use mathlib.Core.Bool.{Bool}
 use mathlib.Core.List.{List}
 use lib.ListN.{length, getD}
 use Rattle.tables.specs.Views.{indexOf}
-use Rattle.tables.specs.Shelves.{codeCount}
+
+-- above every number of two bytes
+abbrev pub noCode : ℕ
+noCode = 65536
 
 pub record FirstWith (f : ℕ → Bool) (cs : List ℕ) (r : ℕ) : Type 0 where
-  pub found : r < codeCount → (indexOf f cs < length cs) × (r ≡ getD cs (indexOf f cs) 0)
-  pub none : codeCount ≤ r → indexOf f cs ≡ length cs
+  pub found : r < noCode → (indexOf f cs < length cs) × (r ≡ getD cs (indexOf f cs) 0)
+  pub none : noCode ≤ r → indexOf f cs ≡ length cs

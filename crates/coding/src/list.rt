@@ -7,11 +7,11 @@ ghost use Rattle.qbf.specs.Formula.{Quantifier, Prefix};
 ghost use Rattle.qbf.specs.Learning.{Constraint, dropped, reduce};
 ghost use Rattle.tables.specs.Views.{quantifierCode};
 ghost use Rattle.tables.specs.Codes.{lastCode, codes, Quantified};
-ghost use Rattle.tables.specs.Shelves.{codeCount};
-ghost use Rattle.coding.specs.First.{FirstWith};
+ghost use Rattle.coding.specs.First.{noCode, FirstWith};
+use crate::code::cell;
 
 // The last of the first n codes; 0 where there is none.
-pub fn last_code<'a>(cells: &'a [u8], n: usize) -> u8
+pub fn last_code<'a>(cells: &'a [u16], n: usize) -> u16
     requires { ⌜ n ≤ length (now cells) ⌝ }
     ensures { λ r. ⌜ r ≡ lastCode (take n (now (cells .entry))) ⌝ }
 {
@@ -21,25 +21,32 @@ pub fn last_code<'a>(cells: &'a [u8], n: usize) -> u8
     cells[n - 1]
 }
 
-// No code: codes are bytes.
-pub const NO_CODE: u16 = tables::CODES as u16;
+// No code: codes have two bytes.
+pub const NO_CODE: u32 = 65536;
 
 // A byte in a wider number, where more than bytes are to be told apart.
 pub fn wide(byte: u8) -> u16
-    ensures { λ r. ⌜ (r ≡ byte) × (r < codeCount) ⌝ }
+    ensures { λ r. ⌜ (r ≡ byte) × (r < 256) ⌝ }
 {
     byte as u16
 }
 
+// A code in a wider number, where more than codes are to be told apart.
+pub fn wide_code(code: u16) -> u32
+    ensures { λ r. ⌜ (r ≡ code) × (r < noCode) ⌝ }
+{
+    code as u32
+}
+
 // The first code that has a status, or NO_CODE.
-pub fn first_with<'a>(cells: &'a [u8], statuses: &'a [u8; tables::CODES], want: u8) -> u16
+pub fn first_with<'a>(cells: &'a [u16], statuses: &'a [u8; tables::CODES], want: u8) -> u32
     ensures { λ r. ⌜ FirstWith (λ c. eqb (getD (now (statuses .entry)) c 0) want) (now (cells .entry)) r ⌝ }
 {
     let mut i: usize = 0;
     while i < cells.len() {
         let code = cells[i];
-        if statuses[code as usize] == want {
-            return wide(code);
+        if cell(statuses, code) == want {
+            return wide_code(code);
         }
         i += 1;
     }
@@ -59,7 +66,7 @@ fn drops(kind: u8, cube: bool) -> bool
 
 // How many of the first n codes are left under reduction.
 pub fn reduced_first<'a>(
-    cells: &'a [u8],
+    cells: &'a [u16],
     n: usize,
     quantifiers: &'a [u8; tables::CODES],
     cube: bool,
@@ -76,7 +83,7 @@ pub fn reduced_first<'a>(
     let mut left = n;
     while 0 < left {
         let last = cells[left - 1];
-        if !drops(quantifiers[last as usize], cube) {
+        if !drops(cell(quantifiers, last), cube) {
             return left;
         }
         left -= 1;
@@ -85,7 +92,7 @@ pub fn reduced_first<'a>(
 }
 
 // The codes become the first cells.
-pub fn write<'a>(cells: &mut [u8], row: &'a [u8])
+pub fn write<'a>(cells: &mut [u16], row: &'a [u16])
     requires { ⌜ length (now row) ≤ length (now cells) ⌝ }
     ensures { λ _. ⌜
         (length (now (cells .exit)) ≡ length (now (cells .entry)))

@@ -13,12 +13,11 @@ use borrow.Author.Tests.{eq-eqb, ne-eqb, le-ltb, lt-ltb}
 use Rattle.qbf.specs.Formula.{Clause, Node, Prefix, all, has, satisfied}
 use Rattle.tables.specs.Codes.{codeOf, codes, Statuses}
 use Rattle.tables.specs.Views.{indexOf}
-use Rattle.tables.specs.Shelves.{codeCount}
 use Rattle.tables.specs.Matrices.{MatrixShown, clauseAt, countOf}
 use Rattle.tables.specs.Marks.{codeFound, firstCode, Passed}
 use Rattle.tables.proofs.Lists.{all-fails, any-index, first-at}
 use Rattle.tables.proofs.Listed.{listed-length, listed-at}
-use Rattle.coding.specs.First.{FirstWith}
+use Rattle.coding.specs.First.{noCode, FirstWith}
 use Rattle.coding.proofs.Given.{has-status}
 use Rattle.coding.proofs.Ends.{getD-image}
 use Rattle.inner.proofs.Marking.{all-append}
@@ -101,7 +100,7 @@ module _ {cells links statuses : List ℕ} {passed : ℕ} {firsts : List ℕ} {k
       here = omega (arith, clause-count matrix)
 
     -- clause k is not satisfied
-    pub reached-stop : codeCount ≤ code → Settled cells links statuses passed firsts k after
+    pub reached-stop : noCode ≤ code → Settled cells links statuses passed firsts k after
     reached-stop z D R s matrix shown m =
         let within : k < length R = here D R s matrix shown in (
           g .is D R s matrix shown m,
@@ -111,7 +110,7 @@ module _ {cells links statuses : List ℕ} {passed : ℕ} {firsts : List ℕ} {k
         )
 
     -- clause k is satisfied
-    pub reached-more : code < codeCount → k < length after → {next : List ℕ} → next ≡ set after k code → Reached cells links statuses passed firsts (k + 1) next
+    pub reached-more : code < noCode → k < length after → {next : List ℕ} → next ≡ set after k code → Reached cells links statuses passed firsts (k + 1) next
     reached-more z room {next} put =
         record {
           grown = omega (arith, g .grown);

@@ -14,7 +14,7 @@ ghost use Rattle.tables.specs.Codes.{codeAt, codes, Statuses, Quantified};
 ghost use Rattle.tables.specs.Marks.{markedFrom, Marked, Passed};
 
 // The code of the true literal of a place that has a value.
-fn true_at<'a>(statuses: &'a [u8; tables::CODES], place: usize) -> u8
+fn true_at<'a>(statuses: &'a [u8; tables::CODES], place: usize) -> u16
     requires { ⌜ place ≤ paper .numbers ⌝ }
     ensures { λ r. ⌜
         ((s : Node) (b : Bool) → Statuses s (now (statuses .entry)) → valueAt s place ≡ some b → r ≡ codeAt place b)
@@ -22,13 +22,13 @@ fn true_at<'a>(statuses: &'a [u8; tables::CODES], place: usize) -> u8
 {
     let code = place * 2 + 1;
     if statuses[code] == tables::ON {
-        return code as u8;
+        return code as u16;
     }
-    (place * 2) as u8
+    (place * 2) as u16
 }
 
 // Puts a code behind the first n where its place is marked.
-fn put_marked(up: &mut [u8], n: usize, mark: u8, code: u8) -> usize
+fn put_marked(up: &mut [u16], n: usize, mark: u8, code: u16) -> usize
     requires { ⌜ n < length (now up) ⌝ }
     ensures { λ r. ⌜
         (r ≤ n + 1)
@@ -47,7 +47,7 @@ fn marked_codes<'a>(
     marks: &'a [u8; tables::BY_NUMBER],
     statuses: &'a [u8; tables::CODES],
     at: usize,
-    up: &mut [u8; tables::AREA],
+    up: &mut [u16; tables::AREA],
 ) -> usize
     requires { ⌜ at ≤ paper .numbers ⌝ }
     ensures { λ r. ⌜
@@ -69,7 +69,7 @@ fn marked_codes<'a>(
 }
 
 // Marks the place of a code.
-fn mark(marked: &mut [u8; tables::BY_NUMBER], code: u8)
+fn mark(marked: &mut [u8; tables::BY_NUMBER], code: u16)
     ensures { λ _. ⌜
         (now (marked .exit) ≡ set (now (marked .entry)) (code / 2) 1)
         × (suc (paper .numbers) ≤ length (now (marked .entry)))
@@ -83,7 +83,7 @@ fn mark(marked: &mut [u8; tables::BY_NUMBER], code: u8)
 }
 
 // The places of the first true literals of as many clauses.
-fn marks_of<'a>(firsts: &'a [u8; tables::CLAUSES], count: usize) -> [u8; tables::BY_NUMBER]
+fn marks_of<'a>(firsts: &'a [u16; tables::CLAUSES], count: usize) -> [u8; tables::BY_NUMBER]
     requires { ⌜ count ≤ paper .clauses ⌝ }
     ensures { λ r. ⌜
         ((D : Prefix) (R : List Clause) (s : Node)
@@ -104,12 +104,12 @@ fn marks_of<'a>(firsts: &'a [u8; tables::CLAUSES], count: usize) -> [u8; tables:
 
 // The cube of a node that satisfies every clause, in the first cells of the area.
 pub fn cube<'a>(
-    firsts: &'a [u8; tables::CLAUSES],
+    firsts: &'a [u16; tables::CLAUSES],
     count: usize,
     statuses: &'a [u8; tables::CODES],
     quantifiers: &'a [u8; tables::CODES],
     at: usize,
-    up: &mut [u8; tables::AREA],
+    up: &mut [u16; tables::AREA],
 ) -> usize
     requires { ⌜ (at ≤ paper .numbers) × (count ≤ paper .clauses) ⌝ }
     ensures { λ r. ⌜

@@ -3,35 +3,36 @@
 use crate::found::Found;
 use crate::found::code_here;
 use crate::found::copy;
+use coding::code::cell;
 ghost use mathlib.Core.Path.{_≡_};
 ghost use mathlib.Core.Bool.{false};
 ghost use mathlib.Core.List.{List, map};
-ghost use Prim.Native.Nat.{_≤_};
+ghost use Prim.Native.Nat.{_≤_, _<_};
 ghost use lib.Dec.{eqb};
 ghost use lib.ListN.{length};
 ghost use Rattle.qbf.specs.Formula.{paper, Prefix, Clause, Node};
 ghost use Rattle.qbf.specs.Learning.{reduce, eligibleMatch};
 ghost use Rattle.tables.specs.Codes.{codes, Statuses};
-ghost use Rattle.tables.specs.Shelves.{firstMatch};
+ghost use Rattle.tables.specs.Shelves.{codeCount, firstMatch};
 ghost use Rattle.tables.specs.Matrices.{Matrix, countOf, dyingRows, numbered};
 ghost use Rattle.inner.specs.Inner.{FoundCoded, foundLength};
 
 // The number of the first clause that ends in the code and all of whose literals are false, under universal reduction; 0 where none is. A
 // literal that is not false leaves its clause by the label.
 fn first_dying<'a>(
-    clauses: &'a [u8; tables::CLAUSE_ROWS],
+    clauses: &'a [u16; tables::CLAUSE_ROWS],
     links: &'a [u16; tables::CLAUSE_LINKS],
-    code: u8,
+    code: u16,
     statuses: &'a [u8; tables::CODES],
 ) -> usize
-    requires { ⌜ Matrix (now clauses) (now links) ⌝ }
+    requires { ⌜ Matrix (now clauses) (now links) × (code < codeCount) ⌝ }
     ensures within { λ r. ⌜ r ≤ countOf (now (links .entry)) ⌝ }
     ensures first { λ r. ⌜
         numbered (now (clauses .entry)) r
         ≡ firstMatch code (now (statuses .entry)) 1 (dyingRows (now (clauses .entry)) (now (links .entry)))
         ⌝ }
 {
-    let cells: &[u8] = clauses;
+    let cells: &[u16] = clauses;
     let mut number = links[code as usize] as usize;
     'clauses: while 0 < number {
         let from = (number - 1) * tables::CLAUSE_ROW;
@@ -39,7 +40,7 @@ fn first_dying<'a>(
         let mut i: usize = 0;
         while i < size {
             let lit = cells[from + 2 + i];
-            if statuses[lit as usize] != tables::OFF {
+            if cell(statuses, lit) != tables::OFF {
                 number = links[tables::CODES + number] as usize;
                 continue 'clauses;
             }
@@ -52,11 +53,11 @@ fn first_dying<'a>(
 
 // The clause that dies at an inner node, under universal reduction, in the first cells of the area.
 pub fn dead<'a>(
-    clauses: &'a [u8; tables::CLAUSE_ROWS],
+    clauses: &'a [u16; tables::CLAUSE_ROWS],
     links: &'a [u16; tables::CLAUSE_LINKS],
     statuses: &'a [u8; tables::CODES],
     at: usize,
-    up: &mut [u8; tables::AREA],
+    up: &mut [u16; tables::AREA],
 ) -> Found
     requires { ⌜ Matrix (now clauses) (now links) × (at ≤ paper .numbers) ⌝ }
     ensures { λ r. ⌜ foundLength r ≤ paper .numbers ⌝ }
@@ -76,7 +77,7 @@ pub fn dead<'a>(
     }
     let from = (number - 1) * tables::CLAUSE_ROW;
     let size = clauses[from] as usize;
-    let cells: &[u8] = clauses;
+    let cells: &[u16] = clauses;
     let row = &cells[from + 2..from + 2 + size];
     copy(up, row);
     Found::At(row.len())

@@ -13,7 +13,7 @@ ghost use lib.Dec.{eqb};
 ghost use Rattle.qbf.specs.Formula.{paper, Prefix, Node, valueAt};
 ghost use Rattle.qbf.specs.Learning.{Constraint, eligibleMatch};
 ghost use Rattle.tables.specs.Codes.{codeAt, codes, wanted, Statuses};
-ghost use Rattle.tables.specs.Shelves.{Shelf, shelfRows};
+ghost use Rattle.tables.specs.Shelves.{codeCount, Shelf, shelfRows};
 ghost use Rattle.inner.specs.Inner.{FoundCoded, foundLength};
 
 // The length of a constraint in the area, or none.
@@ -23,10 +23,11 @@ pub enum Found {
 }
 
 // The code of the literal of the place `at` that has the truth value `holds`.
-pub fn code_here<'a>(statuses: &'a [u8; tables::CODES], at: usize, holds: bool) -> u8
+pub fn code_here<'a>(statuses: &'a [u8; tables::CODES], at: usize, holds: bool) -> u16
     requires { ⌜ at ≤ paper .numbers ⌝ }
     ensures { λ r. ⌜
-        ((s : Node) (b : Bool)
+        (r < codeCount)
+        × ((s : Node) (b : Bool)
         → Statuses s (now (statuses .entry))
         → valueAt s at ≡ some b
         → r ≡ codeAt at (Bool·beq b holds))
@@ -34,9 +35,9 @@ pub fn code_here<'a>(statuses: &'a [u8; tables::CODES], at: usize, holds: bool) 
 {
     let is_on = statuses[at * 2 + 1] == tables::ON;
     if is_on == holds {
-        return (at * 2 + 1) as u8;
+        return (at * 2 + 1) as u16;
     }
-    (at * 2) as u8
+    (at * 2) as u16
 }
 
 // The status of a literal that holds in a cube, or fails in a clause.
@@ -47,7 +48,7 @@ fn wanted(cube: bool) -> u8
 }
 
 // The row becomes the first cells of the area.
-pub fn copy(up: &mut [u8; tables::AREA], row: &[u8])
+pub fn copy(up: &mut [u16; tables::AREA], row: &[u16])
     requires { ⌜ length (now row) ≤ paper .numbers ⌝ }
     ensures { λ _. ⌜ take (length (now (row .entry))) (now (up .exit)) ≡ now (row .entry) ⌝ }
 {
@@ -56,14 +57,14 @@ pub fn copy(up: &mut [u8; tables::AREA], row: &[u8])
 
 // The oldest of the constraints on a shelf that is eligible at an inner node and whose literals all have the truth value asked for.
 pub fn lookup<'a>(
-    cells: &'a [u8],
+    cells: &'a [u16],
     links: &'a [u64],
     stride: usize,
     slots: usize,
     statuses: &'a [u8; tables::CODES],
     at: usize,
     cube: bool,
-    up: &mut [u8; tables::AREA],
+    up: &mut [u16; tables::AREA],
 ) -> Found
     requires { ⌜
         Shelf stride slots (now cells) (now links)

@@ -38,12 +38,12 @@ pub struct Step {
 
 // Steps 1 and 2: the clause that dies at the node, or the learned clause that is false there.
 fn conflict<'a>(
-    clauses: &'a [u8; tables::CLAUSE_ROWS],
+    clauses: &'a [u16; tables::CLAUSE_ROWS],
     links: &'a [u16; tables::CLAUSE_LINKS],
-    learned: &'a [u8; tables::CONSTRAINT_CODES],
+    learned: &'a [u16; tables::CONSTRAINT_CODES],
     learned_links: &'a [u64; tables::CONSTRAINT_LINKS],
     statuses: &'a [u8; tables::CODES],
-    up: &mut [u8; tables::AREA],
+    up: &mut [u16; tables::AREA],
     at: usize,
 ) -> Found
     requires { ⌜ Matrix (now clauses) (now links) × Entries (now learned) (now «learned_links») × (at ≤ paper .numbers) ⌝ }
@@ -87,9 +87,9 @@ fn step_of(leaf: Leaf, satisfied: usize) -> Step
 // Step 4: the oldest eligible cube that is true.
 fn stored_cube<'a>(
     statuses: &'a [u8; tables::CODES],
-    cubes: &'a [u8; tables::CONSTRAINT_CODES],
+    cubes: &'a [u16; tables::CONSTRAINT_CODES],
     cube_links: &'a [u64; tables::CONSTRAINT_LINKS],
-    up: &mut [u8; tables::AREA],
+    up: &mut [u16; tables::AREA],
     at: usize,
 ) -> Leaf
     requires { ⌜ Entries (now cubes) (now «cube_links») × (at ≤ paper .numbers) ⌝ }
@@ -123,12 +123,12 @@ fn stored_cube<'a>(
 fn solution<'a>(
     reached: usize,
     count: usize,
-    firsts: &'a [u8; tables::CLAUSES],
+    firsts: &'a [u16; tables::CLAUSES],
     quantifiers: &'a [u8; tables::CODES],
     statuses: &'a [u8; tables::CODES],
-    cubes: &'a [u8; tables::CONSTRAINT_CODES],
+    cubes: &'a [u16; tables::CONSTRAINT_CODES],
     cube_links: &'a [u64; tables::CONSTRAINT_LINKS],
-    up: &mut [u8; tables::AREA],
+    up: &mut [u16; tables::AREA],
     at: usize,
 ) -> Leaf
     requires { ⌜ Entries (now cubes) (now «cube_links») × (at ≤ paper .numbers) × (count ≤ paper .clauses) ⌝ }
@@ -156,16 +156,16 @@ fn solution<'a>(
 
 // The four steps in order, at a node that is not the start; at a start node they have been taken and leave it open.
 pub fn conclude<'a>(
-    clauses: &'a [u8; tables::CLAUSE_ROWS],
+    clauses: &'a [u16; tables::CLAUSE_ROWS],
     links: &'a [u16; tables::CLAUSE_LINKS],
     quantifiers: &'a [u8; tables::CODES],
     statuses: &'a [u8; tables::CODES],
-    learned: &'a [u8; tables::CONSTRAINT_CODES],
+    learned: &'a [u16; tables::CONSTRAINT_CODES],
     learned_links: &'a [u64; tables::CONSTRAINT_LINKS],
-    cubes: &'a [u8; tables::CONSTRAINT_CODES],
+    cubes: &'a [u16; tables::CONSTRAINT_CODES],
     cube_links: &'a [u64; tables::CONSTRAINT_LINKS],
-    up: &mut [u8; tables::AREA],
-    firsts: &mut [u8; tables::CLAUSES],
+    up: &mut [u16; tables::AREA],
+    firsts: &mut [u16; tables::CLAUSES],
     at: usize,
     satisfied: usize,
     start: bool,

@@ -15,36 +15,36 @@ ghost use Rattle.coding.specs.First.{FirstWith};
 
 // The code of the first true literal of clause k, or NO_CODE.
 fn true_code<'a>(
-    clauses: &'a [u8; tables::CLAUSE_ROWS],
+    clauses: &'a [u16; tables::CLAUSE_ROWS],
     links: &'a [u16; tables::CLAUSE_LINKS],
     statuses: &'a [u8; tables::CODES],
     k: usize,
-) -> u16
+) -> u32
     requires { ⌜ Matrix (now clauses) (now links) × (k < countOf (now links)) ⌝ }
     ensures { λ r. ⌜ FirstWith (λ c. eqb (getD (now (statuses .entry)) c 0) 2) (clauseAt (now (clauses .entry)) k) r ⌝ }
 {
-    let cells: &[u8] = clauses;
+    let cells: &[u16] = clauses;
     let from = k * tables::CLAUSE_ROW + 2;
     let size = clauses[from - 1] as usize;
     first_with(&cells[from..from + size], statuses, tables::ON)
 }
 
 // Notes the code of clause k's first true literal.
-fn note(firsts: &mut [u8; tables::CLAUSES], k: usize, code: u8)
+fn note(firsts: &mut [u16; tables::CLAUSES], k: usize, code: u16)
     requires { ⌜ k < paper .clauses ⌝ }
     ensures { λ _. ⌜ (now (firsts .exit) ≡ set (now (firsts .entry)) k code) × (paper .clauses ≤ length (now (firsts .entry))) ⌝ }
 {
-    let cells: &mut [u8] = firsts;
+    let cells: &mut [u16] = firsts;
     cells[k] = code;
 }
 
 // Goes on with the clause after those that the test has passed, up to the first that is not satisfied; how many are passed then.
 pub fn advance<'a>(
-    clauses: &'a [u8; tables::CLAUSE_ROWS],
+    clauses: &'a [u16; tables::CLAUSE_ROWS],
     links: &'a [u16; tables::CLAUSE_LINKS],
     statuses: &'a [u8; tables::CODES],
     passed: usize,
-    firsts: &mut [u8; tables::CLAUSES],
+    firsts: &mut [u16; tables::CLAUSES],
 ) -> usize
     requires { ⌜ Matrix (now clauses) (now links) ⌝ }
     ensures { λ r. ⌜ (passed ≤ r) × (take passed (now (firsts .exit)) ≡ take passed (now (firsts .entry))) ⌝ }
@@ -63,7 +63,7 @@ pub fn advance<'a>(
         if NO_CODE <= code {
             return reached;
         }
-        note(firsts, reached, code as u8);
+        note(firsts, reached, code as u16);
         reached += 1;
     }
     reached

@@ -15,7 +15,8 @@ use Rattle.qbf.specs.Formula.{paper, Prefix}
 use Rattle.qbf.specs.Learning.{Constraint, reduce}
 use Rattle.tables.specs.Views.{Places, row}
 use Rattle.tables.specs.Formed.{Clauses}
-use Rattle.tables.specs.Codes.{codes, Quantified}
+use Rattle.tables.specs.Codes.{codes, lastCode, Quantified}
+use Rattle.tables.specs.Shelves.{codeCount}
 use Rattle.tables.specs.Matrices.{clauseRow, reducedAt, dyingAt}
 use Rattle.loading.specs.Coded.{Coded}
 use Rattle.loading.proofs.Rows.{part-kept, put-part}
@@ -31,14 +32,17 @@ module _ (lits : List ℤ) (places quantifiers t : List ℕ) (at left : ℕ) whe
   final-codes : drop (suc (suc at)) final ≡ drop (suc (suc at)) t
   final-codes = drop-set-lt (suc (suc at)) (set t at left) (suc at) (length lits) (omega arith) ∙ drop-set-lt (suc (suc at)) t at left (omega arith)
 
-  lengths-written : at + 2 + length lits ≤ length t → left ≤ length lits
+  lengths-written : at + 2 + length lits ≤ length t → left ≤ length lits → lastCode (take left (drop (suc (suc at)) t)) < codeCount
       → ((D : Prefix) → Places D places → length D ≤ paper .numbers → take (length lits) (drop (suc (suc at)) t) ≡ codes D lits)
       → ((D : Prefix) (e : Constraint) → Quantified D quantifiers → take (length lits) (drop (suc (suc at)) t) ≡ codes D e
       → take left (drop (suc (suc at)) t) ≡ codes D (reduce D false e))
       → Coded lits places quantifiers at final
-  lengths-written within less whole reduced = record {
+  lengths-written within less low whole reduced = record {
     size = getD-set-same (set t at left) (suc at) (length lits) 0 (omega (arith, length-set t at left));
     less = omega (arith, final-left within);
+    low =
+        subst (λ (cs : List ℕ). lastCode cs < codeCount)
+        (sym (ap (λ (n : ℕ). take n (drop (suc (suc at)) final)) (final-left within) ∙ ap (take left) final-codes)) low;
     whole = λ D p few. ap (take (length lits)) final-codes ∙ whole D p few;
     reduced = λ D p q few.
         ap (λ (n : ℕ). take n (drop (suc (suc at)) final)) (final-left within)
@@ -64,7 +68,7 @@ module _ (lits : List ℤ) (places quantifiers xs ys : List ℕ) (at left : ℕ)
       ∙ ap (take at) (take-put (at + 2) (length xs - (at + 2)) xs ys (omega arith))
       ∙ take-take at (at + 2) xs (omega arith)
 
-  pub row-written : left ≤ length lits
+  pub row-written : left ≤ length lits → lastCode (take left ys) < codeCount
       → ((D : Prefix) → Places D places → length D ≤ paper .numbers → take (length lits) ys ≡ codes D lits)
       → (m : ℕ) → length lits ≤ m
       → ((D : Prefix) (e : Constraint) → Quantified D quantifiers → take (length lits) (take m (drop (at + 2) t)) ≡ codes D e
@@ -72,12 +76,17 @@ module _ (lits : List ℤ) (places quantifiers xs ys : List ℕ) (at left : ℕ)
       → (length (set (set t at left) (at + 1) (length lits)) ≡ length xs)
       × (take at (set (set t at left) (at + 1) (length lits)) ≡ take at xs)
       × Coded lits places quantifiers at (set (set t at left) (at + 1) (length lits))
-  row-written less whole m low reduced =
+  row-written less small whole m low reduced =
       let long : length lits ≤ length ys = omega (arith, kept, mid-len (at + 2) (length xs) xs (le-refl (length xs))) in (
         length-set (set t at left) (at + 1) (length lits) ∙ length-set t at left ∙ t-long,
         row-before,
         subst (λ (b : ℕ). Coded lits places quantifiers at (set (set t at left) b (length lits))) (sym (add-one at))
             (lengths-written lits places quantifiers t at left (omega (arith, t-long)) less
+            (subst (λ (cs : List ℕ). lastCode cs < codeCount)
+            (sym
+            (ap (λ (b : ℕ). take left (drop b t)) (sym (add-two at))
+            ∙ put-part (at + 2) (length xs - (at + 2)) left xs ys (omega arith) (omega arith)))
+            small)
             (λ D p few.
             ap (λ (b : ℕ). take (length lits) (drop b t)) (sym (add-two at))
             ∙ put-part (at + 2) (length xs - (at + 2)) (length lits) xs ys (omega arith) long
@@ -97,6 +106,12 @@ pub coded-kept : {lits : List ℤ} {places quantifiers cells : List ℕ} {at : �
 coded-kept {lits} {places} {quantifiers} {cells} {at} c m cells′ within e = record {
   size = cell (suc at) (omega arith) ∙ c .size;
   less = omega (arith, left, c .less);
+  low =
+      subst (λ (cs : List ℕ). lastCode cs < codeCount)
+      (sym
+      (ap (λ (n : ℕ). take n (drop (suc (suc at)) cells′)) left
+      ∙ part-kept (suc (suc at)) (getD cells at 0) m cells cells′ (omega (arith, c .less)) e))
+      (c .low);
   whole = λ D p few. part-kept (suc (suc at)) (length lits) m cells cells′ (omega arith) e ∙ c .whole D p few;
   reduced = λ D p q few.
       ap (λ (n : ℕ). take n (drop (suc (suc at)) cells′)) left

@@ -16,6 +16,7 @@ use Rattle.tables.specs.Matrices.{dyingAt, listed, countOf, nextOf, numberFrom}
 pub record Coded (lits : List ℤ) (places quantifiers : List ℕ) (at : ℕ) (cells : List ℕ) : Type 0 where
   pub size : getD cells (suc at) 0 ≡ length lits
   pub less : getD cells at 0 ≤ length lits
+  pub low : lastCode (take (getD cells at 0) (drop (suc (suc at)) cells)) < codeCount
   pub whole : (D : Prefix) → Places D places → length D ≤ paper .numbers → take (length lits) (drop (suc (suc at)) cells) ≡ codes D lits
   pub reduced : (D : Prefix) → Places D places → Quantified D quantifiers → length D ≤ paper .numbers
       → take (getD cells at 0) (drop (suc (suc at)) cells) ≡ codes D (reduce D false lits)

@@ -15,7 +15,7 @@ ghost use Rattle.loading.specs.Coded.{Coded, Linked};
 
 // A clause's row, from a cell on; the cells before it stay.
 fn code_row<'a>(
-    rows: &mut [u8],
+    rows: &mut [u16],
     at: usize,
     lits: &'a [i16],
     places: &'a [u16; tables::BY_NUMBER],
@@ -31,8 +31,8 @@ fn code_row<'a>(
     let len = lits.len();
     encode(&mut rows[at + 2..], lits, places);
     let left = reduced_first(&rows[at + 2..], len, quantifiers, false);
-    rows[at] = left as u8;
-    rows[at + 1] = len as u8;
+    rows[at] = left as u16;
+    rows[at + 1] = len as u16;
 }
 
 // Clause k in row k; the rows before it stay.
@@ -41,7 +41,7 @@ fn code_clause<'a>(
     sizes: &'a [u16; tables::CLAUSE_SIZES],
     places: &'a [u16; tables::BY_NUMBER],
     quantifiers: &'a [u8; tables::CODES],
-    rows: &mut [u8],
+    rows: &mut [u16],
     k: usize,
 )
     requires { ⌜
@@ -78,7 +78,7 @@ fn code_clauses<'a>(
     sizes: &'a [u16; tables::CLAUSE_SIZES],
     places: &'a [u16; tables::BY_NUMBER],
     quantifiers: &'a [u8; tables::CODES],
-    rows: &mut [u8],
+    rows: &mut [u16],
 )
     requires { ⌜ Clauses (now clauses) (now sizes) × (length (now rows) ≡ paper .clauses * clauseRow) ⌝ }
     ensures { λ _. ⌜
@@ -102,7 +102,7 @@ fn code_clauses<'a>(
 }
 
 // The last code of clause k under universal reduction; 0 where none is left.
-fn last_left<'a>(rows: &'a [u8], k: usize) -> u8
+fn last_left<'a>(rows: &'a [u16], k: usize) -> u16
     requires { ⌜
         (length (now rows) ≡ paper .clauses * clauseRow)
         × (k < paper .clauses)
@@ -116,8 +116,8 @@ fn last_left<'a>(rows: &'a [u8], k: usize) -> u8
 }
 
 // Clause k is the first that ends in its last code; the one that was is the next.
-fn link(links: &mut [u16], code: u8, k: usize)
-    requires { ⌜ (length (now links) ≡ suc codeCount + paper .clauses) × (k < paper .clauses) ⌝ }
+fn link(links: &mut [u16], code: u16, k: usize)
+    requires { ⌜ (length (now links) ≡ suc codeCount + paper .clauses) × (k < paper .clauses) × (code < codeCount) ⌝ }
     ensures { λ _. ⌜
         now (links .exit)
         ≡ set (set (now (links .entry)) (suc codeCount + k) (getD (now (links .entry)) code 0)) code (suc k)
@@ -130,11 +130,12 @@ fn link(links: &mut [u16], code: u8, k: usize)
 }
 
 // The clauses are linked from the last to the first, so that of each code the first is found first.
-fn link_clauses<'a>(rows: &'a [u8], count: usize, links: &mut [u16])
+fn link_clauses<'a>(rows: &'a [u16], count: usize, links: &mut [u16])
     requires { ⌜
         (length (now rows) ≡ paper .clauses * clauseRow)
         × (count ≤ paper .clauses)
         × ((k : ℕ) → k < count → reducedAt (now rows) k ≤ paper .literals)
+        × ((k : ℕ) → k < count → lastCode (dyingAt (now rows) k) < codeCount)
         × (length (now links) ≡ suc codeCount + paper .clauses)
         × ((c : ℕ) → c < codeCount → getD (now links) c 0 ≡ 0)
         ⌝ }
@@ -155,7 +156,7 @@ pub fn load_clauses<'a>(
     sizes: &'a [u16; tables::CLAUSE_SIZES],
     places: &'a [u16; tables::BY_NUMBER],
     quantifiers: &'a [u8; tables::CODES],
-    rows: &mut [u8; tables::CLAUSE_ROWS],
+    rows: &mut [u16; tables::CLAUSE_ROWS],
     links: &mut [u16; tables::CLAUSE_LINKS],
 )
     requires { ⌜

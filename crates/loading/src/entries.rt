@@ -23,7 +23,7 @@ fn load_row<'a>(
     store: &'a [i16; tables::CONSTRAINT_CELLS],
     sizes: &'a [u16; tables::CONSTRAINT_SIZES],
     places: &'a [u16; tables::BY_NUMBER],
-    cells: &mut [u8; tables::CONSTRAINT_CODES],
+    cells: &mut [u16; tables::CONSTRAINT_CODES],
     links: &mut [u64; tables::CONSTRAINT_LINKS],
     k: usize,
 )
@@ -49,7 +49,7 @@ fn load_row<'a>(
     let from = k * tables::NUMBERS;
     let len = sizes[k + 1] as usize;
     let flat: &[i16] = store;
-    let mut row = [0u8; tables::NUMBERS];
+    let mut row = [0u16; tables::NUMBERS];
     encode(&mut row, &flat[from..from + len], places);
     push(
         cells,
@@ -65,7 +65,7 @@ pub fn load<'a>(
     store: &'a [i16; tables::CONSTRAINT_CELLS],
     sizes: &'a [u16; tables::CONSTRAINT_SIZES],
     places: &'a [u16; tables::BY_NUMBER],
-    cells: &mut [u8; tables::CONSTRAINT_CODES],
+    cells: &mut [u16; tables::CONSTRAINT_CODES],
     links: &mut [u64; tables::CONSTRAINT_LINKS],
 )
     requires { ⌜ Constraints (now store) (now sizes) × Entries (now cells) (now links) × (newestOf (now links) ≡ 0) ⌝ }
@@ -116,7 +116,7 @@ fn slot_at(newest: u64, k: usize) -> usize
 }
 
 // The literals of a row's codes, from a cell on; the cells before it stay.
-fn decode<'a>(store: &mut [i16], at: usize, row: &'a [u8], numbers: &'a [u16; tables::BY_NUMBER])
+fn decode<'a>(store: &mut [i16], at: usize, row: &'a [u16], numbers: &'a [u16; tables::BY_NUMBER])
     requires { ⌜ at + length (now row) ≤ length (now store) ⌝ }
     ensures { λ _. ⌜
         (length (now (store .exit)) ≡ length (now (store .entry)))
@@ -138,7 +138,7 @@ fn decode<'a>(store: &mut [i16], at: usize, row: &'a [u8], numbers: &'a [u16; ta
 
 // The row that stands at index k is written into row k of the table; the rows before it stay.
 fn unload_row<'a>(
-    cells: &'a [u8; tables::CONSTRAINT_CODES],
+    cells: &'a [u16; tables::CONSTRAINT_CODES],
     links: &'a [u64; tables::CONSTRAINT_LINKS],
     numbers: &'a [u16; tables::BY_NUMBER],
     store: &mut [i16],
@@ -170,7 +170,7 @@ fn unload_row<'a>(
 
 // The rows one after the other, from the oldest.
 fn unload_rows<'a>(
-    cells: &'a [u8; tables::CONSTRAINT_CODES],
+    cells: &'a [u16; tables::CONSTRAINT_CODES],
     links: &'a [u64; tables::CONSTRAINT_LINKS],
     numbers: &'a [u16; tables::BY_NUMBER],
     store: &mut [i16],
@@ -202,7 +202,7 @@ fn unload_rows<'a>(
 
 // The rows that stand are the table's, from the oldest.
 pub fn unload<'a>(
-    cells: &'a [u8; tables::CONSTRAINT_CODES],
+    cells: &'a [u16; tables::CONSTRAINT_CODES],
     links: &'a [u64; tables::CONSTRAINT_LINKS],
     numbers: &'a [u16; tables::BY_NUMBER],
     store: &mut [i16; tables::CONSTRAINT_CELLS],

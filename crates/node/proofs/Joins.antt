@@ -1,7 +1,7 @@
 -- Joining the constraints of two sides: the resolvent, and what is stored.
-use Prim.Native.Nat.{ℕ, suc, _≤_}
+use Prim.Native.Nat.{ℕ, suc, _≤_, _<_}
 use native.Mathlib.Omega.{arith}
-use mathlib.Core.Path.{_≡_, sym, ap, _∙_}
+use mathlib.Core.Path.{_≡_, sym, ap, subst, _∙_}
 use mathlib.Core.Bool.{Bool, true, false}
 use mathlib.Core.List.{List, map}
 use lib.ListN.{length, take, length-map}
@@ -10,9 +10,11 @@ use lib.Dec.{eqb}
 use Rattle.qbf.specs.Formula.{paper, Prefix}
 use Rattle.qbf.specs.Learning.{Polarity, Constraint, push, mentions, resolvent, lastPlace}
 use Rattle.qbf.specs.Calls.{inOrder}
-use Rattle.tables.specs.Codes.{codeOf, codes}
+use Rattle.tables.specs.Codes.{codeOf, codes, lastCode}
+use Rattle.tables.specs.Shelves.{codeCount}
 use Rattle.theory.proofs.Sets.{mentions-last}
 use Rattle.theory.proofs.WellFormed.{rising→}
+use Rattle.node.specs.Node.{Fits}
 use Rattle.node.specs.Step.{JoinedSides}
 use Rattle.node.proofs.Coded.{map-push}
 
@@ -27,14 +29,17 @@ module _ (D : Prefix) (at : ℕ) (v : Polarity) (e f : Constraint) (ordered : in
   joined-lacking h es k s = record { up = rw (is-named, h) k; stored = rw (is-named, h) s }
 
   -- it does: the resolvent, the first m codes of the area, goes up and is stored
-  module _ (h : b ≡ true) (es : List Constraint) (up : List ℕ) (m : ℕ) (within : m ≤ length up) (made : take m up ≡ codes D (resolvent D (suc at) v e f)) (short : length (resolvent D (suc at) v e f) ≤ paper .numbers) where
+  module _ (h : b ≡ true) (es : List Constraint) (up : List ℕ) (m : ℕ) (within : m ≤ length up) (made : take m up ≡ codes D (resolvent D (suc at) v e f)) (fits : Fits D (resolvent D (suc at) v e f)) where
     -- it has room
     made-short : m ≤ paper .numbers
-    made-short = omega (arith, ap length made, length-map (resolvent D (suc at) v e f) (codeOf D), length-take-le m up within, short)
+    made-short = omega (arith, ap length made, length-map (resolvent D (suc at) v e f) (codeOf D), length-take-le m up within, fits .0)
 
-    pub joined-named : {r : ℕ} {old new : List (List ℕ)} → old ≡ map (codes D) es → (m ≤ paper .numbers → (r ≡ m) × (new ≡ push (paper .constraints) (take m up) old)) → JoinedSides D (suc at) v e f es (take r up) new
+    made-low : lastCode (take m up) < codeCount
+    made-low = subst (λ (cs : List ℕ). lastCode cs < codeCount) (sym made) (fits .1)
+
+    pub joined-named : {r : ℕ} {old new : List (List ℕ)} → old ≡ map (codes D) es → (m ≤ paper .numbers → lastCode (take m up) < codeCount → (r ≡ m) × (new ≡ push (paper .constraints) (take m up) old)) → JoinedSides D (suc at) v e f es (take r up) new
     joined-named {old = old} k s =
-        let g = s made-short in
+        let g = s made-short made-low in
         record {
           up = rw (is-named, h) (ap (λ (n : ℕ). take n up) (g .0) ∙ made);
           stored = rw (is-named, h) (g .1 ∙ ap (λ (x : List ℕ). push (paper .constraints) x old) made ∙ ap (push (paper .constraints) (codes D (resolvent D (suc at) v e f))) k ∙ sym (map-push (codes D) (paper .constraints) (resolvent D (suc at) v e f) es));

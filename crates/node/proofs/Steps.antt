@@ -15,7 +15,7 @@ use Rattle.node.specs.declared.Verdict.{Verdict}
 use Rattle.node.specs.declared.Verdict.the-variants.{Yes, No, Mixed}
 use Rattle.node.specs.declared.Answer.{Answer}
 use Rattle.node.specs.declared.both.Step.the-variants as step
-use Rattle.node.specs.Node.{Reads, Ended, onwardOf, resolventOf, Finished, Joined, Grown}
+use Rattle.node.specs.Node.{Reads, Ended, onwardOf, resolventOf, Fits, Finished, Joined, Grown}
 use Rattle.node.specs.Step.{alone, stepOf, joinedOf, storedOf, JoinedSides, OfSide}
 
 -- ---- the steps differ
@@ -162,7 +162,7 @@ module _ (D : Prefix) (R : List Clause) (κ : Quantifier) (s : Node) (st : Store
   -- ---- the answer r, where both sides have the polarity c
   module _ (c : Polarity) (on : Answer) (both : Same c (on .verdict)) (at : ℕ) (long : length s ≡ at) where
     -- what the two outcomes say of the constraints
-    pub same-short : length (resolventOf D (suc at) a o) ≤ paper .numbers → length (resolvent D (suc at) c (both .first) (both .second)) ≤ paper .numbers
+    pub same-short : Fits D (resolventOf D (suc at) a o) → Fits D (resolvent D (suc at) c (both .first) (both .second))
     same-short short = rw (both .off, both .on) at short
 
     pub off-ended : Ended D (suc at) a → (inOrder D 0 (both .first) ≡ true) × (lastPlace D (both .first) ≤ suc at)

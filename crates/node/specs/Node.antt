@@ -9,8 +9,8 @@ use Rattle.qbf.specs.Formula.{paper, Quantifier, Prefix, Clause, Node, _▹_}
 use Rattle.qbf.specs.Truth.{Outcome, DecidedNode, decided, mixed, decidedNodes, select}
 use Rattle.qbf.specs.Learning.{Constraint, Store, goesUp, afterBoth, resolvent, lastPlace, LearningResult}
 use Rattle.qbf.specs.Calls.{inOrder}
-use Rattle.tables.specs.Codes.{codeAt, codes, Statuses, Quantified}
-use Rattle.tables.specs.Shelves.{StoreShown, newestOf}
+use Rattle.tables.specs.Codes.{codeAt, codes, lastCode, Statuses, Quantified}
+use Rattle.tables.specs.Shelves.{codeCount, StoreShown, newestOf}
 use Rattle.cover.specs.Cover.{Covers}
 use Rattle.node.specs.declared.Verdict.{Verdict}
 use Rattle.node.specs.declared.Verdict.the-variants.{Yes, No, Mixed}
@@ -79,6 +79,10 @@ abbrev pub resolventOf : Prefix → ℕ → Outcome Constraint → Outcome Const
 resolventOf D p (decided b e) (decided c f) = resolvent D p c e f
 resolventOf D p (decided b e) (mixed ds) = []
 resolventOf D p (mixed ds) o = []
+
+-- the constraint has room in a slot, and its last code a link
+abbrev pub Fits : Prefix → Constraint → Type 0
+Fits D e = (length e ≤ paper .numbers) × (lastCode (codes D e) < codeCount)
 
 -- both sides done: the counts are the on side's
 pub record Finished (on r : Answer) : Type 0 where

@@ -1,6 +1,7 @@
 // "Joining unites the two without v, reduces, stores the result and sends it up."
 use super::Answer;
 use super::side::ends_next;
+use coding::list::last_code;
 use coding::list::reduced_first;
 use coding::list::write;
 use coding::union::unite;
@@ -12,12 +13,13 @@ ghost use lib.ListN.{length, take};
 ghost use Rattle.qbf.specs.Formula.{paper, Prefix};
 ghost use Rattle.qbf.specs.Learning.{Constraint, push, without, resolvent, lastPlace};
 ghost use Rattle.qbf.specs.Calls.{inOrder};
-ghost use Rattle.tables.specs.Codes.{codes, Quantified};
-ghost use Rattle.tables.specs.Shelves.{Entries, entriesOf, newestOf};
+ghost use Rattle.tables.specs.Codes.{codes, lastCode, Quantified};
+ghost use Rattle.tables.specs.Shelves.{codeCount, Entries, entriesOf, newestOf};
+ghost use Rattle.node.specs.Node.{Fits};
 ghost use Rattle.node.specs.Step.{JoinedSides, OfSide};
 
 // How many of the first n codes are left without the place after `at`, which can only be the last.
-fn trimmed<'a>(cells: &'a [u8], n: usize, at: usize) -> usize
+fn trimmed<'a>(cells: &'a [u16], n: usize, at: usize) -> usize
     requires { ⌜ (n ≤ length (now cells)) × (at < suc (paper .numbers)) ⌝ }
     ensures { λ r. ⌜
         (r ≤ n)
@@ -36,10 +38,10 @@ fn trimmed<'a>(cells: &'a [u8], n: usize, at: usize) -> usize
 
 // The resolvent of the first n codes put aside and the first `len` of the area, which is made in a second area and written into the first.
 fn resolve_in<'a>(
-    joined: &mut [u8; tables::AREA],
-    up: &mut [u8; tables::AREA],
+    joined: &mut [u16; tables::AREA],
+    up: &mut [u16; tables::AREA],
     len: usize,
-    saved: &'a [u8],
+    saved: &'a [u16],
     n: usize,
     at: usize,
     quantifiers: &'a [u8; tables::CODES],
@@ -67,19 +69,19 @@ fn resolve_in<'a>(
 {
     let a = trimmed(saved, n, at);
     let b = trimmed(up, len, at);
-    let on: &[u8] = up;
+    let on: &[u16] = up;
     let m = unite(joined, &saved[..a], &on[..b]);
     let r = reduced_first(joined, m, quantifiers, cube);
-    let made: &[u8] = joined;
+    let made: &[u16] = joined;
     write(up, &made[..r]);
     r
 }
 
 // The resolvent of the first n codes put aside and the first `len` of the area.
 fn resolve<'a>(
-    up: &mut [u8; tables::AREA],
+    up: &mut [u16; tables::AREA],
     len: usize,
-    saved: &'a [u8],
+    saved: &'a [u16],
     n: usize,
     at: usize,
     quantifiers: &'a [u8; tables::CODES],
@@ -99,16 +101,16 @@ fn resolve<'a>(
         → take r (now (up .exit)) ≡ codes D (resolvent D (suc at) cube e f))
         ⌝ }
 {
-    let mut joined = [0u8; tables::AREA];
+    let mut joined = [0u16; tables::AREA];
     resolve_in(&mut joined, up, len, saved, n, at, quantifiers, cube)
 }
 
-// The first n codes are stored. A constraint has at most one literal of a variable, so that there is always room for them; the test keeps
-// that from being asked of every caller.
+// The first n codes are stored. A constraint has at most one literal of a variable, so that there is always room for them, and its last code
+// has a link; the tests keep that from being asked of every caller.
 fn store_first<'a>(
-    cells: &mut [u8; tables::CONSTRAINT_CODES],
+    cells: &mut [u16; tables::CONSTRAINT_CODES],
     links: &mut [u64; tables::CONSTRAINT_LINKS],
-    row: &'a [u8],
+    row: &'a [u16],
     n: usize,
 ) -> usize
     requires { ⌜ Entries (now cells) (now links) × (n ≤ length (now row)) × (newestOf (now links) < 2 ^ 63) ⌝ }
@@ -117,12 +119,17 @@ fn store_first<'a>(
         × Entries (now (cells .exit)) (now (links .exit))
         × (newestOf (now (links .exit)) ≤ suc (newestOf (now (links .entry))))
         × (n ≤ paper .numbers
+        → lastCode (take n (now (row .entry))) < codeCount
         → (r ≡ n)
         × (entriesOf (now (cells .exit)) (now (links .exit))
         ≡ push (paper .constraints) (take n (now (row .entry))) (entriesOf (now (cells .entry)) (now (links .entry)))))
         ⌝ }
 {
     if tables::NUMBERS < n {
+        return 0;
+    }
+    let last = last_code(row, n) as usize;
+    if tables::CODES <= last {
         return 0;
     }
     shelf::store::push(
@@ -151,13 +158,13 @@ fn with_len(on: Answer, len: usize) -> Answer
 // "the on side's entry goes up if it lacks v, else the two are joined"
 pub fn join<'a>(
     on: Answer,
-    up: &mut [u8; tables::AREA],
-    saved: &'a [u8],
+    up: &mut [u16; tables::AREA],
+    saved: &'a [u16],
     n: usize,
     at: usize,
     quantifiers: &'a [u8; tables::CODES],
     cube: bool,
-    cells: &mut [u8; tables::CONSTRAINT_CODES],
+    cells: &mut [u16; tables::CONSTRAINT_CODES],
     links: &mut [u64; tables::CONSTRAINT_LINKS],
 ) -> Answer
     requires { ⌜
@@ -180,7 +187,7 @@ pub fn join<'a>(
         → inOrder D 0 f ≡ true
         → lastPlace D e ≤ suc at
         → lastPlace D f ≤ suc at
-        → length (resolvent D (suc at) cube e f) ≤ paper .numbers
+        → Fits D (resolvent D (suc at) cube e f)
         → entriesOf (now (cells .entry)) (now (links .entry)) ≡ map (codes D) es
         → JoinedSides
         D

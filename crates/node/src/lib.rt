@@ -14,7 +14,7 @@ ghost use Rattle.tables.specs.Views.{quantifierCode};
 ghost use Rattle.tables.specs.Codes.{Quantified};
 ghost use Rattle.tables.specs.Shelves.{Shelves, StoreShown, newestOf};
 ghost use Rattle.cover.specs.Cover.{Covers};
-ghost use Rattle.node.specs.Node.{isYes, Reads, Ended, Grown, goesUpOf, onwardOf, resolventOf, NextKind, Finished, Joined, LineTask, settledLines, SettledTo};
+ghost use Rattle.node.specs.Node.{isYes, Reads, Ended, Grown, goesUpOf, onwardOf, resolventOf, Fits, NextKind, Finished, Joined, LineTask, settledLines, SettledTo};
 
 mod line; // one line more of the card
 mod side; // what the verdict and the constraint of one side say
@@ -57,7 +57,7 @@ pub fn next_kind<'a>(quantifiers: &'a [u8; tables::CODES], at: usize) -> u16
 }
 
 // Whether the off side's outcome goes up without a further visit.
-pub fn goes_up<'a>(v: Verdict, kind: u16, up: &'a [u8; tables::AREA], n: usize, at: usize) -> bool
+pub fn goes_up<'a>(v: Verdict, kind: u16, up: &'a [u16; tables::AREA], n: usize, at: usize) -> bool
     requires { ⌜ (n ≤ paper .numbers) × (at < suc (paper .numbers)) ⌝ }
     ensures { λ r. ⌜
         ((D : Prefix) (κ : Quantifier) (o : Outcome Constraint)
@@ -77,14 +77,14 @@ pub fn goes_up<'a>(v: Verdict, kind: u16, up: &'a [u8; tables::AREA], n: usize, 
 }
 
 // Puts the off side's constraint aside, so that it survives what is stored while the on side is visited.
-pub fn put_aside<'a>(saved: &mut [u8], up: &'a [u8; tables::AREA], n: usize)
+pub fn put_aside<'a>(saved: &mut [u16], up: &'a [u16; tables::AREA], n: usize)
     requires { ⌜ (n ≤ paper .numbers) × (n ≤ length (now saved)) ⌝ }
     ensures { λ _. ⌜
         (length (now (saved .exit)) ≡ length (now (saved .entry)))
         × (take n (now (saved .exit)) ≡ take n (now (up .entry)))
         ⌝ }
 {
-    let cells: &[u8] = up;
+    let cells: &[u16] = up;
     write(saved, &cells[..n]);
 }
 
@@ -94,11 +94,11 @@ pub fn finish<'a>(
     n: usize,
     on: Answer,
     kind: u16,
-    saved: &'a [u8],
-    up: &mut [u8; tables::AREA],
-    learned: &mut [u8; tables::CONSTRAINT_CODES],
+    saved: &'a [u16],
+    up: &mut [u16; tables::AREA],
+    learned: &mut [u16; tables::CONSTRAINT_CODES],
     learned_links: &mut [u64; tables::CONSTRAINT_LINKS],
-    cubes: &mut [u8; tables::CONSTRAINT_CODES],
+    cubes: &mut [u16; tables::CONSTRAINT_CODES],
     cube_links: &mut [u64; tables::CONSTRAINT_LINKS],
     quantifiers: &'a [u8; tables::CODES],
     at: usize,
@@ -126,7 +126,7 @@ pub fn finish<'a>(
         → Reads D (on .verdict) (take (on .len) (now (up .entry))) o
         → Ended D (suc at) a
         → Ended D (suc at) o
-        → length (resolventOf D (suc at) a o) ≤ paper .numbers
+        → Fits D (resolventOf D (suc at) a o)
         → StoreShown D st (now (learned .entry)) (now («learned_links» .entry)) (now (cubes .entry)) (now («cube_links» .entry))
         → Joined
         D

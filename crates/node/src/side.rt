@@ -46,7 +46,7 @@ pub fn is_enough(v: Verdict, kind: u16) -> bool
 }
 
 // Whether the last of the first n codes is of the place after `at`; then there is one.
-pub fn ends_next<'a>(cells: &'a [u8], n: usize, at: usize) -> bool
+pub fn ends_next<'a>(cells: &'a [u16], n: usize, at: usize) -> bool
     requires { ⌜ (n ≤ length (now cells)) × (at < suc (paper .numbers)) ⌝ }
     ensures { λ r. ⌜
         (r ≡ true → 1 ≤ n)

@@ -7,7 +7,7 @@ use mathlib.Core.Bool.{Bool, true, false, false≢true}
 use mathlib.Core.List.{List, [], _∷_}
 use lib.ListN.{length, drop, length-map}
 use lib.Dec.{eqb}
-use Rattle.qbf.specs.Formula.{paper, Quantifier, exists, forall, free, Prefix, Clause, Formula, Node, _▹_, quantifiers, quantifierAt}
+use Rattle.qbf.specs.Formula.{paper, Quantifier, exists, forall, free, Prefix, Clause, Formula, Node, _▹_, place, positive, quantifiers, quantifierAt}
 use Rattle.qbf.specs.Truth.{Outcome, decided, mixed, freeCount}
 use Rattle.qbf.specs.Learning.{Constraint, Store, LearningResult, visit, below, branch, resolvent, union, without}
 use Rattle.qbf.specs.Calls.{numbersOk}
@@ -18,16 +18,18 @@ use Rattle.theory.proofs.Game.{Rising, rising-above}
 use Rattle.theory.proofs.Stores.{ShapedStore}
 use Rattle.theory.proofs.Basics.{length-▹}
 use Rattle.theory.proofs.Shape.{last-held}
-use Rattle.theory.proofs.WellFormed.{FormulaFacts, clauses-rising, free-before, store-shaped, shaped-store, →rising}
+use Rattle.theory.proofs.WellFormed.{FormulaFacts, inside, clauses-rising, free-before, store-shaped, shaped-store, →rising}
 use Rattle.theory.proofs.ShapedSearch.{ShapedOutcome, shaped-visit}
 use Rattle.theory.proofs.Verdict.{NoFree}
 use Rattle.theory.proofs.Search.{Below, FreeFirst}
 use Rattle.theory.proofs.Unmixed.{Unmixed, unmixed-visit, unmixed-branch}
 use Rattle.theory.proofs.Constraints.{reduce-rising}
 use Rattle.theory.proofs.Sets.{without-rising, without-sub, union-rising}
-use Rattle.theory.proofs.Widths.{constraint-width}
+use Rattle.theory.proofs.Widths.{prefix-width, constraint-width}
 use Rattle.tables.specs.Formed.{Formed}
-use Rattle.node.specs.Node.{Ended, goesUpOf, onwardOf, resolventOf}
+use Rattle.tables.specs.Codes.{codeAt, codeOf, codes, lastFrom}
+use Rattle.tables.specs.Shelves.{codeCount}
+use Rattle.node.specs.Node.{Ended, goesUpOf, onwardOf, resolventOf, Fits}
 use Rattle.search.specs.Search.{Result, visitOf}
 use Rattle.node.specs.declared.Position.{Position}
 use Rattle.node.specs.declared.Answer.{Answer}
@@ -113,10 +115,19 @@ resolvent-short D p v E F ok e f =
     (reduce-rising D v 0 (union D (without D p E) (without D p F))
     (union-rising D 0 (without D p E) (without D p F) (λ l m. rising-above D 0 E e l (without-sub D p E l m .0)) (without-rising D 0 p F f)))
 
-pub resolvent-fits : (D : Prefix) (p : ℕ) (s t : Node) (a o : Outcome Constraint) → numbersOk paper [] D ≡ true → ShapedOutcome D s a → ShapedOutcome D t o → length (resolventOf D p a o) ≤ paper .numbers
-resolvent-fits D p s t (decided b E) (decided c F) ok g h = resolvent-short D p c E F ok (g .formed .rising) (h .formed .rising)
-resolvent-fits D p s t (decided b E) (mixed ds) ok g h = zero-le
-resolvent-fits D p s t (mixed ds) o ok g h = zero-le
+-- the codes of a prefix have links
+code-low : (p : ℕ) (b : Bool) → p ≤ paper .numbers → codeAt p b < codeCount
+code-low p true h = omega (arith, h)
+code-low p false h = omega (arith, h)
+
+last-low : (D : Prefix) (d : ℕ) (e : Constraint) → length (quantifiers D) ≤ paper .numbers → d < codeCount → lastFrom d (codes D e) < codeCount
+last-low D d [] few low = low
+last-low D d (l ∷ e) few low = last-low D (codeOf D l) e few (code-low (place D l) (positive l) (omega (arith, inside D l, few)))
+
+pub resolvent-fits : (D : Prefix) (p : ℕ) (s t : Node) (a o : Outcome Constraint) → numbersOk paper [] D ≡ true → ShapedOutcome D s a → ShapedOutcome D t o → Fits D (resolventOf D p a o)
+resolvent-fits D p s t (decided b E) (decided c F) ok g h = (resolvent-short D p c E F ok (g .formed .rising) (h .formed .rising), last-low D 0 (resolvent D p c E F) (prefix-width paper D ok) (omega arith))
+resolvent-fits D p s t (decided b E) (mixed ds) ok g h = (zero-le, omega arith)
+resolvent-fits D p s t (mixed ds) o ok g h = (zero-le, omega arith)
 
 -- what comes up from a side is in place order, and within the side's node
 pub ended : (D : Prefix) (s : Node) (b : Bool) (k : ℕ) (o : Outcome Constraint) → length s ≡ k → ShapedOutcome D (s ▹ b) o → Ended D (suc k) o

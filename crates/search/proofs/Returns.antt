@@ -24,7 +24,7 @@ use Rattle.tables.specs.Marks.{Passed}
 use Rattle.inner.proofs.Below.{passed-kept}
 use Rattle.cover.specs.Cover.{Covers}
 use Rattle.tables.specs.Formed.{Formed}
-use Rattle.node.specs.Node.{Reads, Ended, Shown, goesUpOf, onwardOf, resolventOf, newLines, Joined}
+use Rattle.node.specs.Node.{Reads, Ended, Shown, goesUpOf, onwardOf, resolventOf, Fits, newLines, Joined}
 use Rattle.search.specs.Search.{Kept, Task, Result, visitOf, branchOf}
 use Rattle.node.specs.declared.Verdict.{Verdict}
 use Rattle.node.specs.declared.Position.{Position}
@@ -50,7 +50,7 @@ abbrev pub FinishSays : List ℕ → Verdict → ℕ → Answer → ℕ → List
     → Answer → List ℕ → List ℕ → List ℕ → List ℕ → List ℕ → Type 0
 FinishSays kinds v n on kind saved up at cs cl qs ql r up′ cs′ cl′ qs′ ql′ =
     (D : Prefix) (R : List Clause) (s : Node) (κ : Quantifier) (a o : Outcome Constraint) (st : Store) (k : ℕ) → Quantified D kinds → length s ≡ at → quantifierCode κ ≡ kind
-    → Reads D v (take n saved) a → Reads D (on .verdict) (take (on .len) up) o → Ended D (suc at) a → Ended D (suc at) o → length (resolventOf D (suc at) a o) ≤ paper .numbers
+    → Reads D v (take n saved) a → Reads D (on .verdict) (take (on .len) up) o → Ended D (suc at) a → Ended D (suc at) o → Fits D (resolventOf D (suc at) a o)
     → StoreShown D st cs cl qs ql → Joined D (onwardOf D R κ s a o st k) r up′ cs′ cl′ qs′ ql′
 
 onward-visits : (D : Prefix) (R : List Clause) (κ : Quantifier) (s : Node) (a o : Outcome Constraint) (st : Store) (k : ℕ) → onwardOf D R κ s a o st k .visits ≡ k

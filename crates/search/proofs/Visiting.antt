@@ -21,6 +21,7 @@ use Rattle.theory.proofs.Game.{Rising}
 use Rattle.tables.specs.Formed.{Formed}
 use Rattle.tables.specs.Views.{quantifierCode}
 use Rattle.tables.specs.Codes.{codes, given, Quantified}
+use Rattle.tables.specs.Shelves.{codeCount}
 use Rattle.tables.specs.Marks.{Passed}
 use Rattle.coding.proofs.Given.{statuses-below}
 use Rattle.inner.proofs.Below.{passed-below}
@@ -205,7 +206,7 @@ module _ {D : Prefix} {s : Node} {ls : List Node} {R : List Clause} {st : Store}
 -- ---- one value longer
 -- a side is the visit of the node one place longer
 pub side-result : (D : Prefix) (s : Node) (b : Bool) (ls : List Node) (R : List Clause) (st : Store) (k : ℕ) {cls lks kd ss cs cl qs ql tb fs : List ℕ} (p : Position)
-    → Task D s ls R st cls lks kd ss cs cl qs ql tb fs k p → firstDead D s R ≡ none → suc k ≡ p .at → p .at ≤ paper .numbers → length ss ≡ 256
+    → Task D s ls R st cls lks kd ss cs cl qs ql tb fs k p → firstDead D s R ≡ none → suc k ≡ p .at → p .at ≤ paper .numbers → length ss ≡ codeCount
     → (value : ℕ) → value ≡ byteOf b → (ss′ : List ℕ) → ss′ ≡ given (p .at) value ss → {o : LearningResult} {r : Answer} {up cs″ cl″ qs″ ql″ tb′ : List ℕ}
     → (Task D (s ▹ b) ls R st cls lks kd ss′ cs cl qs ql tb fs (p .at) p → Entered D (s ▹ b) R false → Result D ls o p r up cs″ cl″ qs″ ql″ tb′)
     → Result D ls o p r up cs″ cl″ qs″ ql″ tb′

@@ -36,18 +36,18 @@ use node::with_lines;
 
 // Steps 1 to 4, else step 5. At a start node steps 1 to 4 have been taken and leave it open.
 pub fn visit<'a>(
-    clauses: &'a [u8; tables::CLAUSE_ROWS],
+    clauses: &'a [u16; tables::CLAUSE_ROWS],
     links: &'a [u16; tables::CLAUSE_LINKS],
     quantifiers: &'a [u8; tables::CODES],
     statuses: &mut [u8; tables::CODES],
-    learned: &mut [u8; tables::CONSTRAINT_CODES],
+    learned: &mut [u16; tables::CONSTRAINT_CODES],
     learned_links: &mut [u64; tables::CONSTRAINT_LINKS],
-    cubes: &mut [u8; tables::CONSTRAINT_CODES],
+    cubes: &mut [u16; tables::CONSTRAINT_CODES],
     cube_links: &mut [u64; tables::CONSTRAINT_LINKS],
-    up: &mut [u8; tables::AREA],
-    saved: &mut [u8],
+    up: &mut [u16; tables::AREA],
+    saved: &mut [u16],
     table: &mut [u8],
-    firsts: &mut [u8; tables::CLAUSES],
+    firsts: &mut [u16; tables::CLAUSES],
     p: Position,
     start: bool,
 ) -> Answer
@@ -100,18 +100,18 @@ pub fn visit<'a>(
 
 // "5. Branch on the next variable v, off first": at a node that steps 1 to 4 leave open.
 fn branch<'a>(
-    clauses: &'a [u8; tables::CLAUSE_ROWS],
+    clauses: &'a [u16; tables::CLAUSE_ROWS],
     links: &'a [u16; tables::CLAUSE_LINKS],
     quantifiers: &'a [u8; tables::CODES],
     statuses: &mut [u8; tables::CODES],
-    learned: &mut [u8; tables::CONSTRAINT_CODES],
+    learned: &mut [u16; tables::CONSTRAINT_CODES],
     learned_links: &mut [u64; tables::CONSTRAINT_LINKS],
-    cubes: &mut [u8; tables::CONSTRAINT_CODES],
+    cubes: &mut [u16; tables::CONSTRAINT_CODES],
     cube_links: &mut [u64; tables::CONSTRAINT_LINKS],
-    up: &mut [u8; tables::AREA],
-    saved: &mut [u8],
+    up: &mut [u16; tables::AREA],
+    saved: &mut [u16],
     table: &mut [u8],
-    firsts: &mut [u8; tables::CLAUSES],
+    firsts: &mut [u16; tables::CLAUSES],
     p: Position,
 ) -> Answer
     requires { ⌜ Matrix (now clauses) (now links) × Shelves (now learned) (now «learned_links») (now cubes) (now «cube_links») × Room (length (now saved)) (now «learned_links») (now «cube_links») p ⌝ }
@@ -176,18 +176,18 @@ fn branch<'a>(
 // The node below at the position p, where the variable of its last place is given `value`, which is taken back. The first `aside` cells of
 // `saved` stay as they are.
 fn side<'a>(
-    clauses: &'a [u8; tables::CLAUSE_ROWS],
+    clauses: &'a [u16; tables::CLAUSE_ROWS],
     links: &'a [u16; tables::CLAUSE_LINKS],
     quantifiers: &'a [u8; tables::CODES],
     statuses: &mut [u8; tables::CODES],
-    learned: &mut [u8; tables::CONSTRAINT_CODES],
+    learned: &mut [u16; tables::CONSTRAINT_CODES],
     learned_links: &mut [u64; tables::CONSTRAINT_LINKS],
-    cubes: &mut [u8; tables::CONSTRAINT_CODES],
+    cubes: &mut [u16; tables::CONSTRAINT_CODES],
     cube_links: &mut [u64; tables::CONSTRAINT_LINKS],
-    up: &mut [u8; tables::AREA],
-    saved: &mut [u8],
+    up: &mut [u16; tables::AREA],
+    saved: &mut [u16],
     table: &mut [u8],
-    firsts: &mut [u8; tables::CLAUSES],
+    firsts: &mut [u16; tables::CLAUSES],
     p: Position,
     aside: usize,
     value: u8,
@@ -222,18 +222,18 @@ fn side<'a>(
 
 // "An exists node visits the off side and stops on Yes".
 fn exists<'a>(
-    clauses: &'a [u8; tables::CLAUSE_ROWS],
+    clauses: &'a [u16; tables::CLAUSE_ROWS],
     links: &'a [u16; tables::CLAUSE_LINKS],
     quantifiers: &'a [u8; tables::CODES],
     statuses: &mut [u8; tables::CODES],
-    learned: &mut [u8; tables::CONSTRAINT_CODES],
+    learned: &mut [u16; tables::CONSTRAINT_CODES],
     learned_links: &mut [u64; tables::CONSTRAINT_LINKS],
-    cubes: &mut [u8; tables::CONSTRAINT_CODES],
+    cubes: &mut [u16; tables::CONSTRAINT_CODES],
     cube_links: &mut [u64; tables::CONSTRAINT_LINKS],
-    up: &mut [u8; tables::AREA],
-    saved: &mut [u8],
+    up: &mut [u16; tables::AREA],
+    saved: &mut [u16],
     table: &mut [u8],
-    firsts: &mut [u8; tables::CLAUSES],
+    firsts: &mut [u16; tables::CLAUSES],
     p: Position,
 ) -> Answer
     requires { ⌜ Matrix (now clauses) (now links) × Shelves (now learned) (now «learned_links») (now cubes) (now «cube_links») × Room (length (now saved)) (now «learned_links») (now «cube_links») p × (p .at < paper .numbers) ⌝ }
@@ -300,18 +300,18 @@ fn exists<'a>(
 
 // "A forall node visits the off side and stops on No".
 fn forall<'a>(
-    clauses: &'a [u8; tables::CLAUSE_ROWS],
+    clauses: &'a [u16; tables::CLAUSE_ROWS],
     links: &'a [u16; tables::CLAUSE_LINKS],
     quantifiers: &'a [u8; tables::CODES],
     statuses: &mut [u8; tables::CODES],
-    learned: &mut [u8; tables::CONSTRAINT_CODES],
+    learned: &mut [u16; tables::CONSTRAINT_CODES],
     learned_links: &mut [u64; tables::CONSTRAINT_LINKS],
-    cubes: &mut [u8; tables::CONSTRAINT_CODES],
+    cubes: &mut [u16; tables::CONSTRAINT_CODES],
     cube_links: &mut [u64; tables::CONSTRAINT_LINKS],
-    up: &mut [u8; tables::AREA],
-    saved: &mut [u8],
+    up: &mut [u16; tables::AREA],
+    saved: &mut [u16],
     table: &mut [u8],
-    firsts: &mut [u8; tables::CLAUSES],
+    firsts: &mut [u16; tables::CLAUSES],
     p: Position,
 ) -> Answer
     requires { ⌜ Matrix (now clauses) (now links) × Shelves (now learned) (now «learned_links») (now cubes) (now «cube_links») × Room (length (now saved)) (now «learned_links») (now «cube_links») p × (p .at < paper .numbers) ⌝ }
@@ -378,18 +378,18 @@ fn forall<'a>(
 
 // "Flag: an off side of No or Yes whose bar or pass lacks v goes up. Else visit on."
 fn free<'a>(
-    clauses: &'a [u8; tables::CLAUSE_ROWS],
+    clauses: &'a [u16; tables::CLAUSE_ROWS],
     links: &'a [u16; tables::CLAUSE_LINKS],
     quantifiers: &'a [u8; tables::CODES],
     statuses: &mut [u8; tables::CODES],
-    learned: &mut [u8; tables::CONSTRAINT_CODES],
+    learned: &mut [u16; tables::CONSTRAINT_CODES],
     learned_links: &mut [u64; tables::CONSTRAINT_LINKS],
-    cubes: &mut [u8; tables::CONSTRAINT_CODES],
+    cubes: &mut [u16; tables::CONSTRAINT_CODES],
     cube_links: &mut [u64; tables::CONSTRAINT_LINKS],
-    up: &mut [u8; tables::AREA],
-    saved: &mut [u8],
+    up: &mut [u16; tables::AREA],
+    saved: &mut [u16],
     table: &mut [u8],
-    firsts: &mut [u8; tables::CLAUSES],
+    firsts: &mut [u16; tables::CLAUSES],
     p: Position,
 ) -> Answer
     requires { ⌜ Matrix (now clauses) (now links) × Shelves (now learned) (now «learned_links») (now cubes) (now «cube_links») × Room (length (now saved)) (now «learned_links») (now «cube_links») p × (p .at < paper .numbers) ⌝ }

@@ -5,16 +5,16 @@ ghost use mathlib.Core.Path.{_≡_};
 ghost use mathlib.Core.Bool.{cond};
 ghost use Prim.Native.Nat.{suc, _-_, _*_, _%_, _≤_, _<_};
 ghost use lib.ListN.{length};
-ghost use Rattle.tables.specs.Shelves.{Shelf, shelfRows, rowAt, foundAt, firstMatch};
+ghost use Rattle.tables.specs.Shelves.{codeCount, Shelf, shelfRows, rowAt, foundAt, firstMatch};
 
 // The row in a slot.
 pub fn row_in<'a>(
-    cells: &'a [u8],
+    cells: &'a [u16],
     links: &'a [u64],
     stride: usize,
     slots: usize,
     slot: usize,
-) -> &'a [u8]
+) -> &'a [u16]
     requires { ⌜ Shelf stride slots (now cells) (now links) × (slot < slots) × (slots * suc stride < 65536) ⌝ }
     ensures { λ r. ⌜ (now r ≡ rowAt stride (now (cells .entry)) slot) × (length (now r) ≤ stride) ⌝ }
 {
@@ -55,15 +55,15 @@ fn chosen(hit: bool, slot: usize, found: usize) -> usize
 
 // The slot of the oldest match; the number of slots where no row matches.
 pub fn find<'a>(
-    cells: &'a [u8],
+    cells: &'a [u16],
     links: &'a [u64],
     stride: usize,
     slots: usize,
-    code: u8,
+    code: u16,
     statuses: &'a [u8; tables::CODES],
     want: u8,
 ) -> usize
-    requires { ⌜ Shelf stride slots (now cells) (now links) × (0 < slots) × (slots * suc stride < 65536) ⌝ }
+    requires { ⌜ Shelf stride slots (now cells) (now links) × (0 < slots) × (slots * suc stride < 65536) × (code < codeCount) ⌝ }
     ensures { λ r. ⌜
         foundAt stride slots (now (cells .entry)) r
         ≡ firstMatch code (now (statuses .entry)) want (shelfRows stride slots (now (cells .entry)) (now (links .entry)))

@@ -8,7 +8,7 @@ ghost use Rattle.tables.specs.Codes.{lastCode};
 ghost use Rattle.tables.specs.Shelves.{Shelf, shelfRows, newestOf, codeCount};
 
 // The last code of a row, 0 where it has none.
-fn last_code<'a>(row: &'a [u8]) -> u8
+fn last_code<'a>(row: &'a [u16]) -> u16
     ensures { λ r. ⌜ r ≡ lastCode (now (row .entry)) ⌝ }
 {
     let n = row.len();
@@ -28,7 +28,7 @@ fn next_slot(newest: u64, slots: usize) -> usize
 }
 
 // The codes of a row, from a cell on.
-fn write_codes<'a>(cells: &mut [u8], at: usize, row: &'a [u8])
+fn write_codes<'a>(cells: &mut [u16], at: usize, row: &'a [u16])
     requires { ⌜ at + length (now row) ≤ length (now cells) ⌝ }
     ensures { λ _. ⌜ now (cells .exit) ≡ paste (now (cells .entry)) at (now (row .entry)) (length (now (row .entry))) ⌝ }
 {
@@ -40,20 +40,20 @@ fn write_codes<'a>(cells: &mut [u8], at: usize, row: &'a [u8])
 }
 
 // A row's length, then its codes.
-fn write_row<'a>(cells: &mut [u8], at: usize, row: &'a [u8])
+fn write_row<'a>(cells: &mut [u16], at: usize, row: &'a [u16])
     requires { ⌜ (at + suc (length (now row)) ≤ length (now cells)) × (length (now row) < 256) ⌝ }
     ensures { λ _. ⌜
         now (cells .exit)
         ≡ paste (set (now (cells .entry)) at (length (now (row .entry)))) (suc at) (now (row .entry)) (length (now (row .entry)))
         ⌝ }
 {
-    cells[at] = row.len() as u8;
+    cells[at] = row.len() as u16;
     write_codes(cells, at + 1, row);
 }
 
 // The new row is the newest of all and of those that end in its last code; the one that was is the next older.
-fn write_links(links: &mut [u64], code: u8, slot: usize, newest: u64)
-    requires { ⌜ (suc codeCount + slot < length (now links)) × (slot < 65536) × (newest < 2 ^ 63) ⌝ }
+fn write_links(links: &mut [u64], code: u16, slot: usize, newest: u64)
+    requires { ⌜ (suc codeCount + slot < length (now links)) × (slot < 65536) × (newest < 2 ^ 63) × (code < codeCount) ⌝ }
     ensures { λ _. ⌜
         now (links .exit)
         ≡ set
@@ -68,13 +68,14 @@ fn write_links(links: &mut [u64], code: u8, slot: usize, newest: u64)
 }
 
 // One row more. It takes the slot of its number, which is that of the oldest row where all slots are taken.
-pub fn push<'a>(cells: &mut [u8], links: &mut [u64], stride: usize, slots: usize, row: &'a [u8])
+pub fn push<'a>(cells: &mut [u16], links: &mut [u64], stride: usize, slots: usize, row: &'a [u16])
     requires { ⌜
         Shelf stride slots (now cells) (now links)
         × (0 < slots)
         × (stride < 256)
         × (slots * suc stride < 65536)
         × (length (now row) ≤ stride)
+        × (lastCode (now row) < codeCount)
         × (newestOf (now links) < 2 ^ 63)
         ⌝ }
     ensures { λ _. ⌜

@@ -12,9 +12,9 @@ use Rattle.qbf.specs.Formula.{paper, Prefix}
 use Rattle.qbf.specs.Learning.{Store, first}
 use Rattle.tables.specs.Codes.{codes, lastCode, allAre}
 
--- how many codes a byte can be
+-- how many codes there are: two for each place
 abbrev pub codeCount : ℕ
-codeCount = 256
+codeCount = suc (paper .numbers) * 2
 
 -- ---- the cells: in each slot a row's length, then its codes
 abbrev pub lengthAt : ℕ → List ℕ → ℕ → ℕ

@@ -25,9 +25,9 @@ pub const CONSTRAINT_SIZES: usize = CONSTRAINTS + 1;
 // Room for two constraints, so that one can be put into the other.
 pub const AREA: usize = NUMBERS * 2;
 
-// Codes of literals inside a search: a byte, so that a table by code needs no test. In a shelf each slot has a row's length and its codes; its
-// links have a cell for each code, one for the newest row's number, and one for each slot.
-pub const CODES: usize = 256;
+// Codes of literals inside a search: two for each place. In a shelf each slot has a row's length and its codes; its links have a cell for each
+// code, one for the newest row's number, and one for each slot.
+pub const CODES: usize = BY_NUMBER * 2;
 
 // The clauses inside a search: of each its length under universal reduction, its whole length, and its codes.
 pub const CLAUSE_ROW: usize = LITERALS + 2;

@@ -1185,6 +1185,18 @@ side-give-requires : (t : ℕ) → side-lts.Need-give-requires (
 ) (side-at t) side.Post
 side-give-requires t c κs = c .before .before .before .before .before .pre .1 .2 .within
 
+side-mul-visit : (t : ℕ) → side-lts.Need-mul-visit (
+  give-reads.Asked,
+  give-reads.Learnt,
+  visit-below t,
+  visit.Post,
+  restore-reads.Asked,
+  restore-reads.Learnt,
+  with-lines-reads.Asked,
+  with-lines-reads.Learnt,
+) (side-at t) side.Post
+side-mul-visit t c = search needs
+
 side-sub-visit : (t : ℕ) → side-lts.Need-sub-visit (
   give-reads.Asked,
   give-reads.Learnt,
@@ -1673,6 +1685,7 @@ pub +branch+exists+forall+free+side+visit-spec : {M : Type 1} → statement M
     (side-at t)
     side.Post
     (side-give-requires t)
+    (side-mul-visit t)
     (side-sub-visit t)
     (side-part-visit-start t)
     (side-part-visit-end t)

@@ -2,6 +2,9 @@
 use borrow.Author.Needs.{needs}
 use Rattle.answers.proofs.run.searched.Statement.{statement}
 use Rattle.answers.proofs.run.searched.Tie as tie
+use Prim.Native.Nat.{suc, _+_}
+use Rattle.qbf.specs.Formula.{paper}
+use Rattle.tables.specs.Shelves.{codeCount}
 use Rattle.coding.proofs.Placewise.{zeros}
 use Rattle.state.proofs.Valid.{valid-numbers}
 use Rattle.answers.proofs.Running.{variables-small, variables-numbered}
@@ -10,7 +13,7 @@ quantifiers-of-requires : tie.Need-quantifiers-of-requires
 quantifiers-of-requires c κs = search needs
 
 load-clauses-requires : tie.Need-load-clauses-requires
-load-clauses-requires c κs = (c .before .before .before .before .before .pre .clauses-in, λ i h. zeros 512 i)
+load-clauses-requires c κs = (c .before .before .before .before .before .pre .clauses-in, λ i h. zeros (suc codeCount + paper .clauses) i)
 
 over-clauses-requires : tie.Need-over-clauses-requires
 over-clauses-requires c κs = search needs

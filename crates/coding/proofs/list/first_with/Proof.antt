@@ -4,6 +4,7 @@ use Rattle.coding.proofs.list.first_with.Tie as tie
 use borrow.Author.Needs.{needs}
 use Prim.Native.Nat.{_-_}
 use native.Mathlib.Omega.{arith}
+use mathlib.Core.Path.{sym, _∙_}
 use lib.ListN.{length}
 use Rattle.coding.proofs.Coded.{Without, without-more, first-here, first-none}
 
@@ -16,20 +17,22 @@ abbrev μ-loop : tie.MeasureT-loop
 loop-holds : tie.Need-loop-holds Inv-loop μ-loop
 loop-holds c = record { within = search needs; none = λ j m. absurd (omega arith) }
 
+-- src/list.rt:47:20
+mul-code : tie.Need-mul-code Inv-loop μ-loop
+mul-code c = search needs
+
 shared-slice-read-code : tie.Need-shared-slice-read-code Inv-loop μ-loop
 shared-slice-read-code c = search needs
 
-cast-if1 : tie.Need-cast-if1 Inv-loop μ-loop
-cast-if1 c = omega (arith, c .shared-slice-known2 .given (c .before .before .loop .i))
+cell-requires : tie.Need-cell-requires Inv-loop μ-loop
+cell-requires c κs = search needs
 
-element-copy-out-if1 : tie.Need-element-copy-out-if1 Inv-loop μ-loop
-element-copy-out-if1 c = omega (arith, c .shared-slice-known2 .given (c .before .before .loop .i))
-
-wide-requires : tie.Need-wide-requires Inv-loop μ-loop
-wide-requires c κs = search needs
+-- src/list.rt:49:13
+wide-code-requires : tie.Need-wide-code-requires Inv-loop μ-loop
+wide-code-requires c κs = search needs
 
 returns : tie.Need-returns Inv-loop μ-loop
-returns c = first-here (c .before .before .before .before .before .loop .inv) (omega arith) (c .before .if1 .taken) (c .wide .ensures .0) (c .wide .ensures .1)
+returns c = first-here (c .before .before .before .before .before .loop .inv) (omega arith) (sym (c .before .before .cell .ensures) ∙ c .before .if1 .taken) (c .wide-code .ensures .0) (c .wide-code .ensures .1)
 
 add-i : tie.Need-add-i Inv-loop μ-loop
 add-i c = search needs
@@ -38,7 +41,7 @@ loop-less : tie.Need-loop-less Inv-loop μ-loop
 loop-less c = search needs
 
 loop-again : tie.Need-loop-again Inv-loop μ-loop
-loop-again c = without-more (c .before .before .before .before .loop .inv) (omega arith) (c .if1 .left)
+loop-again c = without-more (c .before .before .before .before .loop .inv) (omega arith) (λ e. c .if1 .left (c .before .cell .ensures ∙ e))
 
 returns-2 : tie.Need-returns-2 Inv-loop μ-loop
 returns-2 c = first-none (c .before .loop .inv) (omega arith)
@@ -50,10 +53,10 @@ first-with-spec =
     Inv-loop
     μ-loop
     loop-holds
+    mul-code
     shared-slice-read-code
-    cast-if1
-    element-copy-out-if1
-    wide-requires
+    cell-requires
+    wide-code-requires
     returns
     add-i
     loop-less

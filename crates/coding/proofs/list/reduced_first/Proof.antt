@@ -28,20 +28,21 @@ loop-holds c = (search needs, c .before .pre, λ D e s h. reduce-all D (c .befor
 sub-last : tie.Need-sub-last Inv-loop μ-loop
 sub-last c = search needs
 
+-- src/list.rt:85:20
+mul-last : tie.Need-mul-last Inv-loop μ-loop
+mul-last c = search needs
+
 shared-slice-read-last : tie.Need-shared-slice-read-last Inv-loop μ-loop
 shared-slice-read-last c = search needs
 
-cast-drops : tie.Need-cast-drops Inv-loop μ-loop
-cast-drops c = omega (arith, c .shared-slice-known2 .given (c .before .before .loop .left - 1))
-
-element-copy-out-drops : tie.Need-element-copy-out-drops Inv-loop μ-loop
-element-copy-out-drops c = omega (arith, c .shared-slice-known2 .given (c .before .before .loop .left - 1))
+cell-requires : tie.Need-cell-requires Inv-loop μ-loop
+cell-requires c κs = search needs
 
 drops-requires : tie.Need-drops-requires Inv-loop μ-loop
 drops-requires c κs = search needs
 
 returns : tie.Need-returns Inv-loop μ-loop
-returns c = (omega arith, λ D e s h. reduce-stop D (c .before .before .before .before .before .before .before .args .cube) e (now (c .before .before .before .before .before .before .before .args .quantifiers)) (now (c .before .before .before .before .before .before .before .args .cells)) (c .before .before .before .before .before .before .before .args .n) (c .before .before .before .before .before .before .before .pre) s h (c .before .before .before .before .before .loop .left) (omega arith) (omega arith) (λ κ q. c .before .drops .ensures κ q) (not-true _ (c .if1 .taken)) (c .before .before .before .before .before .loop .inv .2 D e s h))
+returns c = (omega arith, λ D e s h. reduce-stop D (c .before .before .before .before .before .before .before .args .cube) e (now (c .before .before .before .before .before .before .before .args .quantifiers)) (now (c .before .before .before .before .before .before .before .args .cells)) (c .before .before .before .before .before .before .before .args .n) (c .before .before .before .before .before .before .before .pre) s h (c .before .before .before .before .before .loop .left) (omega arith) (omega arith) (λ κ q. c .before .drops .ensures κ (c .before .before .cell .ensures ∙ q)) (not-true _ (c .if1 .taken)) (c .before .before .before .before .before .loop .inv .2 D e s h))
 
 sub-left : tie.Need-sub-left Inv-loop μ-loop
 sub-left c = search needs
@@ -50,7 +51,7 @@ loop-less : tie.Need-loop-less Inv-loop μ-loop
 loop-less c = search needs
 
 loop-again : tie.Need-loop-again Inv-loop μ-loop
-loop-again c = (omega arith, omega arith, λ D e s h. reduce-less D (c .before .before .before .before .before .before .before .args .cube) e (now (c .before .before .before .before .before .before .before .args .quantifiers)) (now (c .before .before .before .before .before .before .before .args .cells)) (c .before .before .before .before .before .before .before .args .n) (c .before .before .before .before .before .before .before .pre) s h (c .before .before .before .before .before .loop .left) (omega arith) (omega arith) (λ κ q. c .before .drops .ensures κ q) (not-false _ (c .if1 .left)) ∙ c .before .before .before .before .before .loop .inv .2 D e s h)
+loop-again c = (omega arith, omega arith, λ D e s h. reduce-less D (c .before .before .before .before .before .before .before .args .cube) e (now (c .before .before .before .before .before .before .before .args .quantifiers)) (now (c .before .before .before .before .before .before .before .args .cells)) (c .before .before .before .before .before .before .before .args .n) (c .before .before .before .before .before .before .before .pre) s h (c .before .before .before .before .before .loop .left) (omega arith) (omega arith) (λ κ q. c .before .drops .ensures κ (c .before .before .cell .ensures ∙ q)) (not-false _ (c .if1 .left)) ∙ c .before .before .before .before .before .loop .inv .2 D e s h)
 
 returns-2 : tie.Need-returns-2 Inv-loop μ-loop
 returns-2 c = (omega arith, λ D e s h. reduce-none D (c .before .before .before .args .cube) e (now (c .before .before .before .args .cells)) (c .before .loop .left) (omega arith) (c .before .loop .inv .2 D e s h))
@@ -63,9 +64,9 @@ reduced-first-spec =
     μ-loop
     loop-holds
     sub-last
+    mul-last
     shared-slice-read-last
-    cast-drops
-    element-copy-out-drops
+    cell-requires
     drops-requires
     returns
     sub-left

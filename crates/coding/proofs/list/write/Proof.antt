@@ -18,8 +18,16 @@ abbrev μ-loop : tie.MeasureT-loop
 loop-holds : tie.Need-loop-holds Inv-loop μ-loop
 loop-holds c = (search needs, c .pre, refl, refl)
 
+-- src/list.rt:104:20
+mul-cells : tie.Need-mul-cells Inv-loop μ-loop
+mul-cells c = search needs
+
 shared-slice-read-cells : tie.Need-shared-slice-read-cells Inv-loop μ-loop
 shared-slice-read-cells c = search needs
+
+-- src/list.rt:104:9
+mul-cells-2 : tie.Need-mul-cells-2 Inv-loop μ-loop
+mul-cells-2 c = search needs
 
 slice-write-cells : tie.Need-slice-write-cells Inv-loop μ-loop
 slice-write-cells c = omega arith
@@ -51,7 +59,9 @@ write-spec =
     Inv-loop
     μ-loop
     loop-holds
+    mul-cells
     shared-slice-read-cells
+    mul-cells-2
     slice-write-cells
     add-i
     loop-less

@@ -12,6 +12,7 @@ use lib.ListN.{length, getD}
 use Rattle.qbf.specs.Formula.{paper, Prefix}
 use Rattle.qbf.specs.Calls.{numbersOk}
 use Rattle.tables.specs.Views.{Numbers, Kinds}
+use Rattle.tables.specs.Shelves.{codeCount}
 use Rattle.coding.proofs.Given.{stored-length}
 use Rattle.coding.proofs.Placewise.{Filled, filled-none, filled-more, filled-all}
 
@@ -20,7 +21,7 @@ Inv-loop numbers kinds count table₀ place₀ table place =
     (place ≤ count)
     × (count ≡ getD numbers 0 0)
     × (getD numbers 0 0 ≤ paper .numbers)
-    × (length table ≡ 256)
+    × (length table ≡ codeCount)
     × ((D : Prefix) → Numbers D numbers → Kinds D kinds → numbersOk paper [] D ≡ true → Filled D place table)
 
 abbrev μ-loop : tie.MeasureT-loop

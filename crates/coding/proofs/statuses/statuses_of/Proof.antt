@@ -13,6 +13,7 @@ use Rattle.qbf.specs.Formula.{paper, Prefix, Node}
 use Rattle.qbf.specs.Calls.{numbersOk}
 use Rattle.tables.specs.Views.{Numbers, Values}
 use Rattle.tables.specs.Codes.{Statuses}
+use Rattle.tables.specs.Shelves.{codeCount}
 use Rattle.coding.proofs.Placewise.{statuses-root, value-by-number, statuses-next, statuses-all}
 use Rattle.coding.proofs.Given.{given-length}
 
@@ -20,14 +21,14 @@ abbrev Inv-loop : tie.InvT-loop
 Inv-loop numbers values at statuses₀ place₀ statuses place =
     (place ≤ at)
     × (at ≤ paper .numbers)
-    × (length statuses ≡ 256)
+    × (length statuses ≡ codeCount)
     × ((D : Prefix) (s : Node) → Numbers D numbers → Values D s values → numbersOk paper [] D ≡ true → length s ≡ at → length s ≤ length D → Statuses (take place s) statuses)
 
 abbrev μ-loop : tie.MeasureT-loop
 μ-loop numbers values at statuses₀ place₀ statuses place = at - place
 
 loop-holds : tie.Need-loop-holds Inv-loop μ-loop
-loop-holds c = (omega arith, c .pre, refl, λ D s n v o e h. statuses-root 256)
+loop-holds c = (omega arith, c .pre, refl, λ D s n v o e h. statuses-root codeCount)
 
 add-place : tie.Need-add-place Inv-loop μ-loop
 add-place c = search needs

@@ -14,6 +14,10 @@ abbrev μ-loop : tie.MeasureT-loop
 loop-holds : tie.Need-loop-holds Inv-loop μ-loop
 loop-holds c = marks-none _ _
 
+-- src/cube.rt:99:26
+mul-mark : tie.Need-mul-mark Inv-loop μ-loop
+mul-mark c = search needs
+
 element-copy-out-mark : tie.Need-element-copy-out-mark Inv-loop μ-loop
 element-copy-out-mark c = search needs
 
@@ -39,6 +43,7 @@ marks-of-spec =
     Inv-loop
     μ-loop
     loop-holds
+    mul-mark
     element-copy-out-mark
     mark-requires
     add-k

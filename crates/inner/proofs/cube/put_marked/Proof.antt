@@ -6,6 +6,10 @@ use native.Mathlib.Omega.{arith}
 use denote.Ref.{now}
 use Rattle.inner.proofs.Gathering.{put-there, put-not}
 
+-- src/cube.rt:39:9
+mul-up : tie.Need-mul-up
+mul-up c = search needs
+
 slice-write-up : tie.Need-slice-write-up
 slice-write-up c = search needs
 
@@ -22,4 +26,5 @@ returns-2 : tie.Need-returns-2
 returns-2 c = (omega arith, put-not (now (c .before .args .up)) (c .before .args .n) (c .before .args .mark) (c .before .args .code) (c .if1 .left))
 
 pub put-marked-spec : {M : Type 1} → statement M
-put-marked-spec = tie.close (tie.spec slice-write-up add-result same-length returns returns-2)
+put-marked-spec =
+    tie.close (tie.spec mul-up slice-write-up add-result same-length returns returns-2)

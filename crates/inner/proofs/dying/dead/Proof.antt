@@ -21,7 +21,7 @@ returns : tie.Need-returns
 returns c = (
   omega arith,
   λ D s R shown long inner rows.
-      found-nothing false (c .before .before .code-here .ensures) refl (c .before .first-dying .ensures .1) D s (map (reduce D false) R) shown long inner rows
+      found-nothing false (c .before .before .code-here .ensures .1) refl (c .before .first-dying .ensures .1) D s (map (reduce D false) R) shown long inner rows
       (number-none (now (c .before .before .before .args .clauses)) (c .before .first-dying .result) (c .if1 .taken)),
 )
 
@@ -30,6 +30,10 @@ sub-from c = search needs
 
 mul-from : tie.Need-mul-from
 mul-from c = search needs
+
+-- src/dying.rt:78:16
+mul-size : tie.Need-mul-size
+mul-size c = search needs
 
 element-copy-out-size : tie.Need-element-copy-out-size
 element-copy-out-size c = search needs
@@ -47,6 +51,10 @@ add-row-3 : tie.Need-add-row-3
 add-row-3 c =
     let h = c .before .before in
     omega (arith, numbered-short (h .before .before .before .pre .0) (h .before .first-dying .ensures .0) (h .if1 .left), numbered-room (h .before .before .before .pre .0) (h .before .first-dying .ensures .0) (h .if1 .left), h .before .before .before .pre .0 .room)
+
+-- src/dying.rt:80:15
+mul-row : tie.Need-mul-row
+mul-row c = search needs
 
 sub-row : tie.Need-sub-row
 sub-row c = search needs
@@ -72,7 +80,7 @@ returns-2 c =
       omega (arith, numbered-length (h .before .before .before .pre .0) (h .before .first-dying .ensures .0) (h .if1 .left)),
       λ D s R shown long inner rows.
           let e =
-          found-row false (h .before .before .code-here .ensures) refl (found .ensures .1) D s (map (reduce D false) R) shown long inner rows
+          found-row false (h .before .before .code-here .ensures .1) refl (found .ensures .1) D s (map (reduce D false) R) shown long inner rows
           (number-row (now (h .before .before .before .args .clauses)) (found .result) (h .if1 .left) part) in
           (e .0, e .1, c .copy .ensures ∙ e .2),
     )
@@ -86,11 +94,13 @@ dead-spec =
     returns
     sub-from
     mul-from
+    mul-size
     element-copy-out-size
     cast-size
     add-row
     add-row-2
     add-row-3
+    mul-row
     sub-row
     part-row-start
     part-row-end

@@ -37,10 +37,10 @@ element-copy-out-number c = search needs
 cast-number : tie.Need-cast-number Inv-loop μ-loop Inv-clauses μ-clauses
 cast-number c =
     let s = c .before .before in
-    omega (arith, linked-start (s .pre) {statuses = now (s .args .statuses)} {code = s .args .code} (omega (arith, s .fits .code)) .within, s .pre .few)
+    omega (arith, linked-start (s .pre .0) {statuses = now (s .args .statuses)} {code = s .args .code} (s .pre .1) .within, s .pre .0 .few)
 
 clauses-holds : tie.Need-clauses-holds Inv-loop μ-loop Inv-clauses μ-clauses
-clauses-holds c = linked-start (c .before .before .pre) (omega (arith, c .before .before .fits .code))
+clauses-holds c = linked-start (c .before .before .pre .0) (c .before .before .pre .1)
 
 sub-from : tie.Need-sub-from Inv-loop μ-loop Inv-clauses μ-clauses
 sub-from c = search needs
@@ -48,11 +48,15 @@ sub-from c = search needs
 mul-from : tie.Need-mul-from Inv-loop μ-loop Inv-clauses μ-clauses
 mul-from c = search needs
 
+-- src/dying.rt:38:20
+mul-size : tie.Need-mul-size Inv-loop μ-loop Inv-clauses μ-clauses
+mul-size c = search needs
+
 element-copy-out-size : tie.Need-element-copy-out-size Inv-loop μ-loop Inv-clauses μ-clauses
-element-copy-out-size c = omega (arith, reading-room (c .before .before .before .before .pre) (reading-start (c .before .clauses .inv) (c .clauses-test .taken)))
+element-copy-out-size c = omega (arith, reading-room (c .before .before .before .before .pre .0) (reading-start (c .before .clauses .inv) (c .clauses-test .taken)))
 
 cast-size : tie.Need-cast-size Inv-loop μ-loop Inv-clauses μ-clauses
-cast-size c = omega (arith, reading-short (c .before .before .before .before .before .pre) (reading-start (c .before .before .clauses .inv) (c .before .clauses-test .taken)))
+cast-size c = omega (arith, reading-short (c .before .before .before .before .before .pre .0) (reading-start (c .before .before .clauses .inv) (c .before .clauses-test .taken)))
 
 loop-holds : tie.Need-loop-holds Inv-loop μ-loop Inv-clauses μ-clauses
 loop-holds c = reading-start (c .before .before .clauses .inv) (c .before .clauses-test .taken)
@@ -63,18 +67,21 @@ add-lit c = search needs
 add-lit-2 : tie.Need-add-lit-2 Inv-loop μ-loop Inv-clauses μ-clauses
 add-lit-2 c =
     let h = c .before in
-    omega (arith, reading-short (entry h .pre) (h .loop .inv), reading-room (entry h .pre) (h .loop .inv), entry h .pre .room)
+    omega (arith, reading-short (entry h .pre .0) (h .loop .inv), reading-room (entry h .pre .0) (h .loop .inv), entry h .pre .0 .room)
+
+-- src/dying.rt:41:23
+mul-lit : tie.Need-mul-lit Inv-loop μ-loop Inv-clauses μ-clauses
+mul-lit c =
+    let h = c .before in
+    omega (arith, reading-short (entry h .pre .0) (h .loop .inv), reading-room (entry h .pre .0) (h .loop .inv), entry h .pre .0 .room)
 
 shared-slice-read-lit : tie.Need-shared-slice-read-lit Inv-loop μ-loop Inv-clauses μ-clauses
 shared-slice-read-lit c =
     let h = c .before .before in
-    omega (arith, reading-short (entry h .pre) (h .loop .inv), reading-room (entry h .pre) (h .loop .inv))
+    omega (arith, reading-short (entry h .pre .0) (h .loop .inv), reading-room (entry h .pre .0) (h .loop .inv))
 
-cast-if1 : tie.Need-cast-if1 Inv-loop μ-loop Inv-clauses μ-clauses
-cast-if1 c = omega (arith, c .shared-slice-known .given (cell (c .before .before)))
-
-element-copy-out-if1 : tie.Need-element-copy-out-if1 Inv-loop μ-loop Inv-clauses μ-clauses
-element-copy-out-if1 c = omega (arith, c .shared-slice-known .given (cell (c .before .before)))
+cell-requires : tie.Need-cell-requires Inv-loop μ-loop Inv-clauses μ-clauses
+cell-requires c κs = search needs
 
 add-number : tie.Need-add-number Inv-loop μ-loop Inv-clauses μ-clauses
 add-number c = search needs
@@ -89,22 +96,22 @@ element-copy-out-number-2 c = search needs
 cast-number-2 : tie.Need-cast-number-2 Inv-loop μ-loop Inv-clauses μ-clauses
 cast-number-2 c =
     let h = c .before .before .before .before .before in
-    omega (arith, reading-next (entry h .pre) (h .loop .inv) (c .before .before .before .before .loop-test .taken) (λ e. omega (arith, e, c .before .if1 .taken)) .within, entry h .pre .few)
+    omega (arith, reading-next (entry h .pre .0) (h .loop .inv) (c .before .before .before .before .loop-test .taken) (λ e. omega (arith, e, c .before .if1 .taken)) .within, entry h .pre .0 .few)
 
 clauses-less : tie.Need-clauses-less Inv-loop μ-loop Inv-clauses μ-clauses
 clauses-less c =
     let h = c .before .before .before .before .before in
-    reading-less (entry h .pre) (h .loop .inv) (c .before .before .before .before .loop-test .taken) (λ e. omega (arith, e, c .before .if1 .taken))
+    reading-less (entry h .pre .0) (h .loop .inv) (c .before .before .before .before .loop-test .taken) (λ e. omega (arith, e, c .before .if1 .taken))
 
 clauses-again : tie.Need-clauses-again Inv-loop μ-loop Inv-clauses μ-clauses
 clauses-again c =
     let h = c .before .before .before .before .before in
-    reading-next (entry h .pre) (h .loop .inv) (c .before .before .before .before .loop-test .taken) (λ e. omega (arith, e, c .before .if1 .taken))
+    reading-next (entry h .pre .0) (h .loop .inv) (c .before .before .before .before .loop-test .taken) (λ e. omega (arith, e, c .before .if1 .taken))
 
 add-i : tie.Need-add-i Inv-loop μ-loop Inv-clauses μ-clauses
 add-i c =
     let h = c .before .before .before .before in
-    omega (arith, reading-short (entry h .pre) (h .loop .inv))
+    omega (arith, reading-short (entry h .pre .0) (h .loop .inv))
 
 loop-less : tie.Need-loop-less Inv-loop μ-loop Inv-clauses μ-clauses
 loop-less c = search needs
@@ -112,12 +119,12 @@ loop-less c = search needs
 loop-again : tie.Need-loop-again Inv-loop μ-loop Inv-clauses μ-clauses
 loop-again c =
     let h = c .before .before .before .before in
-    reading-more (entry h .pre) (h .loop .inv) (c .before .before .before .loop-test .taken) (omega (arith, c .if1 .left))
+    reading-more (entry h .pre .0) (h .loop .inv) (c .before .before .before .loop-test .taken) (omega (arith, c .if1 .left))
 
 returns : tie.Need-returns Inv-loop μ-loop Inv-clauses μ-clauses
 returns c =
     let h = c .before in
-    (h .loop .inv .linked .within, reading-end (entry h .pre) (h .loop .inv) (c .loop-test .left))
+    (h .loop .inv .linked .within, reading-end (entry h .pre .0) (h .loop .inv) (c .loop-test .left))
 
 returns-2 : tie.Need-returns-2 Inv-loop μ-loop Inv-clauses μ-clauses
 returns-2 c = (omega arith, linked-none (c .before .clauses .inv) (c .clauses-test .left))
@@ -136,14 +143,15 @@ first-dying-spec =
     clauses-holds
     sub-from
     mul-from
+    mul-size
     element-copy-out-size
     cast-size
     loop-holds
     add-lit
     add-lit-2
+    mul-lit
     shared-slice-read-lit
-    cast-if1
-    element-copy-out-if1
+    cell-requires
     add-number
     mul-number-2
     element-copy-out-number-2

@@ -2,6 +2,7 @@
 use borrow.Author.Needs.{needs}
 use Rattle.inner.proofs.found.code_here.Statement.{statement}
 use Rattle.inner.proofs.found.code_here.Tie as tie
+use native.Mathlib.Omega.{arith}
 use mathlib.Core.Path.{refl}
 use Rattle.inner.proofs.Lookups.{code-positive, code-negative}
 
@@ -26,7 +27,7 @@ cast-result c = search needs
 returns : tie.Need-returns
 returns c =
     let a = c .before .before .args in
-    λ s b shown value. code-positive shown (a .at) value refl (a .holds) (c .if1 .taken)
+    (omega (arith, c .before .before .pre), λ s b shown value. code-positive shown (a .at) value refl (a .holds) (c .if1 .taken))
 
 mul-result-2 : tie.Need-mul-result-2
 mul-result-2 c = search needs
@@ -37,7 +38,7 @@ cast-result-2 c = search needs
 returns-2 : tie.Need-returns-2
 returns-2 c =
     let a = c .before .before .args in
-    λ s b shown value. code-negative shown (a .at) value refl (a .holds) (c .if1 .left)
+    (omega (arith, c .before .before .pre), λ s b shown value. code-negative shown (a .at) value refl (a .holds) (c .if1 .left))
 
 pub code-here-spec : {M : Type 1} → statement M
 code-here-spec =

@@ -30,7 +30,7 @@ returns c =
       omega (arith, row .1, c .before .before .before .before .before .before .before .before .before .pre .2),
       λ D s es shown long inner rows.
           let e =
-          found-row (a .cube) (c .before .before .before .before .before .before .code-here .ensures) (c .before .before .before .before .before .wanted .ensures) (slot .ensures) D s es shown long inner rows
+          found-row (a .cube) (c .before .before .before .before .before .before .code-here .ensures .1) (c .before .before .before .before .before .wanted .ensures) (slot .ensures) D s es shown long inner rows
           (slot-row (a .stride) (a .slots) (now (a .cells)) (slot .result) (c .before .before .before .if1 .taken) (row .0)) in
           (e .0, e .1, c .copy .ensures ∙ e .2),
     )
@@ -41,7 +41,7 @@ returns-2 c =
     let slot = c .before .find in (
       omega arith,
       λ D s es shown long inner rows.
-          found-nothing (a .cube) (c .before .before .before .code-here .ensures) (c .before .before .wanted .ensures) (slot .ensures) D s es shown long inner rows
+          found-nothing (a .cube) (c .before .before .before .code-here .ensures .1) (c .before .before .wanted .ensures) (slot .ensures) D s es shown long inner rows
           (slot-none (a .stride) (a .slots) (now (a .cells)) (slot .result) (c .if1 .left)),
     )
 

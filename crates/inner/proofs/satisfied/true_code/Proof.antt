@@ -21,6 +21,10 @@ add-from c = search needs
 sub-size : tie.Need-sub-size
 sub-size c = search needs
 
+-- src/satisfied.rt:28:16
+mul-size : tie.Need-mul-size
+mul-size c = search needs
+
 element-copy-out-size : tie.Need-element-copy-out-size
 element-copy-out-size c = search needs
 
@@ -31,6 +35,10 @@ add-first-with : tie.Need-add-first-with
 add-first-with c =
     let s = c .before .before in
     omega (arith, row-room (s .pre .0) (s .args .k) (s .pre .1), size-small (s .pre .0) (s .args .k) (s .pre .1))
+
+-- src/satisfied.rt:29:16
+mul-first-with : tie.Need-mul-first-with
+mul-first-with c = search needs
 
 sub-first-with : tie.Need-sub-first-with
 sub-first-with c = search needs
@@ -59,9 +67,11 @@ true-code-spec =
     mul-from
     add-from
     sub-size
+    mul-size
     element-copy-out-size
     cast-size
     add-first-with
+    mul-first-with
     sub-first-with
     part-first-with-start
     part-first-with-end

@@ -10,6 +10,10 @@ use Rattle.loading.proofs.Coding.{left-cut}
 mul-at : tie.Need-mul-at
 mul-at c = search needs
 
+-- src/clauses.rt:114:16
+mul-left : tie.Need-mul-left
+mul-left c = search needs
+
 shared-slice-read-left : tie.Need-shared-slice-read-left
 shared-slice-read-left c = search needs
 
@@ -18,6 +22,10 @@ cast-left c = search needs
 
 add-last-code : tie.Need-add-last-code
 add-last-code c = search needs
+
+-- src/clauses.rt:115:15
+mul-last-code : tie.Need-mul-last-code
+mul-last-code c = search needs
 
 sub-last-code : tie.Need-sub-last-code
 sub-last-code c = search needs
@@ -39,9 +47,11 @@ last-left-spec =
     tie.close
     (tie.spec
     mul-at
+    mul-left
     shared-slice-read-left
     cast-left
     add-last-code
+    mul-last-code
     sub-last-code
     part-last-code-start
     part-last-code-end

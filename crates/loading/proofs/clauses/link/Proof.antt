@@ -3,11 +3,12 @@ use borrow.Author.Needs.{needs}
 use Rattle.loading.proofs.clauses.link.Statement.{statement}
 use Rattle.loading.proofs.clauses.link.Tie as tie
 use native.Mathlib.Omega.{arith}
-use Prim.Native.Nat.{_+_}
+use Prim.Native.Nat.{suc, _+_}
 use native.Mathlib.Numerals.{add-one}
 use mathlib.Core.Path.{ap}
 use denote.Ref.{now}
 use lib.ListN.{getD, set, length-set}
+use Rattle.tables.specs.Shelves.{codeCount}
 
 mul-next : tie.Need-mul-next
 mul-next c = search needs
@@ -43,7 +44,7 @@ same-length : tie.Need-same-length
 same-length c = search needs
 
 returns : tie.Need-returns
-returns c = ap (set (set (now (c .before .args .links)) (257 + c .before .args .k) (getD (now (c .before .args .links)) (c .before .args .code) 0)) (c .before .args .code)) (add-one (c .before .args .k))
+returns c = ap (set (set (now (c .before .args .links)) (suc codeCount + c .before .args .k) (getD (now (c .before .args .links)) (c .before .args .code) 0)) (c .before .args .code)) (add-one (c .before .args .k))
 
 pub link-spec : {M : Type 1} → statement M
 link-spec =

@@ -15,7 +15,7 @@ cast-link-clauses : tie.Need-cast-link-clauses
 cast-link-clauses c = search needs
 
 link-clauses-requires : tie.Need-link-clauses-requires
-link-clauses-requires c κs = (c .before .before .before .before .code-clauses .ensures .0, c .before .before .before .before .before .before .pre .0 .few, left-short (now (c .before .before .before .before .before .before .args .clauses)) (now (c .before .before .before .before .before .before .args .sizes)) (now (c .before .before .before .before .before .before .args .places)) (now (c .before .before .before .before .before .before .args .quantifiers)) (c .before .before .before .before .code-clauses .last .1 .1 .1 .1 .0) (c .before .before .before .before .before .before .pre .0) (c .before .before .before .before .code-clauses .ensures .1), search needs, c .before .before .before .before .before .before .pre .1)
+link-clauses-requires c κs = (c .before .before .before .before .code-clauses .ensures .0, c .before .before .before .before .before .before .pre .0 .few, left-short (now (c .before .before .before .before .before .before .args .clauses)) (now (c .before .before .before .before .before .before .args .sizes)) (now (c .before .before .before .before .before .before .args .places)) (now (c .before .before .before .before .before .before .args .quantifiers)) (c .before .before .before .before .code-clauses .last .1 .1 .1 .1 .0) (c .before .before .before .before .before .before .pre .0) (c .before .before .before .before .code-clauses .ensures .1), λ k low. c .before .before .before .before .code-clauses .ensures .1 k low .low, search needs, c .before .before .before .before .before .before .pre .1)
 
 returns : tie.Need-returns
 returns c = (matrix (now (c .before .before .before .before .before .before .before .args .clauses)) (now (c .before .before .before .before .before .before .before .args .sizes)) (now (c .before .before .before .before .before .before .before .args .places)) (now (c .before .before .before .before .before .before .before .args .quantifiers)) (c .before .before .before .before .before .code-clauses .last .1 .1 .1 .1 .0) (c .before .before .before .before .before .before .before .pre .0) (c .before .before .before .before .before .code-clauses .ensures .1) (c .before .before .before .before .before .code-clauses .ensures .0) (c .link-clauses .last .1 .1 .0) (c .link-clauses .ensures), matrix-shown (now (c .before .before .before .before .before .before .before .args .clauses)) (now (c .before .before .before .before .before .before .before .args .sizes)) (now (c .before .before .before .before .before .before .before .args .places)) (now (c .before .before .before .before .before .before .before .args .quantifiers)) (c .before .before .before .before .before .code-clauses .last .1 .1 .1 .1 .0) (c .before .before .before .before .before .before .before .pre .0) (c .before .before .before .before .before .code-clauses .ensures .1) (c .before .before .before .before .before .code-clauses .ensures .0) (c .link-clauses .last .1 .1 .0) (c .link-clauses .ensures))

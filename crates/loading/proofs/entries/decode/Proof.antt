@@ -19,17 +19,23 @@ abbrev μ-loop : tie.MeasureT-loop
 loop-holds : tie.Need-loop-holds Inv-loop μ-loop
 loop-holds c = (search needs, c .before .pre, decode-none (now (c .before .args .numbers)) (now (c .before .args .row)) (c .before .args .at) (now (c .before .args .store)))
 
+-- src/entries.rt:134:45
+mul-literal-of : tie.Need-mul-literal-of Inv-loop μ-loop
+mul-literal-of c = search needs
+
 shared-slice-read-literal-of : tie.Need-shared-slice-read-literal-of Inv-loop μ-loop
 shared-slice-read-literal-of c = search needs
 
 literal-of-requires : tie.Need-literal-of-requires Inv-loop μ-loop
 literal-of-requires c κs = search needs
 
-add-t6 : tie.Need-add-t6 Inv-loop μ-loop
-add-t6 c = search needs
+-- src/entries.rt:134:15
+add-t11 : tie.Need-add-t11 Inv-loop μ-loop
+add-t11 c = search needs
 
-mul-t11 : tie.Need-mul-t11 Inv-loop μ-loop
-mul-t11 c = search needs
+-- src/entries.rt:134:9
+mul-t12 : tie.Need-mul-t12 Inv-loop μ-loop
+mul-t12 c = search needs
 
 slice-set-from-store : tie.Need-slice-set-from-store Inv-loop μ-loop
 slice-set-from-store c = search needs
@@ -56,10 +62,11 @@ decode-spec =
     Inv-loop
     μ-loop
     loop-holds
+    mul-literal-of
     shared-slice-read-literal-of
     literal-of-requires
-    add-t6
-    mul-t11
+    add-t11
+    mul-t12
     slice-set-from-store
     add-i
     loop-less

@@ -12,6 +12,10 @@ add-from c = omega (arith, from-below (c .pre .0) (c .args .slot) (c .pre .1))
 mul-from : tie.Need-mul-from
 mul-from c = omega (arith, from-below (c .pre .0) (c .args .slot) (c .pre .1))
 
+-- src/find.rt:22:15
+mul-len : tie.Need-mul-len
+mul-len c = omega (arith, from-below (c .pre .0) (c .args .slot) (c .pre .1))
+
 shared-slice-read-len : tie.Need-shared-slice-read-len
 shared-slice-read-len c = omega (arith, slot-within (c .before .pre .0) (c .before .args .slot) (c .before .pre .1))
 
@@ -26,6 +30,10 @@ add-result-2 c = omega (arith, from-below (c .before .pre .0) (c .before .args .
 
 add-result-3 : tie.Need-add-result-3
 add-result-3 c = omega (arith, from-below (c .before .pre .0) (c .before .args .slot) (c .before .pre .1), cell-length (c .before .pre .0) (c .before .args .slot) (c .before .pre .1))
+
+-- src/find.rt:23:5
+mul-result : tie.Need-mul-result
+mul-result c = omega (arith, from-below (c .before .pre .0) (c .before .args .slot) (c .before .pre .1))
 
 sub-result : tie.Need-sub-result
 sub-result c = search needs
@@ -47,11 +55,13 @@ row-in-spec =
     (tie.spec
     add-from
     mul-from
+    mul-len
     shared-slice-read-len
     cast-len
     add-result
     add-result-2
     add-result-3
+    mul-result
     sub-result
     part-result-start
     part-result-end

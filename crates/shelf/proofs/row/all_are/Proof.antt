@@ -15,19 +15,20 @@ abbrev μ-loop : tie.MeasureT-loop
 μ-loop cells statuses want i₀ i = length cells - i
 
 loop-holds : tie.Need-loop-holds Inv-loop μ-loop
-loop-holds c = have-start (now (c .args .statuses)) (c .args .want) (now (c .args .cells))
+loop-holds c = have-start (now (c .before .args .statuses)) (c .before .args .want) (now (c .before .args .cells))
+
+-- src/row.rt:11:20
+mul-code : tie.Need-mul-code Inv-loop μ-loop
+mul-code c = search needs
 
 shared-slice-read-code : tie.Need-shared-slice-read-code Inv-loop μ-loop
 shared-slice-read-code c = search needs
 
-cast-if1 : tie.Need-cast-if1 Inv-loop μ-loop
-cast-if1 c = omega (arith, c .shared-slice-known .given (c .before .before .loop .i))
-
-element-copy-out-if1 : tie.Need-element-copy-out-if1 Inv-loop μ-loop
-element-copy-out-if1 c = omega (arith, c .shared-slice-known .given (c .before .before .loop .i))
+cell-requires : tie.Need-cell-requires Inv-loop μ-loop
+cell-requires c κs = search needs
 
 returns : tie.Need-returns Inv-loop μ-loop
-returns c = have-stop (now (c .before .before .before .before .before .args .statuses)) (c .before .before .before .before .before .args .want) (now (c .before .before .before .before .before .args .cells)) (c .before .before .before .before .loop .i) (c .before .before .before .before .loop .inv) (omega arith) (search needs)
+returns c = have-stop (now (c .before .before .before .before .before .before .args .statuses)) (c .before .before .before .before .before .before .args .want) (now (c .before .before .before .before .before .before .args .cells)) (c .before .before .before .before .loop .i) (c .before .before .before .before .loop .inv) (omega arith) (search needs)
 
 add-i : tie.Need-add-i Inv-loop μ-loop
 add-i c = omega arith
@@ -36,10 +37,10 @@ loop-less : tie.Need-loop-less Inv-loop μ-loop
 loop-less c = omega arith
 
 loop-again : tie.Need-loop-again Inv-loop μ-loop
-loop-again c = have-more (now (c .before .before .before .before .before .args .statuses)) (c .before .before .before .before .before .args .want) (now (c .before .before .before .before .before .args .cells)) (c .before .before .before .before .loop .i) (c .before .before .before .before .loop .inv) (omega arith) (search needs)
+loop-again c = have-more (now (c .before .before .before .before .before .before .args .statuses)) (c .before .before .before .before .before .before .args .want) (now (c .before .before .before .before .before .before .args .cells)) (c .before .before .before .before .loop .i) (c .before .before .before .before .loop .inv) (omega arith) (search needs)
 
 returns-2 : tie.Need-returns-2 Inv-loop μ-loop
-returns-2 c = have-end (now (c .before .before .args .statuses)) (c .before .before .args .want) (now (c .before .before .args .cells)) (c .before .loop .i) (c .before .loop .inv) (omega arith)
+returns-2 c = have-end (now (c .before .before .before .args .statuses)) (c .before .before .before .args .want) (now (c .before .before .before .args .cells)) (c .before .loop .i) (c .before .loop .inv) (omega arith)
 
 pub all-are-spec : {M : Type 1} → statement M
 all-are-spec =
@@ -48,9 +49,9 @@ all-are-spec =
     Inv-loop
     μ-loop
     loop-holds
+    mul-code
     shared-slice-read-code
-    cast-if1
-    element-copy-out-if1
+    cell-requires
     returns
     add-i
     loop-less

@@ -17,11 +17,19 @@ abbrev μ-loop : tie.MeasureT-loop
 loop-holds : tie.Need-loop-holds Inv-loop μ-loop
 loop-holds c = (search needs, c .pre, paste-none _ _ _)
 
+-- src/store.rt:37:25
+mul-cells : tie.Need-mul-cells Inv-loop μ-loop
+mul-cells c = search needs
+
 shared-slice-read-cells : tie.Need-shared-slice-read-cells Inv-loop μ-loop
 shared-slice-read-cells c = search needs
 
 add-cells : tie.Need-add-cells Inv-loop μ-loop
 add-cells c = omega (arith, c .before .before .loop .inv .2 .size, c .before .before .before .pre)
+
+-- src/store.rt:37:9
+mul-cells-2 : tie.Need-mul-cells-2 Inv-loop μ-loop
+mul-cells-2 c = search needs
 
 slice-write-cells : tie.Need-slice-write-cells Inv-loop μ-loop
 slice-write-cells c = omega (arith, c .before .before .loop .inv .2 .size, c .before .before .before .pre)
@@ -48,8 +56,10 @@ write-codes-spec =
     Inv-loop
     μ-loop
     loop-holds
+    mul-cells
     shared-slice-read-cells
     add-cells
+    mul-cells-2
     slice-write-cells
     add-i
     loop-less

@@ -10,6 +10,10 @@ use Rattle.shelf.proofs.Writing.{put-is, put-long}
 cast-cells : tie.Need-cast-cells
 cast-cells c = search needs
 
+-- src/store.rt:50:5
+mul-cells : tie.Need-mul-cells
+mul-cells c = search needs
+
 slice-write-cells : tie.Need-slice-write-cells
 slice-write-cells c = search needs
 
@@ -30,6 +34,7 @@ write-row-spec =
     tie.close
     (tie.spec
     cast-cells
+    mul-cells
     slice-write-cells
     add-write-codes
     write-codes-requires
