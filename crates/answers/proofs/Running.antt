@@ -28,11 +28,12 @@ use Rattle.tables.specs.Shelves.{StoreShown, entriesOf, newestOf}
 use Rattle.tables.specs.Matrices.{MatrixShown}
 use Rattle.coding.proofs.Placewise.{zeros}
 use Rattle.cover.specs.Cover.{Covers}
-use Rattle.node.specs.Node.{Reads}
+use Rattle.node.specs.Node.{entryOf, Reads}
 use Rattle.node.specs.declared.Verdict.{Verdict}
 use Rattle.node.specs.declared.Verdict.the-variants.{Yes, No, Mixed}
 use Rattle.node.specs.declared.Position.{Position}
 use Rattle.node.specs.declared.Answer.{Answer}
+use Rattle.search_entry.specs.declared.Source.the-variants.{Area}
 use Rattle.inner.proofs.Below.{passed-none}
 use Rattle.search.proofs.Visiting.{open-alive}
 use Rattle.inner.specs.Inner.{Entered}
@@ -48,7 +49,7 @@ use Rattle.answers.specs.Run.{Ready, Starts, AtStart, Ends, FoundBy, bel
 
 -- a start node that is decided without branching
 abbrev decidedAt : Verdict → Answer
-decidedAt w = record { verdict = w; len = 0; visits = 1; lines = 0 }
+decidedAt w = record { verdict = w; source = Area; start = 0; len = 0; visits = 1; lines = 0 }
 
 pub decided-few : {w : Verdict} {r : Answer} → r ≡ decidedAt w → r .lines < 2 ^ 63
 decided-few {w} {r} e = omega (arith, ap (λ (a : Answer). a .lines) e)
@@ -91,7 +92,7 @@ pub below-shown : (rows links numbers quantifiers values statuses cs cl qs ql ta
     → ((D : Prefix) (s : Node) → Numbers D numbers → Values D s values → numbersOk paper [] D ≡ true → length s ≡ at → length s ≤ length D → Statuses s statuses)
     → ((D : Prefix) (s : Node) (ls : List Node) (R : List Clause) (st : Store)
     → Task D s ls R st rows links quantifiers statuses cs cl qs ql table firsts at (startAt at free)
-    → Entered D s R true → Result D ls (visitOf D R (startAt at free) s st true) (startAt at free) a up cs′ cl′ qs′ ql′ table′)
+    → Entered D s R true → Result D ls (visitOf D R (startAt at free) s st true) (startAt at free) a rows up cs′ cl′ qs′ ql′ table′)
     → Below rows links numbers quantifiers values cs cl qs ql table at free a cs′ cl′ qs′ ql′ table′
 below-shown rows links numbers quantifiers values statuses cs cl qs ql table firsts at free a up cs′ cl′ qs′ ql′ table′ within coded visit = record { by = shown }
   where
@@ -101,7 +102,7 @@ below-shown rows links numbers quantifiers values statuses cs cl qs ql table fir
         → BelowBy D (belowStart D R at s st) free a cs′ cl′ qs′ ql′ table′
     shown D R s st ns vs qs-shown matrix stored form long frees cov alive =
         record {
-          verdict = ends D (a .verdict) (take (a .len) up) _ (r .verdict);
+          verdict = ends D (a .verdict) (entryOf a rows cs′ qs′ up) _ (r .verdict);
           visits = omega (arith, r .visited);
           stored = r .stored;
           covers = r .covers;
@@ -111,7 +112,7 @@ below-shown rows links numbers quantifiers values statuses cs cl qs ql table fir
         ok : numbersOk paper [] D ≡ true
         ok = numbers-ok (record { limits = paper; prefix = D; clauses = R }) (record { limits-ok = refl; prefix-ok = form .prefix-ok; clauses-ok = form .clauses-ok })
 
-        r : Result D [] (belowStart D R at s st) (startAt at free) a up cs′ cl′ qs′ ql′ table′
+        r : Result D [] (belowStart D R at s st) (startAt at free) a rows up cs′ cl′ qs′ ql′ table′
         r =
             visit D s [] R st
             (record {

@@ -22,6 +22,7 @@ use loading::entries::unload;
 use node::Answer;
 use node::Position;
 use node::Verdict;
+use search_entry::Source;
 
 // Room for the constraint that each level of the search puts aside.
 const SAVED: usize = tables::NUMBERS * tables::NUMBERS;
@@ -95,10 +96,12 @@ fn at_start<'a>(
 
 // A start node that is decided without branching: one visit, and no line below it.
 fn decided(verdict: Verdict) -> Answer
-    ensures { λ r. ⌜ r ≡ record { verdict = verdict; len = 0; visits = 1; lines = 0 } ⌝ }
+    ensures { λ r. ⌜ r ≡ record { verdict = verdict; source = Source.Area; start = 0; len = 0; visits = 1; lines = 0 } ⌝ }
 {
     Answer {
         verdict: verdict,
+        source: Source::Area,
+        start: 0,
         len: 0,
         visits: 1,
         lines: 0,

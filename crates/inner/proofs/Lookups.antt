@@ -1,18 +1,23 @@
 -- The code that is looked up at an inner node, and what the lookup found.
-use Prim.Native.Nat.{ℕ, suc, _+_, _*_, _-_, _≤_, _<_}
+use Prim.Native.Nat.{ℕ, zero, suc, _+_, _*_, _-_, _≤_, _<_}
 use native.Mathlib.Omega.{arith}
-use mathlib.Core.Path.{_≡_, refl, sym, ap, _∙_}
+use native.Mathlib.Numerals.{add-one}
+use mathlib.Core.Path.{_≡_, refl, sym, ap, subst, _∙_}
 use mathlib.Core.Bool.{Bool, true, false, cond, Bool·beq}
-use mathlib.Core.List.{List, map}
+use mathlib.Core.List.{List, [], _∷_, map}
 use mathlib.Core.Option.{Option, none, some}
 use borrow.Author.Tests.{lt-ltb, le-ltb}
 use lib.Dec.{eqb}
-use lib.ListN.{length, getD}
-use Rattle.qbf.specs.Formula.{Prefix, Node, valueAt}
+use lib.ListN.{length, getD, take, drop}
+use Rattle.qbf.specs.Formula.{paper, Prefix, Node, valueAt}
 use Rattle.qbf.specs.Learning.{Constraint, eligibleMatch}
 use Rattle.tables.specs.Codes.{sign, codeAt, codes, statusOf, wanted, Statuses}
-use Rattle.tables.specs.Shelves.{rowAt, foundAt, firstMatch}
+use Rattle.tables.specs.Shelves.{lengthAt, rowAt, foundAt, firstMatch}
 use Rattle.tables.specs.Matrices.{dyingAt, numbered}
+use Rattle.search_entry.specs.Entry.{entryAt}
+use Rattle.search_entry.specs.declared.Bounds.{Bounds}
+use Rattle.inner.specs.Inner.{FoundCoded}
+use Rattle.inner.specs.declared.found.Found.the-variants.{At}
 use Rattle.inner.proofs.LastLiteral.{coded, last-value, last-literal}
 
 -- ---- the literal of a place by the status of its positive literal
@@ -67,6 +72,28 @@ module _ {t : List ℕ} (v : Bool) {k code want : ℕ}
 
   pub found-nothing : result ≡ none → eligibleMatch D eqb v s es ≡ none
   found-nothing is = uncoded-none D (eligibleMatch D eqb v s es) (sym is ∙ looked-up)
+
+-- ---- by its bounds
+-- what was found, where bounds are those of its row
+pub found-part : (D : Prefix) (o : Option Constraint) {row : List ℕ} (cls cs area : List ℕ) {b : Bounds} (c : Bounds) → b ≡ c → entryAt c cls cs area ≡ row
+    → (e : Constraint) × (o ≡ some e) × (row ≡ codes D e) → FoundCoded D (At b) cls cs area o
+found-part D o cls cs area c is part (e, h, k) =
+    subst (λ (x : Bounds). FoundCoded D (At x) cls cs area o) (sym is) (e, h, part ∙ k)
+
+-- as many cells as the first n have
+pub take-again : (n : ℕ) (xs : List ℕ) → take (length (take n xs)) xs ≡ take n xs
+take-again zero xs = refl
+take-again (suc n) [] = refl
+take-again (suc n) (x ∷ xs) = ap {B = List ℕ} (λ ys. x ∷ ys) (take-again n xs)
+
+-- the row of a slot
+pub row-part : (cells : List ℕ) (slot : ℕ) (row : List ℕ) → row ≡ rowAt (paper .numbers) cells slot
+    → take (length row) (drop (slot * suc (paper .numbers) + 1) cells) ≡ row
+row-part cells slot row is =
+    ap (λ (x : List ℕ). take (length x) (drop (slot * suc (paper .numbers) + 1) cells)) is
+    ∙ ap (λ (j : ℕ). take (length (rowAt (paper .numbers) cells slot)) (drop j cells)) (add-one (slot * suc (paper .numbers)))
+    ∙ take-again (lengthAt (paper .numbers) cells slot) (drop (suc (slot * suc (paper .numbers))) cells)
+    ∙ sym is
 
 -- ---- what is in a slot, and what has a number
 module _ (stride slots : ℕ) (cells : List ℕ) (r : ℕ) where

@@ -58,11 +58,7 @@ module _ {cells links : List ℕ} (m : Matrix cells links) {number : ℕ} (withi
   pub numbered-short : reducedAt cells (number - 1) ≤ paper .literals
   numbered-short = m .short (number - 1) index-low
 
-  pub numbered-part : take ((number - 1) * clauseRow + 2 + reducedAt cells (number - 1) - ((number - 1) * clauseRow + 2)) (drop ((number - 1) * clauseRow + 2) cells)
-      ≡ dyingAt cells (number - 1)
-  numbered-part = row-part m (number - 1) index-low (reducedAt cells (number - 1)) numbered-short
-
-  pub numbered-length : length (take ((number - 1) * clauseRow + 2 + reducedAt cells (number - 1) - ((number - 1) * clauseRow + 2)) (drop ((number - 1) * clauseRow + 2) cells))
-      ≤ paper .literals
-  numbered-length =
-      omega (arith, ap length numbered-part, row-length m (number - 1) index-low (reducedAt cells (number - 1)) numbered-short, numbered-short)
+  pub numbered-part : take (reducedAt cells (number - 1)) (drop ((number - 1) * clauseRow + 2) cells) ≡ dyingAt cells (number - 1)
+  numbered-part =
+      let q : (number - 1) * clauseRow + 2 ≡ suc (suc ((number - 1) * clauseRow)) = omega arith in
+      ap (λ (j : ℕ). take (reducedAt cells (number - 1)) (drop j cells)) q

@@ -2,12 +2,13 @@
 // reduction, in the literal of the node's last place that is false there: only the clauses linked by that literal are scanned.
 use crate::found::Found;
 use crate::found::code_here;
-use crate::found::copy;
 use coding::code::cell;
+use search_entry::Source;
+use search_entry::placed;
 ghost use mathlib.Core.Path.{_≡_};
 ghost use mathlib.Core.Bool.{false};
 ghost use mathlib.Core.List.{List, map};
-ghost use Prim.Native.Nat.{_≤_, _<_};
+ghost use Prim.Native.Nat.{ℕ, _≤_, _<_};
 ghost use lib.Dec.{eqb};
 ghost use lib.ListN.{length};
 ghost use Rattle.qbf.specs.Formula.{paper, Prefix, Clause, Node};
@@ -15,7 +16,7 @@ ghost use Rattle.qbf.specs.Learning.{reduce, eligibleMatch};
 ghost use Rattle.tables.specs.Codes.{codes, Statuses};
 ghost use Rattle.tables.specs.Shelves.{codeCount, firstMatch};
 ghost use Rattle.tables.specs.Matrices.{Matrix, countOf, dyingRows, numbered};
-ghost use Rattle.inner.specs.Inner.{FoundCoded, foundLength};
+ghost use Rattle.inner.specs.Inner.{FoundCoded, FoundBounded};
 
 // The number of the first clause that ends in the code and all of whose literals are false, under universal reduction; 0 where none is. A
 // literal that is not false leaves its clause by the label.
@@ -51,23 +52,22 @@ fn first_dying<'a>(
     0
 }
 
-// The clause that dies at an inner node, under universal reduction, in the first cells of the area.
+// The clause that dies at an inner node, under universal reduction: the first codes of its row.
 pub fn dead<'a>(
     clauses: &'a [u16; tables::CLAUSE_ROWS],
     links: &'a [u16; tables::CLAUSE_LINKS],
     statuses: &'a [u8; tables::CODES],
     at: usize,
-    up: &mut [u16; tables::AREA],
 ) -> Found
     requires { ⌜ Matrix (now clauses) (now links) × (at ≤ paper .numbers) ⌝ }
-    ensures { λ r. ⌜ foundLength r ≤ paper .numbers ⌝ }
+    ensures { λ r. ⌜ FoundBounded r ⌝ }
     ensures { λ r. ⌜
-        ((D : Prefix) (s : Node) (R : List Clause)
+        ((D : Prefix) (s : Node) (R : List Clause) (learned area : List ℕ)
         → Statuses s (now (statuses .entry))
         → length s ≡ at
         → 1 ≤ at
         → dyingRows (now (clauses .entry)) (now (links .entry)) ≡ map (codes D) (map (reduce D false) R)
-        → FoundCoded D r (now (up .exit)) (eligibleMatch D eqb false s (map (reduce D false) R)))
+        → FoundCoded D r (now (clauses .entry)) learned area (eligibleMatch D eqb false s (map (reduce D false) R)))
         ⌝ }
 {
     let code = code_here(statuses, at, false);
@@ -77,8 +77,5 @@ pub fn dead<'a>(
     }
     let from = (number - 1) * tables::CLAUSE_ROW;
     let size = clauses[from] as usize;
-    let cells: &[u16] = clauses;
-    let row = &cells[from + 2..from + 2 + size];
-    copy(up, row);
-    Found::At(row.len())
+    Found::At(placed(Source::Clauses, from + 2, size))
 }

@@ -9,12 +9,14 @@ use cube::cube;
 use dying::dead;
 use found::Found;
 use found::lookup;
-use leaf::Leaf;
 use satisfied::advance;
+use search_entry::Bounds;
+use search_entry::Source;
+use search_entry::placed;
 ghost use mathlib.Core.Path.{_≡_};
 ghost use mathlib.Core.Bool.{true, false};
 ghost use mathlib.Core.List.{List, map};
-ghost use Prim.Native.Nat.{_≤_};
+ghost use Prim.Native.Nat.{ℕ, _≤_};
 ghost use lib.ListN.{length, take};
 ghost use lib.Dec.{eqb};
 ghost use Rattle.qbf.specs.Formula.{paper, Prefix, Clause, Node, all, satisfied};
@@ -25,12 +27,18 @@ ghost use Rattle.tables.specs.Codes.{codes, Statuses, Quantified};
 ghost use Rattle.tables.specs.Shelves.{Entries, entriesOf, Shelves, StoreShown};
 ghost use Rattle.tables.specs.Matrices.{Matrix, MatrixShown, dyingRows};
 ghost use Rattle.tables.specs.Marks.{Passed, Fresh};
-ghost use Rattle.leaf.specs.Leaf.{leafLength};
 ghost use Rattle.leaf.specs.Conflict.{firstOf};
 ghost use Rattle.leaf.specs.Solution.{matched, satisfiedOr};
-ghost use Rattle.inner.specs.Inner.{FoundCoded, foundLength, LeafCoded, Entered, Concluded};
+ghost use Rattle.inner.specs.Inner.{FoundCoded, FoundBounded, LeafCoded, LeafBounded, Entered, Concluded};
 
-// What decides the node, or that it is open; and how many leading clauses are known to be satisfied.
+// What decides the node, with the constraint that goes up by its bounds, or that it is open.
+pub enum Leaf {
+    No(Bounds),
+    Yes(Bounds),
+    Open,
+}
+
+// That, and how many leading clauses are known to be satisfied.
 pub struct Step {
     pub leaf: Leaf,
     pub satisfied: usize,
@@ -43,35 +51,31 @@ fn conflict<'a>(
     learned: &'a [u16; tables::CONSTRAINT_CODES],
     learned_links: &'a [u64; tables::CONSTRAINT_LINKS],
     statuses: &'a [u8; tables::CODES],
-    up: &mut [u16; tables::AREA],
     at: usize,
 ) -> Found
     requires { ⌜ Matrix (now clauses) (now links) × Entries (now learned) (now «learned_links») × (at ≤ paper .numbers) ⌝ }
-    ensures { λ r. ⌜ foundLength r ≤ paper .numbers ⌝ }
+    ensures { λ r. ⌜ FoundBounded r ⌝ }
     ensures { λ r. ⌜
-        ((D : Prefix) (R : List Clause) (s : Node) (cs : List Constraint)
+        ((D : Prefix) (R : List Clause) (s : Node) (cs : List Constraint) (area : List ℕ)
         → Statuses s (now (statuses .entry))
         → length s ≡ at
         → 1 ≤ at
         → dyingRows (now (clauses .entry)) (now (links .entry)) ≡ map (codes D) (map (reduce D false) R)
         → entriesOf (now (learned .entry)) (now («learned_links» .entry)) ≡ map (codes D) cs
         → Fresh D s R
-        → FoundCoded D r (now (up .exit)) (firstOf (reducedFound D false (firstDead D s R)) (eligibleMatch D eqb false s cs)))
+        → FoundCoded
+        D
+        r
+        (now (clauses .entry))
+        (now (learned .entry))
+        area
+        (firstOf (reducedFound D false (firstDead D s R)) (eligibleMatch D eqb false s cs)))
         ⌝ }
 {
-    let dead = dead(clauses, links, statuses, at, up);
+    let dead = dead(clauses, links, statuses, at);
     match dead {
-        Found::At(n) => Found::At(n),
-        Found::Nothing => lookup(
-            learned,
-            learned_links,
-            tables::NUMBERS,
-            tables::CONSTRAINTS,
-            statuses,
-            at,
-            false,
-            up,
-        ),
+        Found::At(b) => Found::At(b),
+        Found::Nothing => lookup(learned, learned_links, statuses, at, false),
     }
 }
 
@@ -89,32 +93,22 @@ fn stored_cube<'a>(
     statuses: &'a [u8; tables::CODES],
     cubes: &'a [u16; tables::CONSTRAINT_CODES],
     cube_links: &'a [u64; tables::CONSTRAINT_LINKS],
-    up: &mut [u16; tables::AREA],
     at: usize,
 ) -> Leaf
     requires { ⌜ Entries (now cubes) (now «cube_links») × (at ≤ paper .numbers) ⌝ }
-    ensures { λ r. ⌜ leafLength r ≤ paper .numbers ⌝ }
+    ensures { λ r. ⌜ LeafBounded r ⌝ }
     ensures { λ r. ⌜
-        ((D : Prefix) (s : Node) (qs : List Constraint)
+        ((D : Prefix) (s : Node) (qs : List Constraint) (clauses learned area : List ℕ)
         → Statuses s (now (statuses .entry))
         → length s ≡ at
         → 1 ≤ at
         → entriesOf (now (cubes .entry)) (now («cube_links» .entry)) ≡ map (codes D) qs
-        → LeafCoded D r (now (up .exit)) (matched D eqb s qs))
+        → LeafCoded D r clauses learned (now (cubes .entry)) area (matched D eqb s qs))
         ⌝ }
 {
-    let found = lookup(
-        cubes,
-        cube_links,
-        tables::NUMBERS,
-        tables::CONSTRAINTS,
-        statuses,
-        at,
-        true,
-        up,
-    );
+    let found = lookup(cubes, cube_links, statuses, at, true);
     match found {
-        Found::At(n) => Leaf::Yes(n),
+        Found::At(b) => Leaf::Yes(b),
         Found::Nothing => Leaf::Open,
     }
 }
@@ -132,9 +126,9 @@ fn solution<'a>(
     at: usize,
 ) -> Leaf
     requires { ⌜ Entries (now cubes) (now «cube_links») × (at ≤ paper .numbers) × (count ≤ paper .clauses) ⌝ }
-    ensures { λ r. ⌜ leafLength r ≤ paper .numbers ⌝ }
+    ensures { λ r. ⌜ LeafBounded r ⌝ }
     ensures { λ r. ⌜
-        ((D : Prefix) (R : List Clause) (s : Node) (qs : List Constraint)
+        ((D : Prefix) (R : List Clause) (s : Node) (qs : List Constraint) (clauses learned : List ℕ)
         → Quantified D (now (quantifiers .entry))
         → Statuses s (now (statuses .entry))
         → prefixOk paper D ≡ true
@@ -144,14 +138,14 @@ fn solution<'a>(
         → entriesOf (now (cubes .entry)) (now («cube_links» .entry)) ≡ map (codes D) qs
         → Passed D s R reached (now (firsts .entry))
         → all (satisfied D s) R ≡ eqb reached (length R)
-        → LeafCoded D r (now (up .exit)) (satisfiedOr D R s (matched D eqb s qs)))
+        → LeafCoded D r clauses learned (now (cubes .entry)) (now (up .exit)) (satisfiedOr D R s (matched D eqb s qs)))
         ⌝ }
 {
     if reached == count {
         let n = cube(firsts, count, statuses, quantifiers, at, up);
-        return Leaf::Yes(n);
+        return Leaf::Yes(placed(Source::Area, 0, n));
     }
-    stored_cube(statuses, cubes, cube_links, up, at)
+    stored_cube(statuses, cubes, cube_links, at)
 }
 
 // The four steps in order, at a node that is not the start; at a start node they have been taken and leave it open.
@@ -176,7 +170,7 @@ pub fn conclude<'a>(
         × (at ≤ paper .numbers)
         ⌝ }
     ensures { λ r. ⌜
-        (leafLength (r .leaf) ≤ paper .numbers)
+        LeafBounded (r .leaf)
         × (satisfied ≤ r .satisfied)
         × (take satisfied (now (firsts .exit)) ≡ take satisfied (now (firsts .entry)))
         ⌝ }
@@ -190,15 +184,26 @@ pub fn conclude<'a>(
         → Formed D R st
         → Entered D s R start
         → Passed D s R satisfied (now (firsts .entry))
-        → Concluded D R s st start r (now (up .exit)) (now (firsts .exit)))
+        → Concluded
+        D
+        R
+        s
+        st
+        start
+        r
+        (now (clauses .entry))
+        (now (learned .entry))
+        (now (cubes .entry))
+        (now (up .exit))
+        (now (firsts .exit)))
         ⌝ }
 {
     if start {
         return step_of(Leaf::Open, satisfied);
     }
-    let conflict = conflict(clauses, links, learned, learned_links, statuses, up, at);
+    let conflict = conflict(clauses, links, learned, learned_links, statuses, at);
     match conflict {
-        Found::At(n) => step_of(Leaf::No(n), satisfied),
+        Found::At(b) => step_of(Leaf::No(b), satisfied),
         Found::Nothing => {
             let reached = advance(clauses, links, statuses, satisfied, firsts);
             let count = links[tables::CODES] as usize;

@@ -4,7 +4,7 @@ use native.Mathlib.Omega.{arith}
 use mathlib.Core.Path.{_≡_, sym, ap, subst, _∙_}
 use mathlib.Core.Bool.{Bool, true, false}
 use mathlib.Core.List.{List, map}
-use lib.ListN.{length, take, length-map}
+use lib.ListN.{length, take, drop, length-map}
 use lib.Seq.{length-take-le}
 use lib.Dec.{eqb}
 use Rattle.qbf.specs.Formula.{paper, Prefix}
@@ -15,7 +15,10 @@ use Rattle.tables.specs.Shelves.{codeCount}
 use Rattle.theory.proofs.Sets.{mentions-last}
 use Rattle.theory.proofs.WellFormed.{rising→}
 use Rattle.node.specs.Node.{Fits}
-use Rattle.node.specs.Step.{JoinedSides}
+use Rattle.search_entry.specs.Entry.{tableOf, entryAt}
+use Rattle.search_entry.specs.declared.Source.{Source}
+use Rattle.search_entry.specs.declared.Bounds.{Bounds}
+use Rattle.node.specs.Step.{Stored, JoinedSides}
 use Rattle.node.proofs.Coded.{map-push}
 
 -- by whether the on side's constraint f ends at the next place, which no literal of it stands beyond
@@ -28,7 +31,7 @@ module _ (D : Prefix) (at : ℕ) (v : Polarity) (e f : Constraint) (ordered : in
   pub joined-lacking : b ≡ false → (es : List Constraint) {cs : List ℕ} {rows : List (List ℕ)} → cs ≡ codes D f → rows ≡ map (codes D) es → JoinedSides D (suc at) v e f es cs rows
   joined-lacking h es k s = record { up = rw (is-named, h) k; stored = rw (is-named, h) s }
 
-  -- it does: the resolvent, the first m codes of the area, goes up and is stored
+  -- it does: the resolvent, the first m codes of an area, is stored, and its row goes up
   module _ (h : b ≡ true) (es : List Constraint) (up : List ℕ) (m : ℕ) (within : m ≤ length up) (made : take m up ≡ codes D (resolvent D (suc at) v e f)) (fits : Fits D (resolvent D (suc at) v e f)) where
     -- it has room
     made-short : m ≤ paper .numbers
@@ -37,10 +40,12 @@ module _ (D : Prefix) (at : ℕ) (v : Polarity) (e f : Constraint) (ordered : in
     made-low : lastCode (take m up) < codeCount
     made-low = subst (λ (cs : List ℕ). lastCode cs < codeCount) (sym made) (fits .1)
 
-    pub joined-named : {r : ℕ} {old new : List (List ℕ)} → old ≡ map (codes D) es → (m ≤ paper .numbers → lastCode (take m up) < codeCount → (r ≡ m) × (new ≡ push (paper .constraints) (take m up) old)) → JoinedSides D (suc at) v e f es (take r up) new
-    joined-named {old = old} k s =
+    pub joined-named : (r : Bounds) (cls cells area : List ℕ) {old new : List (List ℕ)} → old ≡ map (codes D) es
+        → (m ≤ paper .numbers → lastCode (take m up) < codeCount → Stored r (take m up) cells × (new ≡ push (paper .constraints) (take m up) old))
+        → JoinedSides D (suc at) v e f es (entryAt r cls cells area) new
+    joined-named r cls cells area {old = old} k s =
         let g = s made-short made-low in
         record {
-          up = rw (is-named, h) (ap (λ (n : ℕ). take n up) (g .0) ∙ made);
+          up = rw (is-named, h) (ap (λ (x : Source). take (r .len) (drop (r .start) (tableOf x cls cells area))) (g .0 .source) ∙ g .0 .part ∙ made);
           stored = rw (is-named, h) (g .1 ∙ ap (λ (x : List ℕ). push (paper .constraints) x old) made ∙ ap (push (paper .constraints) (codes D (resolvent D (suc at) v e f))) k ∙ sym (map-push (codes D) (paper .constraints) (resolvent D (suc at) v e f) es));
         }

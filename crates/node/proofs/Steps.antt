@@ -1,10 +1,10 @@
 -- Both sides of a node: what step 5 gives, by the verdicts of the two.
 use Prim.Native.Nat.{ℕ, suc, _≤_, zero-le}
 use native.Mathlib.Omega.{arith}
-use mathlib.Core.Path.{_≡_, refl, sym, ap, _∙_}
+use mathlib.Core.Path.{_≡_, refl, sym, ap, subst, _∙_}
 use mathlib.Core.Bool.{Bool, true, false, cond}
 use mathlib.Core.List.{List}
-use lib.ListN.{length, take}
+use lib.ListN.{length}
 use Rattle.qbf.specs.Formula.{paper, Quantifier, Prefix, Clause, Node}
 use Rattle.qbf.specs.Truth.{Outcome, DecidedNode, decided, mixed}
 use Rattle.qbf.specs.Learning.{Polarity, Constraint, Store, constraints, push, mentions, resolvent, resolve, lastPlace, LearningResult}
@@ -15,7 +15,9 @@ use Rattle.node.specs.declared.Verdict.{Verdict}
 use Rattle.node.specs.declared.Verdict.the-variants.{Yes, No, Mixed}
 use Rattle.node.specs.declared.Answer.{Answer}
 use Rattle.node.specs.declared.both.Step.the-variants as step
-use Rattle.node.specs.Node.{Reads, Ended, onwardOf, resolventOf, Fits, Finished, Joined, Grown}
+use Rattle.search_entry.specs.Entry.{entryAt, Bounded}
+use Rattle.search_entry.specs.declared.Bounds.{Bounds}
+use Rattle.node.specs.Node.{boundsOf, storedBy, entryOf, mixedOf, reboundOf, Reads, Ended, onwardOf, resolventOf, Fits, Finished, Joined, Grown}
 use Rattle.node.specs.Step.{alone, stepOf, joinedOf, storedOf, JoinedSides, OfSide}
 
 -- ---- the steps differ
@@ -45,6 +47,11 @@ sideOf false = No
 reads : (D : Prefix) (c : Polarity) (cs : List ℕ) (e : Constraint) (o : Outcome Constraint) → o ≡ decided c e → cs ≡ codes D e → Reads D (sideOf c) cs o
 reads D true cs e o h k = (e, h, k)
 reads D false cs e o h k = (e, h, k)
+
+-- the learned constraints of that side
+pub stored-by : (c : Polarity) {w : Verdict} → w ≡ sideOf c → (cs qs : List ℕ) → storedBy w cs qs ≡ cond c qs cs
+stored-by true e cs qs = ap (λ (v : Verdict). storedBy v cs qs) e
+stored-by false e cs qs = ap (λ (v : Verdict). storedBy v cs qs) e
 
 -- the store with other constraints of one polarity
 abbrev pub put : Polarity → List Constraint → Store → Store
@@ -149,13 +156,13 @@ module _ (D : Prefix) (R : List Clause) (κ : Quantifier) (s : Node) (st : Store
 
   -- ---- the answer, where the store stays
   module _ (v : Verdict) (on : Answer) {x : Bool} (enough : x ≡ alone (on .verdict) κ) (p : Reads D v cs₀ a) (q : Reads D (on .verdict) cs₁ o) {cs cl qs ql : List ℕ} (shown : StoreShown D st cs cl qs ql) where
-    pub joined-mixed : stepOf v (on .verdict) x ≡ step.Mixed → (up : List ℕ) → Joined D result (record { verdict = Mixed; len = 0; visits = on .visits; lines = on .lines }) up cs cl qs ql
-    joined-mixed e up =
+    pub joined-mixed : stepOf v (on .verdict) x ≡ step.Mixed → (cls up : List ℕ) → Joined D result (mixedOf on) cls up cs cl qs ql
+    joined-mixed e cls up =
         let m = mixed-step v (on .verdict) enough e p q in
         record { verdict = (m .0, ap (λ (r : LearningResult). r .outcome) (m .1)); stored = rw (m .1) shown }
 
-    pub joined-on : stepOf v (on .verdict) x ≡ step.On → (up : List ℕ) → cs₁ ≡ take (on .len) up → Joined D result on up cs cl qs ql
-    joined-on e up z =
+    pub joined-on : stepOf v (on .verdict) x ≡ step.On → (cls up : List ℕ) → cs₁ ≡ entryOf on cls cs qs up → Joined D result on cls up cs cl qs ql
+    joined-on e cls up z =
         let m = on-step v (on .verdict) enough e p q in
         record { verdict = rw (← z) (m .0); stored = rw (← m .1) shown }
 
@@ -172,41 +179,47 @@ module _ (D : Prefix) (R : List Clause) (κ : Quantifier) (s : Node) (st : Store
     on-ended h = rw (both .on) at h
 
     -- the outcome and the store
-    same-verdict : (r : Answer) (up : List ℕ) {rows : List (List ℕ)} → r .verdict ≡ on .verdict
-        → JoinedSides D (suc at) c (both .first) (both .second) (constraints c st) (take (r .len) up) rows
-        → Reads D (r .verdict) (take (r .len) up) (result .outcome)
-    same-verdict r up v j = rw (v, both .side) (reads D c (take (r .len) up) (joinedOf D (suc at) c (both .first) (both .second)) (result .outcome) (ap (λ (x : LearningResult). x .outcome) (both .gives) ∙ same-outcome D R s st k (both .first) (both .second) c ∙ rw long) (j .up))
+    same-verdict : (w : Verdict) (up : List ℕ) {rows : List (List ℕ)} → w ≡ on .verdict
+        → JoinedSides D (suc at) c (both .first) (both .second) (constraints c st) up rows
+        → Reads D w up (result .outcome)
+    same-verdict w up v j = rw (v, both .side) (reads D c up (joinedOf D (suc at) c (both .first) (both .second)) (result .outcome) (ap (λ (x : LearningResult). x .outcome) (both .gives) ∙ same-outcome D R s st k (both .first) (both .second) c ∙ rw long) (j .up))
 
     same-stored : result .store ≡ put c (storedOf D (suc at) c (both .first) (both .second) (constraints c st)) st
     same-stored = ap (λ (x : LearningResult). x .store) (both .gives) ∙ same-store D R s st k (both .first) (both .second) c ∙ rw long
 
   -- the constraints are stored among the clauses, or among the cubes
-  module _ (on r : Answer) (at : ℕ) (long : length s ≡ at) (up : List ℕ) {cs cl qs ql : List ℕ} (shown : StoreShown D st cs cl qs ql) (verdict : r .verdict ≡ on .verdict) where
+  module _ (on r : Answer) (at : ℕ) (long : length s ≡ at) (cls up : List ℕ) {cs cl qs ql : List ℕ} (shown : StoreShown D st cs cl qs ql) (verdict : r .verdict ≡ on .verdict) where
     pub joined-clauses : (both : Same false (on .verdict)) (cs′ cl′ : List ℕ)
-        → JoinedSides D (suc at) false (both .first) (both .second) (st .clauses) (take (r .len) up) (entriesOf cs′ cl′)
-        → Joined D result r up cs′ cl′ qs ql
+        → JoinedSides D (suc at) false (both .first) (both .second) (st .clauses) (entryAt (boundsOf r) cls cs′ up) (entriesOf cs′ cl′)
+        → Joined D result r cls up cs′ cl′ qs ql
     joined-clauses both cs′ cl′ j = record {
-      verdict = same-verdict false on both at long r up verdict j;
+      verdict =
+          subst (λ (x : List ℕ). Reads D (r .verdict) (entryAt (boundsOf r) cls x up) (result .outcome))
+          (sym (stored-by false (verdict ∙ both .side) cs′ qs))
+          (same-verdict false on both at long (r .verdict) (entryAt (boundsOf r) cls cs′ up) verdict j);
       stored = rw (same-stored false on both at long) (record { clauses = j .stored; cubes = shown .cubes });
     }
 
     pub joined-cubes : (both : Same true (on .verdict)) (qs′ ql′ : List ℕ)
-        → JoinedSides D (suc at) true (both .first) (both .second) (st .cubes) (take (r .len) up) (entriesOf qs′ ql′)
-        → Joined D result r up cs cl qs′ ql′
+        → JoinedSides D (suc at) true (both .first) (both .second) (st .cubes) (entryAt (boundsOf r) cls qs′ up) (entriesOf qs′ ql′)
+        → Joined D result r cls up cs cl qs′ ql′
     joined-cubes both qs′ ql′ j = record {
-      verdict = same-verdict true on both at long r up verdict j;
+      verdict =
+          subst (λ (x : List ℕ). Reads D (r .verdict) (entryAt (boundsOf r) cls x up) (result .outcome))
+          (sym (stored-by true (verdict ∙ both .side) cs qs′))
+          (same-verdict true on both at long (r .verdict) (entryAt (boundsOf r) cls qs′ up) verdict j);
       stored = rw (same-stored true on both at long) (record { clauses = shown .clauses; cubes = j .stored });
     }
 
 -- the counts are the on side's
-pub finished-mixed : (on : Answer) → Finished on (record { verdict = Mixed; len = 0; visits = on .visits; lines = on .lines })
-finished-mixed on = record { short = zero-le; visits = refl; lines = refl }
+pub finished-mixed : (on : Answer) → Finished on (mixedOf on)
+finished-mixed on = record { bounded = record { short = zero-le; inside = zero-le }; visits = refl; lines = refl }
 
-pub side-same : (on : Answer) → on .len ≤ paper .numbers → OfSide on on
-side-same on h = record { counts = record { short = h; visits = refl; lines = refl }; verdict = refl }
+pub side-same : (on : Answer) → Bounded (boundsOf on) → OfSide on on
+side-same on h = record { counts = record { bounded = h; visits = refl; lines = refl }; verdict = refl }
 
-pub side-len : (on : Answer) (m : ℕ) → m ≤ paper .numbers → OfSide on (record { verdict = on .verdict; len = m; visits = on .visits; lines = on .lines })
-side-len on m h = record { counts = record { short = h; visits = refl; lines = refl }; verdict = refl }
+pub side-at : (on : Answer) (b : Bounds) → Bounded b → OfSide on (reboundOf on b)
+side-at on b h = record { counts = record { bounded = h; visits = refl; lines = refl }; verdict = refl }
 
 -- no row more
 pub grown-none : (cl ql : List ℕ) → Grown cl ql cl ql

@@ -12,6 +12,9 @@ use Rattle.qbf.specs.Calls.{inOrder}
 use Rattle.tables.specs.Codes.{codeAt, codes, lastCode, Statuses, Quantified}
 use Rattle.tables.specs.Shelves.{codeCount, StoreShown, newestOf}
 use Rattle.cover.specs.Cover.{Covers}
+use Rattle.search_entry.specs.Entry.{entryAt, Bounded}
+use Rattle.search_entry.specs.declared.Source.the-variants.{Area}
+use Rattle.search_entry.specs.declared.Bounds.{Bounds}
 use Rattle.node.specs.declared.Verdict.{Verdict}
 use Rattle.node.specs.declared.Verdict.the-variants.{Yes, No, Mixed}
 use Rattle.node.specs.declared.Position.{Position}
@@ -32,6 +35,27 @@ abbrev pub isMixed : Verdict → Bool
 isMixed Yes = false
 isMixed No = false
 isMixed Mixed = true
+
+-- ---- the constraint that goes up
+abbrev pub boundsOf : Answer → Bounds
+boundsOf r = record { source = r .source; start = r .start; len = r .len }
+
+-- the answer with other bounds; Mixed, which has no constraint
+abbrev pub reboundOf : Answer → Bounds → Answer
+reboundOf r b = record { verdict = r .verdict; source = b .source; start = b .start; len = b .len; visits = r .visits; lines = r .lines }
+
+abbrev pub mixedOf : Answer → Answer
+mixedOf r = record { verdict = Mixed; source = Area; start = 0; len = 0; visits = r .visits; lines = r .lines }
+
+-- the learned constraints of a verdict's polarity
+abbrev pub storedBy : Verdict → List ℕ → List ℕ → List ℕ
+storedBy Yes cs qs = qs
+storedBy No cs qs = cs
+storedBy Mixed cs qs = cs
+
+-- its codes: that part of the clauses, of the learned constraints, or of the area
+abbrev pub entryOf : Answer → List ℕ → List ℕ → List ℕ → List ℕ → List ℕ
+entryOf r clauses cs qs area = entryAt (boundsOf r) clauses (storedBy (r .verdict) cs qs) area
 
 -- the outcome o has the verdict, with the constraint of the codes cs where it is Yes or No
 abbrev pub Reads : Prefix → Verdict → List ℕ → Outcome Constraint → Type 0
@@ -86,12 +110,12 @@ Fits D e = (length e ≤ paper .numbers) × (lastCode (codes D e) < codeCount)
 
 -- both sides done: the counts are the on side's
 pub record Finished (on r : Answer) : Type 0 where
-  pub short : r .len ≤ paper .numbers
+  pub bounded : Bounded (boundsOf r)
   pub visits : r .visits ≡ on .visits
   pub lines : r .lines ≡ on .lines
 
-pub record Joined (D : Prefix) (o : LearningResult) (r : Answer) (up cs cl qs ql : List ℕ) : Type 0 where
-  pub verdict : Reads D (r .verdict) (take (r .len) up) (o .outcome)
+pub record Joined (D : Prefix) (o : LearningResult) (r : Answer) (clauses area cs cl qs ql : List ℕ) : Type 0 where
+  pub verdict : Reads D (r .verdict) (entryOf r clauses cs qs area) (o .outcome)
   pub stored : StoreShown D (o .store) cs cl qs ql
 
 -- at most one row more on each shelf

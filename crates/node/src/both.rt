@@ -1,8 +1,10 @@
 // What the verdicts of both sides ask for.
 use super::Answer;
 use super::Verdict;
+use search_entry::Source;
 ghost use mathlib.Core.Path.{_≡_};
 ghost use mathlib.Core.Bool.{cond};
+ghost use Rattle.node.specs.Node.{mixedOf};
 ghost use Rattle.node.specs.Step.{stepOf};
 
 // Mixed; the on side's answer; or two constraints of one polarity.
@@ -54,10 +56,12 @@ pub fn step_of(first: Verdict, second: Verdict, enough: bool) -> Step
 }
 
 pub fn mixed(on: Answer) -> Answer
-    ensures { λ r. ⌜ r ≡ record { verdict = Verdict.Mixed; len = 0; visits = on .visits; lines = on .lines } ⌝ }
+    ensures { λ r. ⌜ r ≡ mixedOf on ⌝ }
 {
     Answer {
         verdict: Verdict::Mixed,
+        source: Source::Area,
+        start: 0,
         len: 0,
         visits: on.visits,
         lines: on.lines,

@@ -1,10 +1,15 @@
 // "Joining unites the two without v, reduces, stores the result and sends it up."
 use super::Answer;
+use super::bounds_of;
 use super::side::ends_next;
+use super::with_lines;
 use coding::list::last_code;
 use coding::list::reduced_first;
-use coding::list::write;
 use coding::union::unite;
+use search_entry::Bounds;
+use search_entry::Source;
+use search_entry::entry;
+use search_entry::placed;
 ghost use mathlib.Core.Path.{_≡_};
 ghost use mathlib.Core.Bool.{true};
 ghost use mathlib.Core.List.{List, map};
@@ -15,8 +20,9 @@ ghost use Rattle.qbf.specs.Learning.{Constraint, push, without, resolvent, last
 ghost use Rattle.qbf.specs.Calls.{inOrder};
 ghost use Rattle.tables.specs.Codes.{codes, lastCode, Quantified};
 ghost use Rattle.tables.specs.Shelves.{codeCount, Entries, entriesOf, newestOf};
-ghost use Rattle.node.specs.Node.{Fits};
-ghost use Rattle.node.specs.Step.{JoinedSides, OfSide};
+ghost use Rattle.search_entry.specs.Entry.{entryAt, Bounded};
+ghost use Rattle.node.specs.Node.{boundsOf, reboundOf, Fits};
+ghost use Rattle.node.specs.Step.{Stored, JoinedSides, OfSide};
 
 // How many of the first n codes are left without the place after `at`, which can only be the last.
 fn trimmed<'a>(cells: &'a [u16], n: usize, at: usize) -> usize
@@ -36,11 +42,10 @@ fn trimmed<'a>(cells: &'a [u16], n: usize, at: usize) -> usize
     n
 }
 
-// The resolvent of the first n codes put aside and the first `len` of the area, which is made in a second area and written into the first.
-fn resolve_in<'a>(
+// The resolvent of the first n codes put aside and of a row, in an area; how many codes it has.
+fn resolve<'a>(
     joined: &mut [u16; tables::AREA],
-    up: &mut [u16; tables::AREA],
-    len: usize,
+    row: &'a [u16],
     saved: &'a [u16],
     n: usize,
     at: usize,
@@ -48,117 +53,90 @@ fn resolve_in<'a>(
     cube: bool,
 ) -> usize
     requires { ⌜
-        (len ≤ paper .numbers)
+        (length (now row) ≤ paper .numbers)
         × (n ≤ paper .numbers)
         × (n ≤ length (now saved))
         × (at < suc (paper .numbers))
         × (paper .numbers + paper .numbers ≤ length (now joined))
         ⌝ }
     ensures { λ r. ⌜
-        (r ≤ length (now (up .exit)))
+        (r ≤ length (now (joined .exit)))
+        × (length (now (joined .exit)) ≡ paper .numbers + paper .numbers)
         × ((D : Prefix) (e f : Constraint)
         → Quantified D (now (quantifiers .entry))
         → take n (now (saved .entry)) ≡ codes D e
-        → take len (now (up .entry)) ≡ codes D f
+        → now (row .entry) ≡ codes D f
         → inOrder D 0 e ≡ true
         → inOrder D 0 f ≡ true
         → lastPlace D e ≤ suc at
         → lastPlace D f ≤ suc at
-        → take r (now (up .exit)) ≡ codes D (resolvent D (suc at) cube e f))
+        → take r (now (joined .exit)) ≡ codes D (resolvent D (suc at) cube e f))
         ⌝ }
 {
     let a = trimmed(saved, n, at);
-    let b = trimmed(up, len, at);
-    let on: &[u16] = up;
-    let m = unite(joined, &saved[..a], &on[..b]);
-    let r = reduced_first(joined, m, quantifiers, cube);
-    let made: &[u16] = joined;
-    write(up, &made[..r]);
-    r
+    let b = trimmed(row, row.len(), at);
+    let m = unite(joined, &saved[..a], &row[..b]);
+    reduced_first(joined, m, quantifiers, cube)
 }
 
-// The resolvent of the first n codes put aside and the first `len` of the area.
-fn resolve<'a>(
-    up: &mut [u16; tables::AREA],
-    len: usize,
-    saved: &'a [u16],
-    n: usize,
-    at: usize,
-    quantifiers: &'a [u8; tables::CODES],
-    cube: bool,
-) -> usize
-    requires { ⌜ (len ≤ paper .numbers) × (n ≤ paper .numbers) × (n ≤ length (now saved)) × (at < suc (paper .numbers)) ⌝ }
-    ensures { λ r. ⌜
-        (r ≤ length (now (up .exit)))
-        × ((D : Prefix) (e f : Constraint)
-        → Quantified D (now (quantifiers .entry))
-        → take n (now (saved .entry)) ≡ codes D e
-        → take len (now (up .entry)) ≡ codes D f
-        → inOrder D 0 e ≡ true
-        → inOrder D 0 f ≡ true
-        → lastPlace D e ≤ suc at
-        → lastPlace D f ≤ suc at
-        → take r (now (up .exit)) ≡ codes D (resolvent D (suc at) cube e f))
-        ⌝ }
-{
-    let mut joined = [0u16; tables::AREA];
-    resolve_in(&mut joined, up, len, saved, n, at, quantifiers, cube)
-}
-
-// The first n codes are stored. A constraint has at most one literal of a variable, so that there is always room for them, and its last code
-// has a link; the tests keep that from being asked of every caller.
+// The first n codes are stored: the bounds of their row. A constraint has at most one literal of a variable, so that there is always room for
+// them, and its last code has a link; the tests keep that from being asked of every caller.
 fn store_first<'a>(
     cells: &mut [u16; tables::CONSTRAINT_CODES],
     links: &mut [u64; tables::CONSTRAINT_LINKS],
     row: &'a [u16],
     n: usize,
-) -> usize
+) -> Bounds
     requires { ⌜ Entries (now cells) (now links) × (n ≤ length (now row)) × (newestOf (now links) < 2 ^ 63) ⌝ }
     ensures { λ r. ⌜
-        (r ≤ paper .numbers)
+        Bounded r
         × Entries (now (cells .exit)) (now (links .exit))
         × (newestOf (now (links .exit)) ≤ suc (newestOf (now (links .entry))))
         × (n ≤ paper .numbers
         → lastCode (take n (now (row .entry))) < codeCount
-        → (r ≡ n)
+        → Stored r (take n (now (row .entry))) (now (cells .exit))
         × (entriesOf (now (cells .exit)) (now (links .exit))
         ≡ push (paper .constraints) (take n (now (row .entry))) (entriesOf (now (cells .entry)) (now (links .entry)))))
         ⌝ }
 {
     if tables::NUMBERS < n {
-        return 0;
+        return placed(Source::Area, 0, 0);
     }
     let last = last_code(row, n) as usize;
     if tables::CODES <= last {
-        return 0;
+        return placed(Source::Area, 0, 0);
     }
-    shelf::store::push(
+    let slot = shelf::store::push(
         cells,
         links,
         tables::NUMBERS,
         tables::CONSTRAINTS,
         &row[..n],
     );
-    n
+    placed(Source::Learned, slot * (tables::NUMBERS + 1) + 1, n)
 }
 
-// The answer with another length.
-fn with_len(on: Answer, len: usize) -> Answer
-    ensures { λ r. ⌜ r ≡ record { verdict = on .verdict; len = len; visits = on .visits; lines = on .lines } ⌝ }
+// The answer with another constraint.
+fn with_bounds(on: Answer, b: Bounds) -> Answer
+    ensures { λ r. ⌜ r ≡ reboundOf on b ⌝ }
 {
     let v = on.verdict;
+    let source = b.source;
     Answer {
         verdict: v,
-        len: len,
+        source: source,
+        start: b.start,
+        len: b.len,
         visits: on.visits,
         lines: on.lines,
     }
 }
 
-// "the on side's entry goes up if it lacks v, else the two are joined"
+// "the on side's entry goes up if it lacks v, else the two are joined"; the resolvent goes up as its row.
 pub fn join<'a>(
     on: Answer,
-    up: &mut [u16; tables::AREA],
+    clauses: &'a [u16; tables::CLAUSE_ROWS],
+    area: &'a [u16; tables::AREA],
     saved: &'a [u16],
     n: usize,
     at: usize,
@@ -168,7 +146,7 @@ pub fn join<'a>(
     links: &mut [u64; tables::CONSTRAINT_LINKS],
 ) -> Answer
     requires { ⌜
-        (on .len ≤ paper .numbers)
+        Bounded (boundsOf on)
         × (n ≤ paper .numbers)
         × (n ≤ length (now saved))
         × (at < suc (paper .numbers))
@@ -182,7 +160,7 @@ pub fn join<'a>(
         × ((D : Prefix) (e f : Constraint) (es : List Constraint)
         → Quantified D (now (quantifiers .entry))
         → take n (now (saved .entry)) ≡ codes D e
-        → take (on .len) (now (up .entry)) ≡ codes D f
+        → entryAt (boundsOf on) (now (clauses .entry)) (now (cells .entry)) (now (area .entry)) ≡ codes D f
         → inOrder D 0 e ≡ true
         → inOrder D 0 f ≡ true
         → lastPlace D e ≤ suc at
@@ -196,14 +174,16 @@ pub fn join<'a>(
         e
         f
         es
-        (take (r .len) (now (up .exit)))
+        (entryAt (boundsOf r) (now (clauses .entry)) (now (cells .exit)) (now (area .entry)))
         (entriesOf (now (cells .exit)) (now (links .exit))))
         ⌝ }
 {
-    let len = on.len;
-    if !ends_next(up, len, at) {
-        return on;
+    let b = bounds_of(on);
+    let row = entry(clauses, cells, area, b);
+    if !ends_next(row, row.len(), at) {
+        return with_lines(on, on.lines); // not copied whole
     }
-    let m = resolve(up, len, saved, n, at, quantifiers, cube);
-    with_len(on, store_first(cells, links, up, m))
+    let mut joined = [0u16; tables::AREA];
+    let m = resolve(&mut joined, row, saved, n, at, quantifiers, cube);
+    with_bounds(on, store_first(cells, links, &joined, m))
 }

@@ -1,6 +1,10 @@
 // Step 5 of a visit: what a node's two sides give, without the sides themselves; and the lines of a card that they add or take back.
 use coding::list::wide;
 use coding::list::write;
+use search_entry::Bounds;
+use search_entry::Source;
+use search_entry::entry;
+use search_entry::placed;
 ghost use mathlib.Core.Path.{_≡_};
 ghost use mathlib.Core.Bool.{Bool, true, false, cond};
 ghost use mathlib.Core.List.{List, [], _∷_, _++_};
@@ -14,7 +18,8 @@ ghost use Rattle.tables.specs.Views.{quantifierCode};
 ghost use Rattle.tables.specs.Codes.{Quantified};
 ghost use Rattle.tables.specs.Shelves.{Shelves, StoreShown, newestOf};
 ghost use Rattle.cover.specs.Cover.{Covers};
-ghost use Rattle.node.specs.Node.{isYes, Reads, Ended, Grown, goesUpOf, onwardOf, resolventOf, Fits, NextKind, Finished, Joined, LineTask, settledLines, SettledTo};
+ghost use Rattle.search_entry.specs.Entry.{Bounded};
+ghost use Rattle.node.specs.Node.{isYes, boundsOf, entryOf, Reads, Ended, Grown, goesUpOf, onwardOf, resolventOf, Fits, NextKind, Finished, Joined, LineTask, settledLines, SettledTo};
 
 mod line; // one line more of the card
 mod side; // what the verdict and the constraint of one side say
@@ -28,9 +33,11 @@ pub enum Verdict {
     Mixed,
 }
 
-// What a visit hands up: the verdict, the length of its constraint, which lies in the lent area, and the visits and lines so far.
+// What a visit hands up: the verdict, the bounds of its constraint in the lent tables, and the visits and lines so far.
 pub struct Answer {
     pub verdict: Verdict,
+    pub source: Source,
+    pub start: usize,
     pub len: usize,
     pub visits: u64,
     pub lines: usize,
@@ -56,36 +63,83 @@ pub fn next_kind<'a>(quantifiers: &'a [u8; tables::CODES], at: usize) -> u16
     wide(tables::END)
 }
 
+// The bounds of the constraint.
+fn bounds_of(a: Answer) -> Bounds
+    ensures { λ r. ⌜ r ≡ boundsOf a ⌝ }
+{
+    let source = a.source;
+    placed(source, a.start, a.len)
+}
+
+// The codes of the constraint: that part of the clauses, of the learned constraints of its polarity, or of the area.
+fn entry_of<'a>(
+    a: Answer,
+    clauses: &'a [u16; tables::CLAUSE_ROWS],
+    learned: &'a [u16; tables::CONSTRAINT_CODES],
+    cubes: &'a [u16; tables::CONSTRAINT_CODES],
+    area: &'a [u16; tables::AREA],
+) -> &'a [u16]
+    requires { ⌜ Bounded (boundsOf a) ⌝ }
+    ensures { λ r. ⌜
+        (now r ≡ entryOf a (now (clauses .entry)) (now (learned .entry)) (now (cubes .entry)) (now (area .entry)))
+        × (length (now r) ≡ a .len)
+        ⌝ }
+{
+    let v = a.verdict;
+    entry(clauses, side::stored(v, learned, cubes), area, bounds_of(a))
+}
+
 // Whether the off side's outcome goes up without a further visit.
-pub fn goes_up<'a>(v: Verdict, kind: u16, up: &'a [u16; tables::AREA], n: usize, at: usize) -> bool
-    requires { ⌜ (n ≤ paper .numbers) × (at < suc (paper .numbers)) ⌝ }
+pub fn goes_up<'a>(
+    off: Answer,
+    kind: u16,
+    clauses: &'a [u16; tables::CLAUSE_ROWS],
+    learned: &'a [u16; tables::CONSTRAINT_CODES],
+    cubes: &'a [u16; tables::CONSTRAINT_CODES],
+    area: &'a [u16; tables::AREA],
+    at: usize,
+) -> bool
+    requires { ⌜ Bounded (boundsOf off) × (at < suc (paper .numbers)) ⌝ }
     ensures { λ r. ⌜
         ((D : Prefix) (κ : Quantifier) (o : Outcome Constraint)
         → quantifierCode κ ≡ kind
-        → Reads D v (take n (now (up .entry))) o
+        → Reads
+        D
+        (off .verdict)
+        (entryOf off (now (clauses .entry)) (now (learned .entry)) (now (cubes .entry)) (now (area .entry)))
+        o
         → Ended D (suc at) o
         → r ≡ goesUpOf D κ (suc at) o)
         ⌝ }
 {
+    let v = off.verdict;
     if side::is_mixed(v) {
         return false;
     }
     if side::is_enough(v, kind) {
         return true;
     }
-    !side::ends_next(up, n, at)
+    let row = entry_of(off, clauses, learned, cubes, area);
+    !side::ends_next(row, row.len(), at)
 }
 
 // Puts the off side's constraint aside, so that it survives what is stored while the on side is visited.
-pub fn put_aside<'a>(saved: &mut [u16], up: &'a [u16; tables::AREA], n: usize)
-    requires { ⌜ (n ≤ paper .numbers) × (n ≤ length (now saved)) ⌝ }
+pub fn put_aside<'a>(
+    saved: &mut [u16],
+    off: Answer,
+    clauses: &'a [u16; tables::CLAUSE_ROWS],
+    learned: &'a [u16; tables::CONSTRAINT_CODES],
+    cubes: &'a [u16; tables::CONSTRAINT_CODES],
+    area: &'a [u16; tables::AREA],
+)
+    requires { ⌜ Bounded (boundsOf off) × (off .len ≤ length (now saved)) ⌝ }
     ensures { λ _. ⌜
         (length (now (saved .exit)) ≡ length (now (saved .entry)))
-        × (take n (now (saved .exit)) ≡ take n (now (up .entry)))
+        × (take (off .len) (now (saved .exit))
+        ≡ entryOf off (now (clauses .entry)) (now (learned .entry)) (now (cubes .entry)) (now (area .entry)))
         ⌝ }
 {
-    let cells: &[u16] = up;
-    write(saved, &cells[..n]);
+    write(saved, entry_of(off, clauses, learned, cubes, area));
 }
 
 // Both sides done, where the off side did not go up: the on side's result, the resolvent of both, which is stored, or Mixed.
@@ -95,7 +149,8 @@ pub fn finish<'a>(
     on: Answer,
     kind: u16,
     saved: &'a [u16],
-    up: &mut [u16; tables::AREA],
+    clauses: &'a [u16; tables::CLAUSE_ROWS],
+    area: &'a [u16; tables::AREA],
     learned: &mut [u16; tables::CONSTRAINT_CODES],
     learned_links: &mut [u64; tables::CONSTRAINT_LINKS],
     cubes: &mut [u16; tables::CONSTRAINT_CODES],
@@ -105,7 +160,7 @@ pub fn finish<'a>(
 ) -> Answer
     requires { ⌜
         (n ≤ paper .numbers)
-        × (on .len ≤ paper .numbers)
+        × Bounded (boundsOf on)
         × (n ≤ length (now saved))
         × (at < suc (paper .numbers))
         × Shelves (now learned) (now «learned_links») (now cubes) (now «cube_links»)
@@ -123,7 +178,11 @@ pub fn finish<'a>(
         → length s ≡ at
         → quantifierCode κ ≡ kind
         → Reads D first (take n (now (saved .entry))) a
-        → Reads D (on .verdict) (take (on .len) (now (up .entry))) o
+        → Reads
+        D
+        (on .verdict)
+        (entryOf on (now (clauses .entry)) (now (learned .entry)) (now (cubes .entry)) (now (area .entry)))
+        o
         → Ended D (suc at) a
         → Ended D (suc at) o
         → Fits D (resolventOf D (suc at) a o)
@@ -132,7 +191,8 @@ pub fn finish<'a>(
         D
         (onwardOf D R κ s a o st k)
         r
-        (now (up .exit))
+        (now (clauses .entry))
+        (now (area .entry))
         (now (learned .exit))
         (now («learned_links» .exit))
         (now (cubes .exit))
@@ -144,10 +204,11 @@ pub fn finish<'a>(
     let step = both::step_of(first, second, enough);
     match step {
         both::Step::Mixed => both::mixed(on),
-        both::Step::On => on,
+        both::Step::On => with_lines(on, on.lines), // not copied whole
         both::Step::Clauses => join::join(
             on,
-            up,
+            clauses,
+            area,
             saved,
             n,
             at,
@@ -156,7 +217,18 @@ pub fn finish<'a>(
             learned,
             learned_links,
         ),
-        both::Step::Cubes => join::join(on, up, saved, n, at, quantifiers, true, cubes, cube_links),
+        both::Step::Cubes => join::join(
+            on,
+            clauses,
+            area,
+            saved,
+            n,
+            at,
+            quantifiers,
+            true,
+            cubes,
+            cube_links,
+        ),
     }
 }
 
@@ -257,24 +329,34 @@ pub fn resumed(p: Position, satisfied: usize) -> Position
 }
 
 // The answer of a visit that does not branch.
-pub fn settled(v: Verdict, len: usize, p: Position) -> Answer
+pub fn settled(v: Verdict, b: Bounds, p: Position) -> Answer
     requires { ⌜ p .visits < 2 ^ 62 ⌝ }
-    ensures { λ r. ⌜ r ≡ record { verdict = v; len = len; visits = p .visits + 1; lines = p .lines } ⌝ }
+    ensures { λ r. ⌜
+        r ≡ record { verdict = v; source = b .source; start = b .start; len = b .len; visits = p .visits + 1; lines = p .lines }
+        ⌝ }
 {
+    let source = b.source;
     Answer {
         verdict: v,
-        len: len,
+        source: source,
+        start: b.start,
+        len: b.len,
         visits: p.visits + 1,
         lines: p.lines,
     }
 }
 
 pub fn with_lines(a: Answer, lines: usize) -> Answer
-    ensures { λ r. ⌜ r ≡ record { verdict = a .verdict; len = a .len; visits = a .visits; lines = lines } ⌝ }
+    ensures { λ r. ⌜
+        r ≡ record { verdict = a .verdict; source = a .source; start = a .start; len = a .len; visits = a .visits; lines = lines }
+        ⌝ }
 {
     let v = a.verdict;
+    let source = a.source;
     Answer {
         verdict: v,
+        source: source,
+        start: a.start,
         len: a.len,
         visits: a.visits,
         lines: lines,

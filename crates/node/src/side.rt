@@ -11,7 +11,7 @@ ghost use Rattle.qbf.specs.Formula.{paper, Prefix, Quantifier};
 ghost use Rattle.qbf.specs.Learning.{Constraint, lastPlace};
 ghost use Rattle.tables.specs.Views.{quantifierCode};
 ghost use Rattle.tables.specs.Codes.{codes};
-ghost use Rattle.node.specs.Node.{isYes, isMixed};
+ghost use Rattle.node.specs.Node.{isYes, isMixed, storedBy};
 ghost use Rattle.node.specs.Step.{alone};
 
 pub fn is_yes(v: Verdict) -> bool
@@ -31,6 +31,21 @@ pub fn is_mixed(v: Verdict) -> bool
         Verdict::Yes => false,
         Verdict::No => false,
         Verdict::Mixed => true,
+    }
+}
+
+// The learned constraints of the verdict's polarity: clauses for No, cubes for Yes.
+pub fn stored<'a>(
+    v: Verdict,
+    learned: &'a [u16; tables::CONSTRAINT_CODES],
+    cubes: &'a [u16; tables::CONSTRAINT_CODES],
+) -> &'a [u16; tables::CONSTRAINT_CODES]
+    ensures { λ r. ⌜ now r ≡ storedBy v (now (learned .entry)) (now (cubes .entry)) ⌝ }
+{
+    match v {
+        Verdict::Yes => cubes,
+        Verdict::No => learned,
+        Verdict::Mixed => learned,
     }
 }
 

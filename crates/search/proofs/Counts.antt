@@ -8,7 +8,9 @@ use mathlib.Core.List.{List}
 use Rattle.qbf.specs.Formula.{paper, Prefix, Node}
 use Rattle.qbf.specs.Learning.{LearningResult}
 use Rattle.tables.specs.Shelves.{newestOf}
-use Rattle.node.specs.Node.{Finished, Grown, isYes, settledLines}
+use Rattle.search_entry.specs.Entry.{Bounded}
+use Rattle.search_entry.specs.declared.Bounds.{Bounds}
+use Rattle.node.specs.Node.{boundsOf, Finished, Grown, isYes, settledLines}
 use Rattle.node.specs.declared.Verdict.the-variants.{Yes, No, Mixed}
 use Rattle.search.specs.Search.{left, Room, Counts, Result}
 use Rattle.node.specs.declared.Verdict.{Verdict}
@@ -22,8 +24,8 @@ below p v l = record { at = p .at + 1; free = p .free; visits = v; lines = l; sa
 abbrev pub resumedAt : Position → ℕ → Position
 resumedAt p n = record { at = p .at; free = p .free; visits = p .visits; lines = p .lines; satisfied = n }
 
-abbrev pub answered : Verdict → ℕ → ℕ → ℕ → Answer
-answered v n k l = record { verdict = v; len = n; visits = k; lines = l }
+abbrev pub answered : Verdict → Bounds → ℕ → ℕ → Answer
+answered v b k l = record { verdict = v; source = b .source; start = b .start; len = b .len; visits = k; lines = l }
 
 two : (n : ℕ) → 2 ≤ 2 ^ suc n
 two n = pow-le-pow-right {n = 2} (omega arith) {i = 1} {j = suc n} (omega arith)
@@ -61,13 +63,13 @@ room-resumed {cl} {ql} {saved} p q n e h =
 pub counts-resumed : {cl ql cl′ ql′ : List ℕ} {r : Answer} (p q : Position) (n : ℕ) → q ≡ resumedAt p n → Counts cl ql q r cl′ ql′ → Counts cl ql p r cl′ ql′
 counts-resumed {cl} {ql} {cl′} {ql′} {r} p q n e h =
     let g : Counts cl ql (resumedAt p n) r cl′ ql′ = subst (λ (x : Position). Counts cl ql x r cl′ ql′) e h in
-    record { short = g .short; more = g .more; fewer = g .fewer; lines-more = g .lines-more; lines-fewer = g .lines-fewer; clauses = g .clauses; cubes = g .cubes }
+    record { bounded = g .bounded; more = g .more; fewer = g .fewer; lines-more = g .lines-more; lines-fewer = g .lines-fewer; clauses = g .clauses; cubes = g .cubes }
 
 module _ (p : Position) where
-  pub counts-settled : {cl ql : List ℕ} (r : Answer) (v : Verdict) (n : ℕ) → r ≡ answered v n (p .visits + 1) (p .lines) → n ≤ paper .numbers → Counts cl ql p r cl ql
-  counts-settled {cl} {ql} r v n e h =
+  pub counts-settled : {cl ql : List ℕ} (r : Answer) (v : Verdict) (b : Bounds) → r ≡ answered v b (p .visits + 1) (p .lines) → Bounded b → Counts cl ql p r cl ql
+  counts-settled {cl} {ql} r v b e h =
       subst (λ (x : Answer). Counts cl ql p x cl ql) (sym e)
-      (record { short = h; more = omega arith; fewer = omega (arith, two (left p)); lines-more = omega arith; lines-fewer = omega arith; clauses = omega arith; cubes = omega arith })
+      (record { bounded = h; more = omega arith; fewer = omega (arith, two (left p)); lines-more = omega arith; lines-fewer = omega arith; clauses = omega arith; cubes = omega arith })
 
   module _ (more : p .at < paper .numbers) where
     twice : 2 ^ suc (left p) ≡ 2 ^ suc (paper .numbers - (p .at + 1)) + 2 ^ suc (paper .numbers - (p .at + 1))
@@ -118,7 +120,7 @@ module _ (p : Position) where
       pub counts-up : Counts cl ql p off cl₁ ql₁
       counts-up =
           record {
-            short = c .short;
+            bounded = c .bounded;
             more = omega (arith, c .more);
             fewer = omega (arith, c .fewer, twice, two (paper .numbers - (p .at + 1)));
             lines-more = c .lines-more;
@@ -139,11 +141,11 @@ module _ (p : Position) where
         )
 
         -- this visit itself counts for the row that is stored last
-        counts-both : {cl₃ ql₃ : List ℕ} (r : Answer) → l ≤ off .lines + 1 → r .len ≤ paper .numbers → r .visits ≡ on .visits → p .lines ≤ r .lines → r .lines ≤ on .lines + 1
+        counts-both : {cl₃ ql₃ : List ℕ} (r : Answer) → l ≤ off .lines + 1 → Bounded (boundsOf r) → r .visits ≡ on .visits → p .lines ≤ r .lines → r .lines ≤ on .lines + 1
             → Grown cl₂ ql₂ cl₃ ql₃ → Counts cl ql p r cl₃ ql₃
         counts-both r hl hs hv hm hf g =
             record {
-              short = hs;
+              bounded = hs;
               more = omega (arith, c .more, d .more, hv);
               fewer = omega (arith, c .fewer, d .fewer, twice, hv);
               lines-more = hm;
@@ -155,7 +157,7 @@ module _ (p : Position) where
         -- at an exists or forall variable no line is added here
         pub counts-quantified : {cl₃ ql₃ : List ℕ} → l ≡ off .lines → (r : Answer) → Finished on r → Grown cl₂ ql₂ cl₃ ql₃ → Counts cl ql p r cl₃ ql₃
         counts-quantified same r f g =
-            counts-both r (omega arith) (f .short) (f .visits) (omega (arith, c .lines-more, d .lines-more, f .lines)) (omega (arith, f .lines)) g
+            counts-both r (omega arith) (f .bounded) (f .visits) (omega (arith, c .lines-more, d .lines-more, f .lines)) (omega (arith, f .lines)) g
 
         -- at a free variable: the off side's line, then what both sides settle to
         module _ (lined : l ≡ cond (isYes (off .verdict)) (off .lines + 1) (off .lines)) where
@@ -169,10 +171,10 @@ module _ (p : Position) where
               omega (arith, h .visits, h .lines, twice, c .fewer, c .lines-fewer, d .fewer, d .lines-fewer, off-lines (off .verdict) (off .lines) l lined .1)
 
           pub counts-free : {cl₃ ql₃ : List ℕ} (r : Answer) → Finished on r → Grown cl₂ ql₂ cl₃ ql₃ → (n : ℕ) → n ≡ settledLines (off .verdict) (on .verdict) (on .lines)
-              → (r′ : Answer) → r′ ≡ answered (r .verdict) (r .len) (r .visits) n → Counts cl ql p r′ cl₃ ql₃
+              → (r′ : Answer) → r′ ≡ answered (r .verdict) (boundsOf r) (r .visits) n → Counts cl ql p r′ cl₃ ql₃
           counts-free {cl₃} {ql₃} r f g n settled r′ e =
               subst (λ (x : Answer). Counts cl ql p x cl₃ ql₃) (sym e)
-              (counts-both (answered (r .verdict) (r .len) (r .visits) n) (off-lines (off .verdict) (off .lines) l lined .1) (f .short) (f .visits)
+              (counts-both (answered (r .verdict) (boundsOf r) (r .visits) n) (off-lines (off .verdict) (off .lines) l lined .1) (f .bounded) (f .visits)
               (omega (arith, low, c .lines-more)) (omega (arith, settle-high (off .verdict) (on .verdict) (on .lines), settled)) g)
             where
               low : off .lines ≤ n
@@ -194,6 +196,6 @@ part-room saved aside part p h n own e =
 pub counts-as : {cl ql cl′ ql′ : List ℕ} {p : Position} {r r′ : Answer} → r ≡ r′ → Counts cl ql p r cl′ ql′ → Counts cl ql p r′ cl′ ql′
 counts-as {cl} {ql} {cl′} {ql′} {p} {r} {r′} e w = subst (λ (x : Answer). Counts cl ql p x cl′ ql′) e w
 
-pub result-as : {D : Prefix} {ls : List Node} {o : LearningResult} {p : Position} {r r′ : Answer} {up cs cl qs ql tb : List ℕ} → r ≡ r′
-    → Result D ls o p r up cs cl qs ql tb → Result D ls o p r′ up cs cl qs ql tb
-result-as {D} {ls} {o} {p} {r} {r′} {up} {cs} {cl} {qs} {ql} {tb} e w = subst (λ (x : Answer). Result D ls o p x up cs cl qs ql tb) e w
+pub result-as : {D : Prefix} {ls : List Node} {o : LearningResult} {p : Position} {r r′ : Answer} {cls up cs cl qs ql tb : List ℕ} → r ≡ r′
+    → Result D ls o p r cls up cs cl qs ql tb → Result D ls o p r′ cls up cs cl qs ql tb
+result-as {D} {ls} {o} {p} {r} {r′} {cls} {up} {cs} {cl} {qs} {ql} {tb} e w = subst (λ (x : Answer). Result D ls o p x cls up cs cl qs ql tb) e w

@@ -14,7 +14,7 @@ use Rattle.theory.proofs.Laws.{select-append}
 use Rattle.theory.proofs.WellFormed.{free-before}
 use Rattle.tables.specs.Codes.{Statuses}
 use Rattle.cover.specs.Cover.{Covers}
-use Rattle.node.specs.Node.{isYes, Reads, onwardOf, newLines, Joined, LineTask, settledLines, SettledTo}
+use Rattle.node.specs.Node.{isYes, boundsOf, entryOf, Reads, onwardOf, newLines, Joined, LineTask, settledLines, SettledTo}
 use Rattle.search.specs.Search.{Kept, Task, Result, branchOf}
 use Rattle.node.specs.declared.Verdict.{Verdict}
 use Rattle.node.specs.declared.Verdict.the-variants.{Yes, No, Mixed}
@@ -115,18 +115,18 @@ module _ (D : Prefix) (R : List Clause) (s : Node) (st : Store) (k : ℕ) where
 -- ---- the visitor
 module _ {cls lks kd ss cs cl qs ql tb fs : List ℕ} (p q : Position) (eq : q ≡ counts.below p (p .visits + 1) (p .lines))
     (off : Answer) {up₁ cs₁ cl₁ qs₁ ql₁ tb₁ : List ℕ} (offs : SideSays cls lks kd q 1 ss cs cl qs ql tb fs off up₁ cs₁ cl₁ qs₁ ql₁ tb₁) (t : Bool)
-    (ups : UpSays (off .verdict) 0 up₁ (off .len) (p .at) t) {ss₁ fs₁ : List ℕ} (kept : Kept q ss ss₁ tb tb₁ fs fs₁) {tbₐ : List ℕ} (l : ℕ)
+    (ups : UpSays (off .verdict) 0 (entryOf off cls cs₁ qs₁ up₁) (p .at) t) {ss₁ fs₁ : List ℕ} (kept : Kept q ss ss₁ tb tb₁ fs fs₁) {tbₐ : List ℕ} (l : ℕ)
     (counted : l ≡ cond (isYes (off .verdict)) (off .lines + 1) (off .lines))
     (lined : (s : Node) (b : Bool) (ls : List Node) → LineTask s ls ss₁ tb₁ p (off .lines) → 1 ≡ byteOf b → Covers (p .free) tbₐ (ls ++ cond (isYes (off .verdict)) ((s ▹ b) ∷ []) []))
     (q′ : Position) (eq′ : q′ ≡ counts.below p (off .visits) l) (on : Answer) {up₂ cs₂ cl₂ qs₂ ql₂ tb₂ : List ℕ}
     (ons : SideSays cls lks kd q′ 2 ss₁ cs₁ cl₁ qs₁ ql₁ tbₐ fs₁ on up₂ cs₂ cl₂ qs₂ ql₂ tb₂)
-    (saved : List ℕ) (aside : take (off .len) saved ≡ take (off .len) up₁) (r : Answer) {up₃ cs₃ cl₃ qs₃ ql₃ : List ℕ}
-    (fins : FinishSays kd (off .verdict) (off .len) on 0 saved up₂ (p .at) cs₂ cl₂ qs₂ ql₂ r up₃ cs₃ cl₃ qs₃ ql₃) (unup : t ≡ false) (visits : r .visits ≡ on .visits)
+    (saved : List ℕ) (aside : take (off .len) saved ≡ entryOf off cls cs₁ qs₁ up₁) (r : Answer) {cs₃ cl₃ qs₃ ql₃ : List ℕ}
+    (fins : FinishSays kd (off .verdict) (off .len) on 0 saved cls up₂ (p .at) cs₂ cl₂ qs₂ ql₂ r cs₃ cl₃ qs₃ ql₃) (unup : t ≡ false) (visits : r .visits ≡ on .visits)
     {ss₂ fs₂ : List ℕ} (kept₂ : Kept q′ ss₁ ss₂ tbₐ tb₂ fs₁ fs₂) (tb₃ : List ℕ) (n : ℕ) (settled : n ≡ settledLines (off .verdict) (on .verdict) (on .lines))
     (settling : (s : Node) (ls : List Node) → LineTask s ls ss₂ tb₂ p (on .lines) → SettledTo (off .verdict) (on .verdict) s ls (p .free) tb₃) where
   pub free-result : (D : Prefix) (s : Node) (ls : List Node) (R : List Clause) (st : Store) → Task D s ls R st cls lks kd ss cs cl qs ql tb fs (p .at) p
       → firstDead D s R ≡ none → p .at < length D → quantifierAt D (suc (p .at)) ≡ free
-      → Result D ls (branchOf D R free p s st) p (counts.answered (r .verdict) (r .len) (r .visits) n) up₃ cs₃ cl₃ qs₃ ql₃ tb₃
+      → Result D ls (branchOf D R free p s st) p (counts.answered (r .verdict) (boundsOf r) (r .visits) n) cls up₂ cs₃ cl₃ qs₃ ql₃ tb₃
   free-result D s ls R st task alive inside is =
       record {
         verdict = j .verdict;
@@ -136,7 +136,7 @@ module _ {cls lks kd ss cs cl qs ql tb fs : List ℕ} (p q : Position) (eq : q �
         counted = settled ∙ ap (settledLines (off .verdict) (on .verdict)) (z .counted) ∙ s₂ .counts ∙ ap (λ (x : LearningResult). length (ls ++ newLines (x .outcome))) (sym whole);
       }
     where
-      w : Result D ls (offR free 0 refl p q eq off offs t ups D s ls R st task alive inside is) (counts.below p (p .visits + 1) (p .lines)) off up₁ cs₁ cl₁ qs₁ ql₁ tb₁
+      w : Result D ls (offR free 0 refl p q eq off offs t ups D s ls R st task alive inside is) (counts.below p (p .visits + 1) (p .lines)) off cls up₁ cs₁ cl₁ qs₁ ql₁ tb₁
       w = off-result free 0 refl p q eq off offs t ups D s ls R st task alive inside is
 
       a : Outcome Constraint
@@ -170,13 +170,13 @@ module _ {cls lks kd ss cs cl qs ql tb fs : List ℕ} (p q : Position) (eq : q �
           by No = omega (arith, w .counted)
           by Mixed = omega (arith, w .counted)
 
-      z : Result D ls₁ (onR free 0 refl p q eq off offs t ups D s ls R st task alive inside is l kept q′ eq′ on ons ls₁ cov cnt) (counts.below p (off .visits) l) on up₂ cs₂ cl₂ qs₂ ql₂ tb₂
+      z : Result D ls₁ (onR free 0 refl p q eq off offs t ups D s ls R st task alive inside is l kept q′ eq′ on ons ls₁ cov cnt) (counts.below p (off .visits) l) on cls up₂ cs₂ cl₂ qs₂ ql₂ tb₂
       z = on-result free 0 refl p q eq off offs t ups D s ls R st task alive inside is l kept q′ eq′ on ons ls₁ cov cnt
 
       o : Outcome Constraint
       o = onR free 0 refl p q eq off offs t ups D s ls R st task alive inside is l kept q′ eq′ on ons ls₁ cov cnt .outcome
 
-      j : Joined D (branchOf D R free p s st) r up₃ cs₃ cl₃ qs₃ ql₃
+      j : Joined D (branchOf D R free p s st) r cls up₂ cs₃ cl₃ qs₃ ql₃
       j = joined free 0 refl p q eq off offs t ups D s ls R st task alive inside is l kept q′ eq′ on ons ls₁ cov cnt saved aside r fins unup
 
       ls₂ : List Node
@@ -192,4 +192,4 @@ module _ {cls lks kd ss cs cl qs ql tb fs : List ℕ} (p q : Position) (eq : q �
       whole = onward-is free 0 refl p q eq off offs t ups D s ls R st task alive inside is l kept q′ eq′ on ons ls₁ cov cnt saved aside r fins unup
 
       s₂ : Settles D R s st′ k ls (off .verdict) (on .verdict) a o
-      s₂ = settles D R s st′ k ls (off .verdict) (on .verdict) (take (off .len) up₁) (take (on .len) up₂) a o (w .verdict) (z .verdict)
+      s₂ = settles D R s st′ k ls (off .verdict) (on .verdict) (entryOf off cls cs₁ qs₁ up₁) (entryOf on cls cs₂ qs₂ up₂) a o (w .verdict) (z .verdict)

@@ -24,7 +24,7 @@ use Rattle.tables.specs.Marks.{Passed}
 use Rattle.inner.proofs.Below.{passed-kept}
 use Rattle.cover.specs.Cover.{Covers}
 use Rattle.tables.specs.Formed.{Formed}
-use Rattle.node.specs.Node.{Reads, Ended, Shown, goesUpOf, onwardOf, resolventOf, Fits, newLines, Joined}
+use Rattle.node.specs.Node.{entryOf, Reads, Ended, Shown, goesUpOf, onwardOf, resolventOf, Fits, newLines, Joined}
 use Rattle.search.specs.Search.{Kept, Task, Result, visitOf, branchOf}
 use Rattle.node.specs.declared.Verdict.{Verdict}
 use Rattle.node.specs.declared.Position.{Position}
@@ -40,18 +40,18 @@ abbrev pub SideSays : List ℕ → List ℕ → List ℕ → Position → ℕ
 SideSays clauses links kinds q value ss cs cl qs ql tb fs r up cs′ cl′ qs′ ql′ tb′ =
     (D : Prefix) (s : Node) (b : Bool) (ls : List Node) (R : List Clause) (st : Store) (k : ℕ)
     → Task D s ls R st clauses links kinds ss cs cl qs ql tb fs k q → firstDead D s R ≡ none → k < length D → suc k ≡ q .at → value ≡ byteOf b
-    → Result D ls (visitOf D R q (s ▹ b) st false) q r up cs′ cl′ qs′ ql′ tb′
+    → Result D ls (visitOf D R q (s ▹ b) st false) q r clauses up cs′ cl′ qs′ ql′ tb′
 
-abbrev pub UpSays : Verdict → ℕ → List ℕ → ℕ → ℕ → Bool → Type 0
-UpSays v kind up n at t =
-    (D : Prefix) (κ : Quantifier) (o : Outcome Constraint) → quantifierCode κ ≡ kind → Reads D v (take n up) o → Ended D (suc at) o → t ≡ goesUpOf D κ (suc at) o
+abbrev pub UpSays : Verdict → ℕ → List ℕ → ℕ → Bool → Type 0
+UpSays v kind codes at t =
+    (D : Prefix) (κ : Quantifier) (o : Outcome Constraint) → quantifierCode κ ≡ kind → Reads D v codes o → Ended D (suc at) o → t ≡ goesUpOf D κ (suc at) o
 
-abbrev pub FinishSays : List ℕ → Verdict → ℕ → Answer → ℕ → List ℕ → List ℕ → ℕ → List ℕ → List ℕ → List ℕ → List ℕ
-    → Answer → List ℕ → List ℕ → List ℕ → List ℕ → List ℕ → Type 0
-FinishSays kinds v n on kind saved up at cs cl qs ql r up′ cs′ cl′ qs′ ql′ =
+abbrev pub FinishSays : List ℕ → Verdict → ℕ → Answer → ℕ → List ℕ → List ℕ → List ℕ → ℕ → List ℕ → List ℕ → List ℕ → List ℕ
+    → Answer → List ℕ → List ℕ → List ℕ → List ℕ → Type 0
+FinishSays kinds v n on kind saved clauses up at cs cl qs ql r cs′ cl′ qs′ ql′ =
     (D : Prefix) (R : List Clause) (s : Node) (κ : Quantifier) (a o : Outcome Constraint) (st : Store) (k : ℕ) → Quantified D kinds → length s ≡ at → quantifierCode κ ≡ kind
-    → Reads D v (take n saved) a → Reads D (on .verdict) (take (on .len) up) o → Ended D (suc at) a → Ended D (suc at) o → Fits D (resolventOf D (suc at) a o)
-    → StoreShown D st cs cl qs ql → Joined D (onwardOf D R κ s a o st k) r up′ cs′ cl′ qs′ ql′
+    → Reads D v (take n saved) a → Reads D (on .verdict) (entryOf on clauses cs qs up) o → Ended D (suc at) a → Ended D (suc at) o → Fits D (resolventOf D (suc at) a o)
+    → StoreShown D st cs cl qs ql → Joined D (onwardOf D R κ s a o st k) r clauses up cs′ cl′ qs′ ql′
 
 onward-visits : (D : Prefix) (R : List Clause) (κ : Quantifier) (s : Node) (a o : Outcome Constraint) (st : Store) (k : ℕ) → onwardOf D R κ s a o st k .visits ≡ k
 onward-visits D R κ s (decided b e) o st k = on-visits paper D R κ s b e o st k
@@ -63,7 +63,7 @@ unmixed-lines ks (mixed ds) h n = absurd (h n)
 
 module _ {cls lks kd ss cs cl qs ql tb fs : List ℕ} (κ : Quantifier) (kind : ℕ) (code : quantifierCode κ ≡ kind) (p : Position)
     (q : Position) (eq : q ≡ counts.below p (p .visits + 1) (p .lines)) (off : Answer) {up₁ cs₁ cl₁ qs₁ ql₁ tb₁ : List ℕ}
-    (offs : SideSays cls lks kd q 1 ss cs cl qs ql tb fs off up₁ cs₁ cl₁ qs₁ ql₁ tb₁) (t : Bool) (ups : UpSays (off .verdict) kind up₁ (off .len) (p .at) t) where
+    (offs : SideSays cls lks kd q 1 ss cs cl qs ql tb fs off up₁ cs₁ cl₁ qs₁ ql₁ tb₁) (t : Bool) (ups : UpSays (off .verdict) kind (entryOf off cls cs₁ qs₁ up₁) (p .at) t) where
   module _ (D : Prefix) (s : Node) (ls : List Node) (R : List Clause) (st : Store) (task : Task D s ls R st cls lks kd ss cs cl qs ql tb fs (p .at) p)
       (alive : firstDead D s R ≡ none) (inside : p .at < length D) (is : quantifierAt D (suc (p .at)) ≡ κ) where
     abbrev side : Node → Store → LearningResult
@@ -75,7 +75,7 @@ module _ {cls lks kd ss cs cl qs ql tb fs : List ℕ} (κ : Quantifier) (kind : 
     at-side : (x : Position) (v l : ℕ) → x ≡ counts.below p v l → suc (p .at) ≡ x .at
     at-side x v l e = sym (add-one (p .at)) ∙ sym (ap (λ (y : Position). y .at) e)
 
-    pub off-result : Result D ls offR (counts.below p (p .visits + 1) (p .lines)) off up₁ cs₁ cl₁ qs₁ ql₁ tb₁
+    pub off-result : Result D ls offR (counts.below p (p .visits + 1) (p .lines)) off cls up₁ cs₁ cl₁ qs₁ ql₁ tb₁
     off-result =
         side-at D R (s ▹ false) st eq
         (offs D s false ls R st (p .at)
@@ -90,9 +90,9 @@ module _ {cls lks kd ss cs cl qs ql tb fs : List ℕ} (κ : Quantifier) (kind : 
     tested = ups D κ (offR .outcome) code (off-result .verdict) ended-off ∙ ap (λ (i : ℕ). goesUpOf D κ (suc i) (offR .outcome)) (sym (task .shown .long))
 
     -- the off side's result goes up
-    pub up-result : t ≡ true → Result D ls (branchOf D R κ p s st) p off up₁ cs₁ cl₁ qs₁ ql₁ tb₁
+    pub up-result : t ≡ true → Result D ls (branchOf D R κ p s st) p off cls up₁ cs₁ cl₁ qs₁ ql₁ tb₁
     up-result e =
-        subst (λ (x : LearningResult). Result D ls x p off up₁ cs₁ cl₁ qs₁ ql₁ tb₁) (sym (goes-up D R κ side s st (sym tested ∙ e)))
+        subst (λ (x : LearningResult). Result D ls x p off cls up₁ cs₁ cl₁ qs₁ ql₁ tb₁) (sym (goes-up D R κ side s st (sym tested ∙ e)))
         (record { verdict = off-result .verdict; stored = off-result .stored; visited = omega (arith, off-result .visited); covers = off-result .covers; counted = off-result .counted })
 
     module _ {tbₐ : List ℕ} (l : ℕ) {ss₁ fs₁ : List ℕ} (kept : Kept q ss ss₁ tb tb₁ fs fs₁) (q′ : Position) (eq′ : q′ ≡ counts.below p (off .visits) l) (on : Answer)
@@ -110,7 +110,7 @@ module _ {cls lks kd ss cs cl qs ql tb fs : List ℕ} (κ : Quantifier) (kind : 
       formed-off : Formed D R (offR .store)
       formed-off = formed-on D R κ s (p .at) (task .shown .long) inside is st (task .formed)
 
-      pub on-result : Result D ls₁ onR (counts.below p (off .visits) l) on up₂ cs₂ cl₂ qs₂ ql₂ tb₂
+      pub on-result : Result D ls₁ onR (counts.below p (off .visits) l) on cls up₂ cs₂ cl₂ qs₂ ql₂ tb₂
       on-result =
           side-at D R (s ▹ true) (offR .store) eq′
           (ons D s true ls₁ R (offR .store) (p .at)
@@ -118,8 +118,8 @@ module _ {cls lks kd ss cs cl qs ql tb fs : List ℕ} (κ : Quantifier) (kind : 
           (record { shown = shown-on; formed = formed-off; matrix = task .matrix; stored = off-result .stored; passed = passed-on; frees = task .frees; covers = cov; counted = cnt }))
           alive inside (at-side q′ (off .visits) l eq′) refl)
 
-      module _ (saved : List ℕ) (aside : take (off .len) saved ≡ take (off .len) up₁) (r : Answer) {up₃ cs₃ cl₃ qs₃ ql₃ : List ℕ}
-          (fins : FinishSays kd (off .verdict) (off .len) on kind saved up₂ (p .at) cs₂ cl₂ qs₂ ql₂ r up₃ cs₃ cl₃ qs₃ ql₃) (unup : t ≡ false) where
+      module _ (saved : List ℕ) (aside : take (off .len) saved ≡ entryOf off cls cs₁ qs₁ up₁) (r : Answer) {cs₃ cl₃ qs₃ ql₃ : List ℕ}
+          (fins : FinishSays kd (off .verdict) (off .len) on kind saved cls up₂ (p .at) cs₂ cl₂ qs₂ ql₂ r cs₃ cl₃ qs₃ ql₃) (unup : t ≡ false) where
         abbrev k : ℕ
         k = suc (offR .visits + onR .visits)
 
@@ -130,9 +130,9 @@ module _ {cls lks kd ss cs cl qs ql tb fs : List ℕ} (κ : Quantifier) (kind : 
         shaped-on b =
             ended D s b (p .at) (side (s ▹ b) (offR .store) .outcome) (task .shown .long) (shaped-side D R κ s (p .at) (task .shown .long) inside is b (offR .store) formed-off)
 
-        pub joined : Joined D (branchOf D R κ p s st) r up₃ cs₃ cl₃ qs₃ ql₃
+        pub joined : Joined D (branchOf D R κ p s st) r cls up₂ cs₃ cl₃ qs₃ ql₃
         joined =
-            subst (λ (x : LearningResult). Joined D x r up₃ cs₃ cl₃ qs₃ ql₃) (sym onward-is)
+            subst (λ (x : LearningResult). Joined D x r cls up₂ cs₃ cl₃ qs₃ ql₃) (sym onward-is)
             (fins D R s κ (offR .outcome) (onR .outcome) (onR .store) k (task .shown .quantified) (task .shown .long) code
             (subst (λ (x : List ℕ). Reads D (off .verdict) x (offR .outcome)) (sym aside) (off-result .verdict)) (on-result .verdict) ended-off (shaped-on true)
             (resolvent-fits D (suc (p .at)) (s ▹ false) (s ▹ true) (offR .outcome) (onR .outcome) (numbers-ok _ (facts D R st (task .formed)))
@@ -148,11 +148,11 @@ module _ {cls lks kd ss cs cl qs ql tb fs : List ℕ} (κ : Quantifier) (kind : 
   module _ (nofree : (qs : List Quantifier) → Below κ qs → NoFree (κ ∷ qs)) (nobelow : (qs : List Quantifier) → NoFree (κ ∷ qs) → NoFree qs)
       {ss₁ fs₁ : List ℕ} (kept : Kept q ss ss₁ tb tb₁ fs fs₁) (q′ : Position) (eq′ : q′ ≡ counts.below p (off .visits) (off .lines)) (on : Answer) {up₂ cs₂ cl₂ qs₂ ql₂ tb₂ : List ℕ}
       (ons : SideSays cls lks kd q′ 2 ss₁ cs₁ cl₁ qs₁ ql₁ tb₁ fs₁ on up₂ cs₂ cl₂ qs₂ ql₂ tb₂)
-      (saved : List ℕ) (aside : take (off .len) saved ≡ take (off .len) up₁) (r : Answer) {up₃ cs₃ cl₃ qs₃ ql₃ : List ℕ}
-      (fins : FinishSays kd (off .verdict) (off .len) on kind saved up₂ (p .at) cs₂ cl₂ qs₂ ql₂ r up₃ cs₃ cl₃ qs₃ ql₃) (unup : t ≡ false)
+      (saved : List ℕ) (aside : take (off .len) saved ≡ entryOf off cls cs₁ qs₁ up₁) (r : Answer) {cs₃ cl₃ qs₃ ql₃ : List ℕ}
+      (fins : FinishSays kd (off .verdict) (off .len) on kind saved cls up₂ (p .at) cs₂ cl₂ qs₂ ql₂ r cs₃ cl₃ qs₃ ql₃) (unup : t ≡ false)
       (visits : r .visits ≡ on .visits) (lines : r .lines ≡ on .lines) where
     pub both-result : (D : Prefix) (s : Node) (ls : List Node) (R : List Clause) (st : Store) → Task D s ls R st cls lks kd ss cs cl qs ql tb fs (p .at) p
-        → firstDead D s R ≡ none → p .at < length D → quantifierAt D (suc (p .at)) ≡ κ → Result D ls (branchOf D R κ p s st) p r up₃ cs₃ cl₃ qs₃ ql₃ tb₂
+        → firstDead D s R ≡ none → p .at < length D → quantifierAt D (suc (p .at)) ≡ κ → Result D ls (branchOf D R κ p s st) p r cls up₂ cs₃ cl₃ qs₃ ql₃ tb₂
     both-result D s ls R st task alive inside is =
         record {
           verdict = j .verdict;
@@ -165,16 +165,16 @@ module _ {cls lks kd ss cs cl qs ql tb fs : List ℕ} (κ : Quantifier) (kind : 
         a : Outcome Constraint
         a = offR D s ls R st task alive inside is .outcome
 
-        w : Result D ls (offR D s ls R st task alive inside is) (counts.below p (p .visits + 1) (p .lines)) off up₁ cs₁ cl₁ qs₁ ql₁ tb₁
+        w : Result D ls (offR D s ls R st task alive inside is) (counts.below p (p .visits + 1) (p .lines)) off cls up₁ cs₁ cl₁ qs₁ ql₁ tb₁
         w = off-result D s ls R st task alive inside is
 
-        j : Joined D (branchOf D R κ p s st) r up₃ cs₃ cl₃ qs₃ ql₃
+        j : Joined D (branchOf D R κ p s st) r cls up₂ cs₃ cl₃ qs₃ ql₃
         j = joined D s ls R st task alive inside is (off .lines) kept q′ eq′ on ons (ls ++ newLines a) (w .covers) (w .counted) saved aside r fins unup
 
         onRes : LearningResult
         onRes = onR D s ls R st task alive inside is (off .lines) kept q′ eq′ on ons (ls ++ newLines a) (w .covers) (w .counted)
 
-        z : Result D (ls ++ newLines a) onRes (counts.below p (off .visits) (off .lines)) on up₂ cs₂ cl₂ qs₂ ql₂ tb₂
+        z : Result D (ls ++ newLines a) onRes (counts.below p (off .visits) (off .lines)) on cls up₂ cs₂ cl₂ qs₂ ql₂ tb₂
         z = on-result D s ls R st task alive inside is (off .lines) kept q′ eq′ on ons (ls ++ newLines a) (w .covers) (w .counted)
 
         ks′ : List Quantifier

@@ -27,10 +27,12 @@ use Rattle.coding.proofs.Given.{statuses-below}
 use Rattle.inner.proofs.Below.{passed-below}
 use Rattle.inner.specs.Inner.{Concluded, Entered, LeafCoded, steps}
 use Rattle.inner.specs.declared.Step.{Step}
-use Rattle.leaf.specs.declared.Leaf.{Leaf}
-use Rattle.leaf.specs.declared.Leaf.the-variants as found
+use Rattle.inner.specs.declared.Leaf.{Leaf}
+use Rattle.inner.specs.declared.Leaf.the-variants as found
+use Rattle.search_entry.specs.Entry.{tableOf, entryAt}
+use Rattle.search_entry.specs.declared.Bounds.{Bounds}
 use Rattle.cover.specs.Cover.{Covers}
-use Rattle.node.specs.Node.{Reads, Shown, NextKind}
+use Rattle.node.specs.Node.{storedBy, Reads, Shown, NextKind}
 use Rattle.search.specs.Search.{Task, Result, visitOf, belowOf, branchOf}
 use Rattle.node.specs.declared.Verdict.{Verdict}
 use Rattle.node.specs.declared.Verdict.the-variants.{No}
@@ -105,25 +107,26 @@ entered-alive D R s st true entered e = entered
 entered-alive D R s st false entered e = open-alive D R eqb s st e
 
 -- what steps 1 to 4 say, by what the code found
-module _ (D : Prefix) (R : List Clause) (s : Node) (st : Store) (start : Bool) (r : Step) (up : List ℕ) {fs : List ℕ} (w : Concluded D R s st start r up fs) where
-  pub said-no : (n : ℕ) → r .leaf ≡ found.No n → (e : Constraint) × (steps D R s st start ≡ some (decided false e)) × (take n up ≡ codes D e)
-  said-no n e = subst (λ (l : Leaf). LeafCoded D l up (steps D R s st start)) e (w .read)
+module _ (D : Prefix) (R : List Clause) (s : Node) (st : Store) (start : Bool) (r : Step) (cls cs qs up : List ℕ) {fs : List ℕ} (w : Concluded D R s st start r cls cs qs up fs) where
+  pub said-no : (b : Bounds) → r .leaf ≡ found.No b → (e : Constraint) × (steps D R s st start ≡ some (decided false e)) × (entryAt b cls cs up ≡ codes D e)
+  said-no b e = subst (λ (l : Leaf). LeafCoded D l cls cs qs up (steps D R s st start)) e (w .read)
 
-  pub said-yes : (n : ℕ) → r .leaf ≡ found.Yes n → (e : Constraint) × (steps D R s st start ≡ some (decided true e)) × (take n up ≡ codes D e)
-  said-yes n e = subst (λ (l : Leaf). LeafCoded D l up (steps D R s st start)) e (w .read)
+  pub said-yes : (b : Bounds) → r .leaf ≡ found.Yes b → (e : Constraint) × (steps D R s st start ≡ some (decided true e)) × (entryAt b cls qs up ≡ codes D e)
+  said-yes b e = subst (λ (l : Leaf). LeafCoded D l cls cs qs up (steps D R s st start)) e (w .read)
 
   pub said-open : r .leaf ≡ found.Open → steps D R s st start ≡ none
-  said-open e = subst (λ (l : Leaf). LeafCoded D l up (steps D R s st start)) e (w .read)
+  said-open e = subst (λ (l : Leaf). LeafCoded D l cls cs qs up (steps D R s st start)) e (w .read)
 
 -- ---- results of a visit
 module _ {D : Prefix} {s : Node} {ls : List Node} {R : List Clause} {st : Store} {cls lks kd ss cs cl qs ql tb fs : List ℕ} (p : Position)
     (task : Task D s ls R st cls lks kd ss cs cl qs ql tb fs (p .at) p) where
   -- steps 1 to 4 decide
-  pub leaf-result : (start : Bool) (w : Verdict) (v : Bool) (e : Constraint) (n : ℕ) (up : List ℕ) → steps D R s st start ≡ some (decided v e) → Reads D w (take n up) (decided v e)
-      → (r : Answer) → r ≡ counts.answered w n (p .visits + 1) (p .lines) → Result D ls (visitOf D R p s st start) p r up cs cl qs ql tb
-  leaf-result start w v e n up is rd r q =
-      subst (λ (x : Answer). Result D ls (visitOf D R p s st start) p x up cs cl qs ql tb) (sym q)
-      (subst (λ (x : Option (Outcome Constraint)). Result D ls (settle x (below paper D R (drop (p .at) (quantifiers D))) s st) p (counts.answered w n (p .visits + 1) (p .lines)) up cs cl qs ql tb) (sym is)
+  pub leaf-result : (start : Bool) (w : Verdict) (v : Bool) (e : Constraint) (b : Bounds) (up : List ℕ) → steps D R s st start ≡ some (decided v e)
+      → Reads D w (entryAt b cls (storedBy w cs qs) up) (decided v e)
+      → (r : Answer) → r ≡ counts.answered w b (p .visits + 1) (p .lines) → Result D ls (visitOf D R p s st start) p r cls up cs cl qs ql tb
+  leaf-result start w v e b up is rd r q =
+      subst (λ (x : Answer). Result D ls (visitOf D R p s st start) p x cls up cs cl qs ql tb) (sym q)
+      (subst (λ (x : Option (Outcome Constraint)). Result D ls (settle x (below paper D R (drop (p .at) (quantifiers D))) s st) p (counts.answered w b (p .visits + 1) (p .lines)) cls up cs cl qs ql tb) (sym is)
       (record {
         verdict = rd;
         stored = task .stored;
@@ -134,10 +137,10 @@ module _ {D : Prefix} {s : Node} {ls : List Node} {R : List Clause} {st : Store}
 
   -- the node is open: what follows is asked at the same position, but for what is known of the clauses
   pub open-result : {up cs′ cl′ qs′ ql′ tb′ fs′ : List ℕ} (start : Bool) (r : Answer) (q : Position) (n : ℕ) → q ≡ counts.resumedAt p n → Passed D s R n fs′ → Entered D s R start → steps D R s st start ≡ none
-      → (Task D s ls R st cls lks kd ss cs cl qs ql tb fs′ (q .at) q → firstDead D s R ≡ none → Result D ls (belowOf D R q s st) q r up cs′ cl′ qs′ ql′ tb′)
-      → Result D ls (visitOf D R p s st start) p r up cs′ cl′ qs′ ql′ tb′
+      → (Task D s ls R st cls lks kd ss cs cl qs ql tb fs′ (q .at) q → firstDead D s R ≡ none → Result D ls (belowOf D R q s st) q r cls up cs′ cl′ qs′ ql′ tb′)
+      → Result D ls (visitOf D R p s st start) p r cls up cs′ cl′ qs′ ql′ tb′
   open-result {up} {cs′} {cl′} {qs′} {ql′} {tb′} {fs′} start r q n e passed entered is h =
-      subst (λ (x : Option (Outcome Constraint)). Result D ls (settle x (below paper D R (drop (p .at) (quantifiers D))) s st) p r up cs′ cl′ qs′ ql′ tb′) (sym is)
+      subst (λ (x : Option (Outcome Constraint)). Result D ls (settle x (below paper D R (drop (p .at) (quantifiers D))) s st) p r cls up cs′ cl′ qs′ ql′ tb′) (sym is)
       (record { verdict = w .verdict; stored = w .stored; visited = w .visited; covers = w .covers; counted = w .counted })
     where
       given-at : Task D s ls R st cls lks kd ss cs cl qs ql tb fs′ (q .at) q
@@ -145,13 +148,13 @@ module _ {D : Prefix} {s : Node} {ls : List Node} {R : List Clause} {st : Store}
           subst (λ (x : Position). Task D s ls R st cls lks kd ss cs cl qs ql tb fs′ (x .at) x) (sym e)
           (record { shown = task .shown; formed = task .formed; matrix = task .matrix; stored = task .stored; passed = passed; frees = task .frees; covers = task .covers; counted = task .counted })
 
-      w : Result D ls (belowOf D R p s st) (counts.resumedAt p n) r up cs′ cl′ qs′ ql′ tb′
-      w = subst (λ (x : Position). Result D ls (belowOf D R x s st) x r up cs′ cl′ qs′ ql′ tb′) e (h given-at (entered-alive D R s st start entered is))
+      w : Result D ls (belowOf D R p s st) (counts.resumedAt p n) r cls up cs′ cl′ qs′ ql′ tb′
+      w = subst (λ (x : Position). Result D ls (belowOf D R x s st) x r cls up cs′ cl′ qs′ ql′ tb′) e (h given-at (entered-alive D R s st start entered is))
 
   -- it goes on to the branch
   branch-result : (κ : Quantifier) {up cs′ cl′ qs′ ql′ tb′ : List ℕ} (r : Answer) → p .at < length D → quantifierAt D (suc (p .at)) ≡ κ
-      → Result D ls (branchOf D R κ p s st) p r up cs′ cl′ qs′ ql′ tb′ → Result D ls (belowOf D R p s st) p r up cs′ cl′ qs′ ql′ tb′
-  branch-result κ {up} {cs′} {cl′} {qs′} {ql′} {tb′} r inD is h = subst (λ (x : LearningResult). Result D ls x p r up cs′ cl′ qs′ ql′ tb′) (sym whole) h
+      → Result D ls (branchOf D R κ p s st) p r cls up cs′ cl′ qs′ ql′ tb′ → Result D ls (belowOf D R p s st) p r cls up cs′ cl′ qs′ ql′ tb′
+  branch-result κ {up} {cs′} {cl′} {qs′} {ql′} {tb′} r inD is h = subst (λ (x : LearningResult). Result D ls x p r cls up cs′ cl′ qs′ ql′ tb′) (sym whole) h
     where
       here : drop (p .at) (quantifiers D) ≡ κ ∷ drop (p .at + 1) (quantifiers D)
       here = ap (λ (i : ℕ). drop i (quantifiers D)) (sym (task .shown .long)) ∙ rest D R κ s (p .at) (task .shown .long) inD is
@@ -167,33 +170,33 @@ module _ {D : Prefix} {s : Node} {ls : List Node} {R : List Clause} {st : Store}
 
     -- a kind is that of one quantifier only, so it says which branch is taken
     kind-result : (κ : Quantifier) {up cs′ cl′ qs′ ql′ tb′ : List ℕ} → (quantifierCode (quantifierAt D (suc (p .at))) ≡ k → quantifierAt D (suc (p .at)) ≡ κ) → k < 3
-        → (p .at < length D → quantifierAt D (suc (p .at)) ≡ κ → Result D ls (branchOf D R κ p s st) p r up cs′ cl′ qs′ ql′ tb′) → Result D ls (belowOf D R p s st) p r up cs′ cl′ qs′ ql′ tb′
+        → (p .at < length D → quantifierAt D (suc (p .at)) ≡ κ → Result D ls (branchOf D R κ p s st) p r cls up cs′ cl′ qs′ ql′ tb′) → Result D ls (belowOf D R p s st) p r cls up cs′ cl′ qs′ ql′ tb′
     kind-result κ only low h =
         let inD : p .at < length D = next-inside D kd (task .shown .quantified) (p .at) k next low in
         let is : quantifierAt D (suc (p .at)) ≡ κ = only (sym (at-kind inD)) in
         branch-result κ r inD is (h inD is)
 
-    pub exists-result : {up cs′ cl′ qs′ ql′ tb′ : List ℕ} → k ≡ 1 → (p .at < length D → quantifierAt D (suc (p .at)) ≡ exists → Result D ls (branchOf D R exists p s st) p r up cs′ cl′ qs′ ql′ tb′) → Result D ls (belowOf D R p s st) p r up cs′ cl′ qs′ ql′ tb′
+    pub exists-result : {up cs′ cl′ qs′ ql′ tb′ : List ℕ} → k ≡ 1 → (p .at < length D → quantifierAt D (suc (p .at)) ≡ exists → Result D ls (branchOf D R exists p s st) p r cls up cs′ cl′ qs′ ql′ tb′) → Result D ls (belowOf D R p s st) p r cls up cs′ cl′ qs′ ql′ tb′
     exists-result q h = kind-result exists (λ z. code-exists (quantifierAt D (suc (p .at))) (z ∙ q)) (omega arith) h
 
-    pub forall-result : {up cs′ cl′ qs′ ql′ tb′ : List ℕ} → k ≡ 2 → (p .at < length D → quantifierAt D (suc (p .at)) ≡ forall → Result D ls (branchOf D R forall p s st) p r up cs′ cl′ qs′ ql′ tb′) → Result D ls (belowOf D R p s st) p r up cs′ cl′ qs′ ql′ tb′
+    pub forall-result : {up cs′ cl′ qs′ ql′ tb′ : List ℕ} → k ≡ 2 → (p .at < length D → quantifierAt D (suc (p .at)) ≡ forall → Result D ls (branchOf D R forall p s st) p r cls up cs′ cl′ qs′ ql′ tb′) → Result D ls (belowOf D R p s st) p r cls up cs′ cl′ qs′ ql′ tb′
     forall-result q h = kind-result forall (λ z. code-forall (quantifierAt D (suc (p .at))) (z ∙ q)) (omega arith) h
 
-    pub free-visit-result : {up cs′ cl′ qs′ ql′ tb′ : List ℕ} → k ≡ 0 → (p .at < length D → quantifierAt D (suc (p .at)) ≡ free → Result D ls (branchOf D R free p s st) p r up cs′ cl′ qs′ ql′ tb′) → Result D ls (belowOf D R p s st) p r up cs′ cl′ qs′ ql′ tb′
+    pub free-visit-result : {up cs′ cl′ qs′ ql′ tb′ : List ℕ} → k ≡ 0 → (p .at < length D → quantifierAt D (suc (p .at)) ≡ free → Result D ls (branchOf D R free p s st) p r cls up cs′ cl′ qs′ ql′ tb′) → Result D ls (belowOf D R p s st) p r cls up cs′ cl′ qs′ ql′ tb′
     free-visit-result q h = kind-result free (λ z. code-free (quantifierAt D (suc (p .at))) (z ∙ q)) (omega arith) h
 
     -- no place is left
-    pub end-result : (up : List ℕ) → (k ≡ 1 → ⊥) → (k ≡ 2 → ⊥) → (k ≡ 0 → ⊥)
-        → r ≡ counts.answered No 0 (p .visits + 1) (p .lines) → Result D ls (belowOf D R p s st) p r up cs cl qs ql tb
-    end-result up a b c q = by (le-or-lt (length D) (p .at))
+    pub end-result : (b : Bounds) → b .len ≡ 0 → (up : List ℕ) → (k ≡ 1 → ⊥) → (k ≡ 2 → ⊥) → (k ≡ 0 → ⊥)
+        → r ≡ counts.answered No b (p .visits + 1) (p .lines) → Result D ls (belowOf D R p s st) p r cls up cs cl qs ql tb
+    end-result b empty up x y z q = by (le-or-lt (length D) (p .at))
       where
-        by : (length D ≤ p .at) ⊎ (p .at < length D) → Result D ls (belowOf D R p s st) p r up cs cl qs ql tb
-        by (inr inD) = absurd (code-known (quantifierAt D (suc (p .at))) k (at-kind inD) a b c)
+        by : (length D ≤ p .at) ⊎ (p .at < length D) → Result D ls (belowOf D R p s st) p r cls up cs cl qs ql tb
+        by (inr inD) = absurd (code-known (quantifierAt D (suc (p .at))) k (at-kind inD) x y z)
         by (inl le) =
-            subst (λ (x : Answer). Result D ls (belowOf D R p s st) p x up cs cl qs ql tb) (sym q)
-            (subst (λ (x : LearningResult). Result D ls x p (counts.answered No 0 (p .visits + 1) (p .lines)) up cs cl qs ql tb) (sym whole)
+            subst (λ (x : Answer). Result D ls (belowOf D R p s st) p x cls up cs cl qs ql tb) (sym q)
+            (subst (λ (x : LearningResult). Result D ls x p (counts.answered No b (p .visits + 1) (p .lines)) cls up cs cl qs ql tb) (sym whole)
             (record {
-              verdict = ([], refl, refl);
+              verdict = ([], refl, ap (λ (n : ℕ). take n (drop (b .start) (tableOf (b .source) cls cs up))) empty);
               stored = task .stored;
               visited = refl;
               covers = subst (Covers (p .free) tb) (sym (append-nil ls)) (task .covers);
@@ -208,8 +211,8 @@ module _ {D : Prefix} {s : Node} {ls : List Node} {R : List Clause} {st : Store}
 pub side-result : (D : Prefix) (s : Node) (b : Bool) (ls : List Node) (R : List Clause) (st : Store) (k : ℕ) {cls lks kd ss cs cl qs ql tb fs : List ℕ} (p : Position)
     → Task D s ls R st cls lks kd ss cs cl qs ql tb fs k p → firstDead D s R ≡ none → suc k ≡ p .at → p .at ≤ paper .numbers → length ss ≡ codeCount
     → (value : ℕ) → value ≡ byteOf b → (ss′ : List ℕ) → ss′ ≡ given (p .at) value ss → {o : LearningResult} {r : Answer} {up cs″ cl″ qs″ ql″ tb′ : List ℕ}
-    → (Task D (s ▹ b) ls R st cls lks kd ss′ cs cl qs ql tb fs (p .at) p → Entered D (s ▹ b) R false → Result D ls o p r up cs″ cl″ qs″ ql″ tb′)
-    → Result D ls o p r up cs″ cl″ qs″ ql″ tb′
+    → (Task D (s ▹ b) ls R st cls lks kd ss′ cs cl qs ql tb fs (p .at) p → Entered D (s ▹ b) R false → Result D ls o p r cls up cs″ cl″ qs″ ql″ tb′)
+    → Result D ls o p r cls up cs″ cl″ qs″ ql″ tb′
 side-result D s b ls R st k {cls} {lks} {kd} {ss} {cs} {cl} {qs} {ql} {tb} {fs} p task alive e within full value v ss′ changed vis =
     vis
     (record {

@@ -15,7 +15,8 @@ use Rattle.tables.specs.Shelves.{StoreShown, newestOf}
 use Rattle.tables.specs.Matrices.{MatrixShown}
 use Rattle.tables.specs.Marks.{Passed}
 use Rattle.inner.specs.Inner.{steps}
-use Rattle.node.specs.Node.{Reads, Shown, newLines}
+use Rattle.search_entry.specs.Entry.{Bounded}
+use Rattle.node.specs.Node.{boundsOf, entryOf, Reads, Shown, newLines}
 use Rattle.node.specs.declared.Position.{Position}
 use Rattle.node.specs.declared.Answer.{Answer}
 
@@ -35,7 +36,7 @@ pub record Room (saved : ℕ) (cl ql : List ℕ) (p : Position) : Type 0 where
 
 -- what its answer's counts keep to: no more lines and rows than visits
 pub record Counts (cl ql : List ℕ) (p : Position) (r : Answer) (cl′ ql′ : List ℕ) : Type 0 where
-  pub short : r .len ≤ paper .numbers
+  pub bounded : Bounded (boundsOf r)
   pub more : p .visits < r .visits
   pub fewer : r .visits < p .visits + 2 ^ suc (left p)
   pub lines-more : p .lines ≤ r .lines
@@ -62,8 +63,8 @@ pub record Task (D : Prefix) (s : Node) (ls : List Node) (R : List Clause) (st :
   pub counted : p .lines ≡ length ls
 
 -- the answer is the result o of the learning search
-pub record Result (D : Prefix) (ls : List Node) (o : LearningResult) (p : Position) (r : Answer) (up cs cl qs ql table : List ℕ) : Type 0 where
-  pub verdict : Reads D (r .verdict) (take (r .len) up) (o .outcome)
+pub record Result (D : Prefix) (ls : List Node) (o : LearningResult) (p : Position) (r : Answer) (clauses area cs cl qs ql table : List ℕ) : Type 0 where
+  pub verdict : Reads D (r .verdict) (entryOf r clauses cs qs area) (o .outcome)
   pub stored : StoreShown D (o .store) cs cl qs ql
   pub visited : r .visits ≡ p .visits + o .visits
   pub covers : Covers (p .free) table (ls ++ newLines (o .outcome))

@@ -17,8 +17,8 @@ ghost use Rattle.inner.specs.Inner.{Entered};
 ghost use Rattle.search.specs.Search.{left, Room, Counts, Kept, Task, Result, visitOf, belowOf, branchOf};
 use coding::statuses::give;
 use coding::statuses::restore;
+use inner::Leaf;
 use inner::conclude;
-use leaf::Leaf;
 use node::Answer;
 use node::Position;
 use node::Verdict;
@@ -33,6 +33,8 @@ use node::settled;
 use node::to_off;
 use node::to_on;
 use node::with_lines;
+use search_entry::Source;
+use search_entry::placed;
 
 // Steps 1 to 4, else step 5. At a start node steps 1 to 4 have been taken and leave it open.
 pub fn visit<'a>(
@@ -54,7 +56,7 @@ pub fn visit<'a>(
     requires { ⌜ Matrix (now clauses) (now links) × Shelves (now learned) (now «learned_links») (now cubes) (now «cube_links») × Room (length (now saved)) (now «learned_links») (now «cube_links») p ⌝ }
     ensures { λ r. ⌜ Counts (now («learned_links» .entry)) (now («cube_links» .entry)) p r (now («learned_links» .exit)) (now («cube_links» .exit)) ⌝ }
     ensures { λ _. ⌜ Kept p (now (statuses .entry)) (now (statuses .exit)) (now (table .entry)) (now (table .exit)) (now (firsts .entry)) (now (firsts .exit)) × Shelves (now (learned .exit)) (now («learned_links» .exit)) (now (cubes .exit)) (now («cube_links» .exit)) ⌝ }
-    ensures { λ r. ⌜ ((D : Prefix) (s : Node) (ls : List Node) (R : List Clause) (st : Store) → Task D s ls R st (now (clauses .entry)) (now (links .entry)) (now (quantifiers .entry)) (now (statuses .entry)) (now (learned .entry)) (now («learned_links» .entry)) (now (cubes .entry)) (now («cube_links» .entry)) (now (table .entry)) (now (firsts .entry)) (p .at) p → Entered D s R start → Result D ls (visitOf D R p s st start) p r (now (up .exit)) (now (learned .exit)) (now («learned_links» .exit)) (now (cubes .exit)) (now («cube_links» .exit)) (now (table .exit))) ⌝ }
+    ensures { λ r. ⌜ ((D : Prefix) (s : Node) (ls : List Node) (R : List Clause) (st : Store) → Task D s ls R st (now (clauses .entry)) (now (links .entry)) (now (quantifiers .entry)) (now (statuses .entry)) (now (learned .entry)) (now («learned_links» .entry)) (now (cubes .entry)) (now («cube_links» .entry)) (now (table .entry)) (now (firsts .entry)) (p .at) p → Entered D s R start → Result D ls (visitOf D R p s st start) p r (now (clauses .entry)) (now (up .exit)) (now (learned .exit)) (now («learned_links» .exit)) (now (cubes .exit)) (now («cube_links» .exit)) (now (table .exit))) ⌝ }
 {
     let at = p.at;
     let satisfied = p.satisfied;
@@ -75,8 +77,8 @@ pub fn visit<'a>(
     );
     let leaf = step.leaf;
     match leaf {
-        Leaf::No(len) => settled(Verdict::No, len, p),
-        Leaf::Yes(len) => settled(Verdict::Yes, len, p),
+        Leaf::No(b) => settled(Verdict::No, b, p),
+        Leaf::Yes(b) => settled(Verdict::Yes, b, p),
         Leaf::Open => {
             let below = branch(
                 clauses,
@@ -117,7 +119,7 @@ fn branch<'a>(
     requires { ⌜ Matrix (now clauses) (now links) × Shelves (now learned) (now «learned_links») (now cubes) (now «cube_links») × Room (length (now saved)) (now «learned_links») (now «cube_links») p ⌝ }
     ensures { λ r. ⌜ Counts (now («learned_links» .entry)) (now («cube_links» .entry)) p r (now («learned_links» .exit)) (now («cube_links» .exit)) ⌝ }
     ensures { λ _. ⌜ Kept p (now (statuses .entry)) (now (statuses .exit)) (now (table .entry)) (now (table .exit)) (now (firsts .entry)) (now (firsts .exit)) × Shelves (now (learned .exit)) (now («learned_links» .exit)) (now (cubes .exit)) (now («cube_links» .exit)) ⌝ }
-    ensures { λ r. ⌜ ((D : Prefix) (s : Node) (ls : List Node) (R : List Clause) (st : Store) → Task D s ls R st (now (clauses .entry)) (now (links .entry)) (now (quantifiers .entry)) (now (statuses .entry)) (now (learned .entry)) (now («learned_links» .entry)) (now (cubes .entry)) (now («cube_links» .entry)) (now (table .entry)) (now (firsts .entry)) (p .at) p → firstDead D s R ≡ none → Result D ls (belowOf D R p s st) p r (now (up .exit)) (now (learned .exit)) (now («learned_links» .exit)) (now (cubes .exit)) (now («cube_links» .exit)) (now (table .exit))) ⌝ }
+    ensures { λ r. ⌜ ((D : Prefix) (s : Node) (ls : List Node) (R : List Clause) (st : Store) → Task D s ls R st (now (clauses .entry)) (now (links .entry)) (now (quantifiers .entry)) (now (statuses .entry)) (now (learned .entry)) (now («learned_links» .entry)) (now (cubes .entry)) (now («cube_links» .entry)) (now (table .entry)) (now (firsts .entry)) (p .at) p → firstDead D s R ≡ none → Result D ls (belowOf D R p s st) p r (now (clauses .entry)) (now (up .exit)) (now (learned .exit)) (now («learned_links» .exit)) (now (cubes .exit)) (now («cube_links» .exit)) (now (table .exit))) ⌝ }
 {
     let kind = next_kind(quantifiers, p.at);
     if kind == tables::EXISTS {
@@ -169,7 +171,7 @@ fn branch<'a>(
             p,
         )
     } else {
-        settled(Verdict::No, 0, p)
+        settled(Verdict::No, placed(Source::Area, 0, 0), p)
     }
 }
 
@@ -196,7 +198,7 @@ fn side<'a>(
     ensures { λ r. ⌜ Counts (now («learned_links» .entry)) (now («cube_links» .entry)) p r (now («learned_links» .exit)) (now («cube_links» .exit)) ⌝ }
     ensures { λ _. ⌜ Kept p (now (statuses .entry)) (now (statuses .exit)) (now (table .entry)) (now (table .exit)) (now (firsts .entry)) (now (firsts .exit)) × Shelves (now (learned .exit)) (now («learned_links» .exit)) (now (cubes .exit)) (now («cube_links» .exit)) ⌝ }
     ensures { λ _. ⌜ (length (now (saved .exit)) ≡ length (now (saved .entry))) × (take aside (now (saved .exit)) ≡ take aside (now (saved .entry))) ⌝ }
-    ensures { λ r. ⌜ ((D : Prefix) (s : Node) (b : Bool) (ls : List Node) (R : List Clause) (st : Store) (k : ℕ) → Task D s ls R st (now (clauses .entry)) (now (links .entry)) (now (quantifiers .entry)) (now (statuses .entry)) (now (learned .entry)) (now («learned_links» .entry)) (now (cubes .entry)) (now («cube_links» .entry)) (now (table .entry)) (now (firsts .entry)) k p → firstDead D s R ≡ none → k < length D → suc k ≡ p .at → value ≡ byteOf b → Result D ls (visitOf D R p (s ▹ b) st false) p r (now (up .exit)) (now (learned .exit)) (now («learned_links» .exit)) (now (cubes .exit)) (now («cube_links» .exit)) (now (table .exit))) ⌝ }
+    ensures { λ r. ⌜ ((D : Prefix) (s : Node) (b : Bool) (ls : List Node) (R : List Clause) (st : Store) (k : ℕ) → Task D s ls R st (now (clauses .entry)) (now (links .entry)) (now (quantifiers .entry)) (now (statuses .entry)) (now (learned .entry)) (now («learned_links» .entry)) (now (cubes .entry)) (now («cube_links» .entry)) (now (table .entry)) (now (firsts .entry)) k p → firstDead D s R ≡ none → k < length D → suc k ≡ p .at → value ≡ byteOf b → Result D ls (visitOf D R p (s ▹ b) st false) p r (now (clauses .entry)) (now (up .exit)) (now (learned .exit)) (now («learned_links» .exit)) (now (cubes .exit)) (now («cube_links» .exit)) (now (table .exit))) ⌝ }
 {
     let cells: &[u8] = statuses; // one for every code
     let above = give(statuses, p.at, value);
@@ -239,7 +241,7 @@ fn exists<'a>(
     requires { ⌜ Matrix (now clauses) (now links) × Shelves (now learned) (now «learned_links») (now cubes) (now «cube_links») × Room (length (now saved)) (now «learned_links») (now «cube_links») p × (p .at < paper .numbers) ⌝ }
     ensures { λ r. ⌜ Counts (now («learned_links» .entry)) (now («cube_links» .entry)) p r (now («learned_links» .exit)) (now («cube_links» .exit)) ⌝ }
     ensures { λ _. ⌜ Kept p (now (statuses .entry)) (now (statuses .exit)) (now (table .entry)) (now (table .exit)) (now (firsts .entry)) (now (firsts .exit)) × Shelves (now (learned .exit)) (now («learned_links» .exit)) (now (cubes .exit)) (now («cube_links» .exit)) ⌝ }
-    ensures { λ r. ⌜ ((D : Prefix) (s : Node) (ls : List Node) (R : List Clause) (st : Store) → Task D s ls R st (now (clauses .entry)) (now (links .entry)) (now (quantifiers .entry)) (now (statuses .entry)) (now (learned .entry)) (now («learned_links» .entry)) (now (cubes .entry)) (now («cube_links» .entry)) (now (table .entry)) (now (firsts .entry)) (p .at) p → firstDead D s R ≡ none → p .at < length D → quantifierAt D (suc (p .at)) ≡ exists → Result D ls (branchOf D R exists p s st) p r (now (up .exit)) (now (learned .exit)) (now («learned_links» .exit)) (now (cubes .exit)) (now («cube_links» .exit)) (now (table .exit))) ⌝ }
+    ensures { λ r. ⌜ ((D : Prefix) (s : Node) (ls : List Node) (R : List Clause) (st : Store) → Task D s ls R st (now (clauses .entry)) (now (links .entry)) (now (quantifiers .entry)) (now (statuses .entry)) (now (learned .entry)) (now («learned_links» .entry)) (now (cubes .entry)) (now («cube_links» .entry)) (now (table .entry)) (now (firsts .entry)) (p .at) p → firstDead D s R ≡ none → p .at < length D → quantifierAt D (suc (p .at)) ≡ exists → Result D ls (branchOf D R exists p s st) p r (now (clauses .entry)) (now (up .exit)) (now (learned .exit)) (now («learned_links» .exit)) (now (cubes .exit)) (now («cube_links» .exit)) (now (table .exit))) ⌝ }
 {
     let off = side(
         clauses,
@@ -261,10 +263,10 @@ fn exists<'a>(
     let first = off.verdict;
     let n = off.len;
     let at = p.at;
-    if goes_up(first, tables::EXISTS, up, n, at) {
-        return off;
+    if goes_up(off, tables::EXISTS, clauses, learned, cubes, up, at) {
+        return with_lines(off, off.lines); // not copied whole: see `side`
     }
-    put_aside(saved, up, n);
+    put_aside(saved, off, clauses, learned, cubes, up);
     let on = side(
         clauses,
         links,
@@ -288,6 +290,7 @@ fn exists<'a>(
         on,
         tables::EXISTS,
         saved,
+        clauses,
         up,
         learned,
         learned_links,
@@ -317,7 +320,7 @@ fn forall<'a>(
     requires { ⌜ Matrix (now clauses) (now links) × Shelves (now learned) (now «learned_links») (now cubes) (now «cube_links») × Room (length (now saved)) (now «learned_links») (now «cube_links») p × (p .at < paper .numbers) ⌝ }
     ensures { λ r. ⌜ Counts (now («learned_links» .entry)) (now («cube_links» .entry)) p r (now («learned_links» .exit)) (now («cube_links» .exit)) ⌝ }
     ensures { λ _. ⌜ Kept p (now (statuses .entry)) (now (statuses .exit)) (now (table .entry)) (now (table .exit)) (now (firsts .entry)) (now (firsts .exit)) × Shelves (now (learned .exit)) (now («learned_links» .exit)) (now (cubes .exit)) (now («cube_links» .exit)) ⌝ }
-    ensures { λ r. ⌜ ((D : Prefix) (s : Node) (ls : List Node) (R : List Clause) (st : Store) → Task D s ls R st (now (clauses .entry)) (now (links .entry)) (now (quantifiers .entry)) (now (statuses .entry)) (now (learned .entry)) (now («learned_links» .entry)) (now (cubes .entry)) (now («cube_links» .entry)) (now (table .entry)) (now (firsts .entry)) (p .at) p → firstDead D s R ≡ none → p .at < length D → quantifierAt D (suc (p .at)) ≡ forall → Result D ls (branchOf D R forall p s st) p r (now (up .exit)) (now (learned .exit)) (now («learned_links» .exit)) (now (cubes .exit)) (now («cube_links» .exit)) (now (table .exit))) ⌝ }
+    ensures { λ r. ⌜ ((D : Prefix) (s : Node) (ls : List Node) (R : List Clause) (st : Store) → Task D s ls R st (now (clauses .entry)) (now (links .entry)) (now (quantifiers .entry)) (now (statuses .entry)) (now (learned .entry)) (now («learned_links» .entry)) (now (cubes .entry)) (now («cube_links» .entry)) (now (table .entry)) (now (firsts .entry)) (p .at) p → firstDead D s R ≡ none → p .at < length D → quantifierAt D (suc (p .at)) ≡ forall → Result D ls (branchOf D R forall p s st) p r (now (clauses .entry)) (now (up .exit)) (now (learned .exit)) (now («learned_links» .exit)) (now (cubes .exit)) (now («cube_links» .exit)) (now (table .exit))) ⌝ }
 {
     let off = side(
         clauses,
@@ -339,10 +342,10 @@ fn forall<'a>(
     let first = off.verdict;
     let n = off.len;
     let at = p.at;
-    if goes_up(first, tables::FORALL, up, n, at) {
-        return off;
+    if goes_up(off, tables::FORALL, clauses, learned, cubes, up, at) {
+        return with_lines(off, off.lines); // not copied whole: see `side`
     }
-    put_aside(saved, up, n);
+    put_aside(saved, off, clauses, learned, cubes, up);
     let on = side(
         clauses,
         links,
@@ -366,6 +369,7 @@ fn forall<'a>(
         on,
         tables::FORALL,
         saved,
+        clauses,
         up,
         learned,
         learned_links,
@@ -395,7 +399,7 @@ fn free<'a>(
     requires { ⌜ Matrix (now clauses) (now links) × Shelves (now learned) (now «learned_links») (now cubes) (now «cube_links») × Room (length (now saved)) (now «learned_links») (now «cube_links») p × (p .at < paper .numbers) ⌝ }
     ensures { λ r. ⌜ Counts (now («learned_links» .entry)) (now («cube_links» .entry)) p r (now («learned_links» .exit)) (now («cube_links» .exit)) ⌝ }
     ensures { λ _. ⌜ Kept p (now (statuses .entry)) (now (statuses .exit)) (now (table .entry)) (now (table .exit)) (now (firsts .entry)) (now (firsts .exit)) × Shelves (now (learned .exit)) (now («learned_links» .exit)) (now (cubes .exit)) (now («cube_links» .exit)) ⌝ }
-    ensures { λ r. ⌜ ((D : Prefix) (s : Node) (ls : List Node) (R : List Clause) (st : Store) → Task D s ls R st (now (clauses .entry)) (now (links .entry)) (now (quantifiers .entry)) (now (statuses .entry)) (now (learned .entry)) (now («learned_links» .entry)) (now (cubes .entry)) (now («cube_links» .entry)) (now (table .entry)) (now (firsts .entry)) (p .at) p → firstDead D s R ≡ none → p .at < length D → quantifierAt D (suc (p .at)) ≡ free → Result D ls (branchOf D R free p s st) p r (now (up .exit)) (now (learned .exit)) (now («learned_links» .exit)) (now (cubes .exit)) (now («cube_links» .exit)) (now (table .exit))) ⌝ }
+    ensures { λ r. ⌜ ((D : Prefix) (s : Node) (ls : List Node) (R : List Clause) (st : Store) → Task D s ls R st (now (clauses .entry)) (now (links .entry)) (now (quantifiers .entry)) (now (statuses .entry)) (now (learned .entry)) (now («learned_links» .entry)) (now (cubes .entry)) (now («cube_links» .entry)) (now (table .entry)) (now (firsts .entry)) (p .at) p → firstDead D s R ≡ none → p .at < length D → quantifierAt D (suc (p .at)) ≡ free → Result D ls (branchOf D R free p s st) p r (now (clauses .entry)) (now (up .exit)) (now (learned .exit)) (now («learned_links» .exit)) (now (cubes .exit)) (now («cube_links» .exit)) (now (table .exit))) ⌝ }
 {
     let off = side(
         clauses,
@@ -417,10 +421,10 @@ fn free<'a>(
     let first = off.verdict;
     let n = off.len;
     let at = p.at;
-    if goes_up(first, tables::FREE, up, n, at) {
-        return off;
+    if goes_up(off, tables::FREE, clauses, learned, cubes, up, at) {
+        return with_lines(off, off.lines); // not copied whole: see `side`
     }
-    put_aside(saved, up, n);
+    put_aside(saved, off, clauses, learned, cubes, up);
     let lines = line_if(first, tables::OFF, table, off.lines, p, statuses);
     let on = side(
         clauses,
@@ -446,6 +450,7 @@ fn free<'a>(
         on,
         tables::FREE,
         saved,
+        clauses,
         up,
         learned,
         learned_links,

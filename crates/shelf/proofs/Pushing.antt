@@ -8,7 +8,7 @@ use mathlib.Core.Bool.{true, false}
 use mathlib.Core.List.{List, [], _∷_, _++_}
 use borrow.Author.Tests.{eqb-true, eqb-false}
 use lib.Dec.{eqb}
-use lib.ListN.{length, drop, set}
+use lib.ListN.{length, take, drop, set}
 use lib.Seq.{paste}
 use Rattle.theory.proofs.Basics.{le-or-lt, dichotomy}
 use Rattle.qbf.specs.Learning.{push}
@@ -131,6 +131,12 @@ module _ {stride slots : ℕ} {cells links : List ℕ} (shelf : Shelf stride slo
         (ap (rowAt stride cells′) last-slot ∙ written-row stride slots cells row s (shelf .room) s-low fits)
         ∙ ap (λ (xs : List (List ℕ)). xs ++ (row ∷ [])) (ring-same stride slots cells cells′ base count same-row)
 
+    -- the row stands in its slot
+    pub pushed-row : take (length row) (drop (suc (s * suc stride)) cells′) ≡ row
+    pushed-row =
+        ap (λ (k : ℕ). take k (drop (suc (s * suc stride)) cells′)) (sym (written-length stride slots cells row s (shelf .room) s-low fits))
+        ∙ written-row stride slots cells row s (shelf .room) s-low fits
+
     -- the rows are those of `push`
     pub pushed-rows : shelfRows stride slots cells′ links′ ≡ push slots row all
     pushed-rows = rows-are ∙ ap (λ (xs : List (List ℕ)). xs ++ (row ∷ [])) (keeping .is)
@@ -157,24 +163,28 @@ module _ {stride slots : ℕ} {cells links : List ℕ} (shelf : Shelf stride slo
         (linked-push slots links base kept row s n (keeping .linked) low s-within kept-low number slot-is)
 
   -- ---- as the code writes them
-  pub record Pushed (row cells₁ links₁ : List ℕ) : Type 0 where
+  pub record Pushed (row : List ℕ) (s : ℕ) (cells₁ links₁ : List ℕ) : Type 0 where
     pub stands : Shelf stride slots cells₁ links₁
     pub rows : shelfRows stride slots cells₁ links₁ ≡ push slots row all
     pub newest : newestOf links₁ ≡ suc n
+    pub low : s < slots
+    pub kept : take (length row) (drop (suc (s * suc stride)) cells₁) ≡ row
 
   pub pushing : (row : List ℕ) (s code : ℕ) (cells₁ links₁ : List ℕ) → s ≡ n % slots → code ≡ lastCode row → code < codeCount → length row ≤ stride
       → cells₁ ≡ paste (set cells (s * (stride + 1)) (length row)) (suc (s * (stride + 1))) row (length row)
       → links₁ ≡ relinked links code s n
-      → Pushed row cells₁ links₁
+      → Pushed row s cells₁ links₁
   pushing row s code cells₁ links₁ slot-is code-is low fits cells-are links-are =
       let at : s * (stride + 1) ≡ s * suc stride = omega arith in
       let low′ : lastCode row < codeCount = omega arith in
       let e : cells₁ ≡ cells′ row s slot-is fits low′ = cells-are ∙ ap (λ (a : ℕ). paste (set cells a (length row)) (suc a) row (length row)) at in
       let e′ : links₁ ≡ links′ row s slot-is fits low′ = links-are ∙ ap (λ (k : ℕ). relinked links k s n) code-is in
-      subst (λ (x : List ℕ). Pushed row x links₁) (sym e)
-      (subst (λ (y : List ℕ). Pushed row (cells′ row s slot-is fits low′) y) (sym e′)
+      subst (λ (x : List ℕ). Pushed row s x links₁) (sym e)
+      (subst (λ (y : List ℕ). Pushed row s (cells′ row s slot-is fits low′) y) (sym e′)
       (record {
         stands = pushed-shelf row s slot-is fits low′;
         rows = pushed-rows row s slot-is fits low′;
         newest = pushed-newest row s slot-is fits low′;
+        low = s-low row s slot-is fits low′;
+        kept = pushed-row row s slot-is fits low′;
       }))

@@ -1,7 +1,7 @@
 // "a 65th of a kind displaces the oldest": the newest row takes the slot after the one before it, where the oldest stood if all are taken.
 ghost use mathlib.Core.Path.{_≡_};
 ghost use Prim.Native.Nat.{suc, _+_, _*_, _%_, _^_, _≤_, _<_};
-ghost use lib.ListN.{length, getD, set};
+ghost use lib.ListN.{length, getD, take, drop, set};
 ghost use lib.Seq.{paste};
 ghost use Rattle.qbf.specs.Learning.{push};
 ghost use Rattle.tables.specs.Codes.{lastCode};
@@ -67,8 +67,14 @@ fn write_links(links: &mut [u64], code: u16, slot: usize, newest: u64)
     links[tables::CODES] = newest + 1;
 }
 
-// One row more. It takes the slot of its number, which is that of the oldest row where all slots are taken.
-pub fn push<'a>(cells: &mut [u16], links: &mut [u64], stride: usize, slots: usize, row: &'a [u16])
+// One row more. It takes the slot of its number, which is that of the oldest row where all slots are taken, and which is handed back.
+pub fn push<'a>(
+    cells: &mut [u16],
+    links: &mut [u64],
+    stride: usize,
+    slots: usize,
+    row: &'a [u16],
+) -> usize
     requires { ⌜
         Shelf stride slots (now cells) (now links)
         × (0 < slots)
@@ -78,11 +84,13 @@ pub fn push<'a>(cells: &mut [u16], links: &mut [u64], stride: usize, slots: usiz
         × (lastCode (now row) < codeCount)
         × (newestOf (now links) < 2 ^ 63)
         ⌝ }
-    ensures { λ _. ⌜
+    ensures { λ r. ⌜
         Shelf stride slots (now (cells .exit)) (now (links .exit))
         × (shelfRows stride slots (now (cells .exit)) (now (links .exit))
         ≡ push slots (now (row .entry)) (shelfRows stride slots (now (cells .entry)) (now (links .entry))))
         × (newestOf (now (links .exit)) ≡ suc (newestOf (now (links .entry))))
+        × (r < slots)
+        × (take (length (now (row .entry))) (drop (suc (r * suc stride)) (now (cells .exit))) ≡ now (row .entry))
         ⌝ }
 {
     let newest = links[tables::CODES];
@@ -90,4 +98,5 @@ pub fn push<'a>(cells: &mut [u16], links: &mut [u64], stride: usize, slots: usiz
     let code = last_code(row);
     write_row(cells, slot * (stride + 1), row);
     write_links(links, code, slot, newest);
+    slot
 }

@@ -3,9 +3,10 @@ use borrow.Author.Needs.{needs}
 use Rattle.inner.proofs.conflict.Statement.{statement}
 use Rattle.inner.proofs.conflict.Tie as tie
 use mathlib.Core.Bool.{false}
+use denote.Ref.{now}
 use lib.Dec.{eqb}
 use Rattle.qbf.specs.Learning.{eligibleMatch}
-use Rattle.inner.proofs.Conclusions.{dying-found, dying-none, found-short}
+use Rattle.inner.proofs.Conclusions.{dying-found, dying-none, found-bounded}
 
 dead-requires : tie.Need-dead-requires
 dead-requires c κs = search needs
@@ -21,22 +22,21 @@ lookup-requires c κs = search needs
 
 returns : tie.Need-returns
 returns c =
-    let found = c .before .before .before .dead in
-    let at = c .before .dead2 .given .1 in (
-      found-short at (found .ensures .0),
-      λ D R s cs shown long inner dying learned fresh.
-          dying-found fresh (eligibleMatch D eqb false s cs) (found .last .1 .1 .1 .1 .0) at (found .ensures .1 D s R shown long inner dying),
+    let cls = now (c .before .before .before .before .args .clauses) in
+    let cs = now (c .before .before .before .before .args .learned) in (
+      found-bounded (c .before .dead2 .given .1) (c .before .before .before .dead .ensures .0),
+      λ D R s es area shown long inner dying learned fresh.
+          dying-found fresh (eligibleMatch D eqb false s es) cls cs area (c .before .before .before .dead .ensures .1 D s R cs area shown long inner dying) (c .before .dead2 .given .1),
     )
 
 returns-2 : tie.Need-returns-2
 returns-2 c =
-    let dead = c .before .before .before .before .before .before .dead in
-    let found = c .lookup in (
-      found .ensures .0,
-      λ D R s cs shown long inner dying learned fresh.
-          dying-none fresh (eligibleMatch D eqb false s cs) (dead .last .1 .1 .1 .1 .0) (c .before .before .before .before .enum-told .given .1)
-          (dead .ensures .1 D s R shown long inner dying) (found .result) (found .last .1 .1 .1 .1 .1 .1 .1 .0)
-          (found .ensures .1 D s cs shown long inner learned),
+    let cls = now (c .before .before .before .before .args .clauses) in
+    let cs = now (c .before .before .before .before .args .learned) in (
+      c .lookup .ensures .0,
+      λ D R s es area shown long inner dying learned fresh.
+          dying-none fresh (eligibleMatch D eqb false s es) cls cs area (c .before .before .before .dead .ensures .1 D s R cs area shown long inner dying) (c .before .enum-told .given .1) (c .lookup .result)
+          (c .lookup .ensures .1 D s es cls area shown long inner learned),
     )
 
 pub conflict-spec : {M : Type 1} → statement M

@@ -2,8 +2,8 @@
 use borrow.Author.Needs.{needs}
 use Rattle.inner.proofs.stored_cube.Statement.{statement}
 use Rattle.inner.proofs.stored_cube.Tie as tie
-use native.Mathlib.Omega.{arith}
-use Rattle.inner.proofs.Conclusions.{stored-yes, stored-open, found-short}
+use denote.Ref.{now}
+use Rattle.inner.proofs.Conclusions.{stored-yes, stored-open, found-bounded}
 
 lookup-requires : tie.Need-lookup-requires
 lookup-requires c κs = search needs
@@ -15,20 +15,18 @@ enum-told : tie.Need-enum-told
 enum-told c = search needs
 
 returns : tie.Need-returns
-returns c =
-    let found = c .before .before .before .lookup in
-    let at = c .before .found .given .1 in (
-      found-short at (found .ensures .0),
-      λ D s qs shown long inner rows. stored-yes D s qs (found .last .1 .1 .1 .1 .1 .1 .1 .0) (found .ensures .1 D s qs shown long inner rows) at,
-    )
+returns c = (
+  found-bounded (c .before .found .given .1) (c .before .before .before .lookup .ensures .0),
+  λ D s es cls cs area shown long inner rows.
+      stored-yes D s es cls cs (now (c .before .before .before .before .args .cubes)) area (c .before .before .before .lookup .ensures .1 D s es cls area shown long inner rows) (c .before .found .given .1),
+)
 
 returns-2 : tie.Need-returns-2
-returns-2 c =
-    let found = c .before .before .lookup in (
-      omega arith,
-      λ D s qs shown long inner rows.
-          stored-open D s qs (found .last .1 .1 .1 .1 .1 .1 .1 .0) (found .ensures .1 D s qs shown long inner rows) (c .enum-told .given .1),
-    )
+returns-2 c = (
+  tt,
+  λ D s es cls cs area shown long inner rows.
+      stored-open D s es cls cs (now (c .before .before .before .args .cubes)) area (c .before .before .lookup .ensures .1 D s es cls area shown long inner rows) (c .enum-told .given .1),
+)
 
 pub stored-cube-spec : {M : Type 1} → statement M
 stored-cube-spec =

@@ -4,19 +4,21 @@ use Rattle.node.proofs.finish.Statement.{statement}
 use Rattle.node.proofs.finish.Tie as tie
 use Prim.Native.Nat.{ℕ}
 use native.Mathlib.Omega.{arith}
-use mathlib.Core.Path.{refl, sym, _∙_}
+use mathlib.Core.Path.{_≡_, refl, sym, ap, _∙_}
 use mathlib.Core.Bool.{true, false}
 use mathlib.Core.List.{List}
 use denote.Ref.{now}
 use lib.ListN.{take}
-use Rattle.node.proofs.Steps.{joined-mixed, joined-on, cubes-step, clauses-step, same-short, off-ended, on-ended, joined-clauses, joined-cubes, finished-mixed, grown-none}
+use Rattle.search_entry.specs.Entry.{entryAt}
+use Rattle.node.specs.Node.{boundsOf, entryOf}
+use Rattle.node.proofs.Steps.{joined-mixed, joined-on, cubes-step, clauses-step, same-short, off-ended, on-ended, joined-clauses, joined-cubes, finished-mixed, stored-by, grown-none}
 
 -- the codes of what the off side and the on side gave
 abbrev off-side : tie.Start → List ℕ
 off-side t = take (t .args .n) (now (t .args .saved))
 
 abbrev on-side : tie.Start → List ℕ
-on-side t = take (t .args .on .len) (now (t .args .up))
+on-side t = entryOf (t .args .on) (now (t .args .clauses)) (now (t .args .learned)) (now (t .args .cubes)) (now (t .args .area))
 
 is-enough-requires : tie.Need-is-enough-requires
 is-enough-requires c κs = search needs
@@ -33,6 +35,9 @@ mixed-requires c κs = search needs
 enum-told-2 : tie.Need-enum-told-2
 enum-told-2 c = search needs
 
+with-lines-requires : tie.Need-with-lines-requires
+with-lines-requires c κs = search needs
+
 enum-told-3 : tie.Need-enum-told-3
 enum-told-3 c = search needs
 
@@ -48,33 +53,65 @@ join-requires-2 c κs = search needs
 returns : tie.Need-returns
 returns c =
     let t = c .before .before .before .before .before .before in
-    ((rw (c .mixed .ensures) (finished-mixed (t .args .on)), t .pre .4, grown-none (now (t .args .learned-links)) (now (t .args .cube-links))), λ D R s κ a o st k qu l e p q ea eo sh ss. rw (c .mixed .ensures) (joined-mixed D R κ s st k (off-side t) (on-side t) a o (t .args .first) (t .args .on) (c .before .before .before .before .is-enough .ensures κ e) p q ss (sym (c .before .before .before .step-of .ensures) ∙ c .before .enum-told .given .1) (now (t .args .up))))
+    let a = t .args in (
+      (rw (c .mixed .ensures) (finished-mixed (a .on)), t .pre .4, grown-none (now (a .learned-links)) (now (a .cube-links))),
+      λ D R s κ o₀ o₁ st k qu l e p q ea eo sh ss.
+          rw (c .mixed .ensures)
+          (joined-mixed D R κ s st k (off-side t) (on-side t) o₀ o₁ (a .first) (a .on) (c .before .before .before .before .is-enough .ensures κ e) p q ss
+          (sym (c .before .before .before .step-of .ensures) ∙ c .before .enum-told .given .1) (now (a .clauses)) (now (a .area))),
+    )
 
 returns-2 : tie.Need-returns-2
 returns-2 c =
-    let t = c .before .before .before .before .before in
-    ((record { short = t .pre .1; visits = refl; lines = refl }, t .pre .4, grown-none (now (t .args .learned-links)) (now (t .args .cube-links))), λ D R s κ a o st k qu l e p q ea eo sh ss. joined-on D R κ s st k (off-side t) (on-side t) a o (t .args .first) (t .args .on) (c .before .before .before .is-enough .ensures κ e) p q ss (sym (c .before .before .step-of .ensures) ∙ c .enum-told2 .given .1) (now (t .args .up)) refl)
+    let t = c .before .before .before .before .before .before in
+    let a = t .args in (
+      (
+        rw (c .with-lines .ensures) (record { bounded = t .pre .1; visits = refl; lines = refl }),
+        t .pre .4,
+        grown-none (now (a .learned-links)) (now (a .cube-links)),
+      ),
+      λ D R s κ o₀ o₁ st k qu l e p q ea eo sh ss.
+          rw (c .with-lines .ensures)
+          (joined-on D R κ s st k (off-side t) (on-side t) o₀ o₁ (a .first) (a .on) (c .before .before .before .before .is-enough .ensures κ e) p q ss
+          (sym (c .before .before .before .step-of .ensures) ∙ c .before .enum-told2 .given .1) (now (a .clauses)) (now (a .area)) refl),
+    )
 
 returns-3 : tie.Need-returns-3
 returns-3 c =
-    let t = c .before .before .before .before .before .before .before .before .before in (
+    let t = c .before .before .before .before .before .before .before .before in
+    let a = t .args in (
       (c .join .ensures .0 .counts, record { clauses = c .join .ensures .1; cubes = t .pre .4 .cubes }, record { clauses = c .join .ensures .2; cubes = omega arith }),
-      λ D R s κ a o st k qu l e p q ea eo sh ss.
-          let both = clauses-step D R κ s st k (off-side t) (on-side t) a o (t .args .first) (t .args .on .verdict) (c .before .before .before .before .before .before .before .is-enough .ensures κ e) (sym (c .before .before .before .before .before .before .step-of .ensures) ∙ c .before .before .before .before .enum-told3 .given .1) p q in
-          let fst = off-ended D R κ s st k (off-side t) (on-side t) a o false (t .args .on) both (t .args .at) l ea in
-          let snd = on-ended D R κ s st k (off-side t) (on-side t) a o false (t .args .on) both (t .args .at) l eo in
-          joined-clauses D R κ s st k (off-side t) (on-side t) a o (t .args .on) (c .join .result) (t .args .at) l _ ss (c .join .ensures .0 .verdict) both _ _ (c .join .ensures .3 D (both .first) (both .second) (st .clauses) qu (both .off-codes) (both .on-codes) (fst .0) (snd .0) (fst .1) (snd .1) (same-short D R κ s st k (off-side t) (on-side t) a o false (t .args .on) both (t .args .at) l sh) (ss .clauses)),
+      λ D R s κ o₀ o₁ st k qu l e p q ea eo sh ss.
+          let both =
+          clauses-step D R κ s st k (off-side t) (on-side t) o₀ o₁ (a .first) (a .on .verdict) (c .before .before .before .before .before .before .is-enough .ensures κ e)
+          (sym (c .before .before .before .before .before .step-of .ensures) ∙ c .before .before .before .enum-told3 .given .1) p q in
+          let fst = off-ended D R κ s st k (off-side t) (on-side t) o₀ o₁ false (a .on) both (a .at) l ea in
+          let snd = on-ended D R κ s st k (off-side t) (on-side t) o₀ o₁ false (a .on) both (a .at) l eo in
+          let codes-are =
+          sym (ap (λ (x : List ℕ). entryAt (boundsOf (a .on)) (now (a .clauses)) x (now (a .area))) (stored-by false (both .side) (now (a .learned)) (now (a .cubes))))
+          ∙ both .on-codes in
+          joined-clauses D R κ s st k (off-side t) (on-side t) o₀ o₁ (a .on) (c .join .result) (a .at) l (now (a .clauses)) (now (a .area)) ss (c .join .ensures .0 .verdict) both _ _
+          (c .join .ensures .3 D (both .first) (both .second) (st .clauses) qu (both .off-codes) codes-are (fst .0) (snd .0) (fst .1) (snd .1)
+          (same-short D R κ s st k (off-side t) (on-side t) o₀ o₁ false (a .on) both (a .at) l sh) (ss .clauses)),
     )
 
 returns-4 : tie.Need-returns-4
 returns-4 c =
-    let t = c .before .before .before .before .before .before .before .before .before in (
+    let t = c .before .before .before .before .before .before .before .before in
+    let a = t .args in (
       (c .join2 .ensures .0 .counts, record { clauses = t .pre .4 .clauses; cubes = c .join2 .ensures .1 }, record { clauses = omega arith; cubes = c .join2 .ensures .2 }),
-      λ D R s κ a o st k qu l e p q ea eo sh ss.
-          let both = cubes-step D R κ s st k (off-side t) (on-side t) a o (t .args .first) (t .args .on .verdict) (c .before .before .before .before .before .before .before .is-enough .ensures κ e) (sym (c .before .before .before .before .before .before .step-of .ensures) ∙ c .before .before .before .before .enum-told4 .given .1) p q in
-          let fst = off-ended D R κ s st k (off-side t) (on-side t) a o true (t .args .on) both (t .args .at) l ea in
-          let snd = on-ended D R κ s st k (off-side t) (on-side t) a o true (t .args .on) both (t .args .at) l eo in
-          joined-cubes D R κ s st k (off-side t) (on-side t) a o (t .args .on) (c .join2 .result) (t .args .at) l _ ss (c .join2 .ensures .0 .verdict) both _ _ (c .join2 .ensures .3 D (both .first) (both .second) (st .cubes) qu (both .off-codes) (both .on-codes) (fst .0) (snd .0) (fst .1) (snd .1) (same-short D R κ s st k (off-side t) (on-side t) a o true (t .args .on) both (t .args .at) l sh) (ss .cubes)),
+      λ D R s κ o₀ o₁ st k qu l e p q ea eo sh ss.
+          let both =
+          cubes-step D R κ s st k (off-side t) (on-side t) o₀ o₁ (a .first) (a .on .verdict) (c .before .before .before .before .before .before .is-enough .ensures κ e)
+          (sym (c .before .before .before .before .before .step-of .ensures) ∙ c .before .before .before .enum-told4 .given .1) p q in
+          let fst = off-ended D R κ s st k (off-side t) (on-side t) o₀ o₁ true (a .on) both (a .at) l ea in
+          let snd = on-ended D R κ s st k (off-side t) (on-side t) o₀ o₁ true (a .on) both (a .at) l eo in
+          let codes-are =
+          sym (ap (λ (x : List ℕ). entryAt (boundsOf (a .on)) (now (a .clauses)) x (now (a .area))) (stored-by true (both .side) (now (a .learned)) (now (a .cubes))))
+          ∙ both .on-codes in
+          joined-cubes D R κ s st k (off-side t) (on-side t) o₀ o₁ (a .on) (c .join2 .result) (a .at) l (now (a .clauses)) (now (a .area)) ss (c .join2 .ensures .0 .verdict) both _ _
+          (c .join2 .ensures .3 D (both .first) (both .second) (st .cubes) qu (both .off-codes) codes-are (fst .0) (snd .0) (fst .1) (snd .1)
+          (same-short D R κ s st k (off-side t) (on-side t) o₀ o₁ true (a .on) both (a .at) l sh) (ss .cubes)),
     )
 
 pub finish-spec : {M : Type 1} → statement M
@@ -86,6 +123,7 @@ finish-spec =
     enum-told
     mixed-requires
     enum-told-2
+    with-lines-requires
     enum-told-3
     join-requires
     enum-told-4

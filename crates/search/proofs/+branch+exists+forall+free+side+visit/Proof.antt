@@ -1,4 +1,4 @@
--- `search::+branch+exists+forall+free+side+visit` meets its contract.
+-- The visitors meet their contracts: `visit`, `branch`, `side`, `exists`, `forall` and `free`, by the laws of Visiting, Returns and FreeReturns.
 use Prim.Native.Nat.{ℕ, _<_}
 use borrow.Fn.Kinds.{In}
 use borrow.Fn.PlainCycle.{Measures, is, falls, and}
@@ -34,16 +34,20 @@ use Rattle.node.proofs.settled.Reads as settled-reads
 use Rattle.node.proofs.to_off.Reads as to-off-reads
 use Rattle.node.proofs.to_on.Reads as to-on-reads
 use Rattle.node.proofs.with_lines.Reads as with-lines-reads
+use Rattle.search_entry.proofs.placed.Reads as placed-reads
 use Rattle.search.proofs.+branch+exists+forall+free+side+visit.{statement}
 use Rattle.search.proofs.+branch+exists+forall+free+side+visit.Tie.{close}
 use native.Mathlib.Omega.{arith}
 use borrow.Author.Needs.{needs}
-use mathlib.Core.Path.{_∙_, sym, ap, refl}
+use mathlib.Core.Path.{_∙_, sym, ap, subst, refl}
 use mathlib.Core.Bool.{true, false}
-use Prim.Native.Nat.{_+_, _-_, _*_}
+use Prim.Native.Nat.{_+_, _-_, _*_, zero-le}
 use lib.ListN.{length, length-take, length-drop}
 use borrow.Rule.Slice.PartMut.{take-put}
 use Rattle.qbf.specs.Formula.{paper, exists, forall, free, _▹_}
+use Rattle.search_entry.specs.Entry.{Bounded}
+use Rattle.search_entry.specs.declared.Bounds.{Bounds}
+use Rattle.inner.specs.Inner.{LeafBounded}
 use Rattle.node.specs.declared.Position.{Position}
 use Rattle.node.specs.declared.Verdict.the-variants.{Yes, No}
 use Rattle.search.proofs.Counts.{room-off, room-on, aside-room, falls-side, counts-up, counts-quantified, counts-free, counts-settled, counts-resumed, visits-small, newest-small, lines-small, off-lines, on-lines-one, on-lines-small, part-room, room-resumed, counts-as, result-as}
@@ -115,6 +119,8 @@ branch-next-kind-requires : (t : ℕ) → branch-lts.Need-next-kind-requires (
   forall.Post,
   free-below t,
   free.Post,
+  placed-reads.Asked,
+  placed-reads.Learnt,
   settled-reads.Asked,
   settled-reads.Learnt,
 ) (branch-at t) branch.Post
@@ -129,6 +135,8 @@ branch-exists-requires : (t : ℕ) → branch-lts.Need-exists-requires (
   forall.Post,
   free-below t,
   free.Post,
+  placed-reads.Asked,
+  placed-reads.Learnt,
   settled-reads.Asked,
   settled-reads.Learnt,
 ) (branch-at t) branch.Post
@@ -143,6 +151,8 @@ branch-forall-requires : (t : ℕ) → branch-lts.Need-forall-requires (
   forall.Post,
   free-below t,
   free.Post,
+  placed-reads.Asked,
+  placed-reads.Learnt,
   settled-reads.Asked,
   settled-reads.Learnt,
 ) (branch-at t) branch.Post
@@ -157,10 +167,28 @@ branch-free-requires : (t : ℕ) → branch-lts.Need-free-requires (
   forall.Post,
   free-below t,
   free.Post,
+  placed-reads.Asked,
+  placed-reads.Learnt,
   settled-reads.Asked,
   settled-reads.Learnt,
 ) (branch-at t) branch.Post
 branch-free-requires t c κs = (omega (arith, c .before .before .before .before .before .before .before .before .before .before .before .before .before .before .before .pre .0), (c .before .before .before .before .before .before .before .before .before .before .before .before .before .before .before .pre .1 .0, c .before .before .before .before .before .before .before .before .before .before .before .before .before .before .before .pre .1 .1, c .before .before .before .before .before .before .before .before .before .before .before .before .before .before .before .pre .1 .2, more-places _ (c .before .before .before .before .before .before .before .before .before .before .before .before .before .before .before .args .p .at) (c .before .before .before .before .before .before .before .before .before .before .before .before .next-kind .result) (c .before .before .before .before .before .before .before .before .before .before .before .before .next-kind .ensures) (omega (arith, c .before .before .before .before .before .before .before .before .before .if3 .taken))))
+
+branch-placed-requires : (t : ℕ) → branch-lts.Need-placed-requires (
+  next-kind-reads.Asked,
+  next-kind-reads.Learnt,
+  exists-below t,
+  exists.Post,
+  forall-below t,
+  forall.Post,
+  free-below t,
+  free.Post,
+  placed-reads.Asked,
+  placed-reads.Learnt,
+  settled-reads.Asked,
+  settled-reads.Learnt,
+) (branch-at t) branch.Post
+branch-placed-requires t c κs = search needs
 
 branch-settled-requires : (t : ℕ) → branch-lts.Need-settled-requires (
   next-kind-reads.Asked,
@@ -171,10 +199,12 @@ branch-settled-requires : (t : ℕ) → branch-lts.Need-settled-requires (
   forall.Post,
   free-below t,
   free.Post,
+  placed-reads.Asked,
+  placed-reads.Learnt,
   settled-reads.Asked,
   settled-reads.Learnt,
 ) (branch-at t) branch.Post
-branch-settled-requires t c κs = visits-small (length (c .before .before .before .before .before .before .args .saved .now)) (c .before .before .before .before .before .before .args .p) (c .before .before .before .before .before .before .pre .1 .2)
+branch-settled-requires t c κs = visits-small (length (c .before .before .before .before .before .before .before .args .saved .now)) (c .before .before .before .before .before .before .before .args .p) (c .before .before .before .before .before .before .before .pre .1 .2)
 
 branch-same-length : (t : ℕ) → branch-lts.Need-same-length (
   next-kind-reads.Asked,
@@ -185,6 +215,8 @@ branch-same-length : (t : ℕ) → branch-lts.Need-same-length (
   forall.Post,
   free-below t,
   free.Post,
+  placed-reads.Asked,
+  placed-reads.Learnt,
   settled-reads.Asked,
   settled-reads.Learnt,
 ) (branch-at t) branch.Post
@@ -199,6 +231,8 @@ branch-same-length-2 : (t : ℕ) → branch-lts.Need-same-length-2 (
   forall.Post,
   free-below t,
   free.Post,
+  placed-reads.Asked,
+  placed-reads.Learnt,
   settled-reads.Asked,
   settled-reads.Learnt,
 ) (branch-at t) branch.Post
@@ -213,6 +247,8 @@ branch-returns : (t : ℕ) → branch-lts.Need-returns (
   forall.Post,
   free-below t,
   free.Post,
+  placed-reads.Asked,
+  placed-reads.Learnt,
   settled-reads.Asked,
   settled-reads.Learnt,
 ) (branch-at t) branch.Post
@@ -233,6 +269,8 @@ branch-same-length-3 : (t : ℕ) → branch-lts.Need-same-length-3 (
   forall.Post,
   free-below t,
   free.Post,
+  placed-reads.Asked,
+  placed-reads.Learnt,
   settled-reads.Asked,
   settled-reads.Learnt,
 ) (branch-at t) branch.Post
@@ -247,6 +285,8 @@ branch-same-length-4 : (t : ℕ) → branch-lts.Need-same-length-4 (
   forall.Post,
   free-below t,
   free.Post,
+  placed-reads.Asked,
+  placed-reads.Learnt,
   settled-reads.Asked,
   settled-reads.Learnt,
 ) (branch-at t) branch.Post
@@ -261,6 +301,8 @@ branch-returns-2 : (t : ℕ) → branch-lts.Need-returns-2 (
   forall.Post,
   free-below t,
   free.Post,
+  placed-reads.Asked,
+  placed-reads.Learnt,
   settled-reads.Asked,
   settled-reads.Learnt,
 ) (branch-at t) branch.Post
@@ -281,6 +323,8 @@ branch-same-length-5 : (t : ℕ) → branch-lts.Need-same-length-5 (
   forall.Post,
   free-below t,
   free.Post,
+  placed-reads.Asked,
+  placed-reads.Learnt,
   settled-reads.Asked,
   settled-reads.Learnt,
 ) (branch-at t) branch.Post
@@ -295,6 +339,8 @@ branch-same-length-6 : (t : ℕ) → branch-lts.Need-same-length-6 (
   forall.Post,
   free-below t,
   free.Post,
+  placed-reads.Asked,
+  placed-reads.Learnt,
   settled-reads.Asked,
   settled-reads.Learnt,
 ) (branch-at t) branch.Post
@@ -309,6 +355,8 @@ branch-returns-3 : (t : ℕ) → branch-lts.Need-returns-3 (
   forall.Post,
   free-below t,
   free.Post,
+  placed-reads.Asked,
+  placed-reads.Learnt,
   settled-reads.Asked,
   settled-reads.Learnt,
 ) (branch-at t) branch.Post
@@ -329,14 +377,16 @@ branch-returns-4 : (t : ℕ) → branch-lts.Need-returns-4 (
   forall.Post,
   free-below t,
   free.Post,
+  placed-reads.Asked,
+  placed-reads.Learnt,
   settled-reads.Asked,
   settled-reads.Learnt,
 ) (branch-at t) branch.Post
 branch-returns-4 t c = (
-  counts-settled (c .before .before .before .before .before .before .before .args .p) (c .settled .result) No 0 (c .settled .ensures) (omega arith),
+  counts-settled (c .before .before .before .before .before .before .before .before .args .p) (c .settled .result) No (c .before .placed .result) (c .settled .ensures) (subst Bounded (sym (c .before .placed .ensures)) (record { short = zero-le; inside = zero-le })),
   (
-    (record { statuses-restored = refl; size = refl; firsts-kept = refl }, c .before .before .before .before .before .before .before .pre .1 .1),
-    (λ D s ls R st task alive. end-result (c .before .before .before .before .before .before .before .args .p) task (c .settled .result) (c .before .before .before .before .next-kind .result) (c .before .before .before .before .next-kind .ensures) _ (c .before .before .before .if1 .left) (c .before .before .if2 .left) (c .before .if3 .left) (c .settled .ensures)),
+    (record { statuses-restored = refl; size = refl; firsts-kept = refl }, c .before .before .before .before .before .before .before .before .pre .1 .1),
+    (λ D s ls R st task alive. end-result (c .before .before .before .before .before .before .before .before .args .p) task (c .settled .result) (c .before .before .before .before .before .next-kind .result) (c .before .before .before .before .before .next-kind .ensures) (c .before .placed .result) (ap (λ (b : Bounds). b .len) (c .before .placed .ensures)) _ (c .before .before .before .before .if1 .left) (c .before .before .before .if2 .left) (c .before .before .if3 .left) (c .settled .ensures)),
   ),
 )
 
@@ -347,6 +397,8 @@ exists-to-off-requires : (t : ℕ) → exists-lts.Need-to-off-requires (
   side.Post,
   goes-up-reads.Asked,
   goes-up-reads.Learnt,
+  with-lines-reads.Asked,
+  with-lines-reads.Learnt,
   put-aside-reads.Asked,
   put-aside-reads.Learnt,
   to-on-reads.Asked,
@@ -363,6 +415,8 @@ exists-side-requires : (t : ℕ) → exists-lts.Need-side-requires (
   side.Post,
   goes-up-reads.Asked,
   goes-up-reads.Learnt,
+  with-lines-reads.Asked,
+  with-lines-reads.Learnt,
   put-aside-reads.Asked,
   put-aside-reads.Learnt,
   to-on-reads.Asked,
@@ -381,6 +435,8 @@ exists-goes-up-requires : (t : ℕ) → exists-lts.Need-goes-up-requires (
   side.Post,
   goes-up-reads.Asked,
   goes-up-reads.Learnt,
+  with-lines-reads.Asked,
+  with-lines-reads.Learnt,
   put-aside-reads.Asked,
   put-aside-reads.Learnt,
   to-on-reads.Asked,
@@ -388,7 +444,25 @@ exists-goes-up-requires : (t : ℕ) → exists-lts.Need-goes-up-requires (
   finish-reads.Asked,
   finish-reads.Learnt,
 ) (exists-at t) exists.Post
-exists-goes-up-requires t c κs = (c .before .before .before .before .before .side .ensures .0 .short, omega (arith, c .before .before .before .before .before .before .before .before .before .before .before .before .before .before .before .before .before .before .pre .1 .3))
+exists-goes-up-requires t c κs = (c .before .before .before .before .before .before .before .side .ensures .0 .bounded, omega (arith, c .before .before .before .before .before .before .before .before .before .before .before .before .before .before .before .before .before .before .before .before .pre .1 .3))
+
+exists-with-lines-requires : (t : ℕ) → exists-lts.Need-with-lines-requires (
+  to-off-reads.Asked,
+  to-off-reads.Learnt,
+  side-below t,
+  side.Post,
+  goes-up-reads.Asked,
+  goes-up-reads.Learnt,
+  with-lines-reads.Asked,
+  with-lines-reads.Learnt,
+  put-aside-reads.Asked,
+  put-aside-reads.Learnt,
+  to-on-reads.Asked,
+  to-on-reads.Learnt,
+  finish-reads.Asked,
+  finish-reads.Learnt,
+) (exists-at t) exists.Post
+exists-with-lines-requires t c κs = search needs
 
 exists-same-length : (t : ℕ) → exists-lts.Need-same-length (
   to-off-reads.Asked,
@@ -397,6 +471,8 @@ exists-same-length : (t : ℕ) → exists-lts.Need-same-length (
   side.Post,
   goes-up-reads.Asked,
   goes-up-reads.Learnt,
+  with-lines-reads.Asked,
+  with-lines-reads.Learnt,
   put-aside-reads.Asked,
   put-aside-reads.Learnt,
   to-on-reads.Asked,
@@ -413,6 +489,8 @@ exists-same-length-2 : (t : ℕ) → exists-lts.Need-same-length-2 (
   side.Post,
   goes-up-reads.Asked,
   goes-up-reads.Learnt,
+  with-lines-reads.Asked,
+  with-lines-reads.Learnt,
   put-aside-reads.Asked,
   put-aside-reads.Learnt,
   to-on-reads.Asked,
@@ -429,6 +507,8 @@ exists-returns : (t : ℕ) → exists-lts.Need-returns (
   side.Post,
   goes-up-reads.Asked,
   goes-up-reads.Learnt,
+  with-lines-reads.Asked,
+  with-lines-reads.Learnt,
   put-aside-reads.Asked,
   put-aside-reads.Learnt,
   to-on-reads.Asked,
@@ -437,10 +517,10 @@ exists-returns : (t : ℕ) → exists-lts.Need-returns (
   finish-reads.Learnt,
 ) (exists-at t) exists.Post
 exists-returns t c = (
-  counts-up (c .before .before .before .before .before .before .before .before .before .before .before .before .before .before .before .before .before .before .before .before .args .p) (c .before .before .before .before .before .before .before .before .before .before .before .before .before .before .before .before .before .before .before .before .pre .1 .3) (c .before .before .before .before .before .before .before .before .to-off .result) (c .before .before .before .before .before .before .before .before .to-off .ensures) (c .before .before .before .before .before .before .before .side .result) (c .before .before .before .before .before .before .before .side .ensures .0),
+  counts-as (sym (c .with-lines .ensures)) (counts-up (c .before .before .before .before .before .before .before .before .before .before .before .before .before .before .before .before .before .before .before .before .before .before .before .args .p) (c .before .before .before .before .before .before .before .before .before .before .before .before .before .before .before .before .before .before .before .before .before .before .before .pre .1 .3) (c .before .before .before .before .before .before .before .before .before .before .before .to-off .result) (c .before .before .before .before .before .before .before .before .before .before .before .to-off .ensures) (c .before .before .before .before .before .before .before .before .before .before .side .result) (c .before .before .before .before .before .before .before .before .before .before .side .ensures .0)),
   (
-    (kept-up (c .before .before .before .before .before .before .before .before .before .before .before .before .before .before .before .before .before .before .before .before .args .p) (c .before .before .before .before .before .before .before .before .to-off .result) _ _ (c .before .before .before .before .before .before .before .before .to-off .ensures) (c .before .before .before .before .before .before .before .side .ensures .1 .0 .0), c .before .before .before .before .before .before .before .side .ensures .1 .0 .1),
-    (λ D s ls R st task alive inside is. up-result exists 1 refl (c .before .before .before .before .before .before .before .before .before .before .before .before .before .before .before .before .before .before .before .before .args .p) (c .before .before .before .before .before .before .before .before .to-off .result) (c .before .before .before .before .before .before .before .before .to-off .ensures) (c .before .before .before .before .before .before .before .side .result) (c .before .before .before .before .before .before .before .side .ensures .1 .1 .1) (c .before .goes-up .result) (c .before .goes-up .ensures) D s ls R st task alive inside is (c .if1 .taken)),
+    (kept-up (c .before .before .before .before .before .before .before .before .before .before .before .before .before .before .before .before .before .before .before .before .before .before .before .args .p) (c .before .before .before .before .before .before .before .before .before .before .before .to-off .result) _ _ (c .before .before .before .before .before .before .before .before .before .before .before .to-off .ensures) (c .before .before .before .before .before .before .before .before .before .before .side .ensures .1 .0 .0), c .before .before .before .before .before .before .before .before .before .before .side .ensures .1 .0 .1),
+    (λ D s ls R st task alive inside is. result-as (sym (c .with-lines .ensures)) (up-result exists 1 refl (c .before .before .before .before .before .before .before .before .before .before .before .before .before .before .before .before .before .before .before .before .before .before .before .args .p) (c .before .before .before .before .before .before .before .before .before .before .before .to-off .result) (c .before .before .before .before .before .before .before .before .before .before .before .to-off .ensures) (c .before .before .before .before .before .before .before .before .before .before .side .result) (c .before .before .before .before .before .before .before .before .before .before .side .ensures .1 .1 .1) (c .before .before .goes-up .result) (c .before .before .goes-up .ensures) D s ls R st task alive inside is (c .before .if1 .taken))),
   ),
 )
 
@@ -451,6 +531,8 @@ exists-put-aside-requires : (t : ℕ) → exists-lts.Need-put-aside-requires (
   side.Post,
   goes-up-reads.Asked,
   goes-up-reads.Learnt,
+  with-lines-reads.Asked,
+  with-lines-reads.Learnt,
   put-aside-reads.Asked,
   put-aside-reads.Learnt,
   to-on-reads.Asked,
@@ -458,7 +540,7 @@ exists-put-aside-requires : (t : ℕ) → exists-lts.Need-put-aside-requires (
   finish-reads.Asked,
   finish-reads.Learnt,
 ) (exists-at t) exists.Post
-exists-put-aside-requires t c κs = (c .before .before .before .before .before .before .before .before .before .side .ensures .0 .short, omega (arith, c .before .before .before .before .before .before .before .before .before .side .ensures .0 .short, aside-room (c .before .before .before .before .before .before .before .before .before .before .before .before .before .before .before .before .before .before .before .before .before .before .args .p) (c .before .before .before .before .before .before .before .before .before .before .before .before .before .before .before .before .before .before .before .before .before .before .pre .1 .3) (length (c .before .before .before .before .before .before .before .before .before .before .before .before .before .before .before .before .before .before .before .before .before .before .args .saved .now)) (c .before .before .before .before .before .before .before .before .before .before .before .before .before .before .before .before .before .before .before .before .before .before .pre .1 .2), c .before .before .before .before .before .before .before .before .before .side .ensures .1 .1 .0 .0))
+exists-put-aside-requires t c κs = (c .before .before .before .before .before .before .before .before .before .before .before .before .before .side .ensures .0 .bounded, omega (arith, c .before .before .before .before .before .before .before .before .before .before .before .before .before .side .ensures .0 .bounded .short, aside-room (c .before .before .before .before .before .before .before .before .before .before .before .before .before .before .before .before .before .before .before .before .before .before .before .before .before .before .args .p) (c .before .before .before .before .before .before .before .before .before .before .before .before .before .before .before .before .before .before .before .before .before .before .before .before .before .before .pre .1 .3) (length (c .before .before .before .before .before .before .before .before .before .before .before .before .before .before .before .before .before .before .before .before .before .before .before .before .before .before .args .saved .now)) (c .before .before .before .before .before .before .before .before .before .before .before .before .before .before .before .before .before .before .before .before .before .before .before .before .before .before .pre .1 .2), c .before .before .before .before .before .before .before .before .before .before .before .before .before .side .ensures .1 .1 .0 .0))
 
 exists-to-on-requires : (t : ℕ) → exists-lts.Need-to-on-requires (
   to-off-reads.Asked,
@@ -467,6 +549,8 @@ exists-to-on-requires : (t : ℕ) → exists-lts.Need-to-on-requires (
   side.Post,
   goes-up-reads.Asked,
   goes-up-reads.Learnt,
+  with-lines-reads.Asked,
+  with-lines-reads.Learnt,
   put-aside-reads.Asked,
   put-aside-reads.Learnt,
   to-on-reads.Asked,
@@ -474,7 +558,7 @@ exists-to-on-requires : (t : ℕ) → exists-lts.Need-to-on-requires (
   finish-reads.Asked,
   finish-reads.Learnt,
 ) (exists-at t) exists.Post
-exists-to-on-requires t c κs = omega (arith, c .before .before .before .before .before .before .before .before .before .before .before .before .before .before .before .before .before .before .before .before .before .before .before .before .before .before .before .before .before .before .before .before .before .before .pre .1 .3)
+exists-to-on-requires t c κs = omega (arith, c .before .before .before .before .before .before .before .before .before .before .before .before .before .before .before .before .before .before .before .before .before .before .before .before .before .before .before .before .before .before .before .before .before .before .before .before .before .before .pre .1 .3)
 
 exists-side-requires-2 : (t : ℕ) → exists-lts.Need-side-requires-2 (
   to-off-reads.Asked,
@@ -483,6 +567,8 @@ exists-side-requires-2 : (t : ℕ) → exists-lts.Need-side-requires-2 (
   side.Post,
   goes-up-reads.Asked,
   goes-up-reads.Learnt,
+  with-lines-reads.Asked,
+  with-lines-reads.Learnt,
   put-aside-reads.Asked,
   put-aside-reads.Learnt,
   to-on-reads.Asked,
@@ -491,8 +577,8 @@ exists-side-requires-2 : (t : ℕ) → exists-lts.Need-side-requires-2 (
   finish-reads.Learnt,
 ) (exists-at t) exists.Post
 exists-side-requires-2 t c κs =
-    let sr = room-on (c .before .before .before .before .before .before .before .before .before .before .before .before .before .before .before .before .before .before .before .before .before .before .before .before .before .before .before .before .before .before .before .before .before .before .before .args .p) (c .before .before .before .before .before .before .before .before .before .before .before .before .before .before .before .before .before .before .before .before .before .before .before .before .before .before .before .before .before .before .before .before .before .before .before .pre .1 .3) (c .before .before .before .before .before .before .before .before .before .before .before .before .before .before .before .before .before .before .before .before .before .before .before .to-off .result) (c .before .before .before .before .before .before .before .before .before .before .before .before .before .before .before .before .before .before .before .before .before .before .before .to-off .ensures) (c .before .before .before .before .before .before .before .before .before .before .before .before .before .before .before .before .before .before .before .before .before .before .side .result) (c .before .before .before .before .before .before .before .before .before .before .before .before .before .before .before .before .before .before .before .before .before .before .side .ensures .0) (length (c .before .before .before .before .before .before .before .before .before .before .before .before .before .before .before .before .before .before .before .before .before .before .before .before .before .before .before .before .before .before .before .before .before .before .before .args .saved .now)) _ (c .before .before .before .before .before .before .before .before .before .before .before .before .before .before .before .before .before .before .before .before .before .before .side .result .lines) (c .to-on .result) (c .to-on .ensures) (omega arith) (c .before .before .before .before .before .before .before .before .before .before .before .before .put-aside .ensures .0 ∙ c .before .before .before .before .before .before .before .before .before .before .before .before .before .before .before .before .before .before .before .before .before .before .side .ensures .1 .1 .0 .0) (c .before .before .before .before .before .before .before .before .before .before .before .before .before .before .before .before .before .before .before .before .before .before .before .before .before .before .before .before .before .before .before .before .before .before .before .pre .1 .2) in
-    (omega (arith, c .before .before .before .before .before .before .before .before .before .before .before .before .before .before .before .before .before .before .before .before .before .before .before .before .before .before .before .before .before .before .before .before .before .before .before .pre .0, falls-side (c .before .before .before .before .before .before .before .before .before .before .before .before .before .before .before .before .before .before .before .before .before .before .before .before .before .before .before .before .before .before .before .before .before .before .before .args .p) (c .before .before .before .before .before .before .before .before .before .before .before .before .before .before .before .before .before .before .before .before .before .before .before .before .before .before .before .before .before .before .before .before .before .before .before .pre .1 .3) (c .to-on .result) _ _ (c .to-on .ensures)), (c .before .before .before .before .before .before .before .before .before .before .before .before .before .before .before .before .before .before .before .before .before .before .before .before .before .before .before .before .before .before .before .before .before .before .before .pre .1 .0, c .before .before .before .before .before .before .before .before .before .before .before .before .before .before .before .before .before .before .before .before .before .before .side .ensures .1 .0 .1, sr .room, sr .after, c .before .before .before .before .before .before .before .before .before .before .before .before .before .before .before .before .before .before .before .before .before .before .side .ensures .0 .short, sr .own))
+    let sr = room-on (c .before .before .before .before .before .before .before .before .before .before .before .before .before .before .before .before .before .before .before .before .before .before .before .before .before .before .before .before .before .before .before .before .before .before .before .before .before .before .before .args .p) (c .before .before .before .before .before .before .before .before .before .before .before .before .before .before .before .before .before .before .before .before .before .before .before .before .before .before .before .before .before .before .before .before .before .before .before .before .before .before .before .pre .1 .3) (c .before .before .before .before .before .before .before .before .before .before .before .before .before .before .before .before .before .before .before .before .before .before .before .before .before .before .before .to-off .result) (c .before .before .before .before .before .before .before .before .before .before .before .before .before .before .before .before .before .before .before .before .before .before .before .before .before .before .before .to-off .ensures) (c .before .before .before .before .before .before .before .before .before .before .before .before .before .before .before .before .before .before .before .before .before .before .before .before .before .before .side .result) (c .before .before .before .before .before .before .before .before .before .before .before .before .before .before .before .before .before .before .before .before .before .before .before .before .before .before .side .ensures .0) (length (c .before .before .before .before .before .before .before .before .before .before .before .before .before .before .before .before .before .before .before .before .before .before .before .before .before .before .before .before .before .before .before .before .before .before .before .before .before .before .before .args .saved .now)) _ (c .before .before .before .before .before .before .before .before .before .before .before .before .before .before .before .before .before .before .before .before .before .before .before .before .before .before .side .result .lines) (c .to-on .result) (c .to-on .ensures) (omega arith) (c .before .before .before .before .before .before .before .before .before .before .before .before .put-aside .ensures .0 ∙ c .before .before .before .before .before .before .before .before .before .before .before .before .before .before .before .before .before .before .before .before .before .before .before .before .before .before .side .ensures .1 .1 .0 .0) (c .before .before .before .before .before .before .before .before .before .before .before .before .before .before .before .before .before .before .before .before .before .before .before .before .before .before .before .before .before .before .before .before .before .before .before .before .before .before .before .pre .1 .2) in
+    (omega (arith, c .before .before .before .before .before .before .before .before .before .before .before .before .before .before .before .before .before .before .before .before .before .before .before .before .before .before .before .before .before .before .before .before .before .before .before .before .before .before .before .pre .0, falls-side (c .before .before .before .before .before .before .before .before .before .before .before .before .before .before .before .before .before .before .before .before .before .before .before .before .before .before .before .before .before .before .before .before .before .before .before .before .before .before .before .args .p) (c .before .before .before .before .before .before .before .before .before .before .before .before .before .before .before .before .before .before .before .before .before .before .before .before .before .before .before .before .before .before .before .before .before .before .before .before .before .before .before .pre .1 .3) (c .to-on .result) _ _ (c .to-on .ensures)), (c .before .before .before .before .before .before .before .before .before .before .before .before .before .before .before .before .before .before .before .before .before .before .before .before .before .before .before .before .before .before .before .before .before .before .before .before .before .before .before .pre .1 .0, c .before .before .before .before .before .before .before .before .before .before .before .before .before .before .before .before .before .before .before .before .before .before .before .before .before .before .side .ensures .1 .0 .1, sr .room, sr .after, c .before .before .before .before .before .before .before .before .before .before .before .before .before .before .before .before .before .before .before .before .before .before .before .before .before .before .side .ensures .0 .bounded .short, sr .own))
 
 exists-finish-requires : (t : ℕ) → exists-lts.Need-finish-requires (
   to-off-reads.Asked,
@@ -501,6 +587,8 @@ exists-finish-requires : (t : ℕ) → exists-lts.Need-finish-requires (
   side.Post,
   goes-up-reads.Asked,
   goes-up-reads.Learnt,
+  with-lines-reads.Asked,
+  with-lines-reads.Learnt,
   put-aside-reads.Asked,
   put-aside-reads.Learnt,
   to-on-reads.Asked,
@@ -509,8 +597,8 @@ exists-finish-requires : (t : ℕ) → exists-lts.Need-finish-requires (
   finish-reads.Learnt,
 ) (exists-at t) exists.Post
 exists-finish-requires t c κs =
-    let small = newest-small (c .before .before .before .before .before .before .before .before .before .before .before .before .before .before .before .before .before .before .before .before .before .before .before .before .before .before .before .before .before .before .before .before .before .before .before .before .before .before .before .before .before .before .before .before .before .before .args .p) (c .before .before .before .before .before .before .before .before .before .before .before .before .before .before .before .before .before .before .before .before .before .before .before .before .before .before .before .before .before .before .before .before .before .before .before .before .before .before .before .before .before .before .before .before .before .before .pre .1 .3) (c .before .before .before .before .before .before .before .before .before .before .before .before .before .before .before .before .before .before .before .before .before .before .before .before .before .before .before .before .before .before .before .before .before .before .to-off .result) (c .before .before .before .before .before .before .before .before .before .before .before .before .before .before .before .before .before .before .before .before .before .before .before .before .before .before .before .before .before .before .before .before .before .before .to-off .ensures) (c .before .before .before .before .before .before .before .before .before .before .before .before .before .before .before .before .before .before .before .before .before .before .before .before .before .before .before .before .before .before .before .before .before .side .result) (c .before .before .before .before .before .before .before .before .before .before .before .before .before .before .before .before .before .before .before .before .before .before .before .before .before .before .before .before .before .before .before .before .before .side .ensures .0) (c .before .before .before .before .before .before .before .before .before .before .before .before .before .before .before .before .before .before .before .before .before .before .before .before .before .before .before .before .before .before .before .before .before .side .result .lines) (c .before .before .before .before .before .before .before .before .before .before .before .to-on .result) (c .before .before .before .before .before .before .before .before .before .before .before .to-on .ensures) (c .before .before .before .before .before .before .before .before .before .before .side2 .result) (c .before .before .before .before .before .before .before .before .before .before .side2 .ensures .0) (length (c .before .before .before .before .before .before .before .before .before .before .before .before .before .before .before .before .before .before .before .before .before .before .before .before .before .before .before .before .before .before .before .before .before .before .before .before .before .before .before .before .before .before .before .before .before .before .args .saved .now)) (c .before .before .before .before .before .before .before .before .before .before .before .before .before .before .before .before .before .before .before .before .before .before .before .before .before .before .before .before .before .before .before .before .before .before .before .before .before .before .before .before .before .before .before .before .before .before .pre .1 .2) in
-    (c .before .before .before .before .before .before .before .before .before .before .before .before .before .before .before .before .before .before .before .before .before .before .before .before .before .before .before .before .before .before .before .before .before .side .ensures .0 .short, c .before .before .before .before .before .before .before .before .before .before .side2 .ensures .0 .short, omega (arith, c .before .before .before .before .before .before .before .before .before .before .before .before .before .before .before .before .before .before .before .before .before .before .before .before .before .before .before .before .before .before .before .before .before .side .ensures .0 .short, aside-room (c .before .before .before .before .before .before .before .before .before .before .before .before .before .before .before .before .before .before .before .before .before .before .before .before .before .before .before .before .before .before .before .before .before .before .before .before .before .before .before .before .before .before .before .before .before .before .args .p) (c .before .before .before .before .before .before .before .before .before .before .before .before .before .before .before .before .before .before .before .before .before .before .before .before .before .before .before .before .before .before .before .before .before .before .before .before .before .before .before .before .before .before .before .before .before .before .pre .1 .3) (length (c .before .before .before .before .before .before .before .before .before .before .before .before .before .before .before .before .before .before .before .before .before .before .before .before .before .before .before .before .before .before .before .before .before .before .before .before .before .before .before .before .before .before .before .before .before .before .args .saved .now)) (c .before .before .before .before .before .before .before .before .before .before .before .before .before .before .before .before .before .before .before .before .before .before .before .before .before .before .before .before .before .before .before .before .before .before .before .before .before .before .before .before .before .before .before .before .before .before .pre .1 .2), c .before .before .before .before .before .before .before .before .before .before .side2 .ensures .1 .1 .0 .0, c .before .before .before .before .before .before .before .before .before .before .before .before .before .before .before .before .before .before .before .before .before .before .before .put-aside .ensures .0, c .before .before .before .before .before .before .before .before .before .before .before .before .before .before .before .before .before .before .before .before .before .before .before .before .before .before .before .before .before .before .before .before .before .side .ensures .1 .1 .0 .0), omega (arith, c .before .before .before .before .before .before .before .before .before .before .before .before .before .before .before .before .before .before .before .before .before .before .before .before .before .before .before .before .before .before .before .before .before .before .before .before .before .before .before .before .before .before .before .before .before .before .pre .1 .3), c .before .before .before .before .before .before .before .before .before .before .side2 .ensures .1 .0 .1, small .0, small .1)
+    let small = newest-small (c .before .before .before .before .before .before .before .before .before .before .before .before .before .before .before .before .before .before .before .before .before .before .before .before .before .before .before .before .before .before .before .before .before .before .before .before .before .before .before .before .before .before .before .before .before .before .before .before .before .before .args .p) (c .before .before .before .before .before .before .before .before .before .before .before .before .before .before .before .before .before .before .before .before .before .before .before .before .before .before .before .before .before .before .before .before .before .before .before .before .before .before .before .before .before .before .before .before .before .before .before .before .before .before .pre .1 .3) (c .before .before .before .before .before .before .before .before .before .before .before .before .before .before .before .before .before .before .before .before .before .before .before .before .before .before .before .before .before .before .before .before .before .before .before .before .before .before .to-off .result) (c .before .before .before .before .before .before .before .before .before .before .before .before .before .before .before .before .before .before .before .before .before .before .before .before .before .before .before .before .before .before .before .before .before .before .before .before .before .before .to-off .ensures) (c .before .before .before .before .before .before .before .before .before .before .before .before .before .before .before .before .before .before .before .before .before .before .before .before .before .before .before .before .before .before .before .before .before .before .before .before .before .side .result) (c .before .before .before .before .before .before .before .before .before .before .before .before .before .before .before .before .before .before .before .before .before .before .before .before .before .before .before .before .before .before .before .before .before .before .before .before .before .side .ensures .0) (c .before .before .before .before .before .before .before .before .before .before .before .before .before .before .before .before .before .before .before .before .before .before .before .before .before .before .before .before .before .before .before .before .before .before .before .before .before .side .result .lines) (c .before .before .before .before .before .before .before .before .before .before .before .to-on .result) (c .before .before .before .before .before .before .before .before .before .before .before .to-on .ensures) (c .before .before .before .before .before .before .before .before .before .before .side2 .result) (c .before .before .before .before .before .before .before .before .before .before .side2 .ensures .0) (length (c .before .before .before .before .before .before .before .before .before .before .before .before .before .before .before .before .before .before .before .before .before .before .before .before .before .before .before .before .before .before .before .before .before .before .before .before .before .before .before .before .before .before .before .before .before .before .before .before .before .before .args .saved .now)) (c .before .before .before .before .before .before .before .before .before .before .before .before .before .before .before .before .before .before .before .before .before .before .before .before .before .before .before .before .before .before .before .before .before .before .before .before .before .before .before .before .before .before .before .before .before .before .before .before .before .before .pre .1 .2) in
+    (c .before .before .before .before .before .before .before .before .before .before .before .before .before .before .before .before .before .before .before .before .before .before .before .before .before .before .before .before .before .before .before .before .before .before .before .before .before .side .ensures .0 .bounded .short, c .before .before .before .before .before .before .before .before .before .before .side2 .ensures .0 .bounded, omega (arith, c .before .before .before .before .before .before .before .before .before .before .before .before .before .before .before .before .before .before .before .before .before .before .before .before .before .before .before .before .before .before .before .before .before .before .before .before .before .side .ensures .0 .bounded .short, aside-room (c .before .before .before .before .before .before .before .before .before .before .before .before .before .before .before .before .before .before .before .before .before .before .before .before .before .before .before .before .before .before .before .before .before .before .before .before .before .before .before .before .before .before .before .before .before .before .before .before .before .before .args .p) (c .before .before .before .before .before .before .before .before .before .before .before .before .before .before .before .before .before .before .before .before .before .before .before .before .before .before .before .before .before .before .before .before .before .before .before .before .before .before .before .before .before .before .before .before .before .before .before .before .before .before .pre .1 .3) (length (c .before .before .before .before .before .before .before .before .before .before .before .before .before .before .before .before .before .before .before .before .before .before .before .before .before .before .before .before .before .before .before .before .before .before .before .before .before .before .before .before .before .before .before .before .before .before .before .before .before .before .args .saved .now)) (c .before .before .before .before .before .before .before .before .before .before .before .before .before .before .before .before .before .before .before .before .before .before .before .before .before .before .before .before .before .before .before .before .before .before .before .before .before .before .before .before .before .before .before .before .before .before .before .before .before .before .pre .1 .2), c .before .before .before .before .before .before .before .before .before .before .side2 .ensures .1 .1 .0 .0, c .before .before .before .before .before .before .before .before .before .before .before .before .before .before .before .before .before .before .before .before .before .before .before .put-aside .ensures .0, c .before .before .before .before .before .before .before .before .before .before .before .before .before .before .before .before .before .before .before .before .before .before .before .before .before .before .before .before .before .before .before .before .before .before .before .before .before .side .ensures .1 .1 .0 .0), omega (arith, c .before .before .before .before .before .before .before .before .before .before .before .before .before .before .before .before .before .before .before .before .before .before .before .before .before .before .before .before .before .before .before .before .before .before .before .before .before .before .before .before .before .before .before .before .before .before .before .before .before .before .pre .1 .3), c .before .before .before .before .before .before .before .before .before .before .side2 .ensures .1 .0 .1, small .0, small .1)
 
 exists-same-length-3 : (t : ℕ) → exists-lts.Need-same-length-3 (
   to-off-reads.Asked,
@@ -519,6 +607,8 @@ exists-same-length-3 : (t : ℕ) → exists-lts.Need-same-length-3 (
   side.Post,
   goes-up-reads.Asked,
   goes-up-reads.Learnt,
+  with-lines-reads.Asked,
+  with-lines-reads.Learnt,
   put-aside-reads.Asked,
   put-aside-reads.Learnt,
   to-on-reads.Asked,
@@ -526,7 +616,7 @@ exists-same-length-3 : (t : ℕ) → exists-lts.Need-same-length-3 (
   finish-reads.Asked,
   finish-reads.Learnt,
 ) (exists-at t) exists.Post
-exists-same-length-3 t c = c .before .before .before .before .before .before .before .before .before .before .before .side2 .ensures .1 .1 .0 .0 ∙ c .before .before .before .before .before .before .before .before .before .before .before .before .before .before .before .before .before .before .before .before .before .before .before .before .put-aside .ensures .0 ∙ c .before .before .before .before .before .before .before .before .before .before .before .before .before .before .before .before .before .before .before .before .before .before .before .before .before .before .before .before .before .before .before .before .before .before .side .ensures .1 .1 .0 .0
+exists-same-length-3 t c = c .before .before .before .before .before .before .before .before .before .before .before .side2 .ensures .1 .1 .0 .0 ∙ c .before .before .before .before .before .before .before .before .before .before .before .before .before .before .before .before .before .before .before .before .before .before .before .before .put-aside .ensures .0 ∙ c .before .before .before .before .before .before .before .before .before .before .before .before .before .before .before .before .before .before .before .before .before .before .before .before .before .before .before .before .before .before .before .before .before .before .before .before .before .before .side .ensures .1 .1 .0 .0
 
 exists-same-length-4 : (t : ℕ) → exists-lts.Need-same-length-4 (
   to-off-reads.Asked,
@@ -535,6 +625,8 @@ exists-same-length-4 : (t : ℕ) → exists-lts.Need-same-length-4 (
   side.Post,
   goes-up-reads.Asked,
   goes-up-reads.Learnt,
+  with-lines-reads.Asked,
+  with-lines-reads.Learnt,
   put-aside-reads.Asked,
   put-aside-reads.Learnt,
   to-on-reads.Asked,
@@ -542,7 +634,7 @@ exists-same-length-4 : (t : ℕ) → exists-lts.Need-same-length-4 (
   finish-reads.Asked,
   finish-reads.Learnt,
 ) (exists-at t) exists.Post
-exists-same-length-4 t c = c .before .before .before .before .before .before .before .before .before .before .before .side2 .ensures .1 .0 .0 .size ∙ c .before .before .before .before .before .before .before .before .before .before .before .before .before .before .before .before .before .before .before .before .before .before .before .before .before .before .before .before .before .before .before .before .before .before .side .ensures .1 .0 .0 .size
+exists-same-length-4 t c = c .before .before .before .before .before .before .before .before .before .before .before .side2 .ensures .1 .0 .0 .size ∙ c .before .before .before .before .before .before .before .before .before .before .before .before .before .before .before .before .before .before .before .before .before .before .before .before .before .before .before .before .before .before .before .before .before .before .before .before .before .before .side .ensures .1 .0 .0 .size
 
 exists-returns-2 : (t : ℕ) → exists-lts.Need-returns-2 (
   to-off-reads.Asked,
@@ -551,6 +643,8 @@ exists-returns-2 : (t : ℕ) → exists-lts.Need-returns-2 (
   side.Post,
   goes-up-reads.Asked,
   goes-up-reads.Learnt,
+  with-lines-reads.Asked,
+  with-lines-reads.Learnt,
   put-aside-reads.Asked,
   put-aside-reads.Learnt,
   to-on-reads.Asked,
@@ -559,12 +653,12 @@ exists-returns-2 : (t : ℕ) → exists-lts.Need-returns-2 (
   finish-reads.Learnt,
 ) (exists-at t) exists.Post
 exists-returns-2 t c = (
-  counts-quantified (c .before .before .before .before .before .before .before .before .before .before .before .before .before .before .before .before .before .before .before .before .before .before .before .before .before .before .before .before .before .before .before .before .before .before .before .before .before .before .before .before .before .before .before .before .before .before .before .args .p) (c .before .before .before .before .before .before .before .before .before .before .before .before .before .before .before .before .before .before .before .before .before .before .before .before .before .before .before .before .before .before .before .before .before .before .before .before .before .before .before .before .before .before .before .before .before .before .before .pre .1 .3) (c .before .before .before .before .before .before .before .before .before .before .before .before .before .before .before .before .before .before .before .before .before .before .before .before .before .before .before .before .before .before .before .before .before .before .before .to-off .result) (c .before .before .before .before .before .before .before .before .before .before .before .before .before .before .before .before .before .before .before .before .before .before .before .before .before .before .before .before .before .before .before .before .before .before .before .to-off .ensures) (c .before .before .before .before .before .before .before .before .before .before .before .before .before .before .before .before .before .before .before .before .before .before .before .before .before .before .before .before .before .before .before .before .before .before .side .result) (c .before .before .before .before .before .before .before .before .before .before .before .before .before .before .before .before .before .before .before .before .before .before .before .before .before .before .before .before .before .before .before .before .before .before .side .ensures .0) (c .before .before .before .before .before .before .before .before .before .before .before .before .before .before .before .before .before .before .before .before .before .before .before .before .before .before .before .before .before .before .before .before .before .before .side .result .lines) (c .before .before .before .before .before .before .before .before .before .before .before .before .to-on .result) (c .before .before .before .before .before .before .before .before .before .before .before .before .to-on .ensures) (c .before .before .before .before .before .before .before .before .before .before .before .side2 .result) (c .before .before .before .before .before .before .before .before .before .before .before .side2 .ensures .0) refl (c .finish .result) (c .finish .ensures .0 .0) (c .finish .ensures .0 .2),
+  counts-quantified (c .before .before .before .before .before .before .before .before .before .before .before .before .before .before .before .before .before .before .before .before .before .before .before .before .before .before .before .before .before .before .before .before .before .before .before .before .before .before .before .before .before .before .before .before .before .before .before .before .before .before .before .args .p) (c .before .before .before .before .before .before .before .before .before .before .before .before .before .before .before .before .before .before .before .before .before .before .before .before .before .before .before .before .before .before .before .before .before .before .before .before .before .before .before .before .before .before .before .before .before .before .before .before .before .before .before .pre .1 .3) (c .before .before .before .before .before .before .before .before .before .before .before .before .before .before .before .before .before .before .before .before .before .before .before .before .before .before .before .before .before .before .before .before .before .before .before .before .before .before .before .to-off .result) (c .before .before .before .before .before .before .before .before .before .before .before .before .before .before .before .before .before .before .before .before .before .before .before .before .before .before .before .before .before .before .before .before .before .before .before .before .before .before .before .to-off .ensures) (c .before .before .before .before .before .before .before .before .before .before .before .before .before .before .before .before .before .before .before .before .before .before .before .before .before .before .before .before .before .before .before .before .before .before .before .before .before .before .side .result) (c .before .before .before .before .before .before .before .before .before .before .before .before .before .before .before .before .before .before .before .before .before .before .before .before .before .before .before .before .before .before .before .before .before .before .before .before .before .before .side .ensures .0) (c .before .before .before .before .before .before .before .before .before .before .before .before .before .before .before .before .before .before .before .before .before .before .before .before .before .before .before .before .before .before .before .before .before .before .before .before .before .before .side .result .lines) (c .before .before .before .before .before .before .before .before .before .before .before .before .to-on .result) (c .before .before .before .before .before .before .before .before .before .before .before .before .to-on .ensures) (c .before .before .before .before .before .before .before .before .before .before .before .side2 .result) (c .before .before .before .before .before .before .before .before .before .before .before .side2 .ensures .0) refl (c .finish .result) (c .finish .ensures .0 .0) (c .finish .ensures .0 .2),
   (
-    (kept-both (c .before .before .before .before .before .before .before .before .before .before .before .before .before .before .before .before .before .before .before .before .before .before .before .before .before .before .before .before .before .before .before .before .before .before .before .before .before .before .before .before .before .before .before .before .before .before .before .args .p) (c .before .before .before .before .before .before .before .before .before .before .before .before .before .before .before .before .before .before .before .before .before .before .before .before .before .before .before .before .before .before .before .before .before .before .before .to-off .result) (c .before .before .before .before .before .before .before .before .before .before .before .before .to-on .result) _ _ _ _ (c .before .before .before .before .before .before .before .before .before .before .before .before .before .before .before .before .before .before .before .before .before .before .before .before .before .before .before .before .before .before .before .before .before .before .before .to-off .ensures) (c .before .before .before .before .before .before .before .before .before .before .before .before .to-on .ensures) (c .before .before .before .before .before .before .before .before .before .before .before .before .before .before .before .before .before .before .before .before .before .before .before .before .before .before .before .before .before .before .before .before .before .before .side .ensures .1 .0 .0) refl (c .before .before .before .before .before .before .before .before .before .before .before .side2 .ensures .1 .0 .0) refl, c .finish .ensures .0 .1),
-    both-result exists 1 refl (c .before .before .before .before .before .before .before .before .before .before .before .before .before .before .before .before .before .before .before .before .before .before .before .before .before .before .before .before .before .before .before .before .before .before .before .before .before .before .before .before .before .before .before .before .before .before .before .args .p) (c .before .before .before .before .before .before .before .before .before .before .before .before .before .before .before .before .before .before .before .before .before .before .before .before .before .before .before .before .before .before .before .before .before .before .before .to-off .result) (c .before .before .before .before .before .before .before .before .before .before .before .before .before .before .before .before .before .before .before .before .before .before .before .before .before .before .before .before .before .before .before .before .before .before .before .to-off .ensures) (c .before .before .before .before .before .before .before .before .before .before .before .before .before .before .before .before .before .before .before .before .before .before .before .before .before .before .before .before .before .before .before .before .before .before .side .result) (c .before .before .before .before .before .before .before .before .before .before .before .before .before .before .before .before .before .before .before .before .before .before .before .before .before .before .before .before .before .before .before .before .before .before .side .ensures .1 .1 .1) (c .before .before .before .before .before .before .before .before .before .before .before .before .before .before .before .before .before .before .before .before .before .before .before .before .before .before .before .before .goes-up .result) (c .before .before .before .before .before .before .before .before .before .before .before .before .before .before .before .before .before .before .before .before .before .before .before .before .before .before .before .before .goes-up .ensures) (λ qs h. h) (λ qs h. h)
-        (c .before .before .before .before .before .before .before .before .before .before .before .before .before .before .before .before .before .before .before .before .before .before .before .before .before .before .before .before .before .before .before .before .before .before .side .ensures .1 .0 .0) (c .before .before .before .before .before .before .before .before .before .before .before .before .to-on .result) (c .before .before .before .before .before .before .before .before .before .before .before .before .to-on .ensures) (c .before .before .before .before .before .before .before .before .before .before .before .side2 .result) (c .before .before .before .before .before .before .before .before .before .before .before .side2 .ensures .1 .1 .1) _ (c .before .before .before .before .before .before .before .before .before .before .before .side2 .ensures .1 .1 .0 .1 ∙ c .before .before .before .before .before .before .before .before .before .before .before .before .before .before .before .before .before .before .before .before .before .before .before .before .put-aside .ensures .1) (c .finish .result)
-        (c .finish .ensures .1) (c .before .before .before .before .before .before .before .before .before .before .before .before .before .before .before .before .before .before .before .before .before .before .before .before .before .before .before .if1 .left) (c .finish .ensures .0 .0 .visits) (c .finish .ensures .0 .0 .lines),
+    (kept-both (c .before .before .before .before .before .before .before .before .before .before .before .before .before .before .before .before .before .before .before .before .before .before .before .before .before .before .before .before .before .before .before .before .before .before .before .before .before .before .before .before .before .before .before .before .before .before .before .before .before .before .before .args .p) (c .before .before .before .before .before .before .before .before .before .before .before .before .before .before .before .before .before .before .before .before .before .before .before .before .before .before .before .before .before .before .before .before .before .before .before .before .before .before .before .to-off .result) (c .before .before .before .before .before .before .before .before .before .before .before .before .to-on .result) _ _ _ _ (c .before .before .before .before .before .before .before .before .before .before .before .before .before .before .before .before .before .before .before .before .before .before .before .before .before .before .before .before .before .before .before .before .before .before .before .before .before .before .before .to-off .ensures) (c .before .before .before .before .before .before .before .before .before .before .before .before .to-on .ensures) (c .before .before .before .before .before .before .before .before .before .before .before .before .before .before .before .before .before .before .before .before .before .before .before .before .before .before .before .before .before .before .before .before .before .before .before .before .before .before .side .ensures .1 .0 .0) refl (c .before .before .before .before .before .before .before .before .before .before .before .side2 .ensures .1 .0 .0) refl, c .finish .ensures .0 .1),
+    both-result exists 1 refl (c .before .before .before .before .before .before .before .before .before .before .before .before .before .before .before .before .before .before .before .before .before .before .before .before .before .before .before .before .before .before .before .before .before .before .before .before .before .before .before .before .before .before .before .before .before .before .before .before .before .before .before .args .p) (c .before .before .before .before .before .before .before .before .before .before .before .before .before .before .before .before .before .before .before .before .before .before .before .before .before .before .before .before .before .before .before .before .before .before .before .before .before .before .before .to-off .result) (c .before .before .before .before .before .before .before .before .before .before .before .before .before .before .before .before .before .before .before .before .before .before .before .before .before .before .before .before .before .before .before .before .before .before .before .before .before .before .before .to-off .ensures) (c .before .before .before .before .before .before .before .before .before .before .before .before .before .before .before .before .before .before .before .before .before .before .before .before .before .before .before .before .before .before .before .before .before .before .before .before .before .before .side .result) (c .before .before .before .before .before .before .before .before .before .before .before .before .before .before .before .before .before .before .before .before .before .before .before .before .before .before .before .before .before .before .before .before .before .before .before .before .before .before .side .ensures .1 .1 .1) (c .before .before .before .before .before .before .before .before .before .before .before .before .before .before .before .before .before .before .before .before .before .before .before .before .before .before .before .before .before .before .goes-up .result) (c .before .before .before .before .before .before .before .before .before .before .before .before .before .before .before .before .before .before .before .before .before .before .before .before .before .before .before .before .before .before .goes-up .ensures) (λ qs h. h) (λ qs h. h)
+        (c .before .before .before .before .before .before .before .before .before .before .before .before .before .before .before .before .before .before .before .before .before .before .before .before .before .before .before .before .before .before .before .before .before .before .before .before .before .before .side .ensures .1 .0 .0) (c .before .before .before .before .before .before .before .before .before .before .before .before .to-on .result) (c .before .before .before .before .before .before .before .before .before .before .before .before .to-on .ensures) (c .before .before .before .before .before .before .before .before .before .before .before .side2 .result) (c .before .before .before .before .before .before .before .before .before .before .before .side2 .ensures .1 .1 .1) _ (c .before .before .before .before .before .before .before .before .before .before .before .side2 .ensures .1 .1 .0 .1 ∙ c .before .before .before .before .before .before .before .before .before .before .before .before .before .before .before .before .before .before .before .before .before .before .before .before .put-aside .ensures .1) (c .finish .result)
+        (c .finish .ensures .1) (c .before .before .before .before .before .before .before .before .before .before .before .before .before .before .before .before .before .before .before .before .before .before .before .before .before .before .before .before .before .if1 .left) (c .finish .ensures .0 .0 .visits) (c .finish .ensures .0 .0 .lines),
   ),
 )
 
@@ -575,6 +669,8 @@ forall-to-off-requires : (t : ℕ) → forall-lts.Need-to-off-requires (
   side.Post,
   goes-up-reads.Asked,
   goes-up-reads.Learnt,
+  with-lines-reads.Asked,
+  with-lines-reads.Learnt,
   put-aside-reads.Asked,
   put-aside-reads.Learnt,
   to-on-reads.Asked,
@@ -591,6 +687,8 @@ forall-side-requires : (t : ℕ) → forall-lts.Need-side-requires (
   side.Post,
   goes-up-reads.Asked,
   goes-up-reads.Learnt,
+  with-lines-reads.Asked,
+  with-lines-reads.Learnt,
   put-aside-reads.Asked,
   put-aside-reads.Learnt,
   to-on-reads.Asked,
@@ -609,6 +707,8 @@ forall-goes-up-requires : (t : ℕ) → forall-lts.Need-goes-up-requires (
   side.Post,
   goes-up-reads.Asked,
   goes-up-reads.Learnt,
+  with-lines-reads.Asked,
+  with-lines-reads.Learnt,
   put-aside-reads.Asked,
   put-aside-reads.Learnt,
   to-on-reads.Asked,
@@ -616,7 +716,25 @@ forall-goes-up-requires : (t : ℕ) → forall-lts.Need-goes-up-requires (
   finish-reads.Asked,
   finish-reads.Learnt,
 ) (forall-at t) forall.Post
-forall-goes-up-requires t c κs = (c .before .before .before .before .before .side .ensures .0 .short, omega (arith, c .before .before .before .before .before .before .before .before .before .before .before .before .before .before .before .before .before .before .pre .1 .3))
+forall-goes-up-requires t c κs = (c .before .before .before .before .before .before .before .side .ensures .0 .bounded, omega (arith, c .before .before .before .before .before .before .before .before .before .before .before .before .before .before .before .before .before .before .before .before .pre .1 .3))
+
+forall-with-lines-requires : (t : ℕ) → forall-lts.Need-with-lines-requires (
+  to-off-reads.Asked,
+  to-off-reads.Learnt,
+  side-below t,
+  side.Post,
+  goes-up-reads.Asked,
+  goes-up-reads.Learnt,
+  with-lines-reads.Asked,
+  with-lines-reads.Learnt,
+  put-aside-reads.Asked,
+  put-aside-reads.Learnt,
+  to-on-reads.Asked,
+  to-on-reads.Learnt,
+  finish-reads.Asked,
+  finish-reads.Learnt,
+) (forall-at t) forall.Post
+forall-with-lines-requires t c κs = search needs
 
 forall-same-length : (t : ℕ) → forall-lts.Need-same-length (
   to-off-reads.Asked,
@@ -625,6 +743,8 @@ forall-same-length : (t : ℕ) → forall-lts.Need-same-length (
   side.Post,
   goes-up-reads.Asked,
   goes-up-reads.Learnt,
+  with-lines-reads.Asked,
+  with-lines-reads.Learnt,
   put-aside-reads.Asked,
   put-aside-reads.Learnt,
   to-on-reads.Asked,
@@ -641,6 +761,8 @@ forall-same-length-2 : (t : ℕ) → forall-lts.Need-same-length-2 (
   side.Post,
   goes-up-reads.Asked,
   goes-up-reads.Learnt,
+  with-lines-reads.Asked,
+  with-lines-reads.Learnt,
   put-aside-reads.Asked,
   put-aside-reads.Learnt,
   to-on-reads.Asked,
@@ -657,6 +779,8 @@ forall-returns : (t : ℕ) → forall-lts.Need-returns (
   side.Post,
   goes-up-reads.Asked,
   goes-up-reads.Learnt,
+  with-lines-reads.Asked,
+  with-lines-reads.Learnt,
   put-aside-reads.Asked,
   put-aside-reads.Learnt,
   to-on-reads.Asked,
@@ -665,10 +789,10 @@ forall-returns : (t : ℕ) → forall-lts.Need-returns (
   finish-reads.Learnt,
 ) (forall-at t) forall.Post
 forall-returns t c = (
-  counts-up (c .before .before .before .before .before .before .before .before .before .before .before .before .before .before .before .before .before .before .before .before .args .p) (c .before .before .before .before .before .before .before .before .before .before .before .before .before .before .before .before .before .before .before .before .pre .1 .3) (c .before .before .before .before .before .before .before .before .to-off .result) (c .before .before .before .before .before .before .before .before .to-off .ensures) (c .before .before .before .before .before .before .before .side .result) (c .before .before .before .before .before .before .before .side .ensures .0),
+  counts-as (sym (c .with-lines .ensures)) (counts-up (c .before .before .before .before .before .before .before .before .before .before .before .before .before .before .before .before .before .before .before .before .before .before .before .args .p) (c .before .before .before .before .before .before .before .before .before .before .before .before .before .before .before .before .before .before .before .before .before .before .before .pre .1 .3) (c .before .before .before .before .before .before .before .before .before .before .before .to-off .result) (c .before .before .before .before .before .before .before .before .before .before .before .to-off .ensures) (c .before .before .before .before .before .before .before .before .before .before .side .result) (c .before .before .before .before .before .before .before .before .before .before .side .ensures .0)),
   (
-    (kept-up (c .before .before .before .before .before .before .before .before .before .before .before .before .before .before .before .before .before .before .before .before .args .p) (c .before .before .before .before .before .before .before .before .to-off .result) _ _ (c .before .before .before .before .before .before .before .before .to-off .ensures) (c .before .before .before .before .before .before .before .side .ensures .1 .0 .0), c .before .before .before .before .before .before .before .side .ensures .1 .0 .1),
-    (λ D s ls R st task alive inside is. up-result forall 2 refl (c .before .before .before .before .before .before .before .before .before .before .before .before .before .before .before .before .before .before .before .before .args .p) (c .before .before .before .before .before .before .before .before .to-off .result) (c .before .before .before .before .before .before .before .before .to-off .ensures) (c .before .before .before .before .before .before .before .side .result) (c .before .before .before .before .before .before .before .side .ensures .1 .1 .1) (c .before .goes-up .result) (c .before .goes-up .ensures) D s ls R st task alive inside is (c .if1 .taken)),
+    (kept-up (c .before .before .before .before .before .before .before .before .before .before .before .before .before .before .before .before .before .before .before .before .before .before .before .args .p) (c .before .before .before .before .before .before .before .before .before .before .before .to-off .result) _ _ (c .before .before .before .before .before .before .before .before .before .before .before .to-off .ensures) (c .before .before .before .before .before .before .before .before .before .before .side .ensures .1 .0 .0), c .before .before .before .before .before .before .before .before .before .before .side .ensures .1 .0 .1),
+    (λ D s ls R st task alive inside is. result-as (sym (c .with-lines .ensures)) (up-result forall 2 refl (c .before .before .before .before .before .before .before .before .before .before .before .before .before .before .before .before .before .before .before .before .before .before .before .args .p) (c .before .before .before .before .before .before .before .before .before .before .before .to-off .result) (c .before .before .before .before .before .before .before .before .before .before .before .to-off .ensures) (c .before .before .before .before .before .before .before .before .before .before .side .result) (c .before .before .before .before .before .before .before .before .before .before .side .ensures .1 .1 .1) (c .before .before .goes-up .result) (c .before .before .goes-up .ensures) D s ls R st task alive inside is (c .before .if1 .taken))),
   ),
 )
 
@@ -679,6 +803,8 @@ forall-put-aside-requires : (t : ℕ) → forall-lts.Need-put-aside-requires (
   side.Post,
   goes-up-reads.Asked,
   goes-up-reads.Learnt,
+  with-lines-reads.Asked,
+  with-lines-reads.Learnt,
   put-aside-reads.Asked,
   put-aside-reads.Learnt,
   to-on-reads.Asked,
@@ -686,7 +812,7 @@ forall-put-aside-requires : (t : ℕ) → forall-lts.Need-put-aside-requires (
   finish-reads.Asked,
   finish-reads.Learnt,
 ) (forall-at t) forall.Post
-forall-put-aside-requires t c κs = (c .before .before .before .before .before .before .before .before .before .side .ensures .0 .short, omega (arith, c .before .before .before .before .before .before .before .before .before .side .ensures .0 .short, aside-room (c .before .before .before .before .before .before .before .before .before .before .before .before .before .before .before .before .before .before .before .before .before .before .args .p) (c .before .before .before .before .before .before .before .before .before .before .before .before .before .before .before .before .before .before .before .before .before .before .pre .1 .3) (length (c .before .before .before .before .before .before .before .before .before .before .before .before .before .before .before .before .before .before .before .before .before .before .args .saved .now)) (c .before .before .before .before .before .before .before .before .before .before .before .before .before .before .before .before .before .before .before .before .before .before .pre .1 .2), c .before .before .before .before .before .before .before .before .before .side .ensures .1 .1 .0 .0))
+forall-put-aside-requires t c κs = (c .before .before .before .before .before .before .before .before .before .before .before .before .before .side .ensures .0 .bounded, omega (arith, c .before .before .before .before .before .before .before .before .before .before .before .before .before .side .ensures .0 .bounded .short, aside-room (c .before .before .before .before .before .before .before .before .before .before .before .before .before .before .before .before .before .before .before .before .before .before .before .before .before .before .args .p) (c .before .before .before .before .before .before .before .before .before .before .before .before .before .before .before .before .before .before .before .before .before .before .before .before .before .before .pre .1 .3) (length (c .before .before .before .before .before .before .before .before .before .before .before .before .before .before .before .before .before .before .before .before .before .before .before .before .before .before .args .saved .now)) (c .before .before .before .before .before .before .before .before .before .before .before .before .before .before .before .before .before .before .before .before .before .before .before .before .before .before .pre .1 .2), c .before .before .before .before .before .before .before .before .before .before .before .before .before .side .ensures .1 .1 .0 .0))
 
 forall-to-on-requires : (t : ℕ) → forall-lts.Need-to-on-requires (
   to-off-reads.Asked,
@@ -695,6 +821,8 @@ forall-to-on-requires : (t : ℕ) → forall-lts.Need-to-on-requires (
   side.Post,
   goes-up-reads.Asked,
   goes-up-reads.Learnt,
+  with-lines-reads.Asked,
+  with-lines-reads.Learnt,
   put-aside-reads.Asked,
   put-aside-reads.Learnt,
   to-on-reads.Asked,
@@ -702,7 +830,7 @@ forall-to-on-requires : (t : ℕ) → forall-lts.Need-to-on-requires (
   finish-reads.Asked,
   finish-reads.Learnt,
 ) (forall-at t) forall.Post
-forall-to-on-requires t c κs = omega (arith, c .before .before .before .before .before .before .before .before .before .before .before .before .before .before .before .before .before .before .before .before .before .before .before .before .before .before .before .before .before .before .before .before .before .before .pre .1 .3)
+forall-to-on-requires t c κs = omega (arith, c .before .before .before .before .before .before .before .before .before .before .before .before .before .before .before .before .before .before .before .before .before .before .before .before .before .before .before .before .before .before .before .before .before .before .before .before .before .before .pre .1 .3)
 
 forall-side-requires-2 : (t : ℕ) → forall-lts.Need-side-requires-2 (
   to-off-reads.Asked,
@@ -711,6 +839,8 @@ forall-side-requires-2 : (t : ℕ) → forall-lts.Need-side-requires-2 (
   side.Post,
   goes-up-reads.Asked,
   goes-up-reads.Learnt,
+  with-lines-reads.Asked,
+  with-lines-reads.Learnt,
   put-aside-reads.Asked,
   put-aside-reads.Learnt,
   to-on-reads.Asked,
@@ -719,8 +849,8 @@ forall-side-requires-2 : (t : ℕ) → forall-lts.Need-side-requires-2 (
   finish-reads.Learnt,
 ) (forall-at t) forall.Post
 forall-side-requires-2 t c κs =
-    let sr = room-on (c .before .before .before .before .before .before .before .before .before .before .before .before .before .before .before .before .before .before .before .before .before .before .before .before .before .before .before .before .before .before .before .before .before .before .before .args .p) (c .before .before .before .before .before .before .before .before .before .before .before .before .before .before .before .before .before .before .before .before .before .before .before .before .before .before .before .before .before .before .before .before .before .before .before .pre .1 .3) (c .before .before .before .before .before .before .before .before .before .before .before .before .before .before .before .before .before .before .before .before .before .before .before .to-off .result) (c .before .before .before .before .before .before .before .before .before .before .before .before .before .before .before .before .before .before .before .before .before .before .before .to-off .ensures) (c .before .before .before .before .before .before .before .before .before .before .before .before .before .before .before .before .before .before .before .before .before .before .side .result) (c .before .before .before .before .before .before .before .before .before .before .before .before .before .before .before .before .before .before .before .before .before .before .side .ensures .0) (length (c .before .before .before .before .before .before .before .before .before .before .before .before .before .before .before .before .before .before .before .before .before .before .before .before .before .before .before .before .before .before .before .before .before .before .before .args .saved .now)) _ (c .before .before .before .before .before .before .before .before .before .before .before .before .before .before .before .before .before .before .before .before .before .before .side .result .lines) (c .to-on .result) (c .to-on .ensures) (omega arith) (c .before .before .before .before .before .before .before .before .before .before .before .before .put-aside .ensures .0 ∙ c .before .before .before .before .before .before .before .before .before .before .before .before .before .before .before .before .before .before .before .before .before .before .side .ensures .1 .1 .0 .0) (c .before .before .before .before .before .before .before .before .before .before .before .before .before .before .before .before .before .before .before .before .before .before .before .before .before .before .before .before .before .before .before .before .before .before .before .pre .1 .2) in
-    (omega (arith, c .before .before .before .before .before .before .before .before .before .before .before .before .before .before .before .before .before .before .before .before .before .before .before .before .before .before .before .before .before .before .before .before .before .before .before .pre .0, falls-side (c .before .before .before .before .before .before .before .before .before .before .before .before .before .before .before .before .before .before .before .before .before .before .before .before .before .before .before .before .before .before .before .before .before .before .before .args .p) (c .before .before .before .before .before .before .before .before .before .before .before .before .before .before .before .before .before .before .before .before .before .before .before .before .before .before .before .before .before .before .before .before .before .before .before .pre .1 .3) (c .to-on .result) _ _ (c .to-on .ensures)), (c .before .before .before .before .before .before .before .before .before .before .before .before .before .before .before .before .before .before .before .before .before .before .before .before .before .before .before .before .before .before .before .before .before .before .before .pre .1 .0, c .before .before .before .before .before .before .before .before .before .before .before .before .before .before .before .before .before .before .before .before .before .before .side .ensures .1 .0 .1, sr .room, sr .after, c .before .before .before .before .before .before .before .before .before .before .before .before .before .before .before .before .before .before .before .before .before .before .side .ensures .0 .short, sr .own))
+    let sr = room-on (c .before .before .before .before .before .before .before .before .before .before .before .before .before .before .before .before .before .before .before .before .before .before .before .before .before .before .before .before .before .before .before .before .before .before .before .before .before .before .before .args .p) (c .before .before .before .before .before .before .before .before .before .before .before .before .before .before .before .before .before .before .before .before .before .before .before .before .before .before .before .before .before .before .before .before .before .before .before .before .before .before .before .pre .1 .3) (c .before .before .before .before .before .before .before .before .before .before .before .before .before .before .before .before .before .before .before .before .before .before .before .before .before .before .before .to-off .result) (c .before .before .before .before .before .before .before .before .before .before .before .before .before .before .before .before .before .before .before .before .before .before .before .before .before .before .before .to-off .ensures) (c .before .before .before .before .before .before .before .before .before .before .before .before .before .before .before .before .before .before .before .before .before .before .before .before .before .before .side .result) (c .before .before .before .before .before .before .before .before .before .before .before .before .before .before .before .before .before .before .before .before .before .before .before .before .before .before .side .ensures .0) (length (c .before .before .before .before .before .before .before .before .before .before .before .before .before .before .before .before .before .before .before .before .before .before .before .before .before .before .before .before .before .before .before .before .before .before .before .before .before .before .before .args .saved .now)) _ (c .before .before .before .before .before .before .before .before .before .before .before .before .before .before .before .before .before .before .before .before .before .before .before .before .before .before .side .result .lines) (c .to-on .result) (c .to-on .ensures) (omega arith) (c .before .before .before .before .before .before .before .before .before .before .before .before .put-aside .ensures .0 ∙ c .before .before .before .before .before .before .before .before .before .before .before .before .before .before .before .before .before .before .before .before .before .before .before .before .before .before .side .ensures .1 .1 .0 .0) (c .before .before .before .before .before .before .before .before .before .before .before .before .before .before .before .before .before .before .before .before .before .before .before .before .before .before .before .before .before .before .before .before .before .before .before .before .before .before .before .pre .1 .2) in
+    (omega (arith, c .before .before .before .before .before .before .before .before .before .before .before .before .before .before .before .before .before .before .before .before .before .before .before .before .before .before .before .before .before .before .before .before .before .before .before .before .before .before .before .pre .0, falls-side (c .before .before .before .before .before .before .before .before .before .before .before .before .before .before .before .before .before .before .before .before .before .before .before .before .before .before .before .before .before .before .before .before .before .before .before .before .before .before .before .args .p) (c .before .before .before .before .before .before .before .before .before .before .before .before .before .before .before .before .before .before .before .before .before .before .before .before .before .before .before .before .before .before .before .before .before .before .before .before .before .before .before .pre .1 .3) (c .to-on .result) _ _ (c .to-on .ensures)), (c .before .before .before .before .before .before .before .before .before .before .before .before .before .before .before .before .before .before .before .before .before .before .before .before .before .before .before .before .before .before .before .before .before .before .before .before .before .before .before .pre .1 .0, c .before .before .before .before .before .before .before .before .before .before .before .before .before .before .before .before .before .before .before .before .before .before .before .before .before .before .side .ensures .1 .0 .1, sr .room, sr .after, c .before .before .before .before .before .before .before .before .before .before .before .before .before .before .before .before .before .before .before .before .before .before .before .before .before .before .side .ensures .0 .bounded .short, sr .own))
 
 forall-finish-requires : (t : ℕ) → forall-lts.Need-finish-requires (
   to-off-reads.Asked,
@@ -729,6 +859,8 @@ forall-finish-requires : (t : ℕ) → forall-lts.Need-finish-requires (
   side.Post,
   goes-up-reads.Asked,
   goes-up-reads.Learnt,
+  with-lines-reads.Asked,
+  with-lines-reads.Learnt,
   put-aside-reads.Asked,
   put-aside-reads.Learnt,
   to-on-reads.Asked,
@@ -737,8 +869,8 @@ forall-finish-requires : (t : ℕ) → forall-lts.Need-finish-requires (
   finish-reads.Learnt,
 ) (forall-at t) forall.Post
 forall-finish-requires t c κs =
-    let small = newest-small (c .before .before .before .before .before .before .before .before .before .before .before .before .before .before .before .before .before .before .before .before .before .before .before .before .before .before .before .before .before .before .before .before .before .before .before .before .before .before .before .before .before .before .before .before .before .before .args .p) (c .before .before .before .before .before .before .before .before .before .before .before .before .before .before .before .before .before .before .before .before .before .before .before .before .before .before .before .before .before .before .before .before .before .before .before .before .before .before .before .before .before .before .before .before .before .before .pre .1 .3) (c .before .before .before .before .before .before .before .before .before .before .before .before .before .before .before .before .before .before .before .before .before .before .before .before .before .before .before .before .before .before .before .before .before .before .to-off .result) (c .before .before .before .before .before .before .before .before .before .before .before .before .before .before .before .before .before .before .before .before .before .before .before .before .before .before .before .before .before .before .before .before .before .before .to-off .ensures) (c .before .before .before .before .before .before .before .before .before .before .before .before .before .before .before .before .before .before .before .before .before .before .before .before .before .before .before .before .before .before .before .before .before .side .result) (c .before .before .before .before .before .before .before .before .before .before .before .before .before .before .before .before .before .before .before .before .before .before .before .before .before .before .before .before .before .before .before .before .before .side .ensures .0) (c .before .before .before .before .before .before .before .before .before .before .before .before .before .before .before .before .before .before .before .before .before .before .before .before .before .before .before .before .before .before .before .before .before .side .result .lines) (c .before .before .before .before .before .before .before .before .before .before .before .to-on .result) (c .before .before .before .before .before .before .before .before .before .before .before .to-on .ensures) (c .before .before .before .before .before .before .before .before .before .before .side2 .result) (c .before .before .before .before .before .before .before .before .before .before .side2 .ensures .0) (length (c .before .before .before .before .before .before .before .before .before .before .before .before .before .before .before .before .before .before .before .before .before .before .before .before .before .before .before .before .before .before .before .before .before .before .before .before .before .before .before .before .before .before .before .before .before .before .args .saved .now)) (c .before .before .before .before .before .before .before .before .before .before .before .before .before .before .before .before .before .before .before .before .before .before .before .before .before .before .before .before .before .before .before .before .before .before .before .before .before .before .before .before .before .before .before .before .before .before .pre .1 .2) in
-    (c .before .before .before .before .before .before .before .before .before .before .before .before .before .before .before .before .before .before .before .before .before .before .before .before .before .before .before .before .before .before .before .before .before .side .ensures .0 .short, c .before .before .before .before .before .before .before .before .before .before .side2 .ensures .0 .short, omega (arith, c .before .before .before .before .before .before .before .before .before .before .before .before .before .before .before .before .before .before .before .before .before .before .before .before .before .before .before .before .before .before .before .before .before .side .ensures .0 .short, aside-room (c .before .before .before .before .before .before .before .before .before .before .before .before .before .before .before .before .before .before .before .before .before .before .before .before .before .before .before .before .before .before .before .before .before .before .before .before .before .before .before .before .before .before .before .before .before .before .args .p) (c .before .before .before .before .before .before .before .before .before .before .before .before .before .before .before .before .before .before .before .before .before .before .before .before .before .before .before .before .before .before .before .before .before .before .before .before .before .before .before .before .before .before .before .before .before .before .pre .1 .3) (length (c .before .before .before .before .before .before .before .before .before .before .before .before .before .before .before .before .before .before .before .before .before .before .before .before .before .before .before .before .before .before .before .before .before .before .before .before .before .before .before .before .before .before .before .before .before .before .args .saved .now)) (c .before .before .before .before .before .before .before .before .before .before .before .before .before .before .before .before .before .before .before .before .before .before .before .before .before .before .before .before .before .before .before .before .before .before .before .before .before .before .before .before .before .before .before .before .before .before .pre .1 .2), c .before .before .before .before .before .before .before .before .before .before .side2 .ensures .1 .1 .0 .0, c .before .before .before .before .before .before .before .before .before .before .before .before .before .before .before .before .before .before .before .before .before .before .before .put-aside .ensures .0, c .before .before .before .before .before .before .before .before .before .before .before .before .before .before .before .before .before .before .before .before .before .before .before .before .before .before .before .before .before .before .before .before .before .side .ensures .1 .1 .0 .0), omega (arith, c .before .before .before .before .before .before .before .before .before .before .before .before .before .before .before .before .before .before .before .before .before .before .before .before .before .before .before .before .before .before .before .before .before .before .before .before .before .before .before .before .before .before .before .before .before .before .pre .1 .3), c .before .before .before .before .before .before .before .before .before .before .side2 .ensures .1 .0 .1, small .0, small .1)
+    let small = newest-small (c .before .before .before .before .before .before .before .before .before .before .before .before .before .before .before .before .before .before .before .before .before .before .before .before .before .before .before .before .before .before .before .before .before .before .before .before .before .before .before .before .before .before .before .before .before .before .before .before .before .before .args .p) (c .before .before .before .before .before .before .before .before .before .before .before .before .before .before .before .before .before .before .before .before .before .before .before .before .before .before .before .before .before .before .before .before .before .before .before .before .before .before .before .before .before .before .before .before .before .before .before .before .before .before .pre .1 .3) (c .before .before .before .before .before .before .before .before .before .before .before .before .before .before .before .before .before .before .before .before .before .before .before .before .before .before .before .before .before .before .before .before .before .before .before .before .before .before .to-off .result) (c .before .before .before .before .before .before .before .before .before .before .before .before .before .before .before .before .before .before .before .before .before .before .before .before .before .before .before .before .before .before .before .before .before .before .before .before .before .before .to-off .ensures) (c .before .before .before .before .before .before .before .before .before .before .before .before .before .before .before .before .before .before .before .before .before .before .before .before .before .before .before .before .before .before .before .before .before .before .before .before .before .side .result) (c .before .before .before .before .before .before .before .before .before .before .before .before .before .before .before .before .before .before .before .before .before .before .before .before .before .before .before .before .before .before .before .before .before .before .before .before .before .side .ensures .0) (c .before .before .before .before .before .before .before .before .before .before .before .before .before .before .before .before .before .before .before .before .before .before .before .before .before .before .before .before .before .before .before .before .before .before .before .before .before .side .result .lines) (c .before .before .before .before .before .before .before .before .before .before .before .to-on .result) (c .before .before .before .before .before .before .before .before .before .before .before .to-on .ensures) (c .before .before .before .before .before .before .before .before .before .before .side2 .result) (c .before .before .before .before .before .before .before .before .before .before .side2 .ensures .0) (length (c .before .before .before .before .before .before .before .before .before .before .before .before .before .before .before .before .before .before .before .before .before .before .before .before .before .before .before .before .before .before .before .before .before .before .before .before .before .before .before .before .before .before .before .before .before .before .before .before .before .before .args .saved .now)) (c .before .before .before .before .before .before .before .before .before .before .before .before .before .before .before .before .before .before .before .before .before .before .before .before .before .before .before .before .before .before .before .before .before .before .before .before .before .before .before .before .before .before .before .before .before .before .before .before .before .before .pre .1 .2) in
+    (c .before .before .before .before .before .before .before .before .before .before .before .before .before .before .before .before .before .before .before .before .before .before .before .before .before .before .before .before .before .before .before .before .before .before .before .before .before .side .ensures .0 .bounded .short, c .before .before .before .before .before .before .before .before .before .before .side2 .ensures .0 .bounded, omega (arith, c .before .before .before .before .before .before .before .before .before .before .before .before .before .before .before .before .before .before .before .before .before .before .before .before .before .before .before .before .before .before .before .before .before .before .before .before .before .side .ensures .0 .bounded .short, aside-room (c .before .before .before .before .before .before .before .before .before .before .before .before .before .before .before .before .before .before .before .before .before .before .before .before .before .before .before .before .before .before .before .before .before .before .before .before .before .before .before .before .before .before .before .before .before .before .before .before .before .before .args .p) (c .before .before .before .before .before .before .before .before .before .before .before .before .before .before .before .before .before .before .before .before .before .before .before .before .before .before .before .before .before .before .before .before .before .before .before .before .before .before .before .before .before .before .before .before .before .before .before .before .before .before .pre .1 .3) (length (c .before .before .before .before .before .before .before .before .before .before .before .before .before .before .before .before .before .before .before .before .before .before .before .before .before .before .before .before .before .before .before .before .before .before .before .before .before .before .before .before .before .before .before .before .before .before .before .before .before .before .args .saved .now)) (c .before .before .before .before .before .before .before .before .before .before .before .before .before .before .before .before .before .before .before .before .before .before .before .before .before .before .before .before .before .before .before .before .before .before .before .before .before .before .before .before .before .before .before .before .before .before .before .before .before .before .pre .1 .2), c .before .before .before .before .before .before .before .before .before .before .side2 .ensures .1 .1 .0 .0, c .before .before .before .before .before .before .before .before .before .before .before .before .before .before .before .before .before .before .before .before .before .before .before .put-aside .ensures .0, c .before .before .before .before .before .before .before .before .before .before .before .before .before .before .before .before .before .before .before .before .before .before .before .before .before .before .before .before .before .before .before .before .before .before .before .before .before .side .ensures .1 .1 .0 .0), omega (arith, c .before .before .before .before .before .before .before .before .before .before .before .before .before .before .before .before .before .before .before .before .before .before .before .before .before .before .before .before .before .before .before .before .before .before .before .before .before .before .before .before .before .before .before .before .before .before .before .before .before .before .pre .1 .3), c .before .before .before .before .before .before .before .before .before .before .side2 .ensures .1 .0 .1, small .0, small .1)
 
 forall-same-length-3 : (t : ℕ) → forall-lts.Need-same-length-3 (
   to-off-reads.Asked,
@@ -747,6 +879,8 @@ forall-same-length-3 : (t : ℕ) → forall-lts.Need-same-length-3 (
   side.Post,
   goes-up-reads.Asked,
   goes-up-reads.Learnt,
+  with-lines-reads.Asked,
+  with-lines-reads.Learnt,
   put-aside-reads.Asked,
   put-aside-reads.Learnt,
   to-on-reads.Asked,
@@ -754,7 +888,7 @@ forall-same-length-3 : (t : ℕ) → forall-lts.Need-same-length-3 (
   finish-reads.Asked,
   finish-reads.Learnt,
 ) (forall-at t) forall.Post
-forall-same-length-3 t c = c .before .before .before .before .before .before .before .before .before .before .before .side2 .ensures .1 .1 .0 .0 ∙ c .before .before .before .before .before .before .before .before .before .before .before .before .before .before .before .before .before .before .before .before .before .before .before .before .put-aside .ensures .0 ∙ c .before .before .before .before .before .before .before .before .before .before .before .before .before .before .before .before .before .before .before .before .before .before .before .before .before .before .before .before .before .before .before .before .before .before .side .ensures .1 .1 .0 .0
+forall-same-length-3 t c = c .before .before .before .before .before .before .before .before .before .before .before .side2 .ensures .1 .1 .0 .0 ∙ c .before .before .before .before .before .before .before .before .before .before .before .before .before .before .before .before .before .before .before .before .before .before .before .before .put-aside .ensures .0 ∙ c .before .before .before .before .before .before .before .before .before .before .before .before .before .before .before .before .before .before .before .before .before .before .before .before .before .before .before .before .before .before .before .before .before .before .before .before .before .before .side .ensures .1 .1 .0 .0
 
 forall-same-length-4 : (t : ℕ) → forall-lts.Need-same-length-4 (
   to-off-reads.Asked,
@@ -763,6 +897,8 @@ forall-same-length-4 : (t : ℕ) → forall-lts.Need-same-length-4 (
   side.Post,
   goes-up-reads.Asked,
   goes-up-reads.Learnt,
+  with-lines-reads.Asked,
+  with-lines-reads.Learnt,
   put-aside-reads.Asked,
   put-aside-reads.Learnt,
   to-on-reads.Asked,
@@ -770,7 +906,7 @@ forall-same-length-4 : (t : ℕ) → forall-lts.Need-same-length-4 (
   finish-reads.Asked,
   finish-reads.Learnt,
 ) (forall-at t) forall.Post
-forall-same-length-4 t c = c .before .before .before .before .before .before .before .before .before .before .before .side2 .ensures .1 .0 .0 .size ∙ c .before .before .before .before .before .before .before .before .before .before .before .before .before .before .before .before .before .before .before .before .before .before .before .before .before .before .before .before .before .before .before .before .before .before .side .ensures .1 .0 .0 .size
+forall-same-length-4 t c = c .before .before .before .before .before .before .before .before .before .before .before .side2 .ensures .1 .0 .0 .size ∙ c .before .before .before .before .before .before .before .before .before .before .before .before .before .before .before .before .before .before .before .before .before .before .before .before .before .before .before .before .before .before .before .before .before .before .before .before .before .before .side .ensures .1 .0 .0 .size
 
 forall-returns-2 : (t : ℕ) → forall-lts.Need-returns-2 (
   to-off-reads.Asked,
@@ -779,6 +915,8 @@ forall-returns-2 : (t : ℕ) → forall-lts.Need-returns-2 (
   side.Post,
   goes-up-reads.Asked,
   goes-up-reads.Learnt,
+  with-lines-reads.Asked,
+  with-lines-reads.Learnt,
   put-aside-reads.Asked,
   put-aside-reads.Learnt,
   to-on-reads.Asked,
@@ -787,12 +925,12 @@ forall-returns-2 : (t : ℕ) → forall-lts.Need-returns-2 (
   finish-reads.Learnt,
 ) (forall-at t) forall.Post
 forall-returns-2 t c = (
-  counts-quantified (c .before .before .before .before .before .before .before .before .before .before .before .before .before .before .before .before .before .before .before .before .before .before .before .before .before .before .before .before .before .before .before .before .before .before .before .before .before .before .before .before .before .before .before .before .before .before .before .args .p) (c .before .before .before .before .before .before .before .before .before .before .before .before .before .before .before .before .before .before .before .before .before .before .before .before .before .before .before .before .before .before .before .before .before .before .before .before .before .before .before .before .before .before .before .before .before .before .before .pre .1 .3) (c .before .before .before .before .before .before .before .before .before .before .before .before .before .before .before .before .before .before .before .before .before .before .before .before .before .before .before .before .before .before .before .before .before .before .before .to-off .result) (c .before .before .before .before .before .before .before .before .before .before .before .before .before .before .before .before .before .before .before .before .before .before .before .before .before .before .before .before .before .before .before .before .before .before .before .to-off .ensures) (c .before .before .before .before .before .before .before .before .before .before .before .before .before .before .before .before .before .before .before .before .before .before .before .before .before .before .before .before .before .before .before .before .before .before .side .result) (c .before .before .before .before .before .before .before .before .before .before .before .before .before .before .before .before .before .before .before .before .before .before .before .before .before .before .before .before .before .before .before .before .before .before .side .ensures .0) (c .before .before .before .before .before .before .before .before .before .before .before .before .before .before .before .before .before .before .before .before .before .before .before .before .before .before .before .before .before .before .before .before .before .before .side .result .lines) (c .before .before .before .before .before .before .before .before .before .before .before .before .to-on .result) (c .before .before .before .before .before .before .before .before .before .before .before .before .to-on .ensures) (c .before .before .before .before .before .before .before .before .before .before .before .side2 .result) (c .before .before .before .before .before .before .before .before .before .before .before .side2 .ensures .0) refl (c .finish .result) (c .finish .ensures .0 .0) (c .finish .ensures .0 .2),
+  counts-quantified (c .before .before .before .before .before .before .before .before .before .before .before .before .before .before .before .before .before .before .before .before .before .before .before .before .before .before .before .before .before .before .before .before .before .before .before .before .before .before .before .before .before .before .before .before .before .before .before .before .before .before .before .args .p) (c .before .before .before .before .before .before .before .before .before .before .before .before .before .before .before .before .before .before .before .before .before .before .before .before .before .before .before .before .before .before .before .before .before .before .before .before .before .before .before .before .before .before .before .before .before .before .before .before .before .before .before .pre .1 .3) (c .before .before .before .before .before .before .before .before .before .before .before .before .before .before .before .before .before .before .before .before .before .before .before .before .before .before .before .before .before .before .before .before .before .before .before .before .before .before .before .to-off .result) (c .before .before .before .before .before .before .before .before .before .before .before .before .before .before .before .before .before .before .before .before .before .before .before .before .before .before .before .before .before .before .before .before .before .before .before .before .before .before .before .to-off .ensures) (c .before .before .before .before .before .before .before .before .before .before .before .before .before .before .before .before .before .before .before .before .before .before .before .before .before .before .before .before .before .before .before .before .before .before .before .before .before .before .side .result) (c .before .before .before .before .before .before .before .before .before .before .before .before .before .before .before .before .before .before .before .before .before .before .before .before .before .before .before .before .before .before .before .before .before .before .before .before .before .before .side .ensures .0) (c .before .before .before .before .before .before .before .before .before .before .before .before .before .before .before .before .before .before .before .before .before .before .before .before .before .before .before .before .before .before .before .before .before .before .before .before .before .before .side .result .lines) (c .before .before .before .before .before .before .before .before .before .before .before .before .to-on .result) (c .before .before .before .before .before .before .before .before .before .before .before .before .to-on .ensures) (c .before .before .before .before .before .before .before .before .before .before .before .side2 .result) (c .before .before .before .before .before .before .before .before .before .before .before .side2 .ensures .0) refl (c .finish .result) (c .finish .ensures .0 .0) (c .finish .ensures .0 .2),
   (
-    (kept-both (c .before .before .before .before .before .before .before .before .before .before .before .before .before .before .before .before .before .before .before .before .before .before .before .before .before .before .before .before .before .before .before .before .before .before .before .before .before .before .before .before .before .before .before .before .before .before .before .args .p) (c .before .before .before .before .before .before .before .before .before .before .before .before .before .before .before .before .before .before .before .before .before .before .before .before .before .before .before .before .before .before .before .before .before .before .before .to-off .result) (c .before .before .before .before .before .before .before .before .before .before .before .before .to-on .result) _ _ _ _ (c .before .before .before .before .before .before .before .before .before .before .before .before .before .before .before .before .before .before .before .before .before .before .before .before .before .before .before .before .before .before .before .before .before .before .before .to-off .ensures) (c .before .before .before .before .before .before .before .before .before .before .before .before .to-on .ensures) (c .before .before .before .before .before .before .before .before .before .before .before .before .before .before .before .before .before .before .before .before .before .before .before .before .before .before .before .before .before .before .before .before .before .before .side .ensures .1 .0 .0) refl (c .before .before .before .before .before .before .before .before .before .before .before .side2 .ensures .1 .0 .0) refl, c .finish .ensures .0 .1),
-    both-result forall 2 refl (c .before .before .before .before .before .before .before .before .before .before .before .before .before .before .before .before .before .before .before .before .before .before .before .before .before .before .before .before .before .before .before .before .before .before .before .before .before .before .before .before .before .before .before .before .before .before .before .args .p) (c .before .before .before .before .before .before .before .before .before .before .before .before .before .before .before .before .before .before .before .before .before .before .before .before .before .before .before .before .before .before .before .before .before .before .before .to-off .result) (c .before .before .before .before .before .before .before .before .before .before .before .before .before .before .before .before .before .before .before .before .before .before .before .before .before .before .before .before .before .before .before .before .before .before .before .to-off .ensures) (c .before .before .before .before .before .before .before .before .before .before .before .before .before .before .before .before .before .before .before .before .before .before .before .before .before .before .before .before .before .before .before .before .before .before .side .result) (c .before .before .before .before .before .before .before .before .before .before .before .before .before .before .before .before .before .before .before .before .before .before .before .before .before .before .before .before .before .before .before .before .before .before .side .ensures .1 .1 .1) (c .before .before .before .before .before .before .before .before .before .before .before .before .before .before .before .before .before .before .before .before .before .before .before .before .before .before .before .before .goes-up .result) (c .before .before .before .before .before .before .before .before .before .before .before .before .before .before .before .before .before .before .before .before .before .before .before .before .before .before .before .before .goes-up .ensures) (λ qs h. h) (λ qs h. h)
-        (c .before .before .before .before .before .before .before .before .before .before .before .before .before .before .before .before .before .before .before .before .before .before .before .before .before .before .before .before .before .before .before .before .before .before .side .ensures .1 .0 .0) (c .before .before .before .before .before .before .before .before .before .before .before .before .to-on .result) (c .before .before .before .before .before .before .before .before .before .before .before .before .to-on .ensures) (c .before .before .before .before .before .before .before .before .before .before .before .side2 .result) (c .before .before .before .before .before .before .before .before .before .before .before .side2 .ensures .1 .1 .1) _ (c .before .before .before .before .before .before .before .before .before .before .before .side2 .ensures .1 .1 .0 .1 ∙ c .before .before .before .before .before .before .before .before .before .before .before .before .before .before .before .before .before .before .before .before .before .before .before .before .put-aside .ensures .1) (c .finish .result)
-        (c .finish .ensures .1) (c .before .before .before .before .before .before .before .before .before .before .before .before .before .before .before .before .before .before .before .before .before .before .before .before .before .before .before .if1 .left) (c .finish .ensures .0 .0 .visits) (c .finish .ensures .0 .0 .lines),
+    (kept-both (c .before .before .before .before .before .before .before .before .before .before .before .before .before .before .before .before .before .before .before .before .before .before .before .before .before .before .before .before .before .before .before .before .before .before .before .before .before .before .before .before .before .before .before .before .before .before .before .before .before .before .before .args .p) (c .before .before .before .before .before .before .before .before .before .before .before .before .before .before .before .before .before .before .before .before .before .before .before .before .before .before .before .before .before .before .before .before .before .before .before .before .before .before .before .to-off .result) (c .before .before .before .before .before .before .before .before .before .before .before .before .to-on .result) _ _ _ _ (c .before .before .before .before .before .before .before .before .before .before .before .before .before .before .before .before .before .before .before .before .before .before .before .before .before .before .before .before .before .before .before .before .before .before .before .before .before .before .before .to-off .ensures) (c .before .before .before .before .before .before .before .before .before .before .before .before .to-on .ensures) (c .before .before .before .before .before .before .before .before .before .before .before .before .before .before .before .before .before .before .before .before .before .before .before .before .before .before .before .before .before .before .before .before .before .before .before .before .before .before .side .ensures .1 .0 .0) refl (c .before .before .before .before .before .before .before .before .before .before .before .side2 .ensures .1 .0 .0) refl, c .finish .ensures .0 .1),
+    both-result forall 2 refl (c .before .before .before .before .before .before .before .before .before .before .before .before .before .before .before .before .before .before .before .before .before .before .before .before .before .before .before .before .before .before .before .before .before .before .before .before .before .before .before .before .before .before .before .before .before .before .before .before .before .before .before .args .p) (c .before .before .before .before .before .before .before .before .before .before .before .before .before .before .before .before .before .before .before .before .before .before .before .before .before .before .before .before .before .before .before .before .before .before .before .before .before .before .before .to-off .result) (c .before .before .before .before .before .before .before .before .before .before .before .before .before .before .before .before .before .before .before .before .before .before .before .before .before .before .before .before .before .before .before .before .before .before .before .before .before .before .before .to-off .ensures) (c .before .before .before .before .before .before .before .before .before .before .before .before .before .before .before .before .before .before .before .before .before .before .before .before .before .before .before .before .before .before .before .before .before .before .before .before .before .before .side .result) (c .before .before .before .before .before .before .before .before .before .before .before .before .before .before .before .before .before .before .before .before .before .before .before .before .before .before .before .before .before .before .before .before .before .before .before .before .before .before .side .ensures .1 .1 .1) (c .before .before .before .before .before .before .before .before .before .before .before .before .before .before .before .before .before .before .before .before .before .before .before .before .before .before .before .before .before .before .goes-up .result) (c .before .before .before .before .before .before .before .before .before .before .before .before .before .before .before .before .before .before .before .before .before .before .before .before .before .before .before .before .before .before .goes-up .ensures) (λ qs h. h) (λ qs h. h)
+        (c .before .before .before .before .before .before .before .before .before .before .before .before .before .before .before .before .before .before .before .before .before .before .before .before .before .before .before .before .before .before .before .before .before .before .before .before .before .before .side .ensures .1 .0 .0) (c .before .before .before .before .before .before .before .before .before .before .before .before .to-on .result) (c .before .before .before .before .before .before .before .before .before .before .before .before .to-on .ensures) (c .before .before .before .before .before .before .before .before .before .before .before .side2 .result) (c .before .before .before .before .before .before .before .before .before .before .before .side2 .ensures .1 .1 .1) _ (c .before .before .before .before .before .before .before .before .before .before .before .side2 .ensures .1 .1 .0 .1 ∙ c .before .before .before .before .before .before .before .before .before .before .before .before .before .before .before .before .before .before .before .before .before .before .before .before .put-aside .ensures .1) (c .finish .result)
+        (c .finish .ensures .1) (c .before .before .before .before .before .before .before .before .before .before .before .before .before .before .before .before .before .before .before .before .before .before .before .before .before .before .before .before .before .if1 .left) (c .finish .ensures .0 .0 .visits) (c .finish .ensures .0 .0 .lines),
   ),
 )
 
@@ -803,6 +941,8 @@ free-to-off-requires : (t : ℕ) → free-lts.Need-to-off-requires (
   side.Post,
   goes-up-reads.Asked,
   goes-up-reads.Learnt,
+  with-lines-reads.Asked,
+  with-lines-reads.Learnt,
   put-aside-reads.Asked,
   put-aside-reads.Learnt,
   line-if-reads.Asked,
@@ -813,8 +953,6 @@ free-to-off-requires : (t : ℕ) → free-lts.Need-to-off-requires (
   finish-reads.Learnt,
   settle-lines-reads.Asked,
   settle-lines-reads.Learnt,
-  with-lines-reads.Asked,
-  with-lines-reads.Learnt,
 ) (free-at t) free.Post
 free-to-off-requires t c κs = (omega (arith, c .before .before .before .before .before .before .before .before .before .before .before .pre .1 .3), visits-small (length (c .before .before .before .before .before .before .before .before .before .before .before .args .saved .now)) (c .before .before .before .before .before .before .before .before .before .before .before .args .p) (c .before .before .before .before .before .before .before .before .before .before .before .pre .1 .2))
 
@@ -825,6 +963,8 @@ free-side-requires : (t : ℕ) → free-lts.Need-side-requires (
   side.Post,
   goes-up-reads.Asked,
   goes-up-reads.Learnt,
+  with-lines-reads.Asked,
+  with-lines-reads.Learnt,
   put-aside-reads.Asked,
   put-aside-reads.Learnt,
   line-if-reads.Asked,
@@ -835,8 +975,6 @@ free-side-requires : (t : ℕ) → free-lts.Need-side-requires (
   finish-reads.Learnt,
   settle-lines-reads.Asked,
   settle-lines-reads.Learnt,
-  with-lines-reads.Asked,
-  with-lines-reads.Learnt,
 ) (free-at t) free.Post
 free-side-requires t c κs =
     let sr = room-off (c .before .before .before .before .before .before .before .before .before .before .before .before .args .p) (c .before .before .before .before .before .before .before .before .before .before .before .before .pre .1 .3) (length (c .before .before .before .before .before .before .before .before .before .before .before .before .args .saved .now)) (c .to-off .result) (c .to-off .ensures) (c .before .before .before .before .before .before .before .before .before .before .before .before .pre .1 .2) in
@@ -849,6 +987,8 @@ free-goes-up-requires : (t : ℕ) → free-lts.Need-goes-up-requires (
   side.Post,
   goes-up-reads.Asked,
   goes-up-reads.Learnt,
+  with-lines-reads.Asked,
+  with-lines-reads.Learnt,
   put-aside-reads.Asked,
   put-aside-reads.Learnt,
   line-if-reads.Asked,
@@ -859,10 +999,30 @@ free-goes-up-requires : (t : ℕ) → free-lts.Need-goes-up-requires (
   finish-reads.Learnt,
   settle-lines-reads.Asked,
   settle-lines-reads.Learnt,
+) (free-at t) free.Post
+free-goes-up-requires t c κs = (c .before .before .before .before .before .before .before .side .ensures .0 .bounded, omega (arith, c .before .before .before .before .before .before .before .before .before .before .before .before .before .before .before .before .before .before .before .before .pre .1 .3))
+
+free-with-lines-requires : (t : ℕ) → free-lts.Need-with-lines-requires (
+  to-off-reads.Asked,
+  to-off-reads.Learnt,
+  side-below t,
+  side.Post,
+  goes-up-reads.Asked,
+  goes-up-reads.Learnt,
   with-lines-reads.Asked,
   with-lines-reads.Learnt,
+  put-aside-reads.Asked,
+  put-aside-reads.Learnt,
+  line-if-reads.Asked,
+  line-if-reads.Learnt,
+  to-on-reads.Asked,
+  to-on-reads.Learnt,
+  finish-reads.Asked,
+  finish-reads.Learnt,
+  settle-lines-reads.Asked,
+  settle-lines-reads.Learnt,
 ) (free-at t) free.Post
-free-goes-up-requires t c κs = (c .before .before .before .before .before .side .ensures .0 .short, omega (arith, c .before .before .before .before .before .before .before .before .before .before .before .before .before .before .before .before .before .before .pre .1 .3))
+free-with-lines-requires t c κs = search needs
 
 free-same-length : (t : ℕ) → free-lts.Need-same-length (
   to-off-reads.Asked,
@@ -871,6 +1031,8 @@ free-same-length : (t : ℕ) → free-lts.Need-same-length (
   side.Post,
   goes-up-reads.Asked,
   goes-up-reads.Learnt,
+  with-lines-reads.Asked,
+  with-lines-reads.Learnt,
   put-aside-reads.Asked,
   put-aside-reads.Learnt,
   line-if-reads.Asked,
@@ -881,8 +1043,6 @@ free-same-length : (t : ℕ) → free-lts.Need-same-length (
   finish-reads.Learnt,
   settle-lines-reads.Asked,
   settle-lines-reads.Learnt,
-  with-lines-reads.Asked,
-  with-lines-reads.Learnt,
 ) (free-at t) free.Post
 free-same-length t c = search needs
 
@@ -893,6 +1053,8 @@ free-same-length-2 : (t : ℕ) → free-lts.Need-same-length-2 (
   side.Post,
   goes-up-reads.Asked,
   goes-up-reads.Learnt,
+  with-lines-reads.Asked,
+  with-lines-reads.Learnt,
   put-aside-reads.Asked,
   put-aside-reads.Learnt,
   line-if-reads.Asked,
@@ -903,8 +1065,6 @@ free-same-length-2 : (t : ℕ) → free-lts.Need-same-length-2 (
   finish-reads.Learnt,
   settle-lines-reads.Asked,
   settle-lines-reads.Learnt,
-  with-lines-reads.Asked,
-  with-lines-reads.Learnt,
 ) (free-at t) free.Post
 free-same-length-2 t c = search needs
 
@@ -915,6 +1075,8 @@ free-returns : (t : ℕ) → free-lts.Need-returns (
   side.Post,
   goes-up-reads.Asked,
   goes-up-reads.Learnt,
+  with-lines-reads.Asked,
+  with-lines-reads.Learnt,
   put-aside-reads.Asked,
   put-aside-reads.Learnt,
   line-if-reads.Asked,
@@ -925,14 +1087,12 @@ free-returns : (t : ℕ) → free-lts.Need-returns (
   finish-reads.Learnt,
   settle-lines-reads.Asked,
   settle-lines-reads.Learnt,
-  with-lines-reads.Asked,
-  with-lines-reads.Learnt,
 ) (free-at t) free.Post
 free-returns t c = (
-  counts-up (c .before .before .before .before .before .before .before .before .before .before .before .before .before .before .before .before .before .before .before .before .args .p) (c .before .before .before .before .before .before .before .before .before .before .before .before .before .before .before .before .before .before .before .before .pre .1 .3) (c .before .before .before .before .before .before .before .before .to-off .result) (c .before .before .before .before .before .before .before .before .to-off .ensures) (c .before .before .before .before .before .before .before .side .result) (c .before .before .before .before .before .before .before .side .ensures .0),
+  counts-as (sym (c .with-lines .ensures)) (counts-up (c .before .before .before .before .before .before .before .before .before .before .before .before .before .before .before .before .before .before .before .before .before .before .before .args .p) (c .before .before .before .before .before .before .before .before .before .before .before .before .before .before .before .before .before .before .before .before .before .before .before .pre .1 .3) (c .before .before .before .before .before .before .before .before .before .before .before .to-off .result) (c .before .before .before .before .before .before .before .before .before .before .before .to-off .ensures) (c .before .before .before .before .before .before .before .before .before .before .side .result) (c .before .before .before .before .before .before .before .before .before .before .side .ensures .0)),
   (
-    (kept-up (c .before .before .before .before .before .before .before .before .before .before .before .before .before .before .before .before .before .before .before .before .args .p) (c .before .before .before .before .before .before .before .before .to-off .result) _ _ (c .before .before .before .before .before .before .before .before .to-off .ensures) (c .before .before .before .before .before .before .before .side .ensures .1 .0 .0), c .before .before .before .before .before .before .before .side .ensures .1 .0 .1),
-    (λ D s ls R st task alive inside is. up-result free 0 refl (c .before .before .before .before .before .before .before .before .before .before .before .before .before .before .before .before .before .before .before .before .args .p) (c .before .before .before .before .before .before .before .before .to-off .result) (c .before .before .before .before .before .before .before .before .to-off .ensures) (c .before .before .before .before .before .before .before .side .result) (c .before .before .before .before .before .before .before .side .ensures .1 .1 .1) (c .before .goes-up .result) (c .before .goes-up .ensures) D s ls R st task alive inside is (c .if1 .taken)),
+    (kept-up (c .before .before .before .before .before .before .before .before .before .before .before .before .before .before .before .before .before .before .before .before .before .before .before .args .p) (c .before .before .before .before .before .before .before .before .before .before .before .to-off .result) _ _ (c .before .before .before .before .before .before .before .before .before .before .before .to-off .ensures) (c .before .before .before .before .before .before .before .before .before .before .side .ensures .1 .0 .0), c .before .before .before .before .before .before .before .before .before .before .side .ensures .1 .0 .1),
+    (λ D s ls R st task alive inside is. result-as (sym (c .with-lines .ensures)) (up-result free 0 refl (c .before .before .before .before .before .before .before .before .before .before .before .before .before .before .before .before .before .before .before .before .before .before .before .args .p) (c .before .before .before .before .before .before .before .before .before .before .before .to-off .result) (c .before .before .before .before .before .before .before .before .before .before .before .to-off .ensures) (c .before .before .before .before .before .before .before .before .before .before .side .result) (c .before .before .before .before .before .before .before .before .before .before .side .ensures .1 .1 .1) (c .before .before .goes-up .result) (c .before .before .goes-up .ensures) D s ls R st task alive inside is (c .before .if1 .taken))),
   ),
 )
 
@@ -943,6 +1103,8 @@ free-put-aside-requires : (t : ℕ) → free-lts.Need-put-aside-requires (
   side.Post,
   goes-up-reads.Asked,
   goes-up-reads.Learnt,
+  with-lines-reads.Asked,
+  with-lines-reads.Learnt,
   put-aside-reads.Asked,
   put-aside-reads.Learnt,
   line-if-reads.Asked,
@@ -953,10 +1115,8 @@ free-put-aside-requires : (t : ℕ) → free-lts.Need-put-aside-requires (
   finish-reads.Learnt,
   settle-lines-reads.Asked,
   settle-lines-reads.Learnt,
-  with-lines-reads.Asked,
-  with-lines-reads.Learnt,
 ) (free-at t) free.Post
-free-put-aside-requires t c κs = (c .before .before .before .before .before .before .before .before .before .side .ensures .0 .short, omega (arith, c .before .before .before .before .before .before .before .before .before .side .ensures .0 .short, aside-room (c .before .before .before .before .before .before .before .before .before .before .before .before .before .before .before .before .before .before .before .before .before .before .args .p) (c .before .before .before .before .before .before .before .before .before .before .before .before .before .before .before .before .before .before .before .before .before .before .pre .1 .3) (length (c .before .before .before .before .before .before .before .before .before .before .before .before .before .before .before .before .before .before .before .before .before .before .args .saved .now)) (c .before .before .before .before .before .before .before .before .before .before .before .before .before .before .before .before .before .before .before .before .before .before .pre .1 .2), c .before .before .before .before .before .before .before .before .before .side .ensures .1 .1 .0 .0))
+free-put-aside-requires t c κs = (c .before .before .before .before .before .before .before .before .before .before .before .before .before .side .ensures .0 .bounded, omega (arith, c .before .before .before .before .before .before .before .before .before .before .before .before .before .side .ensures .0 .bounded .short, aside-room (c .before .before .before .before .before .before .before .before .before .before .before .before .before .before .before .before .before .before .before .before .before .before .before .before .before .before .args .p) (c .before .before .before .before .before .before .before .before .before .before .before .before .before .before .before .before .before .before .before .before .before .before .before .before .before .before .pre .1 .3) (length (c .before .before .before .before .before .before .before .before .before .before .before .before .before .before .before .before .before .before .before .before .before .before .before .before .before .before .args .saved .now)) (c .before .before .before .before .before .before .before .before .before .before .before .before .before .before .before .before .before .before .before .before .before .before .before .before .before .before .pre .1 .2), c .before .before .before .before .before .before .before .before .before .before .before .before .before .side .ensures .1 .1 .0 .0))
 
 free-line-if-requires : (t : ℕ) → free-lts.Need-line-if-requires (
   to-off-reads.Asked,
@@ -965,6 +1125,8 @@ free-line-if-requires : (t : ℕ) → free-lts.Need-line-if-requires (
   side.Post,
   goes-up-reads.Asked,
   goes-up-reads.Learnt,
+  with-lines-reads.Asked,
+  with-lines-reads.Learnt,
   put-aside-reads.Asked,
   put-aside-reads.Learnt,
   line-if-reads.Asked,
@@ -975,10 +1137,8 @@ free-line-if-requires : (t : ℕ) → free-lts.Need-line-if-requires (
   finish-reads.Learnt,
   settle-lines-reads.Asked,
   settle-lines-reads.Learnt,
-  with-lines-reads.Asked,
-  with-lines-reads.Learnt,
 ) (free-at t) free.Post
-free-line-if-requires t c κs = (c .before .before .before .before .before .before .before .before .before .before .before .before .before .before .before .before .before .before .before .before .before .before .before .before .before .before .before .pre .1 .2 .free, lines-small (c .before .before .before .before .before .before .before .before .before .before .before .before .before .before .before .before .before .before .before .before .before .before .before .before .before .before .before .args .p) (c .before .before .before .before .before .before .before .before .before .before .before .before .before .before .before .before .before .before .before .before .before .before .before .before .before .before .before .pre .1 .3) (c .before .before .before .before .before .before .before .before .before .before .before .before .before .before .before .to-off .result) (c .before .before .before .before .before .before .before .before .before .before .before .before .before .before .before .to-off .ensures) (c .before .before .before .before .before .before .before .before .before .before .before .before .before .before .side .result) (c .before .before .before .before .before .before .before .before .before .before .before .before .before .before .side .ensures .0) (length (c .before .before .before .before .before .before .before .before .before .before .before .before .before .before .before .before .before .before .before .before .before .before .before .before .before .before .before .args .saved .now)) (c .before .before .before .before .before .before .before .before .before .before .before .before .before .before .before .before .before .before .before .before .before .before .before .before .before .before .before .pre .1 .2))
+free-line-if-requires t c κs = (c .before .before .before .before .before .before .before .before .before .before .before .before .before .before .before .before .before .before .before .before .before .before .before .before .before .before .before .before .before .before .before .pre .1 .2 .free, lines-small (c .before .before .before .before .before .before .before .before .before .before .before .before .before .before .before .before .before .before .before .before .before .before .before .before .before .before .before .before .before .before .before .args .p) (c .before .before .before .before .before .before .before .before .before .before .before .before .before .before .before .before .before .before .before .before .before .before .before .before .before .before .before .before .before .before .before .pre .1 .3) (c .before .before .before .before .before .before .before .before .before .before .before .before .before .before .before .before .before .before .before .to-off .result) (c .before .before .before .before .before .before .before .before .before .before .before .before .before .before .before .before .before .before .before .to-off .ensures) (c .before .before .before .before .before .before .before .before .before .before .before .before .before .before .before .before .before .before .side .result) (c .before .before .before .before .before .before .before .before .before .before .before .before .before .before .before .before .before .before .side .ensures .0) (length (c .before .before .before .before .before .before .before .before .before .before .before .before .before .before .before .before .before .before .before .before .before .before .before .before .before .before .before .before .before .before .before .args .saved .now)) (c .before .before .before .before .before .before .before .before .before .before .before .before .before .before .before .before .before .before .before .before .before .before .before .before .before .before .before .before .before .before .before .pre .1 .2))
 
 free-to-on-requires : (t : ℕ) → free-lts.Need-to-on-requires (
   to-off-reads.Asked,
@@ -987,6 +1147,8 @@ free-to-on-requires : (t : ℕ) → free-lts.Need-to-on-requires (
   side.Post,
   goes-up-reads.Asked,
   goes-up-reads.Learnt,
+  with-lines-reads.Asked,
+  with-lines-reads.Learnt,
   put-aside-reads.Asked,
   put-aside-reads.Learnt,
   line-if-reads.Asked,
@@ -997,10 +1159,8 @@ free-to-on-requires : (t : ℕ) → free-lts.Need-to-on-requires (
   finish-reads.Learnt,
   settle-lines-reads.Asked,
   settle-lines-reads.Learnt,
-  with-lines-reads.Asked,
-  with-lines-reads.Learnt,
 ) (free-at t) free.Post
-free-to-on-requires t c κs = omega (arith, c .before .before .before .before .before .before .before .before .before .before .before .before .before .before .before .before .before .before .before .before .before .before .before .before .before .before .before .before .before .before .before .before .before .before .before .before .before .before .before .pre .1 .3)
+free-to-on-requires t c κs = omega (arith, c .before .before .before .before .before .before .before .before .before .before .before .before .before .before .before .before .before .before .before .before .before .before .before .before .before .before .before .before .before .before .before .before .before .before .before .before .before .before .before .before .before .before .before .pre .1 .3)
 
 free-side-requires-2 : (t : ℕ) → free-lts.Need-side-requires-2 (
   to-off-reads.Asked,
@@ -1009,6 +1169,8 @@ free-side-requires-2 : (t : ℕ) → free-lts.Need-side-requires-2 (
   side.Post,
   goes-up-reads.Asked,
   goes-up-reads.Learnt,
+  with-lines-reads.Asked,
+  with-lines-reads.Learnt,
   put-aside-reads.Asked,
   put-aside-reads.Learnt,
   line-if-reads.Asked,
@@ -1019,12 +1181,10 @@ free-side-requires-2 : (t : ℕ) → free-lts.Need-side-requires-2 (
   finish-reads.Learnt,
   settle-lines-reads.Asked,
   settle-lines-reads.Learnt,
-  with-lines-reads.Asked,
-  with-lines-reads.Learnt,
 ) (free-at t) free.Post
 free-side-requires-2 t c κs =
-    let sr = room-on (c .before .before .before .before .before .before .before .before .before .before .before .before .before .before .before .before .before .before .before .before .before .before .before .before .before .before .before .before .before .before .before .before .before .before .before .before .before .before .before .before .args .p) (c .before .before .before .before .before .before .before .before .before .before .before .before .before .before .before .before .before .before .before .before .before .before .before .before .before .before .before .before .before .before .before .before .before .before .before .before .before .before .before .before .pre .1 .3) (c .before .before .before .before .before .before .before .before .before .before .before .before .before .before .before .before .before .before .before .before .before .before .before .before .before .before .before .before .to-off .result) (c .before .before .before .before .before .before .before .before .before .before .before .before .before .before .before .before .before .before .before .before .before .before .before .before .before .before .before .before .to-off .ensures) (c .before .before .before .before .before .before .before .before .before .before .before .before .before .before .before .before .before .before .before .before .before .before .before .before .before .before .before .side .result) (c .before .before .before .before .before .before .before .before .before .before .before .before .before .before .before .before .before .before .before .before .before .before .before .before .before .before .before .side .ensures .0) (length (c .before .before .before .before .before .before .before .before .before .before .before .before .before .before .before .before .before .before .before .before .before .before .before .before .before .before .before .before .before .before .before .before .before .before .before .before .before .before .before .before .args .saved .now)) _ (c .before .before .before .before .before .before .before .before .before .before .before .before .line-if .result) (c .to-on .result) (c .to-on .ensures) (off-lines (c .before .before .before .before .before .before .before .before .before .before .before .before .before .before .before .before .before .before .before .before .before .before .before .before .before .before .before .side .result .verdict) (c .before .before .before .before .before .before .before .before .before .before .before .before .before .before .before .before .before .before .before .before .before .before .before .before .before .before .before .side .result .lines) (c .before .before .before .before .before .before .before .before .before .before .before .before .line-if .result) (c .before .before .before .before .before .before .before .before .before .before .before .before .line-if .ensures .0 .1) .1) (c .before .before .before .before .before .before .before .before .before .before .before .before .before .before .before .before .before .put-aside .ensures .0 ∙ c .before .before .before .before .before .before .before .before .before .before .before .before .before .before .before .before .before .before .before .before .before .before .before .before .before .before .before .side .ensures .1 .1 .0 .0) (c .before .before .before .before .before .before .before .before .before .before .before .before .before .before .before .before .before .before .before .before .before .before .before .before .before .before .before .before .before .before .before .before .before .before .before .before .before .before .before .before .pre .1 .2) in
-    (omega (arith, c .before .before .before .before .before .before .before .before .before .before .before .before .before .before .before .before .before .before .before .before .before .before .before .before .before .before .before .before .before .before .before .before .before .before .before .before .before .before .before .before .pre .0, falls-side (c .before .before .before .before .before .before .before .before .before .before .before .before .before .before .before .before .before .before .before .before .before .before .before .before .before .before .before .before .before .before .before .before .before .before .before .before .before .before .before .before .args .p) (c .before .before .before .before .before .before .before .before .before .before .before .before .before .before .before .before .before .before .before .before .before .before .before .before .before .before .before .before .before .before .before .before .before .before .before .before .before .before .before .before .pre .1 .3) (c .to-on .result) _ _ (c .to-on .ensures)), (c .before .before .before .before .before .before .before .before .before .before .before .before .before .before .before .before .before .before .before .before .before .before .before .before .before .before .before .before .before .before .before .before .before .before .before .before .before .before .before .before .pre .1 .0, c .before .before .before .before .before .before .before .before .before .before .before .before .before .before .before .before .before .before .before .before .before .before .before .before .before .before .before .side .ensures .1 .0 .1, sr .room, sr .after, c .before .before .before .before .before .before .before .before .before .before .before .before .before .before .before .before .before .before .before .before .before .before .before .before .before .before .before .side .ensures .0 .short, sr .own))
+    let sr = room-on (c .before .before .before .before .before .before .before .before .before .before .before .before .before .before .before .before .before .before .before .before .before .before .before .before .before .before .before .before .before .before .before .before .before .before .before .before .before .before .before .before .before .before .before .before .args .p) (c .before .before .before .before .before .before .before .before .before .before .before .before .before .before .before .before .before .before .before .before .before .before .before .before .before .before .before .before .before .before .before .before .before .before .before .before .before .before .before .before .before .before .before .before .pre .1 .3) (c .before .before .before .before .before .before .before .before .before .before .before .before .before .before .before .before .before .before .before .before .before .before .before .before .before .before .before .before .before .before .before .before .to-off .result) (c .before .before .before .before .before .before .before .before .before .before .before .before .before .before .before .before .before .before .before .before .before .before .before .before .before .before .before .before .before .before .before .before .to-off .ensures) (c .before .before .before .before .before .before .before .before .before .before .before .before .before .before .before .before .before .before .before .before .before .before .before .before .before .before .before .before .before .before .before .side .result) (c .before .before .before .before .before .before .before .before .before .before .before .before .before .before .before .before .before .before .before .before .before .before .before .before .before .before .before .before .before .before .before .side .ensures .0) (length (c .before .before .before .before .before .before .before .before .before .before .before .before .before .before .before .before .before .before .before .before .before .before .before .before .before .before .before .before .before .before .before .before .before .before .before .before .before .before .before .before .before .before .before .before .args .saved .now)) _ (c .before .before .before .before .before .before .before .before .before .before .before .before .line-if .result) (c .to-on .result) (c .to-on .ensures) (off-lines (c .before .before .before .before .before .before .before .before .before .before .before .before .before .before .before .before .before .before .before .before .before .before .before .before .before .before .before .before .before .before .before .side .result .verdict) (c .before .before .before .before .before .before .before .before .before .before .before .before .before .before .before .before .before .before .before .before .before .before .before .before .before .before .before .before .before .before .before .side .result .lines) (c .before .before .before .before .before .before .before .before .before .before .before .before .line-if .result) (c .before .before .before .before .before .before .before .before .before .before .before .before .line-if .ensures .0 .1) .1) (c .before .before .before .before .before .before .before .before .before .before .before .before .before .before .before .before .before .put-aside .ensures .0 ∙ c .before .before .before .before .before .before .before .before .before .before .before .before .before .before .before .before .before .before .before .before .before .before .before .before .before .before .before .before .before .before .before .side .ensures .1 .1 .0 .0) (c .before .before .before .before .before .before .before .before .before .before .before .before .before .before .before .before .before .before .before .before .before .before .before .before .before .before .before .before .before .before .before .before .before .before .before .before .before .before .before .before .before .before .before .before .pre .1 .2) in
+    (omega (arith, c .before .before .before .before .before .before .before .before .before .before .before .before .before .before .before .before .before .before .before .before .before .before .before .before .before .before .before .before .before .before .before .before .before .before .before .before .before .before .before .before .before .before .before .before .pre .0, falls-side (c .before .before .before .before .before .before .before .before .before .before .before .before .before .before .before .before .before .before .before .before .before .before .before .before .before .before .before .before .before .before .before .before .before .before .before .before .before .before .before .before .before .before .before .before .args .p) (c .before .before .before .before .before .before .before .before .before .before .before .before .before .before .before .before .before .before .before .before .before .before .before .before .before .before .before .before .before .before .before .before .before .before .before .before .before .before .before .before .before .before .before .before .pre .1 .3) (c .to-on .result) _ _ (c .to-on .ensures)), (c .before .before .before .before .before .before .before .before .before .before .before .before .before .before .before .before .before .before .before .before .before .before .before .before .before .before .before .before .before .before .before .before .before .before .before .before .before .before .before .before .before .before .before .before .pre .1 .0, c .before .before .before .before .before .before .before .before .before .before .before .before .before .before .before .before .before .before .before .before .before .before .before .before .before .before .before .before .before .before .before .side .ensures .1 .0 .1, sr .room, sr .after, c .before .before .before .before .before .before .before .before .before .before .before .before .before .before .before .before .before .before .before .before .before .before .before .before .before .before .before .before .before .before .before .side .ensures .0 .bounded .short, sr .own))
 
 free-finish-requires : (t : ℕ) → free-lts.Need-finish-requires (
   to-off-reads.Asked,
@@ -1033,6 +1193,8 @@ free-finish-requires : (t : ℕ) → free-lts.Need-finish-requires (
   side.Post,
   goes-up-reads.Asked,
   goes-up-reads.Learnt,
+  with-lines-reads.Asked,
+  with-lines-reads.Learnt,
   put-aside-reads.Asked,
   put-aside-reads.Learnt,
   line-if-reads.Asked,
@@ -1043,12 +1205,10 @@ free-finish-requires : (t : ℕ) → free-lts.Need-finish-requires (
   finish-reads.Learnt,
   settle-lines-reads.Asked,
   settle-lines-reads.Learnt,
-  with-lines-reads.Asked,
-  with-lines-reads.Learnt,
 ) (free-at t) free.Post
 free-finish-requires t c κs =
-    let small = newest-small (c .before .before .before .before .before .before .before .before .before .before .before .before .before .before .before .before .before .before .before .before .before .before .before .before .before .before .before .before .before .before .before .before .before .before .before .before .before .before .before .before .before .before .before .before .before .before .before .before .before .before .before .args .p) (c .before .before .before .before .before .before .before .before .before .before .before .before .before .before .before .before .before .before .before .before .before .before .before .before .before .before .before .before .before .before .before .before .before .before .before .before .before .before .before .before .before .before .before .before .before .before .before .before .before .before .before .pre .1 .3) (c .before .before .before .before .before .before .before .before .before .before .before .before .before .before .before .before .before .before .before .before .before .before .before .before .before .before .before .before .before .before .before .before .before .before .before .before .before .before .before .to-off .result) (c .before .before .before .before .before .before .before .before .before .before .before .before .before .before .before .before .before .before .before .before .before .before .before .before .before .before .before .before .before .before .before .before .before .before .before .before .before .before .before .to-off .ensures) (c .before .before .before .before .before .before .before .before .before .before .before .before .before .before .before .before .before .before .before .before .before .before .before .before .before .before .before .before .before .before .before .before .before .before .before .before .before .before .side .result) (c .before .before .before .before .before .before .before .before .before .before .before .before .before .before .before .before .before .before .before .before .before .before .before .before .before .before .before .before .before .before .before .before .before .before .before .before .before .before .side .ensures .0) (c .before .before .before .before .before .before .before .before .before .before .before .before .before .before .before .before .before .before .before .before .before .before .before .line-if .result) (c .before .before .before .before .before .before .before .before .before .before .before .to-on .result) (c .before .before .before .before .before .before .before .before .before .before .before .to-on .ensures) (c .before .before .before .before .before .before .before .before .before .before .side2 .result) (c .before .before .before .before .before .before .before .before .before .before .side2 .ensures .0) (length (c .before .before .before .before .before .before .before .before .before .before .before .before .before .before .before .before .before .before .before .before .before .before .before .before .before .before .before .before .before .before .before .before .before .before .before .before .before .before .before .before .before .before .before .before .before .before .before .before .before .before .before .args .saved .now)) (c .before .before .before .before .before .before .before .before .before .before .before .before .before .before .before .before .before .before .before .before .before .before .before .before .before .before .before .before .before .before .before .before .before .before .before .before .before .before .before .before .before .before .before .before .before .before .before .before .before .before .before .pre .1 .2) in
-    (c .before .before .before .before .before .before .before .before .before .before .before .before .before .before .before .before .before .before .before .before .before .before .before .before .before .before .before .before .before .before .before .before .before .before .before .before .before .before .side .ensures .0 .short, c .before .before .before .before .before .before .before .before .before .before .side2 .ensures .0 .short, omega (arith, c .before .before .before .before .before .before .before .before .before .before .before .before .before .before .before .before .before .before .before .before .before .before .before .before .before .before .before .before .before .before .before .before .before .before .before .before .before .before .side .ensures .0 .short, aside-room (c .before .before .before .before .before .before .before .before .before .before .before .before .before .before .before .before .before .before .before .before .before .before .before .before .before .before .before .before .before .before .before .before .before .before .before .before .before .before .before .before .before .before .before .before .before .before .before .before .before .before .before .args .p) (c .before .before .before .before .before .before .before .before .before .before .before .before .before .before .before .before .before .before .before .before .before .before .before .before .before .before .before .before .before .before .before .before .before .before .before .before .before .before .before .before .before .before .before .before .before .before .before .before .before .before .before .pre .1 .3) (length (c .before .before .before .before .before .before .before .before .before .before .before .before .before .before .before .before .before .before .before .before .before .before .before .before .before .before .before .before .before .before .before .before .before .before .before .before .before .before .before .before .before .before .before .before .before .before .before .before .before .before .before .args .saved .now)) (c .before .before .before .before .before .before .before .before .before .before .before .before .before .before .before .before .before .before .before .before .before .before .before .before .before .before .before .before .before .before .before .before .before .before .before .before .before .before .before .before .before .before .before .before .before .before .before .before .before .before .before .pre .1 .2), c .before .before .before .before .before .before .before .before .before .before .side2 .ensures .1 .1 .0 .0, c .before .before .before .before .before .before .before .before .before .before .before .before .before .before .before .before .before .before .before .before .before .before .before .before .before .before .before .before .put-aside .ensures .0, c .before .before .before .before .before .before .before .before .before .before .before .before .before .before .before .before .before .before .before .before .before .before .before .before .before .before .before .before .before .before .before .before .before .before .before .before .before .before .side .ensures .1 .1 .0 .0), omega (arith, c .before .before .before .before .before .before .before .before .before .before .before .before .before .before .before .before .before .before .before .before .before .before .before .before .before .before .before .before .before .before .before .before .before .before .before .before .before .before .before .before .before .before .before .before .before .before .before .before .before .before .before .pre .1 .3), c .before .before .before .before .before .before .before .before .before .before .side2 .ensures .1 .0 .1, small .0, small .1)
+    let small = newest-small (c .before .before .before .before .before .before .before .before .before .before .before .before .before .before .before .before .before .before .before .before .before .before .before .before .before .before .before .before .before .before .before .before .before .before .before .before .before .before .before .before .before .before .before .before .before .before .before .before .before .before .before .before .before .before .before .args .p) (c .before .before .before .before .before .before .before .before .before .before .before .before .before .before .before .before .before .before .before .before .before .before .before .before .before .before .before .before .before .before .before .before .before .before .before .before .before .before .before .before .before .before .before .before .before .before .before .before .before .before .before .before .before .before .before .pre .1 .3) (c .before .before .before .before .before .before .before .before .before .before .before .before .before .before .before .before .before .before .before .before .before .before .before .before .before .before .before .before .before .before .before .before .before .before .before .before .before .before .before .before .before .before .before .to-off .result) (c .before .before .before .before .before .before .before .before .before .before .before .before .before .before .before .before .before .before .before .before .before .before .before .before .before .before .before .before .before .before .before .before .before .before .before .before .before .before .before .before .before .before .before .to-off .ensures) (c .before .before .before .before .before .before .before .before .before .before .before .before .before .before .before .before .before .before .before .before .before .before .before .before .before .before .before .before .before .before .before .before .before .before .before .before .before .before .before .before .before .before .side .result) (c .before .before .before .before .before .before .before .before .before .before .before .before .before .before .before .before .before .before .before .before .before .before .before .before .before .before .before .before .before .before .before .before .before .before .before .before .before .before .before .before .before .before .side .ensures .0) (c .before .before .before .before .before .before .before .before .before .before .before .before .before .before .before .before .before .before .before .before .before .before .before .line-if .result) (c .before .before .before .before .before .before .before .before .before .before .before .to-on .result) (c .before .before .before .before .before .before .before .before .before .before .before .to-on .ensures) (c .before .before .before .before .before .before .before .before .before .before .side2 .result) (c .before .before .before .before .before .before .before .before .before .before .side2 .ensures .0) (length (c .before .before .before .before .before .before .before .before .before .before .before .before .before .before .before .before .before .before .before .before .before .before .before .before .before .before .before .before .before .before .before .before .before .before .before .before .before .before .before .before .before .before .before .before .before .before .before .before .before .before .before .before .before .before .before .args .saved .now)) (c .before .before .before .before .before .before .before .before .before .before .before .before .before .before .before .before .before .before .before .before .before .before .before .before .before .before .before .before .before .before .before .before .before .before .before .before .before .before .before .before .before .before .before .before .before .before .before .before .before .before .before .before .before .before .before .pre .1 .2) in
+    (c .before .before .before .before .before .before .before .before .before .before .before .before .before .before .before .before .before .before .before .before .before .before .before .before .before .before .before .before .before .before .before .before .before .before .before .before .before .before .before .before .before .before .side .ensures .0 .bounded .short, c .before .before .before .before .before .before .before .before .before .before .side2 .ensures .0 .bounded, omega (arith, c .before .before .before .before .before .before .before .before .before .before .before .before .before .before .before .before .before .before .before .before .before .before .before .before .before .before .before .before .before .before .before .before .before .before .before .before .before .before .before .before .before .before .side .ensures .0 .bounded .short, aside-room (c .before .before .before .before .before .before .before .before .before .before .before .before .before .before .before .before .before .before .before .before .before .before .before .before .before .before .before .before .before .before .before .before .before .before .before .before .before .before .before .before .before .before .before .before .before .before .before .before .before .before .before .before .before .before .before .args .p) (c .before .before .before .before .before .before .before .before .before .before .before .before .before .before .before .before .before .before .before .before .before .before .before .before .before .before .before .before .before .before .before .before .before .before .before .before .before .before .before .before .before .before .before .before .before .before .before .before .before .before .before .before .before .before .before .pre .1 .3) (length (c .before .before .before .before .before .before .before .before .before .before .before .before .before .before .before .before .before .before .before .before .before .before .before .before .before .before .before .before .before .before .before .before .before .before .before .before .before .before .before .before .before .before .before .before .before .before .before .before .before .before .before .before .before .before .before .args .saved .now)) (c .before .before .before .before .before .before .before .before .before .before .before .before .before .before .before .before .before .before .before .before .before .before .before .before .before .before .before .before .before .before .before .before .before .before .before .before .before .before .before .before .before .before .before .before .before .before .before .before .before .before .before .before .before .before .before .pre .1 .2), c .before .before .before .before .before .before .before .before .before .before .side2 .ensures .1 .1 .0 .0, c .before .before .before .before .before .before .before .before .before .before .before .before .before .before .before .before .before .before .before .before .before .before .before .before .before .before .before .before .put-aside .ensures .0, c .before .before .before .before .before .before .before .before .before .before .before .before .before .before .before .before .before .before .before .before .before .before .before .before .before .before .before .before .before .before .before .before .before .before .before .before .before .before .before .before .before .before .side .ensures .1 .1 .0 .0), omega (arith, c .before .before .before .before .before .before .before .before .before .before .before .before .before .before .before .before .before .before .before .before .before .before .before .before .before .before .before .before .before .before .before .before .before .before .before .before .before .before .before .before .before .before .before .before .before .before .before .before .before .before .before .before .before .before .before .pre .1 .3), c .before .before .before .before .before .before .before .before .before .before .side2 .ensures .1 .0 .1, small .0, small .1)
 
 free-settle-lines-requires : (t : ℕ) → free-lts.Need-settle-lines-requires (
   to-off-reads.Asked,
@@ -1057,6 +1217,8 @@ free-settle-lines-requires : (t : ℕ) → free-lts.Need-settle-lines-requires (
   side.Post,
   goes-up-reads.Asked,
   goes-up-reads.Learnt,
+  with-lines-reads.Asked,
+  with-lines-reads.Learnt,
   put-aside-reads.Asked,
   put-aside-reads.Learnt,
   line-if-reads.Asked,
@@ -1067,22 +1229,22 @@ free-settle-lines-requires : (t : ℕ) → free-lts.Need-settle-lines-requires (
   finish-reads.Learnt,
   settle-lines-reads.Asked,
   settle-lines-reads.Learnt,
-  with-lines-reads.Asked,
-  with-lines-reads.Learnt,
 ) (free-at t) free.Post
 free-settle-lines-requires t c κs = (
-  c .before .before .before .before .before .before .before .before .before .before .before .before .before .before .before .before .before .before .before .before .before .before .before .before .before .before .before .before .before .before .before .before .before .before .before .before .before .before .before .before .before .before .before .before .before .before .before .before .before .before .before .before .before .before .pre .1 .2 .free,
-  on-lines-small (c .before .before .before .before .before .before .before .before .before .before .before .before .before .before .before .before .before .before .before .before .before .before .before .before .before .before .before .before .before .before .before .before .before .before .before .before .before .before .before .before .before .before .before .before .before .before .before .before .before .before .before .before .before .before .args .p) (c .before .before .before .before .before .before .before .before .before .before .before .before .before .before .before .before .before .before .before .before .before .before .before .before .before .before .before .before .before .before .before .before .before .before .before .before .before .before .before .before .before .before .before .before .before .before .before .before .before .before .before .before .before .before .pre .1 .3) (c .before .before .before .before .before .before .before .before .before .before .before .before .before .before .before .before .before .before .before .before .before .before .before .before .before .before .before .before .before .before .before .before .before .before .before .before .before .before .before .before .before .before .to-off .result) (c .before .before .before .before .before .before .before .before .before .before .before .before .before .before .before .before .before .before .before .before .before .before .before .before .before .before .before .before .before .before .before .before .before .before .before .before .before .before .before .before .before .before .to-off .ensures) (c .before .before .before .before .before .before .before .before .before .before .before .before .before .before .before .before .before .before .before .before .before .before .before .before .before .before .before .before .before .before .before .before .before .before .before .before .before .before .before .before .before .side .result) (c .before .before .before .before .before .before .before .before .before .before .before .before .before .before .before .before .before .before .before .before .before .before .before .before .before .before .before .before .before .before .before .before .before .before .before .before .before .before .before .before .before .side .ensures .0) (c .before .before .before .before .before .before .before .before .before .before .before .before .before .before .before .before .before .before .before .before .before .before .before .before .before .before .line-if .result) (c .before .before .before .before .before .before .before .before .before .before .before .before .before .before .to-on .result) (c .before .before .before .before .before .before .before .before .before .before .before .before .before .before .to-on .ensures) (c .before .before .before .before .before .before .before .before .before .before .before .before .before .side2 .result) (c .before .before .before .before .before .before .before .before .before .before .before .before .before .side2 .ensures .0) (c .before .before .before .before .before .before .before .before .before .before .before .before .before .before .before .before .before .before .before .before .before .before .before .before .before .before .line-if .ensures .0 .1) (length (c .before .before .before .before .before .before .before .before .before .before .before .before .before .before .before .before .before .before .before .before .before .before .before .before .before .before .before .before .before .before .before .before .before .before .before .before .before .before .before .before .before .before .before .before .before .before .before .before .before .before .before .before .before .before .args .saved .now)) (c .before .before .before .before .before .before .before .before .before .before .before .before .before .before .before .before .before .before .before .before .before .before .before .before .before .before .before .before .before .before .before .before .before .before .before .before .before .before .before .before .before .before .before .before .before .before .before .before .before .before .before .before .before .before .pre .1 .2),
-  on-lines-one (c .before .before .before .before .before .before .before .before .before .before .before .before .before .before .before .before .before .before .before .before .before .before .before .before .before .before .before .before .before .before .before .before .before .before .before .before .before .before .before .before .before .before .before .before .before .before .before .before .before .before .before .before .before .before .args .p) (c .before .before .before .before .before .before .before .before .before .before .before .before .before .before .before .before .before .before .before .before .before .before .before .before .before .before .before .before .before .before .before .before .before .before .before .before .before .before .before .before .before .before .before .before .before .before .before .before .before .before .before .before .before .before .pre .1 .3) (c .before .before .before .before .before .before .before .before .before .before .before .before .before .before .before .before .before .before .before .before .before .before .before .before .before .before .before .before .before .before .before .before .before .before .before .before .before .before .before .before .before .before .to-off .result) (c .before .before .before .before .before .before .before .before .before .before .before .before .before .before .before .before .before .before .before .before .before .before .before .before .before .before .before .before .before .before .before .before .before .before .before .before .before .before .before .before .before .before .to-off .ensures) (c .before .before .before .before .before .before .before .before .before .before .before .before .before .before .before .before .before .before .before .before .before .before .before .before .before .before .before .before .before .before .before .before .before .before .before .before .before .before .before .before .before .side .result) (c .before .before .before .before .before .before .before .before .before .before .before .before .before .before .before .before .before .before .before .before .before .before .before .before .before .before .before .before .before .before .before .before .before .before .before .before .before .before .before .before .before .side .ensures .0) (c .before .before .before .before .before .before .before .before .before .before .before .before .before .before .before .before .before .before .before .before .before .before .before .before .before .before .line-if .result) (c .before .before .before .before .before .before .before .before .before .before .before .before .before .before .to-on .result) (c .before .before .before .before .before .before .before .before .before .before .before .before .before .before .to-on .ensures) (c .before .before .before .before .before .before .before .before .before .before .before .before .before .side2 .result) (c .before .before .before .before .before .before .before .before .before .before .before .before .before .side2 .ensures .0) (c .before .before .before .before .before .before .before .before .before .before .before .before .before .before .before .before .before .before .before .before .before .before .before .before .before .before .line-if .ensures .0 .1),
+  c .before .before .before .before .before .before .before .before .before .before .before .before .before .before .before .before .before .before .before .before .before .before .before .before .before .before .before .before .before .before .before .before .before .before .before .before .before .before .before .before .before .before .before .before .before .before .before .before .before .before .before .before .before .before .before .before .before .before .pre .1 .2 .free,
+  on-lines-small (c .before .before .before .before .before .before .before .before .before .before .before .before .before .before .before .before .before .before .before .before .before .before .before .before .before .before .before .before .before .before .before .before .before .before .before .before .before .before .before .before .before .before .before .before .before .before .before .before .before .before .before .before .before .before .before .before .before .before .args .p) (c .before .before .before .before .before .before .before .before .before .before .before .before .before .before .before .before .before .before .before .before .before .before .before .before .before .before .before .before .before .before .before .before .before .before .before .before .before .before .before .before .before .before .before .before .before .before .before .before .before .before .before .before .before .before .before .before .before .before .pre .1 .3) (c .before .before .before .before .before .before .before .before .before .before .before .before .before .before .before .before .before .before .before .before .before .before .before .before .before .before .before .before .before .before .before .before .before .before .before .before .before .before .before .before .before .before .before .before .before .before .to-off .result) (c .before .before .before .before .before .before .before .before .before .before .before .before .before .before .before .before .before .before .before .before .before .before .before .before .before .before .before .before .before .before .before .before .before .before .before .before .before .before .before .before .before .before .before .before .before .before .to-off .ensures) (c .before .before .before .before .before .before .before .before .before .before .before .before .before .before .before .before .before .before .before .before .before .before .before .before .before .before .before .before .before .before .before .before .before .before .before .before .before .before .before .before .before .before .before .before .before .side .result) (c .before .before .before .before .before .before .before .before .before .before .before .before .before .before .before .before .before .before .before .before .before .before .before .before .before .before .before .before .before .before .before .before .before .before .before .before .before .before .before .before .before .before .before .before .before .side .ensures .0) (c .before .before .before .before .before .before .before .before .before .before .before .before .before .before .before .before .before .before .before .before .before .before .before .before .before .before .line-if .result) (c .before .before .before .before .before .before .before .before .before .before .before .before .before .before .to-on .result) (c .before .before .before .before .before .before .before .before .before .before .before .before .before .before .to-on .ensures) (c .before .before .before .before .before .before .before .before .before .before .before .before .before .side2 .result) (c .before .before .before .before .before .before .before .before .before .before .before .before .before .side2 .ensures .0) (c .before .before .before .before .before .before .before .before .before .before .before .before .before .before .before .before .before .before .before .before .before .before .before .before .before .before .line-if .ensures .0 .1) (length (c .before .before .before .before .before .before .before .before .before .before .before .before .before .before .before .before .before .before .before .before .before .before .before .before .before .before .before .before .before .before .before .before .before .before .before .before .before .before .before .before .before .before .before .before .before .before .before .before .before .before .before .before .before .before .before .before .before .before .args .saved .now)) (c .before .before .before .before .before .before .before .before .before .before .before .before .before .before .before .before .before .before .before .before .before .before .before .before .before .before .before .before .before .before .before .before .before .before .before .before .before .before .before .before .before .before .before .before .before .before .before .before .before .before .before .before .before .before .before .before .before .before .pre .1 .2),
+  on-lines-one (c .before .before .before .before .before .before .before .before .before .before .before .before .before .before .before .before .before .before .before .before .before .before .before .before .before .before .before .before .before .before .before .before .before .before .before .before .before .before .before .before .before .before .before .before .before .before .before .before .before .before .before .before .before .before .before .before .before .before .args .p) (c .before .before .before .before .before .before .before .before .before .before .before .before .before .before .before .before .before .before .before .before .before .before .before .before .before .before .before .before .before .before .before .before .before .before .before .before .before .before .before .before .before .before .before .before .before .before .before .before .before .before .before .before .before .before .before .before .before .before .pre .1 .3) (c .before .before .before .before .before .before .before .before .before .before .before .before .before .before .before .before .before .before .before .before .before .before .before .before .before .before .before .before .before .before .before .before .before .before .before .before .before .before .before .before .before .before .before .before .before .before .to-off .result) (c .before .before .before .before .before .before .before .before .before .before .before .before .before .before .before .before .before .before .before .before .before .before .before .before .before .before .before .before .before .before .before .before .before .before .before .before .before .before .before .before .before .before .before .before .before .before .to-off .ensures) (c .before .before .before .before .before .before .before .before .before .before .before .before .before .before .before .before .before .before .before .before .before .before .before .before .before .before .before .before .before .before .before .before .before .before .before .before .before .before .before .before .before .before .before .before .before .side .result) (c .before .before .before .before .before .before .before .before .before .before .before .before .before .before .before .before .before .before .before .before .before .before .before .before .before .before .before .before .before .before .before .before .before .before .before .before .before .before .before .before .before .before .before .before .before .side .ensures .0) (c .before .before .before .before .before .before .before .before .before .before .before .before .before .before .before .before .before .before .before .before .before .before .before .before .before .before .line-if .result) (c .before .before .before .before .before .before .before .before .before .before .before .before .before .before .to-on .result) (c .before .before .before .before .before .before .before .before .before .before .before .before .before .before .to-on .ensures) (c .before .before .before .before .before .before .before .before .before .before .before .before .before .side2 .result) (c .before .before .before .before .before .before .before .before .before .before .before .before .before .side2 .ensures .0) (c .before .before .before .before .before .before .before .before .before .before .before .before .before .before .before .before .before .before .before .before .before .before .before .before .before .before .line-if .ensures .0 .1),
 )
 
-free-with-lines-requires : (t : ℕ) → free-lts.Need-with-lines-requires (
+free-with-lines-requires-2 : (t : ℕ) → free-lts.Need-with-lines-requires-2 (
   to-off-reads.Asked,
   to-off-reads.Learnt,
   side-below t,
   side.Post,
   goes-up-reads.Asked,
   goes-up-reads.Learnt,
+  with-lines-reads.Asked,
+  with-lines-reads.Learnt,
   put-aside-reads.Asked,
   put-aside-reads.Learnt,
   line-if-reads.Asked,
@@ -1093,10 +1255,8 @@ free-with-lines-requires : (t : ℕ) → free-lts.Need-with-lines-requires (
   finish-reads.Learnt,
   settle-lines-reads.Asked,
   settle-lines-reads.Learnt,
-  with-lines-reads.Asked,
-  with-lines-reads.Learnt,
 ) (free-at t) free.Post
-free-with-lines-requires t c κs = search needs
+free-with-lines-requires-2 t c κs = search needs
 
 free-same-length-3 : (t : ℕ) → free-lts.Need-same-length-3 (
   to-off-reads.Asked,
@@ -1105,6 +1265,8 @@ free-same-length-3 : (t : ℕ) → free-lts.Need-same-length-3 (
   side.Post,
   goes-up-reads.Asked,
   goes-up-reads.Learnt,
+  with-lines-reads.Asked,
+  with-lines-reads.Learnt,
   put-aside-reads.Asked,
   put-aside-reads.Learnt,
   line-if-reads.Asked,
@@ -1115,10 +1277,8 @@ free-same-length-3 : (t : ℕ) → free-lts.Need-same-length-3 (
   finish-reads.Learnt,
   settle-lines-reads.Asked,
   settle-lines-reads.Learnt,
-  with-lines-reads.Asked,
-  with-lines-reads.Learnt,
 ) (free-at t) free.Post
-free-same-length-3 t c = c .before .before .before .before .before .before .before .before .before .before .before .before .before .before .before .before .before .side2 .ensures .1 .1 .0 .0 ∙ c .before .before .before .before .before .before .before .before .before .before .before .before .before .before .before .before .before .before .before .before .before .before .before .before .before .before .before .before .before .before .before .before .before .before .before .put-aside .ensures .0 ∙ c .before .before .before .before .before .before .before .before .before .before .before .before .before .before .before .before .before .before .before .before .before .before .before .before .before .before .before .before .before .before .before .before .before .before .before .before .before .before .before .before .before .before .before .before .before .side .ensures .1 .1 .0 .0
+free-same-length-3 t c = c .before .before .before .before .before .before .before .before .before .before .before .before .before .before .before .before .before .side2 .ensures .1 .1 .0 .0 ∙ c .before .before .before .before .before .before .before .before .before .before .before .before .before .before .before .before .before .before .before .before .before .before .before .before .before .before .before .before .before .before .before .before .before .before .before .put-aside .ensures .0 ∙ c .before .before .before .before .before .before .before .before .before .before .before .before .before .before .before .before .before .before .before .before .before .before .before .before .before .before .before .before .before .before .before .before .before .before .before .before .before .before .before .before .before .before .before .before .before .before .before .before .before .side .ensures .1 .1 .0 .0
 
 free-same-length-4 : (t : ℕ) → free-lts.Need-same-length-4 (
   to-off-reads.Asked,
@@ -1127,6 +1287,8 @@ free-same-length-4 : (t : ℕ) → free-lts.Need-same-length-4 (
   side.Post,
   goes-up-reads.Asked,
   goes-up-reads.Learnt,
+  with-lines-reads.Asked,
+  with-lines-reads.Learnt,
   put-aside-reads.Asked,
   put-aside-reads.Learnt,
   line-if-reads.Asked,
@@ -1137,10 +1299,8 @@ free-same-length-4 : (t : ℕ) → free-lts.Need-same-length-4 (
   finish-reads.Learnt,
   settle-lines-reads.Asked,
   settle-lines-reads.Learnt,
-  with-lines-reads.Asked,
-  with-lines-reads.Learnt,
 ) (free-at t) free.Post
-free-same-length-4 t c = c .before .before .before .settle-lines .ensures .0 .0 ∙ c .before .before .before .before .before .before .before .before .before .before .before .before .before .before .before .before .before .side2 .ensures .1 .0 .0 .size ∙ c .before .before .before .before .before .before .before .before .before .before .before .before .before .before .before .before .before .before .before .before .before .before .before .before .before .before .before .before .before .before .line-if .ensures .0 .0 ∙ c .before .before .before .before .before .before .before .before .before .before .before .before .before .before .before .before .before .before .before .before .before .before .before .before .before .before .before .before .before .before .before .before .before .before .before .before .before .before .before .before .before .before .before .before .before .side .ensures .1 .0 .0 .size
+free-same-length-4 t c = c .before .before .before .settle-lines .ensures .0 .0 ∙ c .before .before .before .before .before .before .before .before .before .before .before .before .before .before .before .before .before .side2 .ensures .1 .0 .0 .size ∙ c .before .before .before .before .before .before .before .before .before .before .before .before .before .before .before .before .before .before .before .before .before .before .before .before .before .before .before .before .before .before .line-if .ensures .0 .0 ∙ c .before .before .before .before .before .before .before .before .before .before .before .before .before .before .before .before .before .before .before .before .before .before .before .before .before .before .before .before .before .before .before .before .before .before .before .before .before .before .before .before .before .before .before .before .before .before .before .before .before .side .ensures .1 .0 .0 .size
 
 free-returns-2 : (t : ℕ) → free-lts.Need-returns-2 (
   to-off-reads.Asked,
@@ -1149,6 +1309,8 @@ free-returns-2 : (t : ℕ) → free-lts.Need-returns-2 (
   side.Post,
   goes-up-reads.Asked,
   goes-up-reads.Learnt,
+  with-lines-reads.Asked,
+  with-lines-reads.Learnt,
   put-aside-reads.Asked,
   put-aside-reads.Learnt,
   line-if-reads.Asked,
@@ -1159,17 +1321,15 @@ free-returns-2 : (t : ℕ) → free-lts.Need-returns-2 (
   finish-reads.Learnt,
   settle-lines-reads.Asked,
   settle-lines-reads.Learnt,
-  with-lines-reads.Asked,
-  with-lines-reads.Learnt,
 ) (free-at t) free.Post
 free-returns-2 t c = (
-  counts-free (c .before .before .before .before .before .before .before .before .before .before .before .before .before .before .before .before .before .before .before .before .before .before .before .before .before .before .before .before .before .before .before .before .before .before .before .before .before .before .before .before .before .before .before .before .before .before .before .before .before .before .before .before .before .before .before .before .before .before .args .p) (c .before .before .before .before .before .before .before .before .before .before .before .before .before .before .before .before .before .before .before .before .before .before .before .before .before .before .before .before .before .before .before .before .before .before .before .before .before .before .before .before .before .before .before .before .before .before .before .before .before .before .before .before .before .before .before .before .before .before .pre .1 .3) (c .before .before .before .before .before .before .before .before .before .before .before .before .before .before .before .before .before .before .before .before .before .before .before .before .before .before .before .before .before .before .before .before .before .before .before .before .before .before .before .before .before .before .before .before .before .before .to-off .result) (c .before .before .before .before .before .before .before .before .before .before .before .before .before .before .before .before .before .before .before .before .before .before .before .before .before .before .before .before .before .before .before .before .before .before .before .before .before .before .before .before .before .before .before .before .before .before .to-off .ensures) (c .before .before .before .before .before .before .before .before .before .before .before .before .before .before .before .before .before .before .before .before .before .before .before .before .before .before .before .before .before .before .before .before .before .before .before .before .before .before .before .before .before .before .before .before .before .side .result) (c .before .before .before .before .before .before .before .before .before .before .before .before .before .before .before .before .before .before .before .before .before .before .before .before .before .before .before .before .before .before .before .before .before .before .before .before .before .before .before .before .before .before .before .before .before .side .ensures .0) (c .before .before .before .before .before .before .before .before .before .before .before .before .before .before .before .before .before .before .before .before .before .before .before .before .before .before .before .before .before .before .line-if .result) (c .before .before .before .before .before .before .before .before .before .before .before .before .before .before .before .before .before .before .to-on .result) (c .before .before .before .before .before .before .before .before .before .before .before .before .before .before .before .before .before .before .to-on .ensures) (c .before .before .before .before .before .before .before .before .before .before .before .before .before .before .before .before .before .side2 .result) (c .before .before .before .before .before .before .before .before .before .before .before .before .before .before .before .before .before .side2 .ensures .0) (c .before .before .before .before .before .before .before .before .before .before .before .before .before .before .before .before .before .before .before .before .before .before .before .before .before .before .before .before .before .before .line-if .ensures .0 .1) (c .before .before .before .before .before .before .finish .result) (c .before .before .before .before .before .before .finish .ensures .0 .0) (c .before .before .before .before .before .before .finish .ensures .0 .2) (c .before .before .before .settle-lines .result) (c .before .before .before .settle-lines .ensures .0 .1) (c .with-lines .result) (c .with-lines .ensures),
+  counts-free (c .before .before .before .before .before .before .before .before .before .before .before .before .before .before .before .before .before .before .before .before .before .before .before .before .before .before .before .before .before .before .before .before .before .before .before .before .before .before .before .before .before .before .before .before .before .before .before .before .before .before .before .before .before .before .before .before .before .before .before .before .before .before .args .p) (c .before .before .before .before .before .before .before .before .before .before .before .before .before .before .before .before .before .before .before .before .before .before .before .before .before .before .before .before .before .before .before .before .before .before .before .before .before .before .before .before .before .before .before .before .before .before .before .before .before .before .before .before .before .before .before .before .before .before .before .before .before .before .pre .1 .3) (c .before .before .before .before .before .before .before .before .before .before .before .before .before .before .before .before .before .before .before .before .before .before .before .before .before .before .before .before .before .before .before .before .before .before .before .before .before .before .before .before .before .before .before .before .before .before .before .before .before .before .to-off .result) (c .before .before .before .before .before .before .before .before .before .before .before .before .before .before .before .before .before .before .before .before .before .before .before .before .before .before .before .before .before .before .before .before .before .before .before .before .before .before .before .before .before .before .before .before .before .before .before .before .before .before .to-off .ensures) (c .before .before .before .before .before .before .before .before .before .before .before .before .before .before .before .before .before .before .before .before .before .before .before .before .before .before .before .before .before .before .before .before .before .before .before .before .before .before .before .before .before .before .before .before .before .before .before .before .before .side .result) (c .before .before .before .before .before .before .before .before .before .before .before .before .before .before .before .before .before .before .before .before .before .before .before .before .before .before .before .before .before .before .before .before .before .before .before .before .before .before .before .before .before .before .before .before .before .before .before .before .before .side .ensures .0) (c .before .before .before .before .before .before .before .before .before .before .before .before .before .before .before .before .before .before .before .before .before .before .before .before .before .before .before .before .before .before .line-if .result) (c .before .before .before .before .before .before .before .before .before .before .before .before .before .before .before .before .before .before .to-on .result) (c .before .before .before .before .before .before .before .before .before .before .before .before .before .before .before .before .before .before .to-on .ensures) (c .before .before .before .before .before .before .before .before .before .before .before .before .before .before .before .before .before .side2 .result) (c .before .before .before .before .before .before .before .before .before .before .before .before .before .before .before .before .before .side2 .ensures .0) (c .before .before .before .before .before .before .before .before .before .before .before .before .before .before .before .before .before .before .before .before .before .before .before .before .before .before .before .before .before .before .line-if .ensures .0 .1) (c .before .before .before .before .before .before .finish .result) (c .before .before .before .before .before .before .finish .ensures .0 .0) (c .before .before .before .before .before .before .finish .ensures .0 .2) (c .before .before .before .settle-lines .result) (c .before .before .before .settle-lines .ensures .0 .1) (c .with-lines2 .result) (c .with-lines2 .ensures),
   (
-    (kept-both (c .before .before .before .before .before .before .before .before .before .before .before .before .before .before .before .before .before .before .before .before .before .before .before .before .before .before .before .before .before .before .before .before .before .before .before .before .before .before .before .before .before .before .before .before .before .before .before .before .before .before .before .before .before .before .before .before .before .before .args .p) (c .before .before .before .before .before .before .before .before .before .before .before .before .before .before .before .before .before .before .before .before .before .before .before .before .before .before .before .before .before .before .before .before .before .before .before .before .before .before .before .before .before .before .before .before .before .before .to-off .result) (c .before .before .before .before .before .before .before .before .before .before .before .before .before .before .before .before .before .before .to-on .result) _ _ _ _ (c .before .before .before .before .before .before .before .before .before .before .before .before .before .before .before .before .before .before .before .before .before .before .before .before .before .before .before .before .before .before .before .before .before .before .before .before .before .before .before .before .before .before .before .before .before .before .to-off .ensures) (c .before .before .before .before .before .before .before .before .before .before .before .before .before .before .before .before .before .before .to-on .ensures) (c .before .before .before .before .before .before .before .before .before .before .before .before .before .before .before .before .before .before .before .before .before .before .before .before .before .before .before .before .before .before .before .before .before .before .before .before .before .before .before .before .before .before .before .before .before .side .ensures .1 .0 .0) (c .before .before .before .before .before .before .before .before .before .before .before .before .before .before .before .before .before .before .before .before .before .before .before .before .before .before .before .before .before .before .line-if .ensures .0 .0) (c .before .before .before .before .before .before .before .before .before .before .before .before .before .before .before .before .before .side2 .ensures .1 .0 .0) (c .before .before .before .settle-lines .ensures .0 .0), c .before .before .before .before .before .before .finish .ensures .0 .1),
-    (λ D s ls R st task alive inside is. result-as (sym (c .with-lines .ensures))
-        (free-result (c .before .before .before .before .before .before .before .before .before .before .before .before .before .before .before .before .before .before .before .before .before .before .before .before .before .before .before .before .before .before .before .before .before .before .before .before .before .before .before .before .before .before .before .before .before .before .before .before .before .before .before .before .before .before .before .before .before .before .args .p) (c .before .before .before .before .before .before .before .before .before .before .before .before .before .before .before .before .before .before .before .before .before .before .before .before .before .before .before .before .before .before .before .before .before .before .before .before .before .before .before .before .before .before .before .before .before .before .to-off .result) (c .before .before .before .before .before .before .before .before .before .before .before .before .before .before .before .before .before .before .before .before .before .before .before .before .before .before .before .before .before .before .before .before .before .before .before .before .before .before .before .before .before .before .before .before .before .before .to-off .ensures) (c .before .before .before .before .before .before .before .before .before .before .before .before .before .before .before .before .before .before .before .before .before .before .before .before .before .before .before .before .before .before .before .before .before .before .before .before .before .before .before .before .before .before .before .before .before .side .result) (c .before .before .before .before .before .before .before .before .before .before .before .before .before .before .before .before .before .before .before .before .before .before .before .before .before .before .before .before .before .before .before .before .before .before .before .before .before .before .before .before .before .before .before .before .before .side .ensures .1 .1 .1) (c .before .before .before .before .before .before .before .before .before .before .before .before .before .before .before .before .before .before .before .before .before .before .before .before .before .before .before .before .before .before .before .before .before .before .before .before .before .before .before .goes-up .result) (c .before .before .before .before .before .before .before .before .before .before .before .before .before .before .before .before .before .before .before .before .before .before .before .before .before .before .before .before .before .before .before .before .before .before .before .before .before .before .before .goes-up .ensures)
-        (c .before .before .before .before .before .before .before .before .before .before .before .before .before .before .before .before .before .before .before .before .before .before .before .before .before .before .before .before .before .before .before .before .before .before .before .before .before .before .before .before .before .before .before .before .before .side .ensures .1 .0 .0) (c .before .before .before .before .before .before .before .before .before .before .before .before .before .before .before .before .before .before .before .before .before .before .before .before .before .before .before .before .before .before .line-if .result) (c .before .before .before .before .before .before .before .before .before .before .before .before .before .before .before .before .before .before .before .before .before .before .before .before .before .before .before .before .before .before .line-if .ensures .0 .1) (c .before .before .before .before .before .before .before .before .before .before .before .before .before .before .before .before .before .before .before .before .before .before .before .before .before .before .before .before .before .before .line-if .ensures .1) (c .before .before .before .before .before .before .before .before .before .before .before .before .before .before .before .before .before .before .to-on .result) (c .before .before .before .before .before .before .before .before .before .before .before .before .before .before .before .before .before .before .to-on .ensures) (c .before .before .before .before .before .before .before .before .before .before .before .before .before .before .before .before .before .side2 .result) (c .before .before .before .before .before .before .before .before .before .before .before .before .before .before .before .before .before .side2 .ensures .1 .1 .1) _ (c .before .before .before .before .before .before .before .before .before .before .before .before .before .before .before .before .before .side2 .ensures .1 .1 .0 .1 ∙ c .before .before .before .before .before .before .before .before .before .before .before .before .before .before .before .before .before .before .before .before .before .before .before .before .before .before .before .before .before .before .before .before .before .before .before .put-aside .ensures .1) (c .before .before .before .before .before .before .finish .result)
-        (c .before .before .before .before .before .before .finish .ensures .1) (c .before .before .before .before .before .before .before .before .before .before .before .before .before .before .before .before .before .before .before .before .before .before .before .before .before .before .before .before .before .before .before .before .before .before .before .before .before .before .if1 .left) (c .before .before .before .before .before .before .finish .ensures .0 .0 .visits) (c .before .before .before .before .before .before .before .before .before .before .before .before .before .before .before .before .before .side2 .ensures .1 .0 .0) _ (c .before .before .before .settle-lines .result) (c .before .before .before .settle-lines .ensures .0 .1) (c .before .before .before .settle-lines .ensures .1) D s ls R st task alive inside is)),
+    (kept-both (c .before .before .before .before .before .before .before .before .before .before .before .before .before .before .before .before .before .before .before .before .before .before .before .before .before .before .before .before .before .before .before .before .before .before .before .before .before .before .before .before .before .before .before .before .before .before .before .before .before .before .before .before .before .before .before .before .before .before .before .before .before .before .args .p) (c .before .before .before .before .before .before .before .before .before .before .before .before .before .before .before .before .before .before .before .before .before .before .before .before .before .before .before .before .before .before .before .before .before .before .before .before .before .before .before .before .before .before .before .before .before .before .before .before .before .before .to-off .result) (c .before .before .before .before .before .before .before .before .before .before .before .before .before .before .before .before .before .before .to-on .result) _ _ _ _ (c .before .before .before .before .before .before .before .before .before .before .before .before .before .before .before .before .before .before .before .before .before .before .before .before .before .before .before .before .before .before .before .before .before .before .before .before .before .before .before .before .before .before .before .before .before .before .before .before .before .before .to-off .ensures) (c .before .before .before .before .before .before .before .before .before .before .before .before .before .before .before .before .before .before .to-on .ensures) (c .before .before .before .before .before .before .before .before .before .before .before .before .before .before .before .before .before .before .before .before .before .before .before .before .before .before .before .before .before .before .before .before .before .before .before .before .before .before .before .before .before .before .before .before .before .before .before .before .before .side .ensures .1 .0 .0) (c .before .before .before .before .before .before .before .before .before .before .before .before .before .before .before .before .before .before .before .before .before .before .before .before .before .before .before .before .before .before .line-if .ensures .0 .0) (c .before .before .before .before .before .before .before .before .before .before .before .before .before .before .before .before .before .side2 .ensures .1 .0 .0) (c .before .before .before .settle-lines .ensures .0 .0), c .before .before .before .before .before .before .finish .ensures .0 .1),
+    (λ D s ls R st task alive inside is. result-as (sym (c .with-lines2 .ensures))
+        (free-result (c .before .before .before .before .before .before .before .before .before .before .before .before .before .before .before .before .before .before .before .before .before .before .before .before .before .before .before .before .before .before .before .before .before .before .before .before .before .before .before .before .before .before .before .before .before .before .before .before .before .before .before .before .before .before .before .before .before .before .before .before .before .before .args .p) (c .before .before .before .before .before .before .before .before .before .before .before .before .before .before .before .before .before .before .before .before .before .before .before .before .before .before .before .before .before .before .before .before .before .before .before .before .before .before .before .before .before .before .before .before .before .before .before .before .before .before .to-off .result) (c .before .before .before .before .before .before .before .before .before .before .before .before .before .before .before .before .before .before .before .before .before .before .before .before .before .before .before .before .before .before .before .before .before .before .before .before .before .before .before .before .before .before .before .before .before .before .before .before .before .before .to-off .ensures) (c .before .before .before .before .before .before .before .before .before .before .before .before .before .before .before .before .before .before .before .before .before .before .before .before .before .before .before .before .before .before .before .before .before .before .before .before .before .before .before .before .before .before .before .before .before .before .before .before .before .side .result) (c .before .before .before .before .before .before .before .before .before .before .before .before .before .before .before .before .before .before .before .before .before .before .before .before .before .before .before .before .before .before .before .before .before .before .before .before .before .before .before .before .before .before .before .before .before .before .before .before .before .side .ensures .1 .1 .1) (c .before .before .before .before .before .before .before .before .before .before .before .before .before .before .before .before .before .before .before .before .before .before .before .before .before .before .before .before .before .before .before .before .before .before .before .before .before .before .before .before .before .goes-up .result) (c .before .before .before .before .before .before .before .before .before .before .before .before .before .before .before .before .before .before .before .before .before .before .before .before .before .before .before .before .before .before .before .before .before .before .before .before .before .before .before .before .before .goes-up .ensures)
+        (c .before .before .before .before .before .before .before .before .before .before .before .before .before .before .before .before .before .before .before .before .before .before .before .before .before .before .before .before .before .before .before .before .before .before .before .before .before .before .before .before .before .before .before .before .before .before .before .before .before .side .ensures .1 .0 .0) (c .before .before .before .before .before .before .before .before .before .before .before .before .before .before .before .before .before .before .before .before .before .before .before .before .before .before .before .before .before .before .line-if .result) (c .before .before .before .before .before .before .before .before .before .before .before .before .before .before .before .before .before .before .before .before .before .before .before .before .before .before .before .before .before .before .line-if .ensures .0 .1) (c .before .before .before .before .before .before .before .before .before .before .before .before .before .before .before .before .before .before .before .before .before .before .before .before .before .before .before .before .before .before .line-if .ensures .1) (c .before .before .before .before .before .before .before .before .before .before .before .before .before .before .before .before .before .before .to-on .result) (c .before .before .before .before .before .before .before .before .before .before .before .before .before .before .before .before .before .before .to-on .ensures) (c .before .before .before .before .before .before .before .before .before .before .before .before .before .before .before .before .before .side2 .result) (c .before .before .before .before .before .before .before .before .before .before .before .before .before .before .before .before .before .side2 .ensures .1 .1 .1) _ (c .before .before .before .before .before .before .before .before .before .before .before .before .before .before .before .before .before .side2 .ensures .1 .1 .0 .1 ∙ c .before .before .before .before .before .before .before .before .before .before .before .before .before .before .before .before .before .before .before .before .before .before .before .before .before .before .before .before .before .before .before .before .before .before .before .put-aside .ensures .1) (c .before .before .before .before .before .before .finish .result)
+        (c .before .before .before .before .before .before .finish .ensures .1) (c .before .before .before .before .before .before .before .before .before .before .before .before .before .before .before .before .before .before .before .before .before .before .before .before .before .before .before .before .before .before .before .before .before .before .before .before .before .before .before .before .if1 .left) (c .before .before .before .before .before .before .finish .ensures .0 .0 .visits) (c .before .before .before .before .before .before .before .before .before .before .before .before .before .before .before .before .before .side2 .ensures .1 .0 .0) _ (c .before .before .before .settle-lines .result) (c .before .before .before .settle-lines .ensures .0 .1) (c .before .before .before .settle-lines .ensures .1) D s ls R st task alive inside is)),
   ),
 )
 
@@ -1462,12 +1622,12 @@ visit-returns : (t : ℕ) → visit-lts.Need-returns (
   with-lines-reads.Learnt,
 ) (visit-at t) visit.Post
 visit-returns t c = (
-  counts-settled (c .before .before .before .before .before .before .before .before .before .before .before .before .before .before .args .p) (c .settled .result) No _ (c .settled .ensures) (rw (c .before .before .leaf .given .1) at (c .before .before .before .before .conclude .ensures .0 .0)),
+  counts-settled (c .before .before .before .before .before .before .before .before .before .before .before .before .before .before .args .p) (c .settled .result) No _ (c .settled .ensures) (subst LeafBounded (c .before .before .leaf .given .1) (c .before .before .before .before .conclude .ensures .0 .0)),
   (
     (record { statuses-restored = refl; size = refl; firsts-kept = c .before .before .before .before .conclude .ensures .0 .2 }, c .before .before .before .before .before .before .before .before .before .before .before .before .before .before .pre .1 .1),
     (λ D s ls R st task entered.
         let said = c .before .before .before .before .conclude .ensures .1 D R s st (task .shown .quantified) (task .shown .statused) (task .shown .long) (task .matrix) (task .stored) (task .formed) entered (task .passed) in
-        let found = said-no D R s st (c .before .before .before .before .before .before .before .before .before .before .before .before .before .before .args .start) _ (c .before .before .before .before .conclude .last .1 .1 .1 .1 .1 .1 .1 .1 .0) said _ (c .before .before .leaf .given .1) in
+        let found = said-no D R s st (c .before .before .before .before .before .before .before .before .before .before .before .before .before .before .args .start) _ (c .before .before .before .before .before .before .before .before .before .before .before .before .before .before .args .clauses .now) (c .before .before .before .before .before .before .before .before .before .before .before .before .before .before .args .learned .now) (c .before .before .before .before .before .before .before .before .before .before .before .before .before .before .args .cubes .now) (c .before .before .before .before .conclude .last .1 .1 .1 .1 .1 .1 .1 .1 .0) said _ (c .before .before .leaf .given .1) in
         leaf-result (c .before .before .before .before .before .before .before .before .before .before .before .before .before .before .args .p) task (c .before .before .before .before .before .before .before .before .before .before .before .before .before .before .args .start) No false (found .0) _ (c .before .before .before .before .conclude .last .1 .1 .1 .1 .1 .1 .1 .1 .0) (found .1) (found .0, refl, found .2) (c .settled .result) (c .settled .ensures)),
   ),
 )
@@ -1485,12 +1645,12 @@ visit-returns-2 : (t : ℕ) → visit-lts.Need-returns-2 (
   with-lines-reads.Learnt,
 ) (visit-at t) visit.Post
 visit-returns-2 t c = (
-  counts-settled (c .before .before .before .before .before .before .before .before .before .before .before .before .before .before .args .p) (c .settled2 .result) Yes _ (c .settled2 .ensures) (rw (c .before .before .leaf2 .given .1) at (c .before .before .before .before .conclude .ensures .0 .0)),
+  counts-settled (c .before .before .before .before .before .before .before .before .before .before .before .before .before .before .args .p) (c .settled2 .result) Yes _ (c .settled2 .ensures) (subst LeafBounded (c .before .before .leaf2 .given .1) (c .before .before .before .before .conclude .ensures .0 .0)),
   (
     (record { statuses-restored = refl; size = refl; firsts-kept = c .before .before .before .before .conclude .ensures .0 .2 }, c .before .before .before .before .before .before .before .before .before .before .before .before .before .before .pre .1 .1),
     (λ D s ls R st task entered.
         let said = c .before .before .before .before .conclude .ensures .1 D R s st (task .shown .quantified) (task .shown .statused) (task .shown .long) (task .matrix) (task .stored) (task .formed) entered (task .passed) in
-        let found = said-yes D R s st (c .before .before .before .before .before .before .before .before .before .before .before .before .before .before .args .start) _ (c .before .before .before .before .conclude .last .1 .1 .1 .1 .1 .1 .1 .1 .0) said _ (c .before .before .leaf2 .given .1) in
+        let found = said-yes D R s st (c .before .before .before .before .before .before .before .before .before .before .before .before .before .before .args .start) _ (c .before .before .before .before .before .before .before .before .before .before .before .before .before .before .args .clauses .now) (c .before .before .before .before .before .before .before .before .before .before .before .before .before .before .args .learned .now) (c .before .before .before .before .before .before .before .before .before .before .before .before .before .before .args .cubes .now) (c .before .before .before .before .conclude .last .1 .1 .1 .1 .1 .1 .1 .1 .0) said _ (c .before .before .leaf2 .given .1) in
         leaf-result (c .before .before .before .before .before .before .before .before .before .before .before .before .before .before .args .p) task (c .before .before .before .before .before .before .before .before .before .before .before .before .before .before .args .start) Yes true (found .0) _ (c .before .before .before .before .conclude .last .1 .1 .1 .1 .1 .1 .1 .1 .0) (found .1) (found .0, refl, found .2) (c .settled2 .result) (c .settled2 .ensures)),
   ),
 )
@@ -1541,7 +1701,7 @@ visit-returns-3 t c = (
     (kept-resumed (c .before .before .before .before .before .before .before .before .before .before .before .before .before .before .before .before .before .before .before .before .before .before .before .before .before .before .before .before .args .p) (c .before .before .before .before .before .before .resumed .result) _ (c .before .before .before .before .before .before .resumed .ensures) (c .before .before .before .before .before .before .before .before .before .before .before .before .before .before .before .before .before .before .conclude .ensures .0 .1) (c .before .before .before .before .before .before .before .before .before .before .before .before .before .before .before .before .before .before .conclude .ensures .0 .2) (c .before .before .before .before .before .branch .ensures .1 .0 .0), c .before .before .before .before .before .branch .ensures .1 .0 .1),
     (λ D s ls R st task entered.
         let said = c .before .before .before .before .before .before .before .before .before .before .before .before .before .before .before .before .before .before .conclude .ensures .1 D R s st (task .shown .quantified) (task .shown .statused) (task .shown .long) (task .matrix) (task .stored) (task .formed) entered (task .passed) in
-        result-as (sym (c .with-lines .ensures)) (open-result (c .before .before .before .before .before .before .before .before .before .before .before .before .before .before .before .before .before .before .before .before .before .before .before .before .before .before .before .before .args .p) task (c .before .before .before .before .before .before .before .before .before .before .before .before .before .before .before .before .before .before .before .before .before .before .before .before .before .before .before .before .args .start) (c .before .before .before .before .before .branch .result) (c .before .before .before .before .before .before .resumed .result) _ (c .before .before .before .before .before .before .resumed .ensures) (said .passed) entered (said-open D R s st (c .before .before .before .before .before .before .before .before .before .before .before .before .before .before .before .before .before .before .before .before .before .before .before .before .before .before .before .before .args .start) _ (c .before .before .before .before .before .before .before .before .before .before .before .before .before .before .before .before .before .before .conclude .last .1 .1 .1 .1 .1 .1 .1 .1 .0) said (c .before .before .before .before .before .before .before .before .before .before .before .before .before .before .before .before .enum-told .given .1)) (c .before .before .before .before .before .branch .ensures .1 .1 D s ls R st))),
+        result-as (sym (c .with-lines .ensures)) (open-result (c .before .before .before .before .before .before .before .before .before .before .before .before .before .before .before .before .before .before .before .before .before .before .before .before .before .before .before .before .args .p) task (c .before .before .before .before .before .before .before .before .before .before .before .before .before .before .before .before .before .before .before .before .before .before .before .before .before .before .before .before .args .start) (c .before .before .before .before .before .branch .result) (c .before .before .before .before .before .before .resumed .result) _ (c .before .before .before .before .before .before .resumed .ensures) (said .passed) entered (said-open D R s st (c .before .before .before .before .before .before .before .before .before .before .before .before .before .before .before .before .before .before .before .before .before .before .before .before .before .before .before .before .args .start) _ (c .before .before .before .before .before .before .before .before .before .before .before .before .before .before .before .before .before .before .before .before .before .before .before .before .before .before .before .before .args .clauses .now) (c .before .before .before .before .before .before .before .before .before .before .before .before .before .before .before .before .before .before .before .before .before .before .before .before .before .before .before .before .args .learned .now) (c .before .before .before .before .before .before .before .before .before .before .before .before .before .before .before .before .before .before .before .before .before .before .before .before .before .before .before .before .args .cubes .now) (c .before .before .before .before .before .before .before .before .before .before .before .before .before .before .before .before .before .before .conclude .last .1 .1 .1 .1 .1 .1 .1 .1 .0) said (c .before .before .before .before .before .before .before .before .before .before .before .before .before .before .before .before .enum-told .given .1)) (c .before .before .before .before .before .branch .ensures .1 .1 D s ls R st))),
   ),
 )
 
@@ -1556,6 +1716,8 @@ pub +branch+exists+forall+free+side+visit-spec : {M : Type 1} → statement M
       forall.Post,
       free-below t,
       free.Post,
+      placed-reads.Asked,
+      placed-reads.Learnt,
       settled-reads.Asked,
       settled-reads.Learnt,
     )
@@ -1565,6 +1727,7 @@ pub +branch+exists+forall+free+side+visit-spec : {M : Type 1} → statement M
     (branch-exists-requires t)
     (branch-forall-requires t)
     (branch-free-requires t)
+    (branch-placed-requires t)
     (branch-settled-requires t)
     (branch-same-length t)
     (branch-same-length-2 t)
@@ -1583,6 +1746,8 @@ pub +branch+exists+forall+free+side+visit-spec : {M : Type 1} → statement M
       side.Post,
       goes-up-reads.Asked,
       goes-up-reads.Learnt,
+      with-lines-reads.Asked,
+      with-lines-reads.Learnt,
       put-aside-reads.Asked,
       put-aside-reads.Learnt,
       to-on-reads.Asked,
@@ -1595,6 +1760,7 @@ pub +branch+exists+forall+free+side+visit-spec : {M : Type 1} → statement M
     (exists-to-off-requires t)
     (exists-side-requires t)
     (exists-goes-up-requires t)
+    (exists-with-lines-requires t)
     (exists-same-length t)
     (exists-same-length-2 t)
     (exists-returns t)
@@ -1612,6 +1778,8 @@ pub +branch+exists+forall+free+side+visit-spec : {M : Type 1} → statement M
       side.Post,
       goes-up-reads.Asked,
       goes-up-reads.Learnt,
+      with-lines-reads.Asked,
+      with-lines-reads.Learnt,
       put-aside-reads.Asked,
       put-aside-reads.Learnt,
       to-on-reads.Asked,
@@ -1624,6 +1792,7 @@ pub +branch+exists+forall+free+side+visit-spec : {M : Type 1} → statement M
     (forall-to-off-requires t)
     (forall-side-requires t)
     (forall-goes-up-requires t)
+    (forall-with-lines-requires t)
     (forall-same-length t)
     (forall-same-length-2 t)
     (forall-returns t)
@@ -1641,6 +1810,8 @@ pub +branch+exists+forall+free+side+visit-spec : {M : Type 1} → statement M
       side.Post,
       goes-up-reads.Asked,
       goes-up-reads.Learnt,
+      with-lines-reads.Asked,
+      with-lines-reads.Learnt,
       put-aside-reads.Asked,
       put-aside-reads.Learnt,
       line-if-reads.Asked,
@@ -1651,14 +1822,13 @@ pub +branch+exists+forall+free+side+visit-spec : {M : Type 1} → statement M
       finish-reads.Learnt,
       settle-lines-reads.Asked,
       settle-lines-reads.Learnt,
-      with-lines-reads.Asked,
-      with-lines-reads.Learnt,
     )
     (free-at t)
     free.Post
     (free-to-off-requires t)
     (free-side-requires t)
     (free-goes-up-requires t)
+    (free-with-lines-requires t)
     (free-same-length t)
     (free-same-length-2 t)
     (free-returns t)
@@ -1668,7 +1838,7 @@ pub +branch+exists+forall+free+side+visit-spec : {M : Type 1} → statement M
     (free-side-requires-2 t)
     (free-finish-requires t)
     (free-settle-lines-requires t)
-    (free-with-lines-requires t)
+    (free-with-lines-requires-2 t)
     (free-same-length-3 t)
     (free-same-length-4 t)
     (free-returns-2 t))

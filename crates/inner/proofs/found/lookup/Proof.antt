@@ -1,11 +1,19 @@
--- `inner::found::lookup` meets its contract. The row that the shelf found by its last code, copied.
+-- `inner::found::lookup` meets its contract. The bounds of the row that the shelf found by its last code.
 use borrow.Author.Needs.{needs}
 use Rattle.inner.proofs.found.lookup.Statement.{statement}
 use Rattle.inner.proofs.found.lookup.Tie as tie
 use native.Mathlib.Omega.{arith}
+use Prim.Native.Nat.{suc, _+_, _*_}
 use denote.Ref.{now}
-use mathlib.Core.Path.{_∙_}
-use Rattle.inner.proofs.Lookups.{found-row, found-nothing, slot-row, slot-none}
+use mathlib.Core.Path.{sym, ap, subst, _∙_}
+use lib.Dec.{eqb}
+use lib.ListN.{length, take, drop}
+use Rattle.qbf.specs.Formula.{paper}
+use Rattle.qbf.specs.Learning.{eligibleMatch}
+use Rattle.search_entry.specs.Entry.{Bounded}
+use Rattle.search_entry.specs.declared.Bounds.{Bounds}
+use Rattle.search_entry.specs.declared.Source.the-variants.{Learned}
+use Rattle.inner.proofs.Lookups.{found-row, found-nothing, found-part, row-part, slot-row, slot-none}
 
 code-here-requires : tie.Need-code-here-requires
 code-here-requires c κs = search needs
@@ -19,31 +27,38 @@ find-requires c κs = search needs
 row-in-requires : tie.Need-row-in-requires
 row-in-requires c κs = search needs
 
-copy-requires : tie.Need-copy-requires
-copy-requires c κs = search needs
+add-start : tie.Need-add-start
+add-start c = search needs
+
+mul-start : tie.Need-mul-start
+mul-start c = search needs
+
+add-start-2 : tie.Need-add-start-2
+add-start-2 c = search needs
+
+placed-requires : tie.Need-placed-requires
+placed-requires c κs = search needs
 
 returns : tie.Need-returns
 returns c =
-    let a = c .before .before .before .before .before .before .before .before .before .args in
-    let slot = c .before .before .before .before .find in
-    let row = c .before .before .row-in .ensures in (
-      omega (arith, row .1, c .before .before .before .before .before .before .before .before .before .pre .2),
-      λ D s es shown long inner rows.
-          let e =
-          found-row (a .cube) (c .before .before .before .before .before .before .code-here .ensures .1) (c .before .before .before .before .before .wanted .ensures) (slot .ensures) D s es shown long inner rows
-          (slot-row (a .stride) (a .slots) (now (a .cells)) (slot .result) (c .before .before .before .if1 .taken) (row .0)) in
-          (e .0, e .1, c .copy .ensures ∙ e .2),
+    let cells = now (c .before .before .before .before .before .before .before .before .before .before .args .cells) in
+    let slot = c .before .before .before .before .before .find in
+    let row = c .before .row-in .ensures in
+    let at : Bounds = record { source = Learned; start = slot .result * suc (paper .numbers) + 1; len = length (now (c .before .row-in .result)) } in (
+      subst Bounded (sym (c .placed .ensures)) (record { short = row .1; inside = omega (arith, row .1, c .before .before .before .before .if1 .taken) }),
+      λ D s es cls area shown long inner rows.
+          found-part D (eligibleMatch D eqb (c .before .before .before .before .before .before .before .before .before .before .args .cube) s es) cls cells area at (c .placed .ensures) (row-part cells (slot .result) (now (c .before .row-in .result)) (row .0))
+          (found-row (c .before .before .before .before .before .before .before .before .before .before .args .cube) (c .before .before .before .before .before .before .before .before .before .code-here .ensures .1) (c .before .before .before .before .before .before .wanted .ensures) (slot .ensures) D s es shown long inner rows
+          (slot-row (paper .numbers) (paper .constraints) cells (slot .result) (c .before .before .before .before .if1 .taken) (row .0))),
     )
 
 returns-2 : tie.Need-returns-2
-returns-2 c =
-    let a = c .before .before .before .before .before .before .args in
-    let slot = c .before .find in (
-      omega arith,
-      λ D s es shown long inner rows.
-          found-nothing (a .cube) (c .before .before .before .code-here .ensures .1) (c .before .before .wanted .ensures) (slot .ensures) D s es shown long inner rows
-          (slot-none (a .stride) (a .slots) (now (a .cells)) (slot .result) (c .if1 .left)),
-    )
+returns-2 c = (
+  tt,
+  λ D s es cls area shown long inner rows.
+      found-nothing (c .before .before .before .before .before .before .args .cube) (c .before .before .before .before .before .code-here .ensures .1) (c .before .before .wanted .ensures) (c .before .find .ensures) D s es shown long inner rows
+      (slot-none (paper .numbers) (paper .constraints) (now (c .before .before .before .before .before .before .args .cells)) (c .before .find .result) (c .if1 .left)),
+)
 
 pub lookup-spec : {M : Type 1} → statement M
 lookup-spec =
@@ -53,6 +68,9 @@ lookup-spec =
     wanted-requires
     find-requires
     row-in-requires
-    copy-requires
+    add-start
+    mul-start
+    add-start-2
+    placed-requires
     returns
     returns-2)

@@ -37,7 +37,7 @@ same-length-2 c = search needs
 returns : tie.Need-returns
 returns c =
     let p = pushing (c .before .before .before .before .before .before .before .before .before .before .before .before .before .before .pre .0) (c .before .before .before .before .before .before .before .before .before .before .before .before .before .before .pre .1) (now (c .before .before .before .before .before .before .before .before .before .before .before .before .before .before .args .row)) (c .before .before .before .before .before .before .before .before .before .next-slot .result) (c .before .before .before .before .before .before .before .before .last-code .result) _ _ (c .before .before .before .before .before .before .before .before .before .next-slot .ensures .0) (c .before .before .before .before .before .before .before .before .last-code .ensures) (omega (arith, c .before .before .before .before .before .before .before .before .last-code .ok)) (c .before .before .before .before .before .before .before .before .before .before .before .before .before .before .pre .4) (c .before .before .before .before .before .before .write-row .ensures) (c .before .before .write-links .ensures) in
-    (p .stands, p .rows, p .newest)
+    (p .stands, p .rows, p .newest, p .low, p .kept)
 
 pub push-spec : {M : Type 1} → statement M
 push-spec =
