@@ -6,6 +6,7 @@ pub mod Constraints
 pub mod Sets
 pub mod Shape
 pub mod Dying
+pub mod Stepwise
 pub mod Resumed
 pub mod Uniting
 pub mod Stores
