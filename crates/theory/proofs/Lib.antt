@@ -13,6 +13,7 @@ pub mod Stores
 pub mod Induction
 pub mod Claim
 pub mod Leaves
+pub mod Implicants
 pub mod Laws
 pub mod ShapedSearch
 pub mod Verdict
