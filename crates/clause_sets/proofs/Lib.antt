@@ -1,0 +1,5 @@
+pub mod Indices
+pub mod Coded
+pub mod Descending
+pub mod StepMarks
+pub mod Unions
