@@ -18,7 +18,7 @@ use Rattle.qbf.specs.Card.{Mem}
 use Rattle.theory.proofs.Basics.{and-false-right, le-or-lt, or-false-left, or-false-right, or-right, value-some, →any-false}
 use Rattle.theory.proofs.Game.{Rising}
 use Rattle.theory.proofs.Sets.{Found, found}
-use Rattle.theory.proofs.Stepwise.{dead-step, endsAt, isAt, satisfied-step}
+use Rattle.theory.proofs.Stepwise.{dead-step, endsAt, isAt, or-none, satisfied-step}
 use Rattle.tables.specs.Codes.{codeAt}
 use Rattle.tables.specs.Sets.{ClauseSets, Satisfied, dyingRow, newly, satisfyingRow}
 use Rattle.bitset.specs.Rows.{allBelow, leastBelow, member, outside, someBelow, width}
@@ -70,11 +70,7 @@ module _ {D : Prefix} {R : List Clause} {wc : ℕ} where
 -- ---- what a row says of a clause's index, and of one that is none's
 module _ {D : Prefix} {R : List Clause} {wc : ℕ} {s : Node} {sat : List ℕ} {k : ℕ} (g : Satisfied D s R wc sat k) (j : ℕ) (low : j ≤ k) (i : ℕ) (small : i < wc * width) where
   row-clause : i < length R → member sat (j * wc) i ≡ satisfied D (take j s) (getD R i [])
-  row-clause h = g .row j low i small ∙ rw (lt-leb (length R) i h) (or-none (satisfied D (take j s) (getD R i [])))
-    where
-      or-none : (x : Bool) → (x || false) ≡ x
-      or-none true = refl
-      or-none false = refl
+  row-clause h = g .row j low i small ∙ rw (lt-leb (length R) i h) (or-none (satisfied D (take j s) (getD R i [])) refl)
 
   row-beyond : length R ≤ i → member sat (j * wc) i ≡ true
   row-beyond h = g .row j low i small ∙ or-right (satisfied D (take j s) (getD R i [])) (leb (length R) i) (le-leb (length R) i h)

@@ -3,3 +3,4 @@ pub mod Coded
 pub mod Descending
 pub mod StepMarks
 pub mod Unions
+pub mod Filling

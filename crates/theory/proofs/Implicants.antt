@@ -17,7 +17,7 @@ use Rattle.qbf.specs.Card.{Mem}
 use Rattle.theory.proofs.Basics.{and-both, and-left, and-right, any→, eqb-true, has-agrees, has-le, not-true, or-cases, or-left, or-right, true-eqb, →any}
 use Rattle.theory.proofs.Game.{Rising, rising-above}
 use Rattle.theory.proofs.Sets.{Found, found, insert-new, insert-old, insert-sub, mentions→, →mentions}
-use Rattle.theory.proofs.Stepwise.{same-bool}
+use Rattle.theory.proofs.Stepwise.{or-none, same-bool}
 
 -- ---- the first values of a node
 elem-take : (j : ℕ) (s : Node) (i : ℕ) → i < j → getElem? (take j s) i ≡ getElem? s i
@@ -109,11 +109,7 @@ module _ (D : Prefix) (s : Node) where
 
   mentions-steps : (i : ℕ) (R : List Clause) → ((r : Clause) → Mem r R → Rising D 0 r) → all (satisfied D s) R ≡ true
       → (E : Constraint) → mentions D (suc i) (implicant D s R E) ≡ (mentions D (suc i) E || newly R i)
-  mentions-steps i [] up sat E = or-nothing (mentions D (suc i) E)
-    where
-      or-nothing : (x : Bool) → x ≡ (x || false)
-      or-nothing true = refl
-      or-nothing false = refl
+  mentions-steps i [] up sat E = sym (or-none (mentions D (suc i) E) refl)
   mentions-steps i (r ∷ R) up sat E =
       by (first (has D true s) r) refl (found (has D true s) r)
       (mentions-steps i R (λ x m. up x (inr m)) (and-right (satisfied D s r) (all (satisfied D s) R) sat))

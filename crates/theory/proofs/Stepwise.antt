@@ -22,7 +22,7 @@ same-bool true y f g = sym (f refl)
 same-bool false true f g = g refl
 same-bool false false f g = refl
 
-or-none : (x : Bool) {y : Bool} → y ≡ false → (x || y) ≡ x
+pub or-none : (x : Bool) {y : Bool} → y ≡ false → (x || y) ≡ x
 or-none true e = refl
 or-none false e = e
 
