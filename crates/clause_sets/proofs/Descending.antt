@@ -68,7 +68,8 @@ module _ {D : Prefix} {R : List Clause} {wc : ℕ} where
   rows-below {s} {sat} {k} g h b = rows-agree g (s ▹ b) (take-append-le k s (b ∷ []) h)
 
 -- ---- what a row says of a clause's index, and of one that is none's
-module _ {D : Prefix} {R : List Clause} {wc : ℕ} {s : Node} {sat : List ℕ} {k : ℕ} (g : Satisfied D s R wc sat k) (j : ℕ) (low : j ≤ k) (i : ℕ) (small : i < wc * width) where
+module _ {D : Prefix} {R : List Clause} {wc : ℕ} {s : Node} {sat : List ℕ} {k : ℕ} (g : Satisfied D s R wc sat k)
+    (j : ℕ) (low : j ≤ k) (i : ℕ) (small : i < wc * width) where
   row-clause : i < length R → member sat (j * wc) i ≡ satisfied D (take j s) (getD R i [])
   row-clause h = g .row j low i small ∙ rw (lt-leb (length R) i h) (or-none (satisfied D (take j s) (getD R i [])) refl)
 
@@ -122,10 +123,12 @@ module _ (D : Prefix) (t : Node) (k : ℕ) (b : Bool) (long : length t ≡ suc k
         new : (i : ℕ) → i < wc * width → member after (suc k * wc) i ≡ (satisfied D (take (suc k) t) (getD R i []) || leb (length R) i)
         new i m =
             united i m
-            ∙ rw (g .row k (omega arith) i m, shown .satisfying (suc k) b (omega arith) inside i m, has-code D (suc k) b (getD R i []), satisfied-last (getD R i []))
-            (swap (satisfied D (take k t) (getD R i [])) (any (isAt D (suc k) b) (getD R i [])) (leb (length R) i))
+            ∙ rw (g .row k (omega arith) i m, shown .satisfying (suc k) b (omega arith) inside i m)
+            (rw (has-code D (suc k) b (getD R i []), satisfied-last (getD R i []))
+            (swap (satisfied D (take k t) (getD R i [])) (any (isAt D (suc k) b) (getD R i [])) (leb (length R) i)))
 
-        by : (j : ℕ) → (j ≡ suc k) ⊎ (j < suc k) → (i : ℕ) → i < wc * width → member after (j * wc) i ≡ (satisfied D (take j t) (getD R i []) || leb (length R) i)
+        by : (j : ℕ) → (j ≡ suc k) ⊎ (j < suc k) → (i : ℕ) → i < wc * width
+            → member after (j * wc) i ≡ (satisfied D (take j t) (getD R i []) || leb (length R) i)
         by j (inl e) i m = subst (λ (n : ℕ). member after (n * wc) i ≡ (satisfied D (take n t) (getD R i []) || leb (length R) i)) (sym e) (new i m)
         by j (inr l) i m = kept j (omega arith) i m ∙ g .row j (omega arith) i m
 
@@ -158,8 +161,9 @@ module _ (D : Prefix) (t : Node) (k : ℕ) (b : Bool) (long : length t ≡ suc k
         room = shown .room;
         within = λ i h.
             let small : i < wc * width = omega (arith, h, shown .room) in
-            rw (shown .dying (suc k) b (omega arith) inside i small, ends-code D (suc k) (not b) (omega arith) (reduce D false (getD R i [])), row-clause g k (omega arith) i small h)
-            (sym (dead-last (getD R i []) (mem-at R i [] h)));
+            rw (shown .dying (suc k) b (omega arith) inside i small, row-clause g k (omega arith) i small h)
+            (rw (ends-code D (suc k) (not b) (omega arith) (reduce D false (getD R i [])))
+            (sym (dead-last (getD R i []) (mem-at R i [] h))));
         beyond = λ i h small.
             rw (row-beyond g k (omega arith) i small h) (and-false-right (member sets (dyingRow wc (codeAt (suc k) b)) i) false refl);
       }

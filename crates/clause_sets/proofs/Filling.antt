@@ -61,7 +61,9 @@ module _ (wc : ℕ) where
       pub inserted-satisfying : (c j : ℕ) → j < wc * width
           → member after (satisfyingRow wc c) j ≡ (member t (satisfyingRow wc c) j || (eqb c d && eqb j i))
       inserted-satisfying c j m =
-          inserted-row (d * 2) put (c * 2) j m ∙ ap (λ (x : Bool). member t (satisfyingRow wc c) j || (x && eqb j i)) (same-test (c * 2) (d * 2) c d (λ e. omega (arith, e)) (λ e. omega (arith, e)))
+          inserted-row (d * 2) put (c * 2) j m
+          ∙ ap (λ (x : Bool). member t (satisfyingRow wc c) j || (x && eqb j i))
+          (same-test (c * 2) (d * 2) c d (λ e. omega (arith, e)) (λ e. omega (arith, e)))
 
       pub satisfying-apart : (c j : ℕ) → j < wc * width → member after (dyingRow wc c) j ≡ member t (dyingRow wc c) j
       satisfying-apart c j m =
@@ -80,7 +82,8 @@ module _ (wc : ℕ) where
           ap (λ (x : ℕ). member after x j) (sym (suc-mul (c * 2) wc))
           ∙ inserted-row (suc (d * 2)) row-of (suc (c * 2)) j m
           ∙ ap (λ (x : ℕ). member t x j || (eqb (suc (c * 2)) (suc (d * 2)) && eqb j i)) (suc-mul (c * 2) wc)
-          ∙ ap (λ (x : Bool). member t (dyingRow wc c) j || (x && eqb j i)) (same-test (suc (c * 2)) (suc (d * 2)) c d (λ e. omega (arith, e)) (λ e. omega (arith, e)))
+          ∙ ap (λ (x : Bool). member t (dyingRow wc c) j || (x && eqb j i))
+          (same-test (suc (c * 2)) (suc (d * 2)) c d (λ e. omega (arith, e)) (λ e. omega (arith, e)))
 
       pub dying-apart : (c j : ℕ) → j < wc * width → member after (satisfyingRow wc c) j ≡ member t (satisfyingRow wc c) j
       dying-apart c j m =

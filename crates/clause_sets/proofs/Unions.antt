@@ -16,7 +16,8 @@ use Rattle.clause_sets.proofs.Descending.{row-full, rows-kept, rows-mor
 
 -- the rows of the first k places lie before that of the next
 before : (wc j k i : ℕ) → j ≤ k → i < wc * width → j * wc * width + i < suc k * wc * width
-before wc j k i h m = omega (arith, m, mul-le-mul-right width (mul-le-mul-right {m = suc j} {n = suc k} wc (omega arith)), ap (λ (x : ℕ). x * width) (suc-mul j wc))
+before wc j k i h m =
+    omega (arith, m, mul-le-mul-right width (mul-le-mul-right {m = suc j} {n = suc k} wc (omega arith)), ap (λ (x : ℕ). x * width) (suc-mul j wc))
 
 -- a table in which one of the next rows changed
 pub rows-kept-below : {D : Prefix} {R : List Clause} {wc : ℕ} {s : Node} {sat after : List ℕ} {k from n : ℕ} → Satisfied D s R wc sat k

@@ -37,7 +37,11 @@ next p i = same-bool (leb p (suc i) && not (leb p i)) (eqb p (suc i)) there back
     there : (leb p (suc i) && not (leb p i)) ≡ true → eqb p (suc i) ≡ true
     there e =
         true-eqb p (suc i)
-        (omega (arith, leb-true p (suc i) (and-left (leb p (suc i)) (not (leb p i)) e), leb-false p i (not-true (leb p i) (and-right (leb p (suc i)) (not (leb p i)) e))))
+        (omega (
+          arith,
+          leb-true p (suc i) (and-left (leb p (suc i)) (not (leb p i)) e),
+          leb-false p i (not-true (leb p i) (and-right (leb p (suc i)) (not (leb p i)) e)),
+        ))
 
     back : eqb p (suc i) ≡ true → (leb p (suc i) && not (leb p i)) ≡ true
     back e =
@@ -90,7 +94,9 @@ module _ (D : Prefix) (s : Node) where
   newly R i = any (λ r. satisfied D (take (suc i) s) r && not (satisfied D (take i s) r)) R
 
   mentions-insert : (p : ℕ) (l : Literal) (E : Constraint) → mentions D p (insert D l E) ≡ (mentions D p E || eqb (place D l) p)
-  mentions-insert p l E = same-bool (mentions D p (insert D l E)) (mentions D p E || eqb (place D l) p) there (λ e. back (or-cases (mentions D p E) (eqb (place D l) p) e))
+  mentions-insert p l E =
+      same-bool (mentions D p (insert D l E)) (mentions D p E || eqb (place D l) p) there
+      (λ e. back (or-cases (mentions D p E) (eqb (place D l) p) e))
     where
       there : mentions D p (insert D l E) ≡ true → (mentions D p E || eqb (place D l) p) ≡ true
       there e = let w = mentions→ D p (insert D l E) e in by (w .0) (w .2) (insert-sub D l E (w .0) (w .1))

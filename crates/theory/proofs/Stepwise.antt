@@ -160,7 +160,9 @@ module _ (D : Prefix) where
         (ap not (→any-false (has D true s) r (λ l m. none-true l m (dichotomy (has D true s l)) (reduce-rest D false 0 r up l m))))
       where
         last : lastPlace D rest ≡ suc (length s)
-        last = eqb-true (lastPlace D rest) (length (s ▹ b)) (and-left (eqb (lastPlace D rest) (length (s ▹ b))) (all (has D false (s ▹ b)) rest) e) ∙ length-▹ s b
+        last =
+            eqb-true (lastPlace D rest) (length (s ▹ b)) (and-left (eqb (lastPlace D rest) (length (s ▹ b))) (all (has D false (s ▹ b)) rest) e)
+            ∙ length-▹ s b
 
         lost : (l : Literal) → Mem l rest → has D false (s ▹ b) l ≡ true
         lost l m = all→ (has D false (s ▹ b)) rest (and-right (eqb (lastPlace D rest) (length (s ▹ b))) (all (has D false (s ▹ b)) rest) e) l m
@@ -170,7 +172,8 @@ module _ (D : Prefix) where
             lost-sign (positive l) (sym (ap (λ (p : ℕ). equals (valueAt (s ▹ b) p) (Bool·beq false (positive l))) q
             ∙ ap (λ (o : Option Bool). equals o (Bool·beq false (positive l))) (value-top s b)) ∙ h)
 
-        by : (E : Constraint) → ((l : Literal) → Mem l E → has D false (s ▹ b) l ≡ true) → lastPlace D E ≡ suc (length s) → endsAt (suc (length s)) (not b) E ≡ true
+        by : (E : Constraint) → ((l : Literal) → Mem l E → has D false (s ▹ b) l ≡ true) → lastPlace D E ≡ suc (length s)
+            → endsAt (suc (length s)) (not b) E ≡ true
         by [] h q = absurd (omega (arith, q))
         by (l ∷ E) h q = ends-so (suc (length s)) (not b) l E q (λ m n. signed m (h m n))
 
