@@ -4,3 +4,4 @@ pub mod Codes
 pub mod Shelves
 pub mod Matrices
 pub mod Marks
+pub mod Sets

@@ -6,12 +6,14 @@ pub mod Constraints
 pub mod Sets
 pub mod Shape
 pub mod Dying
+pub mod Stepwise
 pub mod Resumed
 pub mod Uniting
 pub mod Stores
 pub mod Induction
 pub mod Claim
 pub mod Leaves
+pub mod Implicants
 pub mod Laws
 pub mod ShapedSearch
 pub mod Verdict
