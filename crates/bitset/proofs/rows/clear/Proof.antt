@@ -1,0 +1,81 @@
+-- The words before the one at hand are 0, and the others as they were.
+use mathlib.Core.Path.{_≡_, refl, sym, ap, _∙_, subst}
+use mathlib.Core.List.{List}
+use Prim.Native.Nat.{ℕ, _+_, _≤_, _<_, _-_}
+use lib.ListN.{length}
+use native.Mathlib.Omega.{arith}
+use native.Mathlib.Numerals.{add-one}
+use borrow.Author.Needs.{needs}
+use Rattle.bitset.specs.Rows.{Cleared}
+use Rattle.bitset.proofs.Members.{written, written-none, written-next, written-long, cleared}
+use Rattle.bitset.proofs.rows.clear.Statement.{statement}
+use Rattle.bitset.proofs.rows.clear.Tie as tie
+
+abbrev Inv-loop : tie.InvT-loop
+Inv-loop t₀ from n k₀ t k = (k ≤ n) × (t ≡ written t₀ from (λ i. 0) k)
+
+abbrev μ-loop : tie.MeasureT-loop
+μ-loop t₀ from n k₀ t k = n - k
+
+loop-holds : tie.Need-loop-holds Inv-loop μ-loop
+loop-holds c = (omega arith, sym (written-none (c .args .t .now) (c .args .from) (λ i. 0)))
+
+add-t : tie.Need-add-t Inv-loop μ-loop
+add-t c = search needs
+
+mul-t : tie.Need-mul-t Inv-loop μ-loop
+mul-t c = search needs
+
+slice-write-t : tie.Need-slice-write-t Inv-loop μ-loop
+slice-write-t c =
+    let from : ℕ = c .before .before .args .from in
+    let t : List ℕ = c .before .before .args .t .now in
+    subst
+    (λ (l : List ℕ). from + c .before .loop .k < length l)
+    (sym (c .before .loop .inv .1))
+    (omega (arith, written-long t from (λ i. 0) (c .before .loop .k)))
+
+add-k : tie.Need-add-k Inv-loop μ-loop
+add-k c = search needs
+
+loop-less : tie.Need-loop-less Inv-loop μ-loop
+loop-less c = search needs
+
+loop-again : tie.Need-loop-again Inv-loop μ-loop
+loop-again c =
+    let from : ℕ = c .before .before .args .from in
+    let k : ℕ = c .before .loop .k in (
+      omega arith,
+      written-next (c .before .before .args .t .now) from (λ i. 0) (c .before .loop .t) k (k + 1) (from + k) 0 (c .before .loop .inv .1) refl refl (add-one k),
+    )
+
+same-length : tie.Need-same-length Inv-loop μ-loop
+same-length c =
+    ap length (c .before .loop .inv .1) ∙ written-long (c .before .before .args .t .now) (c .before .before .args .from) (λ i. 0) (c .before .loop .k)
+
+returns : tie.Need-returns Inv-loop μ-loop
+returns c =
+    let t : List ℕ = c .before .before .args .t .now in
+    let from : ℕ = c .before .before .args .from in
+    let n : ℕ = c .before .before .args .n in
+    let end : c .before .loop .k ≡ n = omega arith in
+    subst
+    (Cleared from n t)
+    (sym (c .before .loop .inv .1 ∙ ap (written t from (λ i. 0)) end))
+    (cleared t from n (c .before .before .pre))
+
+pub clear-spec : {M : Type 1} → statement M
+clear-spec =
+    tie.close
+    (tie.spec
+    Inv-loop
+    μ-loop
+    loop-holds
+    add-t
+    mul-t
+    slice-write-t
+    add-k
+    loop-less
+    loop-again
+    same-length
+    returns)
