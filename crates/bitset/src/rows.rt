@@ -26,10 +26,10 @@ pub fn clear(t: &mut [u64], from: usize, n: usize)
     requires { ⌜ from + n ≤ length (now t) ⌝ }
     ensures { λ _. ⌜ Cleared from n (now (t .entry)) (now (t .exit)) ⌝ }
 {
-    let mut k: usize = 0;
-    while k < n {
-        t[from + k] = 0;
-        k += 1;
+    let mut i: usize = 0;
+    while i < n {
+        t[from + i] = 0;
+        i += 1;
     }
 }
 
@@ -85,13 +85,13 @@ pub fn first_outside<'a>(a: &'a [u64], a0: usize, b: &'a [u64], b0: usize, n: us
     requires { ⌜ (a0 + n ≤ length (now a)) × (b0 + n ≤ length (now b)) × (n * width < 2 ^ 64) ⌝ }
     ensures { λ r. ⌜ r ≡ leastBelow (outside (now (a .entry)) a0 (now (b .entry)) b0) (n * width) ⌝ }
 {
-    let mut j: usize = 0;
-    while j < n {
-        let w = rest(a[a0 + j], b[b0 + j]);
+    let mut k: usize = 0;
+    while k < n {
+        let w = rest(a[a0 + k], b[b0 + k]);
         if w != 0 {
-            return j * WIDTH + u64::trailing_zeros(w) as usize;
+            return k * WIDTH + u64::trailing_zeros(w) as usize;
         }
-        j += 1;
+        k += 1;
     }
     n * WIDTH
 }

@@ -12,13 +12,13 @@ use Rattle.bitset.proofs.rows.clear.Statement.{statement}
 use Rattle.bitset.proofs.rows.clear.Tie as tie
 
 abbrev Inv-loop : tie.InvT-loop
-Inv-loop t₀ from n k₀ t k = (k ≤ n) × (t ≡ written t₀ from (λ i. 0) k)
+Inv-loop t₀ from n i₀ t i = (i ≤ n) × (t ≡ written t₀ from (λ k. 0) i)
 
 abbrev μ-loop : tie.MeasureT-loop
-μ-loop t₀ from n k₀ t k = n - k
+μ-loop t₀ from n i₀ t i = n - i
 
 loop-holds : tie.Need-loop-holds Inv-loop μ-loop
-loop-holds c = (omega arith, sym (written-none (c .args .t .now) (c .args .from) (λ i. 0)))
+loop-holds c = (omega arith, sym (written-none (c .args .t .now) (c .args .from) (λ k. 0)))
 
 add-t : tie.Need-add-t Inv-loop μ-loop
 add-t c = search needs
@@ -31,12 +31,12 @@ slice-write-t c =
     let from : ℕ = c .before .before .args .from in
     let t : List ℕ = c .before .before .args .t .now in
     subst
-    (λ (l : List ℕ). from + c .before .loop .k < length l)
+    (λ (l : List ℕ). from + c .before .loop .i < length l)
     (sym (c .before .loop .inv .1))
-    (omega (arith, written-long t from (λ i. 0) (c .before .loop .k)))
+    (omega (arith, written-long t from (λ k. 0) (c .before .loop .i)))
 
-add-k : tie.Need-add-k Inv-loop μ-loop
-add-k c = search needs
+add-i : tie.Need-add-i Inv-loop μ-loop
+add-i c = search needs
 
 loop-less : tie.Need-loop-less Inv-loop μ-loop
 loop-less c = search needs
@@ -44,24 +44,24 @@ loop-less c = search needs
 loop-again : tie.Need-loop-again Inv-loop μ-loop
 loop-again c =
     let from : ℕ = c .before .before .args .from in
-    let k : ℕ = c .before .loop .k in (
+    let k : ℕ = c .before .loop .i in (
       omega arith,
-      written-next (c .before .before .args .t .now) from (λ i. 0) (c .before .loop .t) k (k + 1) (from + k) 0 (c .before .loop .inv .1) refl refl (add-one k),
+      written-next (c .before .before .args .t .now) from (λ k. 0) (c .before .loop .t) k (k + 1) (from + k) 0 (c .before .loop .inv .1) refl refl (add-one k),
     )
 
 same-length : tie.Need-same-length Inv-loop μ-loop
 same-length c =
-    ap length (c .before .loop .inv .1) ∙ written-long (c .before .before .args .t .now) (c .before .before .args .from) (λ i. 0) (c .before .loop .k)
+    ap length (c .before .loop .inv .1) ∙ written-long (c .before .before .args .t .now) (c .before .before .args .from) (λ k. 0) (c .before .loop .i)
 
 returns : tie.Need-returns Inv-loop μ-loop
 returns c =
     let t : List ℕ = c .before .before .args .t .now in
     let from : ℕ = c .before .before .args .from in
     let n : ℕ = c .before .before .args .n in
-    let end : c .before .loop .k ≡ n = omega arith in
+    let end : c .before .loop .i ≡ n = omega arith in
     subst
     (Cleared from n t)
-    (sym (c .before .loop .inv .1 ∙ ap (written t from (λ i. 0)) end))
+    (sym (c .before .loop .inv .1 ∙ ap (written t from (λ k. 0)) end))
     (cleared t from n (c .before .before .pre))
 
 pub clear-spec : {M : Type 1} → statement M
@@ -74,7 +74,7 @@ clear-spec =
     add-t
     mul-t
     slice-write-t
-    add-k
+    add-i
     loop-less
     loop-again
     same-length

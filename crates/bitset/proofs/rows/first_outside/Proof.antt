@@ -12,10 +12,10 @@ use Rattle.bitset.proofs.rows.first_outside.Statement.{statement}
 use Rattle.bitset.proofs.rows.first_outside.Tie as tie
 
 abbrev Inv-loop : tie.InvT-loop
-Inv-loop a a0 b b0 n j₀ j = (j ≤ n) × ((i : ℕ) → i < j * width → outside a a0 b b0 i ≡ false)
+Inv-loop a a0 b b0 n k₀ k = (k ≤ n) × ((i : ℕ) → i < k * width → outside a a0 b b0 i ≡ false)
 
 abbrev μ-loop : tie.MeasureT-loop
-μ-loop a a0 b b0 n j₀ j = n - j
+μ-loop a a0 b b0 n k₀ k = n - k
 
 loop-holds : tie.Need-loop-holds Inv-loop μ-loop
 loop-holds c = (omega arith, λ i h. absurd (omega arith))
@@ -60,7 +60,7 @@ returns c =
     (S .args .b0)
     (λ k. c .before .before .before .before .before .before .before .shared-slice-known .given k .fits)
     (λ k. c .before .before .before .before .before .before .shared-slice-known2 .given k .fits)
-    (c .before .before .before .before .before .loop .j)
+    (c .before .before .before .before .before .loop .k)
     (c .before .rest .result)
     (c .before .before .before .before .before .loop .inv .1)
     (c .before .rest .ensures)
@@ -68,8 +68,8 @@ returns c =
     (S .args .n)
     (omega arith)
 
-add-j : tie.Need-add-j Inv-loop μ-loop
-add-j c = search needs
+add-k : tie.Need-add-k Inv-loop μ-loop
+add-k c = search needs
 
 loop-less : tie.Need-loop-less Inv-loop μ-loop
 loop-less c = search needs
@@ -85,7 +85,7 @@ loop-again c =
           (S .args .b0)
           (λ k. c .before .before .before .before .before .before .before .shared-slice-known .given k .fits)
           (λ k. c .before .before .before .before .before .before .shared-slice-known2 .given k .fits)
-          (c .before .before .before .before .before .loop .j)
+          (c .before .before .before .before .before .loop .k)
           (c .before .rest .result)
           (c .before .before .before .before .before .loop .inv .1)
           (c .before .rest .ensures)
@@ -98,7 +98,7 @@ mul-result-2 c = search needs
 returns-2 : tie.Need-returns-2 Inv-loop μ-loop
 returns-2 c =
     let S = c .before .before .before .before in
-    let end : c .before .loop .j ≡ S .args .n = omega arith in
+    let end : c .before .loop .k ≡ S .args .n = omega arith in
     passed-all
     (S .args .a .now)
     (S .args .a0)
@@ -127,7 +127,7 @@ first-outside-spec =
     cast-result
     add-result
     returns
-    add-j
+    add-k
     loop-less
     loop-again
     mul-result-2
