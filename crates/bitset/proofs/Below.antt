@@ -1,8 +1,8 @@
 -- A test on the numbers below a bound: that it passes at some of them, at all of them, and first at which. Assumes nothing.
-use mathlib.Core.Path.{_≡_, refl, sym, ap, ap₂, _∙_, subst}
+use mathlib.Core.Path.{_≡_, refl, sym, ap, ap₂, _∙_}
 use mathlib.Core.Logic.{_⊎_, inl, inr, ⊎-elim}
-use mathlib.Core.Bool.{Bool, true, false, not, cond, _&&_, _||_, or-true, or-false, and-false, true≢false, false≢true}
-use Prim.Native.Nat.{ℕ, zero, suc, _+_, _*_, _/_, _%_, _≤_, _<_, zero-le, suc-le-suc}
+use mathlib.Core.Bool.{Bool, true, false, cond, _&&_, _||_, or-true, or-false, and-false, true≢false, false≢true}
+use Prim.Native.Nat.{ℕ, zero, suc, _≤_, _<_, zero-le, suc-le-suc}
 use native.Mathlib.Nat.{le-of-suc-le-suc, not-suc-le-zero, le-refl, le-trans, le-suc, eq-or-lt-of-le, zero-lt-suc}
 use lib.Dec.{ltb}
 use borrow.Author.Tests.{ltb-true, ltb-false}
@@ -68,7 +68,8 @@ module _ (f : ℕ → Bool) where
   all-at n e i h = ⊎-elim (λ q. q) (λ q. absurd (true≢false (sym e ∙ all-not n i h q))) (bool-cases (f i))
 
 -- ---- the least
-pub least-is : (f : ℕ → Bool) (n r : ℕ) → r ≤ n → ((i : ℕ) → i < r → f i ≡ false) → (r < n → f r ≡ true) → leastBelow f n ≡ r
+pub least-is : (f : ℕ → Bool) (n r : ℕ) → r ≤ n → ((i : ℕ) → i < r → f i ≡ false) → (r < n → f r ≡ true)
+    → leastBelow f n ≡ r
 unfolding leastBelow
 least-is f zero zero h below at = refl
 least-is f zero (suc r) h below at = absurd (not-suc-le-zero h)

@@ -1,16 +1,15 @@
 -- Words as sets: i is a member of w where the digit i of w is 1. Assumes nothing.
 use mathlib.Core.Path.{_≡_, refl, sym, ap, ap₂, _∙_, subst}
-use mathlib.Core.Logic.{_⊎_, inl, inr, ⊎-elim}
 use mathlib.Core.Bool.{Bool, true, false, not, cond, _&&_, _||_, true≢false, false≢true}
 use Prim.Native.Nat.{ℕ, zero, suc, _+_, _-_, _*_, _/_, _%_, _^_, _≤_, _<_, suc-le-suc, min, max}
-use native.Mathlib.Nat.{le-of-suc-le-suc, max-le, min-le-left, lt-of-le-of-lt, mod-lt, div-add-mod', zero-lt-suc, le-max-left, le-max-right, le-trans, le-suc, le-of-eq, le-refl, suc-max-suc, div-lt-iff-lt-mul, pow-suc, not-suc-le-zero}
+use native.Mathlib.Nat.{le-of-suc-le-suc, max-le, min-le-left, lt-of-le-of-lt, mod-lt, div-add-mod', zero-lt-suc, le-max-left}
+use native.Mathlib.Nat.{le-max-right, le-trans, le-suc, le-of-eq, le-refl, suc-max-suc, div-lt-iff-lt-mul, pow-suc, not-suc-le-zero}
 use native.Mathlib.Omega.{arith}
 use lib.Arith.{digits-mod, digits-div, lt-one, dbl-pred, bin-ind}
 use lib.Pow.{pow-pos}
 use lib.Dec.{eqb, eqb·zero-suc, eqb·suc-zero, eqb·suc-suc}
 use lib.Bits.{bitAnd, bitOr, bitXor, differ, and-step, or-step, xor-step, shifted-half, shifted-even}
 use lib.Count.{trailingZeros, under}
-use borrow.Author.Tests.{eqb-true, eq-eqb, ne-eqb}
 use Rattle.bitset.specs.Rows.{digit, leastBelow}
 use Rattle.bitset.specs.Words.{rest}
 
@@ -49,7 +48,8 @@ module _ (op f : ℕ → ℕ → ℕ)
   digit-op zero a b = op-odd a b
   digit-op (suc i) a b = ap (digit i) (op-half a b) ∙ digit-op i (a / 2) (b / 2)
 
-  op-assoc : ((x y z : ℕ) → f (f x y) z ≡ f x (f y z)) → ((b c : ℕ) → op (op 0 b) c ≡ op 0 (op b c)) → (a b c : ℕ) → op (op a b) c ≡ op a (op b c)
+  op-assoc : ((x y z : ℕ) → f (f x y) z ≡ f x (f y z)) → ((b c : ℕ) → op (op 0 b) c ≡ op 0 (op b c))
+      → (a b c : ℕ) → op (op a b) c ≡ op a (op b c)
   op-assoc same none =
       bin-ind (λ (n : ℕ). (b c : ℕ) → op (op n b) c ≡ op n (op b c)) none
       (λ n ih b c. step (op n b) c
@@ -96,7 +96,7 @@ digit-lt (suc i) w = digit-lt i (w / 2)
 unfoldable pub has : ℕ → ℕ → Bool
 has i w = eqb (digit i w) 1
 
--- a digit is 0 or 1: a law of digits is shown of these
+-- a digit is 0 or 1: a law of two digits is shown of these
 by-digits : (P : ℕ → ℕ → Type 0) → P 0 0 → P 0 1 → P 1 0 → P 1 1 → (x y : ℕ) → x < 2 → y < 2 → P x y
 by-digits P a b c d zero zero p q = a
 by-digits P a b c d zero (suc zero) p q = b
@@ -106,31 +106,34 @@ by-digits P a b c d (suc (suc x)) y p q = absurd (not-suc-le-zero (le-of-suc-le-
 by-digits P a b c d zero (suc (suc y)) p q = absurd (not-suc-le-zero (le-of-suc-le-suc (le-of-suc-le-suc q)))
 by-digits P a b c d (suc zero) (suc (suc y)) p q = absurd (not-suc-le-zero (le-of-suc-le-suc (le-of-suc-le-suc q)))
 
+at-digit : (i a b : ℕ) (P : ℕ → ℕ → Type 0) → P 0 0 → P 0 1 → P 1 0 → P 1 1 → P (digit i a) (digit i b)
+at-digit i a b P none second first both = by-digits P none second first both (digit i a) (digit i b) (digit-lt i a) (digit-lt i b)
+
 pub has-or : (i a b : ℕ) → has i (bitOr a b) ≡ (has i a || has i b)
 unfolding has
 has-or i a b =
     ap (λ (x : ℕ). eqb x 1) (digit-or i a b)
-    ∙ by-digits (λ x y. eqb (max x y) 1 ≡ (eqb x 1 || eqb y 1)) refl refl refl refl (digit i a) (digit i b) (digit-lt i a) (digit-lt i b)
+    ∙ at-digit i a b (λ x y. eqb (max x y) 1 ≡ (eqb x 1 || eqb y 1)) refl refl refl refl
 
 pub has-and : (i a b : ℕ) → has i (bitAnd a b) ≡ (has i a && has i b)
 unfolding has
 has-and i a b =
     ap (λ (x : ℕ). eqb x 1) (digit-and i a b)
-    ∙ by-digits (λ x y. eqb (min x y) 1 ≡ (eqb x 1 && eqb y 1)) refl refl refl refl (digit i a) (digit i b) (digit-lt i a) (digit-lt i b)
+    ∙ at-digit i a b (λ x y. eqb (min x y) 1 ≡ (eqb x 1 && eqb y 1)) refl refl refl refl
 
 -- in a and not in b
 pub has-rest : (i a b : ℕ) → has i (rest a b) ≡ (has i a && not (has i b))
 unfolding has
 has-rest i a b =
     ap (λ (x : ℕ). eqb x 1) (digit-xor i a (bitAnd a b) ∙ ap (differ (digit i a)) (digit-and i a b))
-    ∙ by-digits (λ x y. eqb (differ x (min x y)) 1 ≡ (eqb x 1 && not (eqb y 1))) refl refl refl refl (digit i a) (digit i b) (digit-lt i a) (digit-lt i b)
+    ∙ at-digit i a b (λ x y. eqb (differ x (min x y)) 1 ≡ (eqb x 1 && not (eqb y 1))) refl refl refl refl
 
 -- in the union with b and not in a
 pub has-new : (i a b : ℕ) → has i (bitXor a (bitOr a b)) ≡ (has i (bitOr a b) && not (has i a))
 unfolding has
 has-new i a b =
     ap (λ (x : ℕ). eqb x 1) (digit-xor i a (bitOr a b) ∙ ap (differ (digit i a)) (digit-or i a b))
-    ∙ by-digits (λ x y. eqb (differ x (max x y)) 1 ≡ (eqb (max x y) 1 && not (eqb x 1))) refl refl refl refl (digit i a) (digit i b) (digit-lt i a) (digit-lt i b)
+    ∙ at-digit i a b (λ x y. eqb (differ x (max x y)) 1 ≡ (eqb (max x y) 1 && not (eqb x 1))) refl refl refl refl
     ∙ ap (λ (x : ℕ). eqb x 1 && not (eqb (digit i a) 1)) (sym (digit-or i a b))
 
 -- ---- the empty word, the full one, and one with a single member
@@ -179,7 +182,7 @@ has-one i k = ap (λ (x : ℕ). eqb x 1) (digit-one i k) ∙ flag (eqb i k)
 same-digit : (i a b : ℕ) → has i a ≡ has i b → digit i a ≡ digit i b
 unfolding has
 same-digit i a b =
-    by-digits (λ x y. eqb x 1 ≡ eqb y 1 → x ≡ y) (λ e. refl) (λ e. absurd (false≢true e)) (λ e. absurd (true≢false e)) (λ e. refl) (digit i a) (digit i b) (digit-lt i a) (digit-lt i b)
+    at-digit i a b (λ x y. eqb x 1 ≡ eqb y 1 → x ≡ y) (λ e. refl) (λ e. absurd (false≢true e)) (λ e. absurd (true≢false e)) (λ e. refl)
 
 pub same-members : (k a b : ℕ) → a < 2 ^ k → b < 2 ^ k → ((i : ℕ) → i < k → has i a ≡ has i b) → a ≡ b
 same-members k a b ha hb h = same-word k a b ha hb (λ i p. same-digit i a b (h i p))
@@ -189,5 +192,5 @@ pub trailing-least : (k w : ℕ) → trailingZeros k w ≡ leastBelow (λ i. has
 unfolding trailingZeros leastBelow has digit
 trailing-least zero w = refl
 trailing-least (suc k) w =
-    by-digits (λ x y. under x (trailingZeros k (w / 2)) ≡ cond (eqb x 1) zero (suc (trailingZeros k (w / 2)))) refl refl refl refl (w % 2) 0 (mod-lt w two-pos) two-pos
+    at-digit 0 w 0 (λ x y. under x (trailingZeros k (w / 2)) ≡ cond (eqb x 1) zero (suc (trailingZeros k (w / 2)))) refl refl refl refl
     ∙ ap (λ (t : ℕ). cond (eqb (w % 2) 1) zero (suc t)) (trailing-least k (w / 2))

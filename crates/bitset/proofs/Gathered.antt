@@ -1,18 +1,18 @@
 -- Words gathered by one operation: in one word, or in four, of which each has every fourth. Assumes nothing.
-use mathlib.Core.Path.{_≡_, refl, sym, ap, ap₂, _∙_, subst}
-use mathlib.Core.Logic.{_⊎_, inl, inr, ⊎-elim}
+use mathlib.Core.Path.{_≡_, sym, ap, ap₂, _∙_}
+use mathlib.Core.Logic.{_⊎_, ⊎-elim}
 use mathlib.Core.Bool.{Bool, true, false, not, _&&_, _||_, true≢false, false≢true}
-use Prim.Native.Nat.{ℕ, zero, suc, _+_, _-_, _*_, _/_, _%_, _^_, _≤_, _<_}
+use Prim.Native.Nat.{ℕ, zero, suc, _+_, _-_, _*_, _/_, _%_, _^_, _<_}
 use native.Mathlib.Nat.{add-suc, add-zero, mod-lt, zero-lt-suc}
 use native.Mathlib.Omega.{arith}
 use lib.Arith.{digits-mod, digits-div, digits-lt}
 use lib.Pow.{pow-pos, ones-lt}
 use lib.Dec.{eqb}
-use lib.Bits.{bitAnd, bitOr, bitXor, or-comm, and-comm, and-self, or-lt, and-lt}
-use borrow.Author.Tests.{eqb-true, eq-eqb, ne-eqb}
+use lib.Bits.{bitAnd, bitOr, and-self, or-lt, and-lt}
+use borrow.Author.Tests.{eq-eqb, ne-eqb}
 use Rattle.bitset.specs.Rows.{width, allBelow, someBelow}
-use Rattle.bitset.proofs.Digits.{has, has-or, has-and, has-none, has-ones, same-members, or-assoc, and-assoc}
-use Rattle.bitset.proofs.Below.{bool-cases, some-at, some-found, some-none, some-never, all-each, all-at, all-not}
+use Rattle.bitset.proofs.Digits.{has, has-or, has-and, has-none, has-ones, same-members}
+use Rattle.bitset.proofs.Below.{bool-cases, some-at, some-found, some-none, some-never, all-each, all-at}
 
 unfoldable pub gathered : (ℕ → ℕ → ℕ) → ℕ → (ℕ → ℕ) → ℕ → ℕ
 gathered op z f zero = z

@@ -1,22 +1,20 @@
 -- Membership by words: a number put in, and words written one after the other. Assumes nothing.
-use mathlib.Core.Path.{_≡_, refl, sym, ap, ap₂, _∙_, subst, fun-ext}
-use mathlib.Core.Logic.{_⊎_, inl, inr, ⊎-elim, _≢_}
-use mathlib.Core.Bool.{Bool, true, false, not, _&&_, _||_, or-false}
+use mathlib.Core.Path.{_≡_, refl, sym, ap, ap₂, _∙_, subst}
+use mathlib.Core.Logic.{_⊎_, inl, inr, ⊎-elim}
+use mathlib.Core.Bool.{Bool, false, not, _&&_, _||_, or-false}
 use mathlib.Core.List.{List}
 use Prim.Native.Nat.{ℕ, zero, suc, _+_, _-_, _*_, _/_, _%_, _^_, _≤_, _<_}
-use native.Mathlib.Nat.{add-suc, add-zero, add-assoc, mod-lt, zero-lt-suc, not-suc-le-zero}
-use native.Mathlib.Numerals.{add-one}
+use native.Mathlib.Nat.{not-suc-le-zero}
 use native.Mathlib.Omega.{arith}
-use lib.Arith.{digits-mod, digits-div, digits-lt}
 use lib.Pow.{pow-lt}
 use native.Mathlib.Nat.{mod-eq-of-lt, one-mul, eq-or-lt-of-le}
 use lib.Dec.{eqb}
 use lib.ListN.{length, getD, set, length-set}
 use lib.Seq.{getD-set-same, getD-set-other}
-use lib.Bits.{bitAnd, bitOr, bitXor, and-lt, or-lt, xor-lt}
+use lib.Bits.{bitOr}
 use borrow.Author.Tests.{eqb-true, eqb-false, eq-eqb, ne-eqb}
-use Rattle.bitset.specs.Rows.{width, member, outside, allBelow, someBelow, Kept, Inserted, Cleared}
-use Rattle.bitset.specs.Words.{rest, restAt}
+use Rattle.bitset.specs.Rows.{width, member, outside, Kept, Inserted, Cleared}
+use Rattle.bitset.specs.Words.{restAt}
 use Rattle.bitset.proofs.Digits.{has, has-or, has-rest, has-one, has-none}
 use Rattle.bitset.proofs.Below.{bool-cases}
 
@@ -69,7 +67,8 @@ module _ (t : List ℕ) (from i : ℕ) (within : from + i / width < length t) wh
       ∙ has-or (j % width) (getD t at 0) (1 * 2 ^ (i % width))
       ∙ ap₂ _||_
       (ap (λ (x : ℕ). has (j % width) (getD t x 0)) (sym e))
-      (has-one (j % width) (i % width) ∙ same-test (j % width) (i % width) (f * width + j) (from * width + i) (λ q. omega arith) (λ q. omega arith))
+      (has-one (j % width) (i % width)
+      ∙ same-test (j % width) (i % width) (f * width + j) (from * width + i) (λ q. omega arith) (λ q. omega arith))
   put f j (inr e) =
       ap (has (j % width)) (getD-set-other t at (f + j / width) more 0 (eqb-false (f + j / width) at e))
       ∙ sym (ap (λ (x : Bool). has (j % width) (getD t (f + j / width) 0) || x)
@@ -99,7 +98,8 @@ module _ (t : List ℕ) (to : ℕ) (f : ℕ → ℕ) where
   unfolding written
   written-none = refl
 
-  pub written-next : (l : List ℕ) (j j′ x v : ℕ) → l ≡ written t to f j → x ≡ to + j → v ≡ f j → j′ ≡ suc j → set l x v ≡ written t to f j′
+  pub written-next : (l : List ℕ) (j j′ x v : ℕ) → l ≡ written t to f j → x ≡ to + j → v ≡ f j → j′ ≡ suc j
+      → set l x v ≡ written t to f j′
   unfolding written
   written-next l j j′ x v el ex ev ej =
       (λ z. set (el z) (ex z) (ev z)) ∙ ap (written t to f) (sym ej)

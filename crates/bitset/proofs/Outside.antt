@@ -1,9 +1,9 @@
 -- Two rows compared word by word: whether a number is in one and not in the other, and which is the least. Assumes nothing.
 use mathlib.Core.Path.{_≡_, refl, sym, ap, ap₂, _∙_, subst, fun-ext}
-use mathlib.Core.Logic.{_⊎_, inl, inr, ⊎-elim}
-use mathlib.Core.Bool.{Bool, true, false, not, _&&_}
+use mathlib.Core.Logic.{_⊎_, ⊎-elim}
+use mathlib.Core.Bool.{Bool, false, not}
 use mathlib.Core.List.{List}
-use Prim.Native.Nat.{ℕ, zero, suc, _+_, _*_, _/_, _%_, _^_, _≤_, _<_}
+use Prim.Native.Nat.{ℕ, _+_, _*_, _/_, _%_, _^_, _<_}
 use native.Mathlib.Nat.{add-assoc}
 use native.Mathlib.Omega.{arith}
 use lib.Arith.{digits-mod, digits-div}
@@ -17,7 +17,7 @@ use Rattle.bitset.specs.Rows.{width, outside, someBelow, leastBelow}
 use Rattle.bitset.specs.Words.{rest, restAt, GatheredFour}
 use Rattle.bitset.proofs.Digits.{has, has-none, same-members, or-assoc, trailing-least}
 use Rattle.bitset.proofs.Below.{Least, least, least-is, lt-or-ge}
-use Rattle.bitset.proofs.Gathered.{gathered, joined, four-more, some-word, inRow}
+use Rattle.bitset.proofs.Gathered.{gathered, joined, four-more, some-word}
 use Rattle.bitset.proofs.Members.{outside-has}
 
 pub rest-lt : (a b : ℕ) → a < 2 ^ 64 → b < 2 ^ 64 → rest a b < 2 ^ 64

@@ -1,19 +1,19 @@
 -- Two rows united word by word into a third. Assumes nothing.
-use mathlib.Core.Path.{_≡_, refl, sym, ap, ap₂, _∙_, subst, fun-ext}
+use mathlib.Core.Path.{_≡_, refl, sym, ap, ap₂, _∙_, subst}
 use mathlib.Core.Bool.{Bool, not, _&&_, _||_}
 use mathlib.Core.List.{List}
-use Prim.Native.Nat.{ℕ, zero, suc, _+_, _-_, _*_, _/_, _%_, _^_, _≤_, _<_}
-use native.Mathlib.Nat.{add-assoc, add-suc, add-zero}
+use Prim.Native.Nat.{ℕ, _+_, _-_, _*_, _/_, _%_, _^_, _≤_, _<_}
+use native.Mathlib.Nat.{add-assoc}
 use native.Mathlib.Omega.{arith}
 use lib.Dec.{eqb}
-use lib.ListN.{length, getD, set}
+use lib.ListN.{length, getD}
 use lib.Bits.{bitAnd, bitOr, bitXor, or-comm, and-comm, or-lt, xor-lt}
 use Rattle.bitset.specs.declared.rows.Seen.{Seen}
-use Rattle.bitset.specs.Rows.{width, member, outside, allBelow, someBelow, Unites, Kept}
+use Rattle.bitset.specs.Rows.{width, member, Unites, Kept}
 use Rattle.bitset.specs.Words.{both, newIn, UnitedFour}
 use Rattle.bitset.proofs.Digits.{has, has-or, has-new, or-assoc, and-assoc}
 use Rattle.bitset.proofs.Below.{all-same, some-same}
-use Rattle.bitset.proofs.Gathered.{gathered, joined, full, joined-full, four-more, some-word, all-words, inRow}
+use Rattle.bitset.proofs.Gathered.{gathered, joined, full, joined-full, four-more, some-word, all-words}
 use Rattle.bitset.proofs.Members.{written, written-none, written-next, written-below, written-row, written-kept, member-has}
 
 module _ (t : List ℕ) (from to : ℕ) (by : List ℕ) (b₀ : ℕ) where

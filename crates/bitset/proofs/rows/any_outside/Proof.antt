@@ -1,8 +1,6 @@
 -- Four words have what is outside in the words before.
-use mathlib.Core.Path.{_≡_, refl, sym, ap, _∙_, subst}
-use mathlib.Core.List.{List}
-use Prim.Native.Nat.{ℕ, _+_, _≤_, _-_, _%_, _<_}
-use lib.ListN.{length}
+use mathlib.Core.Path.{_≡_, refl, subst}
+use Prim.Native.Nat.{ℕ, _≤_, _-_, _%_}
 use native.Mathlib.Omega.{arith}
 use borrow.Author.Needs.{needs}
 use Rattle.bitset.proofs.Outside.{Gathers, gathers-none, gathers-four, gathers-all}
@@ -56,20 +54,19 @@ loop-again c =
 
 returns : tie.Need-returns Inv-loop μ-loop
 returns c =
-    let S = c .before .before .before .before .before .before in
-    let a : List ℕ = S .args .a .now in
-    let b : List ℕ = S .args .b .now in
-    let end : c .before .before .before .loop .j ≡ S .args .n = omega arith in
+    let at = c .before .before .before in
+    let S = at .before .before .before in
+    let end : at .loop .j ≡ S .args .n = omega arith in
     gathers-all
-    a
+    (S .args .a .now)
     (S .args .a0)
-    b
+    (S .args .b .now)
     (S .args .b0)
-    (λ k. c .before .before .before .before .before .shared-slice-known .given k .fits)
-    (λ k. c .before .before .before .before .shared-slice-known2 .given k .fits)
+    (λ k. at .before .before .shared-slice-known .given k .fits)
+    (λ k. at .before .shared-slice-known2 .given k .fits)
     (S .args .n)
-    (c .before .before .before .loop .w)
-    (subst (λ (j : ℕ). Gathers a (S .args .a0) b (S .args .b0) j (c .before .before .before .loop .w)) end (c .before .before .before .loop .inv .2))
+    (at .loop .w)
+    (subst (λ (j : ℕ). Gathers (S .args .a .now) (S .args .a0) (S .args .b .now) (S .args .b0) j (at .loop .w)) end (at .loop .inv .2))
 
 pub any-outside-spec : {M : Type 1} → statement M
 any-outside-spec =

@@ -43,15 +43,28 @@ loop-less c = search needs
 
 loop-again : tie.Need-loop-again Inv-loop μ-loop
 loop-again c =
-    let from : ℕ = c .before .before .args .from in
-    let k : ℕ = c .before .loop .i in (
+    let S = c .before .before in
+    let at = c .before .loop in (
       omega arith,
-      written-next (c .before .before .args .t .now) from (λ k. 0) (c .before .loop .t) k (k + 1) (from + k) 0 (c .before .loop .inv .1) refl refl (add-one k),
+      written-next
+          (S .args .t .now)
+          (S .args .from)
+          (λ k. 0)
+          (at .t)
+          (at .i)
+          (at .i + 1)
+          (S .args .from + at .i)
+          0
+          (at .inv .1)
+          refl
+          refl
+          (add-one (at .i)),
     )
 
 same-length : tie.Need-same-length Inv-loop μ-loop
 same-length c =
-    ap length (c .before .loop .inv .1) ∙ written-long (c .before .before .args .t .now) (c .before .before .args .from) (λ k. 0) (c .before .loop .i)
+    let S = c .before .before in
+    ap length (c .before .loop .inv .1) ∙ written-long (S .args .t .now) (S .args .from) (λ k. 0) (c .before .loop .i)
 
 returns : tie.Need-returns Inv-loop μ-loop
 returns c =

@@ -1,8 +1,7 @@
 -- No number of the words before is outside.
-use mathlib.Core.Path.{_≡_, refl, sym, ap, _∙_, subst}
+use mathlib.Core.Path.{_≡_, sym, subst}
 use mathlib.Core.Bool.{false}
-use mathlib.Core.List.{List}
-use Prim.Native.Nat.{ℕ, _+_, _*_, _≤_, _-_, _<_}
+use Prim.Native.Nat.{ℕ, _*_, _≤_, _-_, _<_}
 use native.Mathlib.Omega.{arith}
 use lib.Count.{trailing-le}
 use borrow.Author.Needs.{needs}

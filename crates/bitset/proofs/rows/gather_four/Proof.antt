@@ -1,5 +1,4 @@
 use borrow.Author.Needs.{needs}
-use mathlib.Core.Path.{_≡_}
 use Rattle.bitset.proofs.rows.gather_four.Statement.{statement}
 use Rattle.bitset.proofs.rows.gather_four.Tie as tie
 use Rattle.bitset.proofs.rows.gather_four.Reads as reads

@@ -1,7 +1,6 @@
 -- The words before are written, and four words have what they have in common and what is new in them.
-use mathlib.Core.Path.{_≡_, refl, sym, ap, _∙_, subst}
-use mathlib.Core.List.{List}
-use Prim.Native.Nat.{ℕ, _+_, _*_, _%_, _≤_, _-_, _<_}
+use mathlib.Core.Path.{_≡_, refl, _∙_, subst}
+use Prim.Native.Nat.{ℕ, _%_, _≤_, _-_}
 use native.Mathlib.Omega.{arith}
 use lib.ListN.{length}
 use borrow.Author.Needs.{needs}
@@ -65,21 +64,25 @@ same-length c = c .before .before .before .before .before .loop .inv .2
 
 returns : tie.Need-returns Inv-loop μ-loop
 returns c =
-    let S = c .before .before .before .before .before .before .before .before in
-    let end : c .before .before .before .before .before .loop .j ≡ S .args .n = omega arith in
+    let at = c .before .before .before .before .before in
+    let S = at .before .before .before in
+    let end : at .loop .j ≡ S .args .n = omega arith in
     united
     (S .args .t .now)
     (S .args .from)
     (S .args .to)
     (S .args .by .now)
     (S .args .b0)
-    (λ k. c .before .before .before .before .before .before .before .slice-known .given k .fits)
-    (λ k. c .before .before .before .before .before .before .shared-slice-known .given k .fits)
+    (λ k. at .before .before .slice-known .given k .fits)
+    (λ k. at .before .shared-slice-known .given k .fits)
     (S .args .n)
-    (c .before .before .before .before .before .loop .t)
-    (c .before .before .before .before .before .loop .seen)
+    (at .loop .t)
+    (at .loop .seen)
     (omega arith)
-    (subst (λ (j : ℕ). Uniting (S .args .t .now) (S .args .from) (S .args .to) (S .args .by .now) (S .args .b0) j (c .before .before .before .before .before .loop .t) (c .before .before .before .before .before .loop .seen)) end (c .before .before .before .before .before .loop .inv .3))
+    (subst
+    (λ (j : ℕ). Uniting (S .args .t .now) (S .args .from) (S .args .to) (S .args .by .now) (S .args .b0) j (at .loop .t) (at .loop .seen))
+    end
+    (at .loop .inv .3))
 
 pub unite-spec : {M : Type 1} → statement M
 unite-spec =
