@@ -1,0 +1,5 @@
+pub mod Lines
+pub mod Texts
+pub mod Declared
+pub mod Books
+pub mod Writing
