@@ -1,10 +1,10 @@
 -- A book written back as text. Paper 02, wish 2.
-use Prim.Native.Nat.{ℕ, _-_}
+use Prim.Native.Nat.{ℕ, _+_, _*_, _-_}
 use mathlib.Core.Bool.{Bool, true, false, cond}
 use mathlib.Core.List.{List, [], _∷_, _++_, map}
 use lib.ListN.{length, replicate}
 use lib.Dec.{leb}
-use Rattle.qbf.specs.Formula.{Quantifier, free, Variable, Prefix, Clause, Formula, sameQuantifier}
+use Rattle.qbf.specs.Formula.{Limits, Quantifier, free, Variable, Prefix, Clause, Formula, sameQuantifier}
 use Rattle.qbf.specs.Card.{zeroTable}
 use Rattle.qbf.specs.Calls.{State, wellFormed}
 use Rattle.layout.specs.Words.{Bytes, ascii}
@@ -75,3 +75,10 @@ writeGuarded false size b = writeRefused 22 (zeroTable size)
 -- the state stays as it is
 unfoldable pub writeCall : ℕ → State → Written
 writeCall size x = writeGuarded (wellFormed x) size (x .formula)
+
+-- ---- how long a text may be
+-- a table of so many bytes holds the text of every book under these limits (`text-room` in booktext_laws)
+unfoldable pub textRoom : Limits → ℕ
+textRoom L =
+    let digits = length (decimal (L .numbers)) in
+    23 + L .numbers * (10 + digits) + L .clauses * (7 + L .literals * (6 + digits))

@@ -3,3 +3,4 @@ pub mod Texts
 pub mod Declared
 pub mod Books
 pub mod Writing
+pub mod Room
