@@ -1,11 +1,11 @@
 -- What follows from the contract of writing, for whatever meets it. Paper 02, wish 2. "Not refused" is the answer 0.
-use Prim.Native.Nat.{ℕ, _-_}
+use Prim.Native.Nat.{ℕ, _-_, _≤_}
 use mathlib.Core.Path.{_≡_, refl, sym, ap, _∙_}
 use mathlib.Core.Logic.{_↔_}
 use mathlib.Core.Bool.{Bool, true, false, cond}
 use mathlib.Core.List.{_++_}
 use native.Mathlib.Omega.{arith}
-use lib.ListN.{length, take, replicate}
+use lib.ListN.{length, take, replicate, length-append}
 use lib.Seq.{take-at}
 use lib.Dec.{leb}
 use Rattle.qbf.specs.Formula.{paper}
@@ -51,6 +51,19 @@ text-written {x} {size} {count} {table} w = by (valid x) refl
 
 formula-ok : (x : State) → valid x ≡ true → formulaOk (formulaIn x) ≡ true
 formula-ok x v = and-left (formulaOk (formulaIn x)) (storeOk paper (formulaIn x .prefix) (storeIn x)) (valid-facts x v .formed)
+
+-- the text lies within its table
+pub count-within : {x : State} {size count : ℕ} {table : Bytes} → Writes x size 0 count table → count ≤ length table
+count-within {x} {size} {count} {table} w = by (valid x) refl
+  where
+    fits : (t : Bytes) (q : Bool) → answered 0 count table ≡ told (cond q (written (length t) (t ++ replicate (size - length t) 0)) (writeRefused 31 (zeroTable size))) → count ≤ length table
+    fits t true e =
+        omega (arith, ap (λ (a : Answer). a .length) e, ap (λ (a : Answer). length (a .table)) e, length-append t (replicate (size - length t) 0))
+    fits t false e = refused e
+
+    by : (q : Bool) → valid x ≡ q → count ≤ length table
+    by true v = fits (bookText (formulaIn x)) (leb (length (bookText (formulaIn x))) size) (w .said ∙ ap told (valid-is x size v))
+    by false v = refused (w .said ∙ ap told (malformed-is x size v))
 
 -- ---- the theorems
 -- "Reading the text gives the same variables, places, kinds and rules, with an empty store": a text opens a formula, and the state of an opened

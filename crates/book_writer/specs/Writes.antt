@@ -1,11 +1,12 @@
 -- What writing a state's book owes for every state and every table.
-use Prim.Native.Nat.{ℕ, zero, suc}
+use Prim.Native.Nat.{ℕ}
 use mathlib.Core.Path.{_≡_}
 use mathlib.Core.Option.{Option, none, some}
 use Rattle.qbf.specs.Card.{zeroTable}
 use Rattle.qbf.specs.Calls.{State as Read}
 use Rattle.state.specs.declared.State.{State}
 use Rattle.state.specs.Reading.{readState}
+use Rattle.serving.specs.Serves.{faultOf}
 use Rattle.layout.specs.Words.{Bytes}
 use Rattle.booktext.specs.Books.{Written, written, writeRefused, writeCall}
 
@@ -15,13 +16,9 @@ pub record Answer : Type 0 where
   pub length : ℕ
   pub table : Bytes
 
--- as code gives it: 0 is no refusal
-abbrev pub refusalOf : ℕ → Option ℕ
-refusalOf zero = none
-refusalOf (suc n) = some (suc n)
-
+-- as code gives it
 abbrev pub answered : ℕ → ℕ → Bytes → Answer
-answered refusal length table = record { refusal = refusalOf refusal; length = length; table = table }
+answered refusal length table = record { refusal = faultOf refusal; length = length; table = table }
 
 -- as the definitions give it
 abbrev pub told : Written → Answer

@@ -16,7 +16,8 @@ mod variables; // the lines of the variables
 
 use writer::bytes::put_word;
 
-// The number of the refusal, 0 where there is none, and the length of the text.
+// The number of the refusal, 0 where there is none, and the length of the text, which stands in the first bytes of the lent table.
+#[repr(C)]
 pub struct Written {
     pub refusal: u16,
     pub length: usize,
@@ -28,7 +29,7 @@ pub const NONE: u16 = 0;
 pub const MALFORMED: u16 = 22;
 
 // "A table too short is 31, after 22"
-pub const TABLE_TOO_SHORT: u16 = 31;
+pub const TEXT_TABLE_TOO_SHORT: u16 = 31;
 
 // "and zeroed"
 fn refused(table: &mut [u8], number: u16) -> Written
@@ -105,7 +106,7 @@ pub fn write_formula<'a>(
 {
     let n = lengths::formula_length(numbers, levels, kinds, clauses, clause_sizes);
     if n > table.len() {
-        return refused(table, TABLE_TOO_SHORT);
+        return refused(table, TEXT_TABLE_TOO_SHORT);
     }
     let end = put_formula(table, numbers, levels, kinds, clauses, clause_sizes);
     cover::clear(&mut table[end..]);

@@ -150,6 +150,9 @@ text-room b ok =
         )
 
 -- under the limits of paper 01 every text can be read back
-pub paper-room : textRoom paper ≤ textBytes
+pub paper-longest : textRoom paper ≡ 34928
 unfolding textRoom decimal lastDigits
-paper-room = omega arith
+paper-longest = refl
+
+pub paper-room : textRoom paper ≤ textBytes
+paper-room = omega (arith, paper-longest)
