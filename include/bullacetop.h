@@ -4,7 +4,7 @@
  * Link target/staticlib/libbullacetop.a, which `rt staticlib bullacetop` makes (x86-64 Linux; size_t has 64 bits).
  *
  * A state is a value. Every call takes one and answers with the next one; the caller keeps it. Rule, forget, query and card also work in
- * place, on a state that is lent. The library has no memory of its own: it allocates nothing, keeps no pointer after a call returns and has
+ * place, on a state that is lent; so does writing a book back as text. The library has no memory of its own: it allocates nothing, keeps no pointer after a call returns and has
  * no global data, so calls on different states may run at once.
  *
  * Whatever bytes a state has, no call faults or runs without end: each call checks its state in full and refuses a malformed one with 22.
@@ -235,16 +235,44 @@ static inline struct bullacetop_reply bullacetop_card_at(struct bullacetop_state
  */
 uint16_t bullacetop_page(const uint8_t *table, size_t n, size_t lines, size_t flags, size_t number, uint8_t *out, size_t m);
 
-/*
- * Books and call lines as text. A text is written to the first bytes of `out`, for which the caller has m bytes, at least bullacetop_room();
- * what stands there after the told length means nothing, and the refusal is 0, whatever the text says. Where m is less nothing is done: the
- * refusal is BULLACETOP_TEXT_TABLE_TOO_SHORT, the length is 0, all m bytes are zero, and the state is the one that was given.
- */
+/* A text in the first bytes of a lent table, and its length; after a refusal there is none, and all bytes of the table are zero. */
 struct bullacetop_written {
     uint16_t refusal;
     size_t length;
 };
 
+/*
+ * Writes the book as text: literals in place order, rules in the order of adding, neighbouring groups of one quantifier on one line. The bytes
+ * after the text are zero. The nine tables are only read. Opening the text gives the same book, with nothing learned; two books have the same
+ * text exactly if they have the same variables, quantifiers and places, and the same rules in order. Refusals 22, and 31 where the text is longer
+ * than n bytes; BULLACETOP_TEXT_ROOM bytes hold every book.
+ */
+#define BULLACETOP_TEXT_ROOM 34928
+
+struct bullacetop_written bullacetop_write_in_place(
+    const uint16_t numbers[BULLACETOP_NUMBERS + 1],
+    const uint16_t levels[BULLACETOP_NUMBERS + 1],
+    const uint16_t kinds[BULLACETOP_NUMBERS + 1],
+    const int16_t rules[BULLACETOP_RULES * BULLACETOP_LITERALS],
+    const uint16_t rule_sizes[BULLACETOP_RULES + 1],
+    const int16_t bars[BULLACETOP_ENTRIES * BULLACETOP_NUMBERS],
+    const uint16_t bar_sizes[BULLACETOP_ENTRIES + 1],
+    const int16_t passes[BULLACETOP_ENTRIES * BULLACETOP_NUMBERS],
+    const uint16_t pass_sizes[BULLACETOP_ENTRIES + 1],
+    uint8_t *table,
+    size_t n);
+
+static inline struct bullacetop_written bullacetop_write_at(const struct bullacetop_state *x, uint8_t *table, size_t n)
+{
+    return bullacetop_write_in_place(
+        x->numbers, x->levels, x->kinds, x->rules, x->rule_sizes, x->bars, x->bar_sizes, x->passes, x->pass_sizes, table, n);
+}
+
+/*
+ * Books and call lines as text. A text is written to the first bytes of `out`, for which the caller has m bytes, at least bullacetop_room();
+ * what stands there after the told length means nothing, and the refusal is 0, whatever the text says. Where m is less nothing is done: the
+ * refusal is BULLACETOP_TEXT_TABLE_TOO_SHORT, the length is 0, all m bytes are zero, and the state is the one that was given.
+ */
 struct bullacetop_turn {
     /* As in struct bullacetop_written. */
     uint16_t refusal;
@@ -260,7 +288,7 @@ struct bullacetop_written bullacetop_print(const uint8_t *text, size_t n, uint8_
 
 /*
  * One call, as a line of n bytes without its newline: `(rule 1 (no 2))`, `(query 1)`, `(card)`, `(card 64)` for a table of 64 bytes,
- * `(forget)`. The number is the line's, for the text of a refusal. A line that is no call is refused with 1.
+ * `(forget)`, `(write)`, `(write 64)` for a table of 64 bytes. The number is the line's, for the text of a refusal. A line that is no call is refused with 1.
  */
 struct bullacetop_turn bullacetop_line(struct bullacetop_state x, const uint8_t *line, size_t n, uint64_t number, uint8_t *out, size_t m);
 

@@ -1,5 +1,5 @@
 /*
- * A book as text, then calls as lines, each answered in text; a refused text, and a table that is too short.
+ * A book as text, then calls as lines, each answered in text; the book written back; a refused text, and a table that is too short.
  *
  * From the repository's root:
  *   rt staticlib bullacetop
@@ -40,6 +40,7 @@ static const uint8_t *bytes(const char *text)
 static void serve(struct bullacetop_state x, uint64_t lines, uint8_t *out, size_t room)
 {
     struct bullacetop_turn turn;
+    struct bullacetop_written text;
 
     turn.state = x;
     for (size_t i = 0; i < sizeof calls / sizeof *calls; i++) {
@@ -47,6 +48,12 @@ static void serve(struct bullacetop_state x, uint64_t lines, uint8_t *out, size_
         turn = bullacetop_line(turn.state, bytes(calls[i]), strlen(calls[i]), lines + 1 + i, out, room);
         fwrite(out, 1, turn.length, stdout);
     }
+
+    /* The book with the rule that was added, and a table that is too short for it. */
+    text = bullacetop_write_at(&turn.state, out, BULLACETOP_TEXT_ROOM);
+    fwrite(out, 1, text.length, stdout);
+    text = bullacetop_write_at(&turn.state, out, 22);
+    printf("refused with %u, length %zu, first byte %u\n", (unsigned)text.refusal, text.length, (unsigned)out[0]);
 }
 
 int main(void)

@@ -1,8 +1,9 @@
-// The four calls on a state whose tables the caller lends, in the order of the state: what a call changes is written where it stands, and
+// The calls on a state whose tables the caller lends, in the order of the state: what a call changes is written where it stands, and
 // nothing is copied.
 use crate::calls::NONE;
 use crate::calls::ruling_refusal;
 use crate::calls::verdict_of;
+use book_writer::Written;
 use rules::Change;
 ghost use mathlib.Core.Path.{_≡_};
 ghost use mathlib.Core.List.{[]};
@@ -10,6 +11,7 @@ ghost use lib.ListN.{length};
 ghost use Rattle.qbf.specs.Calls.{rule, query, card, forget};
 ghost use Rattle.state.specs.Reading.{stateOf};
 ghost use Rattle.serving.specs.Serves.{told, Serves};
+ghost use Rattle.book_writer.specs.Writes.{Writes};
 ghost use Rattle.rules.specs.Rules.{changeSaid};
 ghost use Rattle.bullacetop.specs.Answers.{replySaid};
 
@@ -257,4 +259,51 @@ pub extern "C" fn bullacetop_card_in_place<'a>(
         lines: answers::lines_of(printed),
         visits: shown.visits,
     }
+}
+
+// The book's text. Nothing of the state is written.
+#[no_mangle]
+pub extern "C" fn bullacetop_write_in_place<'a>(
+    numbers: &'a [u16; tables::BY_NUMBER],
+    levels: &'a [u16; tables::BY_NUMBER],
+    kinds: &'a [u16; tables::BY_NUMBER],
+    clauses: &'a [i16; tables::CLAUSE_CELLS],
+    clause_sizes: &'a [u16; tables::CLAUSE_SIZES],
+    learned_clauses: &'a [i16; tables::CONSTRAINT_CELLS],
+    learned_clause_sizes: &'a [u16; tables::CONSTRAINT_SIZES],
+    learned_cubes: &'a [i16; tables::CONSTRAINT_CELLS],
+    learned_cube_sizes: &'a [u16; tables::CONSTRAINT_SIZES],
+    table: &mut [u8],
+) -> Written
+    ensures { λ r. ⌜
+        Writes
+        (stateOf
+        (now (numbers .entry))
+        (now (levels .entry))
+        (now (kinds .entry))
+        (now (clauses .entry))
+        (now («clause_sizes» .entry))
+        (now («learned_clauses» .entry))
+        (now («learned_clause_sizes» .entry))
+        (now («learned_cubes» .entry))
+        (now («learned_cube_sizes» .entry)))
+        (length (now (table .entry)))
+        (r .refusal)
+        (r .length)
+        (now (table .exit))
+        ⌝ }
+{
+    let written = book_writer::write(
+        numbers,
+        levels,
+        kinds,
+        clauses,
+        clause_sizes,
+        learned_clauses,
+        learned_clause_sizes,
+        learned_cubes,
+        learned_cube_sizes,
+        table,
+    );
+    written
 }

@@ -1,8 +1,8 @@
 // Books and call lines as text. A text is written into a lent table of at least as many bytes as `bullacetop_room` says; a shorter one is zeroed
 // and refused with 31.
+use book_writer::Written;
 use opening::Opened;
 use serve::Spoken;
-use serve::Written;
 use state::State;
 ghost use mathlib.Core.Path.{_≡_};
 ghost use Rattle.qbf.specs.Formula.{paper};

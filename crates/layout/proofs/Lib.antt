@@ -1,4 +1,3 @@
 pub mod Cases
 pub mod Cards
-pub mod Sessions
 pub mod Pages

@@ -1,13 +1,13 @@
--- A session: a book, then one call to a line, and the answer to each. Paper 01, "Text and program".
+-- The book of a session, the call of a line, and the answer of a call. Paper 01, "Text and program". What a whole session prints is in the crate
+-- `sessions`.
 use Prim.Native.Nat.{ℕ, suc}
 use mathlib.Core.Bool.{true, false, cond}
 use mathlib.Core.List.{List, [], _∷_, _++_}
 use mathlib.Core.Option.{Option, none, some}
 use lib.ListN.{length}
 use lib.Dec.{leb, ltb, eqb}
-use Rattle.qbf.specs.Formula.{Limits, Prefix, Literal, numberOf}
-use Rattle.qbf.specs.Calls.{Call, rule, query, card, forget, Reply, done, refused, swap, keep, lines, cardRefused, Answer, State, step}
-use Rattle.qbf.specs.Runs.{fresh}
+use Rattle.qbf.specs.Formula.{Prefix, Literal, numberOf}
+use Rattle.qbf.specs.Calls.{Call, rule, query, card, forget, Reply, done, refused, swap, keep, lines, cardRefused, Answer}
 use Rattle.layout.specs.Words.{Bytes, ascii, newline, space, split, same, inside}
 use Rattle.layout.specs.Forms.{then, items, ruleWord}
 use Rattle.layout.specs.Output.{cardText, refusalText, overflowText, queryText, acceptedText, forgottenText}
@@ -30,11 +30,15 @@ ruleCall ls = some (rule ls)
 abbrev pub queryCall : List Literal → Option Call
 queryCall ls = some (query ls)
 
+-- what a line says with no item, or with one that is the size of a table
+abbrev pub sizedBy : {A : Type 0} → A → (ℕ → A) → List Literal → Option A
+sizedBy whole part [] = some whole
+sizedBy whole part (l ∷ []) = cond (leb (numberOf l) tableBytes) (some (part (numberOf l))) none
+sizedBy whole part (l ∷ m ∷ ls) = none
+
 -- `(card)` with the whole table, `(card 4)` with a table of so many bytes
 abbrev pub cardCall : List Literal → Option Call
-cardCall [] = some (card tableBytes)
-cardCall (l ∷ []) = cond (leb (numberOf l) tableBytes) (some (card (numberOf l))) none
-cardCall (l ∷ m ∷ ls) = none
+cardCall ls = sizedBy (card tableBytes) card ls
 
 abbrev pub forgetCall : List Literal → Option Call
 forgetCall [] = some forget
@@ -78,23 +82,7 @@ replyPrinted D c line (cardRefused n table) visits = cardRefusalText n line visi
 unfoldable pub answerText : Prefix → Call → ℕ → Answer → Bytes
 answerText D c line a = replyPrinted D c line (a .reply) (a .visits)
 
--- ---- the session
--- line n on a state: what is printed, and the next state; a line that is no call is 1 and leaves the state
-pub record Turn : Type 0 where
-  pub text : Bytes
-  pub state : State
-
-abbrev pub turnOf : State → ℕ → Option Call → Turn
-turnOf x n none = record { text = refusalText 1 n; state = x }
-turnOf x n (some c) = record { text = answerText (x .formula .prefix) c n (step x c .out); state = step x c .state }
-
--- The lines from number n on. What follows the last byte 10 is no line: nothing, or a last line that is not ended.
-unfoldable pub serveLines : ℕ → State → List Bytes → Bytes
-serveLines n x [] = []
-serveLines n x ([] ∷ []) = []
-serveLines n x ((b ∷ l) ∷ []) = refusalText 1 n
-serveLines n x (l ∷ m ∷ ls) = turnOf x n (callOf l) .text ++ serveLines (suc n) (turnOf x n (callOf l) .state) (m ∷ ls)
-
+-- ---- the book of a session
 abbrev pub endLine : Bytes
 endLine = ascii "(end)"
 
@@ -111,12 +99,3 @@ unfoldable pub parted : List Bytes → Parted
 parted [] = record { book = []; count = 0; rest = [] }
 parted (l ∷ []) = record { book = l; count = 0; rest = [] }
 parted (l ∷ m ∷ ls) = cond (same l endLine) (record { book = l ++ (newline ∷ []); count = 1; rest = m ∷ ls }) (onto l (parted (m ∷ ls)))
-
--- a refused book prints its refusal and ends
-abbrev pub openedSession : Parted → opening.Opened → Bytes
-openedSession p (opening.refused n line) = refusalText n line
-openedSession p (opening.opened b) = serveLines (suc (p .count)) (fresh b) (p .rest)
-
--- the output for a whole input
-unfoldable pub sessionProgram : Limits → Bytes → Bytes
-sessionProgram L s = let p = parted (split newline s) in openedSession p (opening.openText L (p .book))

@@ -16,7 +16,7 @@ use Rattle.layout.specs.Words.{Bytes, same, onFirst, split, space, isDigit, dig
 use Rattle.layout.specs.Forms.{then, consed, items, ruleWord}
 use Rattle.layout.specs.Opening.{textBytes}
 use Rattle.layout.specs.Program.{tableBytes}
-use Rattle.layout.specs.Session.{queryWord, cardWord, forgetWord, ruleCall, queryCall, cardCall, forgetCall, callFrom, callOf}
+use Rattle.layout.specs.Session.{queryWord, cardWord, forgetWord, sizedBy, ruleCall, queryCall, cardCall, forgetCall, callFrom, callOf}
 use Rattle.reader.specs.Pieces.{piecesFrom, Piece}
 use Rattle.reader.specs.Numbers.{numOf}
 use Rattle.reader.specs.Items.{Kept, Filled}
@@ -101,7 +101,7 @@ number-spaced : (t : Bytes) → digits 0 t ≡ none → number t ≡ none
 unfolding number
 number-spaced t e = cond-none (leb 1 (length t) && leb (length t) 5 && (eqb (length t) 1 || not (eqb (getD t 0 0) 48))) (digits 0 t) e
 
-size-text : (t : Bytes) → number t ≡ cardSize (split space t)
+pub size-text : (t : Bytes) → number t ≡ cardSize (split space t)
 unfolding OneWord
 size-text t = by (one-word t)
   where
@@ -115,31 +115,37 @@ size-whole s e h = sym (ap cardSize (past s e h))
 pub size-read : (s : Bytes) (e : ℕ) → e < length s → number (take (length s - (e + 1)) (drop (e + 1) s)) ≡ cardSize (piecesFrom space s (e + 1))
 size-read s e h = ap number (rest-bytes s e h) ∙ size-text (drop (e + 1) s) ∙ ap cardSize (rest-some s e h)
 
--- the call of a card with a table of so many bytes
-sized : ℕ → Option Call
-sized n = cond (leb n tableBytes) (some (card n)) none
+-- what a line says with a table of so many bytes
+unfoldable pub sized : {A : Type 0} → (ℕ → A) → ℕ → Option A
+sized part n = cond (leb n tableBytes) (some (part n)) none
 
--- two items are no card's
-two-items : (o p : Option ℕ) (r : Option (List Literal)) → then (consed pos o (consed pos p r)) cardCall ≡ none
-unfolding consed
-two-items none p r = refl
-two-items (some n) none r = refl
-two-items (some n) (some m) none = refl
-two-items (some n) (some m) (some ls) = refl
+module _ {A : Type 0} (whole : A) (part : ℕ → A) where
+  -- two items give no size
+  two-items : (o p : Option ℕ) (r : Option (List Literal)) → then (consed pos o (consed pos p r)) (sizedBy whole part) ≡ none
+  unfolding consed
+  two-items none p r = refl
+  two-items (some n) none r = refl
+  two-items (some n) (some m) none = refl
+  two-items (some n) (some m) (some ls) = refl
 
-card-is : (ws : List Bytes) → then (items false ws) cardCall ≡ then (cardSize ws) sized
-unfolding items consed sized
+  -- at least one item
+  pub size-is : (w : Bytes) (ws : List Bytes) → then (items false (w ∷ ws)) (sizedBy whole part) ≡ then (cardSize (w ∷ ws)) (sized part)
+  unfolding items consed sized
+  size-is w [] = by (number w)
+    where
+      by : (o : Option ℕ) → then (consed pos o (some [])) (sizedBy whole part) ≡ then o (sized part)
+      by none = refl
+      by (some n) = refl
+  size-is w (v ∷ ws) =
+      ap (λ (o : Option (List Literal)). then o (sizedBy whole part)) (items-on false w (v ∷ ws) refl ∙ ap (consed pos (number w)) (items-on false v ws refl))
+      ∙ two-items (number w) (number v) (items false ws)
+
+card-is : (ws : List Bytes) → then (items false ws) cardCall ≡ then (cardSize ws) (sized card)
+unfolding items sized
 card-is [] = refl
-card-is (w ∷ []) = by (number w)
-  where
-    by : (o : Option ℕ) → then (consed pos o (some [])) cardCall ≡ then o sized
-    by none = refl
-    by (some n) = refl
-card-is (w ∷ v ∷ ws) =
-    ap (λ (o : Option (List Literal)). then o cardCall) (items-on false w (v ∷ ws) refl ∙ ap (consed pos (number w)) (items-on false v ws refl))
-    ∙ two-items (number w) (number v) (items false ws)
+card-is (w ∷ ws) = size-is (card tableBytes) card w ws
 
-sized-line : (z : Num) (out : List ℤ) → CallRead (then (numOf z) sized) (cardLine z) out
+sized-line : (z : Num) (out : List ℤ) → CallRead (then (numOf z) (sized card)) (cardLine z) out
 unfolding sized
 sized-line NotNumber out = refl
 sized-line (Value n) out = by (leb n tableBytes)
@@ -189,11 +195,11 @@ module _ {s : Bytes} {e : ℕ} (p : Piece space s 0 e) (w : CallWord) (g : Bool)
         subst (λ (x : CallLine). CallRead (callFrom (split space s)) x out) (sym b)
         (subst (λ (o : Option Call). CallRead o (cardLine z) out) (sym is) (sized-line z out))
       where
-        is : callFrom (split space s) ≡ then (numOf z) sized
+        is : callFrom (split space s) ≡ then (numOf z) (sized card)
         is = with-items word.Card h
             ∙ ap (λ (o : Option (List Literal)). then o cardCall) (sym (no-signs word.Card h refl))
             ∙ card-is (piecesFrom space s (e + 1))
-            ∙ ap (λ (o : Option ℕ). then o sized) (sym t)
+            ∙ ap (λ (o : Option ℕ). then o (sized card)) (sym t)
 
     pub forget-read : w ≡ word.Forget → n ≡ 0 → callFrom (split space s) ≡ some forget
     forget-read h z = with-items word.Forget h ∙ forget-alone (read .0) (sym (read .2 .count) ∙ z)

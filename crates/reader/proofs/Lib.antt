@@ -9,3 +9,4 @@ pub mod Calls
 pub mod Judged
 pub mod Texts
 pub mod Books
+pub mod Requests

@@ -9,3 +9,4 @@ pub mod line;
 mod number;
 pub mod text;
 mod word;
+pub mod write;

@@ -24,7 +24,8 @@ use Rattle.reader.specs.declared.call.CallLine.{CallLine}
 use Rattle.reader.specs.declared.call.CallLine.the-variants as line
 use Rattle.serve.specs.declared.Turn.{Turn}
 use Rattle.serve.specs.declared.Spoken.{Spoken}
-use Rattle.serve.specs.Line.{CallServed, Turned, TooShort, spokenTurn, ServesLine, answerBytes}
+use Rattle.sessions.specs.Session.{requestOf}
+use Rattle.serve.specs.Line.{CallServed, Turned, RequestTurned, TooShort, spokenTurn, ServesLine, answerBytes}
 use Rattle.serve.specs.Calls.{Small}
 use Rattle.serve.proofs.Cut.{rule-served, query-served}
 
@@ -123,7 +124,7 @@ module _ {x : State} {number : ℕ} {r : Turn} {d : Bytes} (lits : List ℤ) (q 
 pub not-served : {x : State} {l : Bytes} {n : ℕ} {r : Spoken} (d₀ d : Bytes) → length d₀ < answerBytes → TooShort (r .refusal) (r .length) d₀ d → r .state ≡ x → ServesLine x l n d₀ r d
 not-served d₀ d h t e = record { short = λ q. (t, e); served = λ q. absurd (omega (arith, h, q)) }
 
-pub line-served : {x : State} {l : Bytes} {n : ℕ} {r : Spoken} {d : Bytes} (d₀ : Bytes) → answerBytes ≤ length d₀ → r .refusal ≡ 0 → Turned x (callOf l) n (spokenTurn r) d → ServesLine x l n d₀ r d
+pub line-served : {x : State} {l : Bytes} {n : ℕ} {r : Spoken} {d : Bytes} (d₀ : Bytes) → answerBytes ≤ length d₀ → r .refusal ≡ 0 → RequestTurned x (requestOf l) n (spokenTurn r) d → ServesLine x l n d₀ r d
 line-served d₀ h e t = record { short = λ q. absurd (omega (arith, h, q)); served = λ q. (e, t) }
 
 -- a line that is no call

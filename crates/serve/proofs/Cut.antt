@@ -92,11 +92,11 @@ answer-same D c c′ n a e = by (a .reply) (a .visits)
     by (lines ls tb) v = refl
     by (cardRefused m tb) v = refl
 
-abbrev Papered : Option Read → Type 0
+abbrev pub Papered : Option Read → Type 0
 Papered none = Unit {0}
 Papered (some y) = y .formula .limits ≡ paper
 
-papered : (x : State) → Papered (readState x)
+pub papered : (x : State) → Papered (readState x)
 unfolding readState
 papered x = by (fits x)
   where

@@ -8,3 +8,4 @@ pub mod Room
 pub mod CardTexts
 pub mod Called
 pub mod Books
+pub mod Writing

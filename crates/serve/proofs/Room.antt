@@ -13,7 +13,7 @@ use Rattle.state.specs.declared.State.{State}
 use Rattle.writer.specs.Wrote.{Wrote}
 use Rattle.writer.proofs.Lengths.{refusal-length, overflow-length, query-length}
 use Rattle.serve.specs.declared.Turn.{Turn}
-use Rattle.serve.specs.declared.Written.{Written}
+use Rattle.book_writer.specs.declared.Written.{Written}
 use Rattle.serve.specs.Line.{CallServed, answerBytes, Turned, TooShort}
 use Rattle.serve.specs.Books.{Prints}
 use Rattle.serve.specs.Texts.{changeText}

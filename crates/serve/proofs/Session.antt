@@ -3,25 +3,27 @@ use Prim.Native.Nat.{ℕ, suc}
 use mathlib.Core.Path.{_≡_, refl, sym, ap, _∙_}
 use mathlib.Core.List.{List, [], _∷_, _++_}
 use mathlib.Core.Option.{Option, none, some}
-use Rattle.qbf.specs.Calls.{Call, State as Read}
+use Rattle.qbf.specs.Calls.{State as Read}
 use Rattle.layout.specs.Words.{Bytes}
-use Rattle.layout.specs.Session.{callOf, turnOf, serveLines}
+use Rattle.sessions.specs.Session.{Request, call, write, requestOf, turnOf, serveLines}
 use Rattle.state.specs.declared.State.{State}
 use Rattle.state.specs.Reading.{readState}
-use Rattle.serve.specs.Line.{lineAnswer, lineNext, ServedLines, joined}
+use Rattle.serve.specs.Line.{lineAnswer, lineNext, writeAnswer, RequestServed, ServedLines, joined}
 
 -- on a state that reads, what is owed is the definition's turn
-text-is : (y : Read) (n : ℕ) (c : Option Call) → lineAnswer (some y) n c ≡ turnOf y n c .text
-text-is y n none = refl
-text-is y n (some c) = refl
+text-is : (x : State) (y : Read) → readState x ≡ some y → (q : Option Request) (n : ℕ) (t : Bytes) (x′ : State) → RequestServed x q n t x′ → t ≡ turnOf y n q .text
+text-is x y e none n t x′ h = h .text
+text-is x y e (some (call c)) n t x′ h = h .text ∙ ap (λ (o : Option Read). lineAnswer o n (some c)) e
+text-is x y e (some (write size)) n t x′ h = h .0 ∙ ap (λ (o : Option Read). writeAnswer o n size) e
 
-next-is : (y : Read) (n : ℕ) (c : Option Call) → lineNext (some y) c ≡ some (turnOf y n c .state)
-next-is y n none = refl
-next-is y n (some c) = refl
+next-is : (x : State) (y : Read) → readState x ≡ some y → (q : Option Request) (n : ℕ) (t : Bytes) (x′ : State) → RequestServed x q n t x′ → readState x′ ≡ some (turnOf y n q .state)
+next-is x y e none n t x′ h = h .next ∙ e
+next-is x y e (some (call c)) n t x′ h = h .next ∙ ap (λ (o : Option Read). lineNext o (some c)) e
+next-is x y e (some (write size)) n t x′ h = ap readState (h .1) ∙ e
 
 -- the last piece is empty: one line more is one turn more
 one-more : (n : ℕ) (y : Read) (l : Bytes) (ls : List Bytes)
-    → serveLines n y (l ∷ (ls ++ ([] ∷ []))) ≡ turnOf y n (callOf l) .text ++ serveLines (suc n) (turnOf y n (callOf l) .state) (ls ++ ([] ∷ []))
+    → serveLines n y (l ∷ (ls ++ ([] ∷ []))) ≡ turnOf y n (requestOf l) .text ++ serveLines (suc n) (turnOf y n (requestOf l) .state) (ls ++ ([] ∷ []))
 unfolding serveLines
 one-more n y [] [] = refl
 one-more n y [] (m ∷ ls) = refl
@@ -39,7 +41,6 @@ served-session [] [] n x y e s = no-line n y
 served-session [] (t ∷ ts) n x y e s = absurd s
 served-session (l ∷ ls) [] n x y e s = absurd s
 served-session (l ∷ ls) (t ∷ ts) n x y e (x′, h, s) =
-    ap (λ (u : Bytes). u ++ joined ts) (h .text ∙ ap (λ (o : Option Read). lineAnswer o n (callOf l)) e ∙ text-is y n (callOf l))
-    ∙ ap (λ (u : Bytes). turnOf y n (callOf l) .text ++ u)
-    (served-session ls ts (suc n) x′ (turnOf y n (callOf l) .state) (h .next ∙ ap (λ (o : Option Read). lineNext o (callOf l)) e ∙ next-is y n (callOf l)) s)
+    ap (λ (u : Bytes). u ++ joined ts) (text-is x y e (requestOf l) n t x′ h)
+    ∙ ap (λ (u : Bytes). turnOf y n (requestOf l) .text ++ u) (served-session ls ts (suc n) x′ (turnOf y n (requestOf l) .state) (next-is x y e (requestOf l) n t x′ h) s)
     ∙ sym (one-more n y l ls)

@@ -6,7 +6,7 @@ use Rattle.qbf.specs.Formula.{paper}
 use Rattle.layout.specs.Words.{Bytes}
 use Rattle.layout.specs.Output.{refusalText}
 use Rattle.layout.specs.Program.{tableBytes, cardProgram}
-use Rattle.serve.specs.declared.Written.{Written}
+use Rattle.book_writer.specs.declared.Written.{Written}
 use Rattle.serve.specs.Line.{answerBytes, TooShort}
 
 -- the text t stands at the start of the table d, or the table is too short

@@ -11,10 +11,12 @@ use Rattle.qbf.specs.Demands.{refusalOf}
 use Rattle.layout.specs.Words.{Bytes}
 use Rattle.layout.specs.Output.{refusalText}
 use Rattle.layout.specs.Program.{tableBytes}
-use Rattle.layout.specs.Session.{callOf, answerText}
+use Rattle.layout.specs.Session.{answerText}
+use Rattle.sessions.specs.Session.{Request, call, write, requestOf, tableFor, writtenAnswer}
 use Rattle.state.specs.declared.State.{State}
 use Rattle.state.specs.Reading.{readState}
 use Rattle.serving.specs.Serves.{outOf, nextOf}
+use Rattle.book_writer.specs.Writes.{writtenOf}
 use Rattle.serve.specs.declared.Turn.{Turn}
 use Rattle.serve.specs.declared.Spoken.{Spoken}
 
@@ -43,8 +45,23 @@ pub record CallServed (x : State) (c : Option Call) (n : ℕ) (t : Bytes) (x′ 
   -- "A refusal returns .. the state as given .. Only 21 differs": every cell of it
   pub kept : (k : ℕ) → lineRefusal (readState x) c ≡ some k → (k ≡ 21 → ⊥) → x′ ≡ x
 
+-- ---- a request, which is a call or asks for the book's text
+-- the table that holds every text is as large as the book's limits ask; a state that does not read has none, and is 22 in any table
+abbrev pub tableRead : Option Read → Option ℕ → ℕ
+tableRead none size = 0
+tableRead (some y) size = tableFor (y .formula .limits) size
+
+abbrev pub writeAnswer : Option Read → ℕ → Option ℕ → Bytes
+writeAnswer o n size = writtenAnswer n (writtenOf (tableRead o size) o)
+
+-- writing leaves every cell of the state
+abbrev pub RequestServed : State → Option Request → ℕ → Bytes → State → Type 0
+RequestServed x none n t x′ = CallServed x none n t x′
+RequestServed x (some (call c)) n t x′ = CallServed x (some c) n t x′
+RequestServed x (some (write size)) n t x′ = (t ≡ writeAnswer (readState x) n size) × (x′ ≡ x)
+
 abbrev pub LineServed : State → Bytes → ℕ → Bytes → State → Type 0
-LineServed x l n t x′ = CallServed x (callOf l) n t x′
+LineServed x l n t x′ = RequestServed x (requestOf l) n t x′
 
 -- ---- the lent table
 -- No answer is longer. All lines of a card together have no more places than its table has bytes, and there are no more lines than
@@ -57,6 +74,10 @@ pub record Turned (x : State) (c : Option Call) (n : ℕ) (r : Turn) (d : Bytes)
   pub within : r .length ≤ length d
   pub served : CallServed x c n (take (r .length) d) (r .state)
 
+pub record RequestTurned (x : State) (q : Option Request) (n : ℕ) (r : Turn) (d : Bytes) : Type 0 where
+  pub within : r .length ≤ length d
+  pub served : RequestServed x q n (take (r .length) d) (r .state)
+
 -- "A table too short is 31 .. and zeroed" (paper 02): one that is too short for some answers. Nothing else is done, and nothing is written.
 abbrev pub TooShort : ℕ → ℕ → Bytes → Bytes → Type 0
 TooShort refusal written d₀ d = (refusal ≡ 31) × (written ≡ 0) × (d ≡ zeroTable (length d₀))
@@ -67,7 +88,7 @@ spokenTurn r = record { state = r .state; length = r .length }
 -- An answer that is written has no number, whatever its text says.
 pub record ServesLine (x : State) (l : Bytes) (n : ℕ) (d₀ : Bytes) (r : Spoken) (d : Bytes) : Type 0 where
   pub short : length d₀ < answerBytes → TooShort (r .refusal) (r .length) d₀ d × (r .state ≡ x)
-  pub served : answerBytes ≤ length d₀ → (r .refusal ≡ 0) × Turned x (callOf l) n (spokenTurn r) d
+  pub served : answerBytes ≤ length d₀ → (r .refusal ≡ 0) × RequestTurned x (requestOf l) n (spokenTurn r) d
 
 -- ---- lines one after another, numbered from n on, each on the state that the last one left
 abbrev pub ServedLines : State → ℕ → List Bytes → List Bytes → Type 0

@@ -1,11 +1,11 @@
 // What the program `card` prints for a text, and what a session prints for one that is refused.
-use crate::NONE;
-use crate::TEXT_TABLE_TOO_SHORT;
-use crate::Written;
 use crate::card::put_shown;
 use crate::refusal::refuse;
 use answers::lines_of;
 use answers::refusal_of;
+use book_writer::NONE;
+use book_writer::TEXT_TABLE_TOO_SHORT;
+use book_writer::Written;
 use state::State;
 ghost use mathlib.Core.Path.{_≡_};
 ghost use mathlib.Core.Bool.{true};

@@ -7,6 +7,7 @@ use crate::change::serve_rule;
 use crate::query::serve_query;
 use crate::refusal::refuse;
 use reader::call::CallLine;
+use reader::call::read_call;
 use reader::line::kept;
 use state::State;
 ghost use mathlib.Core.Path.{_≡_};
@@ -17,6 +18,7 @@ ghost use lib.IntN.{pos};
 ghost use lib.ListN.{length};
 ghost use Rattle.qbf.specs.Formula.{paper, Literal};
 ghost use Rattle.qbf.specs.Calls.{Call, rule, query};
+ghost use Rattle.layout.specs.Session.{callOf};
 ghost use Rattle.reader.specs.Items.{Kept};
 ghost use Rattle.reader.specs.Calls.{CallRead};
 ghost use Rattle.serve.specs.Line.{answerBytes, Turned};
@@ -59,7 +61,7 @@ fn no_call(x: State, line: u64, out: &mut [u8]) -> Turn
     }
 }
 
-pub fn serve_call(x: State, call: CallLine, lits: &[i16], line: u64, out: &mut [u8]) -> Turn
+fn serve_call(x: State, call: CallLine, lits: &[i16], line: u64, out: &mut [u8]) -> Turn
     requires { ⌜ Small call ⌝ }
     requires { ⌜ length (now lits) ≡ suc (paper .numbers) ⌝ }
     requires { ⌜ answerBytes ≤ length (now out) ⌝ }
@@ -74,4 +76,14 @@ pub fn serve_call(x: State, call: CallLine, lits: &[i16], line: u64, out: &mut [
         CallLine::Forget => serve_forget(x, line, out),
         CallLine::NotCall => no_call(x, line, out),
     }
+}
+
+// A line that is a call, or none.
+pub fn serve_made(x: State, line: &[u8], number: u64, out: &mut [u8]) -> Turn
+    requires { ⌜ answerBytes ≤ length (now out) ⌝ }
+    ensures { λ r. ⌜ Turned x (callOf (now (line .entry))) number r (now (out .exit)) ⌝ }
+{
+    let mut lits = [0i16; tables::BY_NUMBER];
+    let call = read_call(line, &mut lits);
+    serve_call(x, call, &lits, number, out)
 }

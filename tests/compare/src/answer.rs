@@ -11,6 +11,8 @@ pub enum Call {
     /// The length of the lent card table.
     Card(usize),
     Forget,
+    /// The length of the table that the book's text is written to.
+    Write(usize),
 }
 
 #[derive(Clone, Copy, Debug, PartialEq, Eq)]
@@ -22,12 +24,14 @@ pub enum Said {
     /// The count of lines.
     Lines(usize),
     Forgotten,
+    /// The length of the text.
+    Written(usize),
 }
 
 #[derive(Clone, Debug, PartialEq, Eq)]
 pub struct Answer {
     pub said: Said,
-    /// Every byte of the card table after the call; empty for the other calls.
+    /// Every byte of the lent table after a card or a written book; empty for the other calls.
     pub table: Vec<u8>,
     pub visits: u64,
 }
@@ -53,7 +57,7 @@ pub trait Subject {
     }
 }
 
-/// What a lent card table holds before a card is written to it: no byte that a line can have.
+/// What a lent table holds before a call writes to it: no byte that a line or a text can have.
 pub const LENT_BYTE: u8 = 0xA5;
 
 impl fmt::Display for Call {
@@ -63,6 +67,7 @@ impl fmt::Display for Call {
             Call::Query(on) => write!(f, "query {on:?}"),
             Call::Card(length) => write!(f, "card into {length} bytes"),
             Call::Forget => write!(f, "forget"),
+            Call::Write(length) => write!(f, "write into {length} bytes"),
         }
     }
 }
@@ -76,6 +81,7 @@ impl fmt::Display for Answer {
             Said::Keep => write!(f, "keep")?,
             Said::Lines(count) => write!(f, "{count} line(s)")?,
             Said::Forgotten => write!(f, "forgotten")?,
+            Said::Written(length) => write!(f, "{length} byte(s)")?,
         }
         if !self.table.is_empty() {
             write!(f, ", table {:?}", self.table)?;

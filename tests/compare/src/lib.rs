@@ -1,4 +1,4 @@
-//! An implementation of paper 01 over plain data, written from the paper alone.
+//! An implementation of papers 01 and 02 over plain data, written from the papers alone.
 //!
 //! It answers the same calls as the proved solver, so that both can be run on one list of
 //! calls and compared. Beside it stand the plain run, an evaluation of truth that uses neither
@@ -28,6 +28,7 @@ pub mod store;
 pub mod table;
 pub mod text;
 pub mod truth;
+pub mod write;
 
 pub use answer::{Answer, Call, Said, Subject};
 pub use formula::{Formula, Literal, Quantifier, Variable};

@@ -5,7 +5,7 @@ use crate::formula::{Formula, Literal};
 use crate::options::{Limits, Options};
 use crate::plain;
 use crate::refusal;
-use crate::solver::start_node;
+use crate::solver::{start_node, Solver};
 use crate::table;
 use crate::truth::Verdict;
 
@@ -22,6 +22,7 @@ impl Subject for PlainRun {
             Call::Query(on) => self.query(on),
             Call::Card(length) => self.card(*length),
             Call::Forget => Answer::new(Said::Forgotten),
+            Call::Write(length) => self.write(*length),
         }
     }
 }
@@ -47,6 +48,11 @@ impl PlainRun {
         let found = plain::search(&self.formula, &start_node(&self.formula, on));
         let said = if found.verdict == Verdict::Yes { Said::Swap } else { Said::Keep };
         Answer { said, table: vec![], visits: found.visits }
+    }
+
+    /// A book is written from the declarations and the rules alone.
+    fn write(&self, length: usize) -> Answer {
+        Solver::opened(self.formula.clone(), self.options).call(&Call::Write(length))
     }
 
     /// "too many lines give 21, 0 lines and a zeroed table".

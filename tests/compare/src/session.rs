@@ -6,6 +6,7 @@ use crate::layout::{self, Item};
 use crate::options::Options;
 use crate::solver::Solver;
 use crate::text::{self, LARGEST_TEXT, PROGRAM_TABLE};
+use crate::write;
 use std::io::{self, BufRead, Read, Write};
 
 /// The longest line of a call, counted without its byte 10.
@@ -83,15 +84,17 @@ pub fn call(line: &[u8]) -> Option<Call> {
         (b"rule", _) => Some(Call::Rule(literals())),
         (b"query", _) if plain => Some(Call::Query(literals())),
         (b"card", []) => Some(Call::Card(PROGRAM_TABLE)),
-        (b"card", [length]) if plain => table(length),
+        (b"card", [length]) if plain => table(length).map(Call::Card),
         (b"forget", []) => Some(Call::Forget),
+        (b"write", []) => Some(Call::Write(write::WHOLE)),
+        (b"write", [length]) if plain => table(length).map(Call::Write),
         _ => None,
     }
 }
 
-fn table(length: &Item) -> Option<Call> {
-    let length = usize::try_from(length.number).ok()?;
-    (length <= PROGRAM_TABLE).then_some(Call::Card(length))
+/// The bytes of a table, 0 to 65,536.
+fn table(length: &Item) -> Option<usize> {
+    usize::try_from(length.number).ok().filter(|&length| length <= PROGRAM_TABLE)
 }
 
 /// A number of up to five digits as a literal: one that 16 bits do not hold stays a number that
@@ -111,6 +114,7 @@ pub fn print(formula: &Formula, answer: &Answer, line: usize) -> String {
         Said::Refused(21) => format!("(refused 21 {line} (visits {visits}))\n"),
         Said::Refused(number) => format!("(refused {number} {line})\n"),
         Said::Lines(count) => text::print_card(formula, count, &answer.table, visits),
+        Said::Written(length) => String::from_utf8_lossy(&answer.table[..length]).into(),
     }
 }
 
@@ -203,6 +207,23 @@ mod tests {
         ];
         for (line, number) in rules {
             assert_eq!(on_a(&format!("{line}\n")), refused(number), "{line}");
+        }
+    }
+
+    #[test]
+    fn books_written_back() {
+        let book = "(book 1)\n(flags 1 2)\n(exists 3)\n(forall 4)\n(rule (no 1) 3 4)\n\
+                    (rule 2 (no 3) (no 4))\n(rule 1 2)\n(end)\n";
+        let length = book.len();
+        assert_eq!(on_a("(write)\n"), book);
+        assert_eq!(on_a("(write 65536)\n"), book);
+        assert_eq!(on_a(&format!("(write {length})\n")), book);
+        assert_eq!(on_a(&format!("(write {})\n", length - 1)), "(refused 31 9)\n");
+        assert_eq!(on_a("(write 0)\n"), "(refused 31 9)\n");
+        let more = book.replace("(end)", "(rule 3)\n(end)");
+        assert_eq!(on_a("(rule 3)\n(write)\n"), format!("(accepted)\n{more}"));
+        for line in ["(write 65537)", "(write (no 1))", "(write 1 2)", "(write )", "(write 01)"] {
+            assert_eq!(on_a(&format!("{line}\n")), "(refused 1 9)\n", "{line}");
         }
     }
 

@@ -1,4 +1,4 @@
-//! The four calls on a state, answered by the learning search.
+//! The calls on a state, answered by the learning search.
 
 use crate::answer::{Answer, Call, Said, Subject, LENT_BYTE};
 use crate::check;
@@ -10,6 +10,7 @@ use crate::refusal;
 use crate::slip::Slip;
 use crate::store::Store;
 use crate::table;
+use crate::write;
 
 #[derive(Clone, Debug, Default, PartialEq, Eq)]
 pub struct State {
@@ -35,6 +36,10 @@ impl Subject for Solver {
                 self.card(&mut table)
             }
             Call::Forget => self.forget(),
+            Call::Write(length) => {
+                let mut table = vec![LENT_BYTE; *length];
+                self.write(&mut table)
+            }
         }
     }
 }
@@ -121,6 +126,20 @@ impl Solver {
         }
         self.state.store.forget(&self.options);
         Answer::new(Said::Forgotten)
+    }
+
+    /// "It returns the length and zeroes the bytes after the text. A table too short is 31, after
+    /// 22, and zeroed." The state stays as it is.
+    pub fn write(&self, table: &mut [u8]) -> Answer {
+        let text = write::text(&self.state.formula, &self.options);
+        let said = match self.first_refusal(write::refusal(&text, table.len(), &self.options)) {
+            Some(number) => {
+                write::refuse(number, table, &self.options);
+                Said::Refused(number)
+            }
+            None => Said::Written(write::fill(&text, table, &self.options)),
+        };
+        Answer { said, table: table.to_vec(), visits: 0 }
     }
 
     /// 22 comes first at every call.

@@ -131,7 +131,7 @@ fn sessions_of_the_plain_run() {
 fn hidden(slip: Slip) -> bool {
     use Slip::*;
     let given_store = [InnerTestsAtMost, SatisfiedBeforeStoredClause, EqualNotStoredAgain];
-    let table = [TableTailKept, TableKeptAfter21];
+    let table = [TableTailKept, TableKeptAfter21, TextTailKept, TableKeptAfter31];
     slip.is_of_check() || given_store.contains(&slip) || table.contains(&slip)
 }
 

@@ -119,6 +119,7 @@ impl Shape {
             let kind = if random.one_in(2) { favourite } else { random.below(3) };
             let call = match kind {
                 _ if random.one_in(16) => Call::Forget,
+                _ if random.one_in(12) => write(&formula, random),
                 0 => card(&formula, random),
                 1 => Call::Query(query(&formula, random)),
                 _ => self.rule(&formula, style, random),
@@ -325,6 +326,17 @@ fn card(formula: &Formula, random: &mut Random) -> Call {
         _ => 65_536,
     };
     Call::Card(length)
+}
+
+/// Tables near the length of the text, short ones and long ones.
+fn write(formula: &Formula, random: &mut Random) -> Call {
+    let text = compare::write::text(formula, &Options::paper()).len();
+    let length = match random.below(4) {
+        0 => random.below(text),
+        1 => text + random.below(200),
+        _ => text.saturating_add_signed(random.between(0, 2) as isize - 1),
+    };
+    Call::Write(length)
 }
 
 /// A well-formed store that calls need not reach.

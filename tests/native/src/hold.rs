@@ -112,7 +112,10 @@ impl Sides {
 
 /// "22 the state is malformed": no lines, no visits, and the table zeroed.
 fn refused_by_state(call: &Call) -> Answer {
-    let length = if let Call::Card(length) = call { *length } else { 0 };
+    let length = match call {
+        Call::Card(length) | Call::Write(length) => *length,
+        _ => 0,
+    };
     Answer { said: Said::Refused(22), table: vec![0; length], visits: 0 }
 }
 
@@ -138,6 +141,12 @@ fn true_answer(formula: &Formula, call: &Call, answer: &Answer) -> Result<bool, 
             let lines = truth::lines(formula, &mut vec![]).len();
             if lines <= table::lines_held(formula, *length, &options) {
                 return Err(format!("{answer}; by evaluation {lines} lines"));
+            }
+        }
+        (Call::Write(_), Said::Written(length)) => {
+            let opened = compare::text::open(&answer.table[..length], &options);
+            if opened.as_ref() != Ok(formula) {
+                return Err(format!("{answer}; read back {opened:?}"));
             }
         }
         _ => return Ok(false),

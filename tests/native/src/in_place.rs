@@ -1,6 +1,6 @@
 //! The calls in place. The tables of a state are lent one by one, each between guard cells.
 
-use crate::raw::{Raw, Reply, Returned, CELLS, LENGTHS};
+use crate::raw::{Raw, Reply, Returned, Written, CELLS, LENGTHS};
 
 extern "C" {
     fn bullacetop_rule_in_place(
@@ -53,6 +53,19 @@ extern "C" {
         table: *mut u8,
         length: usize,
     ) -> Reply;
+    fn bullacetop_write_in_place(
+        numbers: *const u16,
+        levels: *const u16,
+        kinds: *const u16,
+        clauses: *const i16,
+        clause_sizes: *const u16,
+        learned_clauses: *const i16,
+        learned_clause_sizes: *const u16,
+        learned_cubes: *const i16,
+        learned_cube_sizes: *const u16,
+        table: *mut u8,
+        length: usize,
+    ) -> Written;
 }
 
 /// Where the tables of a state stand, in the order of the state.
@@ -67,6 +80,9 @@ pub const RULE: Writes = &[3, 4, 8];
 pub const FORGET: Writes = &[6, 8];
 /// What a query or a card learns.
 pub const SEARCH: Writes = &[5, 6, 7, 8];
+
+/// A book that is written back: the state is only read.
+pub const WRITE: Writes = &[];
 
 const GUARD: u16 = 0x5C5C;
 /// An odd number of cells, so that tables stand at addresses that no wider number may have.
@@ -147,6 +163,25 @@ pub unsafe fn query(at: Tables, on: *const i16, count: usize) -> Reply {
 pub unsafe fn card(at: Tables, table: *mut u8, length: usize) -> Reply {
     let [numbers, levels, kinds, clauses, sizes, learned, learned_sizes, cubes, cube_sizes] = at;
     bullacetop_card_in_place(
+        numbers,
+        levels,
+        kinds,
+        clauses.cast(),
+        sizes,
+        learned.cast(),
+        learned_sizes,
+        cubes.cast(),
+        cube_sizes,
+        table,
+        length,
+    )
+}
+
+/// # Safety
+/// The tables can be read and the text's table written, and none overlaps.
+pub unsafe fn write(at: Tables, table: *mut u8, length: usize) -> Written {
+    let [numbers, levels, kinds, clauses, sizes, learned, learned_sizes, cubes, cube_sizes] = at;
+    bullacetop_write_in_place(
         numbers,
         levels,
         kinds,

@@ -1,7 +1,7 @@
 //! The library's calls, each both by value and in place. Every lent table stands between guard bytes.
 
-use crate::in_place::{self, FORGET, RULE, SEARCH};
-use crate::raw::{Raw, Reply, Returned, KEEP, SWAP};
+use crate::in_place::{self, FORGET, RULE, SEARCH, WRITE};
+use crate::raw::{Raw, Reply, Returned, Written, KEEP, SWAP};
 use crate::reading;
 use compare::answer::LENT_BYTE;
 use compare::{Answer, Call, Formula, Said, State, Store, Subject};
@@ -68,11 +68,26 @@ impl Native {
                 }
                 (by_value, in_place)
             }
+            Call::Write(length) => {
+                // There is no such call by value: a call line is one, and is compared with the others.
+                table = vec![LENT_BYTE; *length];
+                let in_place = lend_table(&mut table, |bytes, length| {
+                    in_place::lend(state, WRITE, |at| {
+                        as_reply(unsafe { in_place::write(at, bytes, length) })
+                    })
+                })?;
+                (in_place, in_place)
+            }
         };
         let Returned { reply, state: next } = same(by_value, in_place)?;
         *self.state = next;
         Ok(Answer { said: said(call, &reply)?, table, visits: reply.visits })
     }
+}
+
+/// The length of a text in the place of the count of lines.
+fn as_reply(Written { refusal, length }: Written) -> Reply {
+    Reply { refusal, verdict: 0, lines: length, visits: 0 }
 }
 
 /// A call that was made both ways.
@@ -160,7 +175,7 @@ fn lend_table(
     let (before, rest) = lent.split_at(GUARDS);
     let (written, after) = rest.split_at(length);
     if before.iter().chain(after).any(|&byte| byte != GUARD) {
-        return Err("a byte outside the card table is written".into());
+        return Err("a byte outside the lent table is written".into());
     }
     table.copy_from_slice(written);
     Ok(returned)
@@ -177,6 +192,7 @@ fn said(call: &Call, reply: &Reply) -> Result<Said, String> {
         (Call::Query(_), 0, SWAP, 0, _) => Some(Said::Swap),
         (Call::Query(_), 0, KEEP, 0, _) => Some(Said::Keep),
         (Call::Card(_), 0, 0, _, _) => Some(Said::Lines(lines)),
+        (Call::Write(_), 0, 0, _, 0) => Some(Said::Written(lines)),
         _ => None,
     };
     let numbers = (refusal, verdict, lines, visits);

@@ -70,6 +70,15 @@ pub struct Returned {
     pub state: Raw,
 }
 
+/// A text in the first bytes of a lent table.
+#[repr(C)]
+#[derive(Clone, Copy, Debug, PartialEq, Eq)]
+pub struct Written {
+    /// 0 is none.
+    pub refusal: u16,
+    pub length: usize,
+}
+
 /// How many cells each table of a state has, in the order of the state.
 pub const LENGTHS: [usize; 9] = [
     BY_PLACE,

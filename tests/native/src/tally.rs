@@ -13,6 +13,8 @@ pub struct Tally {
     pub keeps: u64,
     pub cards: u64,
     pub lines: u64,
+    /// Books written back.
+    pub written: u64,
     pub visits: u64,
     /// Of one call.
     pub most_visits: u64,
@@ -56,6 +58,7 @@ impl Tally {
                 self.cards += 1;
                 self.lines += count as u64;
             }
+            Said::Written(_) => self.written += 1,
         }
         self.tables_of_no_byte += u64::from(*call == Call::Card(0));
         self.visits += answer.visits;
@@ -82,6 +85,7 @@ impl Tally {
             (&mut self.keeps, other.keeps),
             (&mut self.cards, other.cards),
             (&mut self.lines, other.lines),
+            (&mut self.written, other.written),
             (&mut self.visits, other.visits),
             (&mut self.plain, other.plain),
             (&mut self.truths, other.truths),
@@ -107,16 +111,17 @@ impl Tally {
 
     pub fn calls(&self) -> u64 {
         let refused: u64 = self.refusals.values().sum();
-        self.rules + self.forgets + self.swaps + self.keeps + self.cards + refused
+        let answered = self.swaps + self.keeps + self.cards + self.written;
+        self.rules + self.forgets + answered + refused
     }
 }
 
 impl fmt::Display for Tally {
     fn fmt(&self, f: &mut fmt::Formatter) -> fmt::Result {
-        let Tally { lists, rules, forgets, swaps, keeps, cards, lines, .. } = self;
+        let Tally { lists, rules, forgets, swaps, keeps, cards, lines, written, .. } = self;
         writeln!(f, "{lists} lists, {} calls:", self.calls())?;
         write!(f, "  {rules} rules accepted, {forgets} forgets, {swaps} swap, {keeps} keep, ")?;
-        writeln!(f, "{cards} cards of {lines} lines")?;
+        writeln!(f, "{cards} cards of {lines} lines, {written} books written")?;
         writeln!(f, "  refusals by number: {:?}", self.refusals)?;
         let [clauses, cubes] = self.filled;
         writeln!(

@@ -1,14 +1,7 @@
 //! The library's functions on texts. The lent page stands between guard bytes.
 
-use crate::raw::Raw;
+use crate::raw::{Raw, Written};
 use std::ptr;
-
-#[repr(C)]
-#[derive(Clone, Copy)]
-struct Written {
-    refusal: u16,
-    length: usize,
-}
 
 #[repr(C)]
 #[derive(Clone, Copy)]

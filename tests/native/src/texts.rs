@@ -39,6 +39,8 @@ pub fn line(call: &Call) -> Vec<u8> {
         Call::Card(65_536) => "(card)".into(),
         Call::Card(length) => format!("(card {length})"),
         Call::Forget => "(forget)".into(),
+        Call::Write(compare::write::WHOLE) => "(write)".into(),
+        Call::Write(length) => format!("(write {length})"),
     };
     text.into_bytes()
 }
@@ -51,9 +53,10 @@ fn items(literals: &[i16]) -> String {
     literals.iter().map(item).collect()
 }
 
-const WORDS: [&str; 22] = [
+const WORDS: [&str; 23] = [
     "0", "1", "40", "41", "00", "01", "99999", "100000", "32767", "32768", "65536", "65537",
     "(no 1)", "(no 0)", "(no", "rule", "flags", "exists", "forall", "query", "end", "card",
+    "write",
 ];
 
 const BYTES: &[u8] = b" ()()0129\n\n\t\rano\0\xff\x80";

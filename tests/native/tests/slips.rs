@@ -43,8 +43,8 @@ fn told_apart(slip: Slip, source: Source, seed: u64, index: u64) -> bool {
     hold_with(&case, options, &mut Tally::default()).is_err()
 }
 
-/// How many inputs of a source there are in the usual run.
-const INPUTS: u64 = 400;
+/// How many inputs of a source are tried for a slip: most show within a few hundred.
+const INPUTS: u64 = 8_000;
 
 #[test]
 fn every_slip_is_told_apart() {

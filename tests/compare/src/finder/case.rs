@@ -113,13 +113,17 @@ impl Case {
     }
 
     fn table_bytes(&self) -> usize {
-        self.calls.iter().map(|call| if let Call::Card(length) = call { *length } else { 0 }).sum()
+        let bytes = |call: &Call| match call {
+            Call::Card(length) | Call::Write(length) => *length,
+            _ => 0,
+        };
+        self.calls.iter().map(bytes).sum()
     }
 }
 
 fn arguments(call: &Call) -> usize {
     match call {
         Call::Rule(list) | Call::Query(list) => list.len(),
-        Call::Card(_) | Call::Forget => 0,
+        Call::Card(_) | Call::Forget | Call::Write(_) => 0,
     }
 }

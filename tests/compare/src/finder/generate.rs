@@ -9,6 +9,7 @@ use crate::options::{Limits, Options};
 use crate::random::Random;
 use crate::solver::State;
 use crate::store::Store;
+use crate::write;
 
 /// Where a case starts.
 #[derive(Clone, Copy, Debug, PartialEq, Eq)]
@@ -89,7 +90,7 @@ impl Shape {
 
     /// One call of any kind, at times with a fault.
     fn any_call(self, formula: &Formula, random: &mut Random) -> Call {
-        match random.below(9) {
+        match random.below(10) {
             0..=2 => {
                 let free = formula.free_count();
                 let lengths = [0, free / 2, free, free + 1, 2 * free, 2 * free + 1, 3 * free];
@@ -109,6 +110,7 @@ impl Shape {
                 spoil::numbers(&mut literals, formula, random);
                 Call::Rule(literals)
             }
+            8 => write(formula, random),
             _ => Call::Forget,
         }
     }
@@ -131,6 +133,13 @@ impl Shape {
         }
         calls
     }
+}
+
+/// A book written into a table near the length of its text, now and then a short one.
+fn write(formula: &Formula, random: &mut Random) -> Call {
+    let text = write::text(formula, &Options::paper()).len();
+    let lengths = [0, text / 2, text - 1, text, text + 1, text + 9];
+    Call::Write(random.pick(&lengths))
 }
 
 /// A card into a table that holds every line there can be.

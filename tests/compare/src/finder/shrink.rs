@@ -3,8 +3,9 @@
 use super::case::Case;
 use crate::answer::Call;
 use crate::formula::{Formula, Literal, Place, Quantifier};
-use crate::options::Limits;
+use crate::options::{Limits, Options};
 use crate::solver::State;
+use crate::write;
 
 /// Takes the first smaller case that still `shows` the difference, until there is none.
 pub fn smallest(mut case: Case, shows: impl Fn(&Case) -> bool) -> Case {
@@ -99,6 +100,11 @@ fn with_simpler_calls(case: &Case, found: &mut Vec<Case>) {
             }
             Call::Query(list) => simpler.extend(shorter_lists(list).into_iter().map(Call::Query)),
             Call::Rule(list) => simpler.extend(shorter_lists(list).into_iter().map(Call::Rule)),
+            Call::Write(length) => {
+                let text = write::text(&case.state.formula, &Options::with(case.limits)).len();
+                let lengths = [0, length / 2, length.saturating_sub(1), length + 1, text];
+                simpler.extend(lengths.map(Call::Write));
+            }
             Call::Forget => {}
         }
         simpler.push(Call::Forget);

@@ -1,0 +1,1 @@
+// Definitions only, and what they compute: a book written back as text. See specs/ and proofs/.

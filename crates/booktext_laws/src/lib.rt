@@ -1,0 +1,1 @@
+// Theorems only: a book that is written is read back, and told apart by its text. See proofs/.
