@@ -85,7 +85,7 @@ at-end n b ([] ∷ []) b′ e = cc
 at-end n b ([] ∷ l ∷ ls) b′ e = absurd (never-opened 1 n b′ e)
 at-end n b ((c ∷ l) ∷ ls) b′ e = absurd (never-opened 1 n b′ e)
 
-lines-facts : (n stage : ℕ) (b : Formula) (ls : List Bytes) (b′ : Formula) → Reached stage b → readLines n stage b ls ≡ opened b′ → FormulaFacts b′ × (b′ .limits ≡ b .limits)
+pub lines-facts : (n stage : ℕ) (b : Formula) (ls : List Bytes) (b′ : Formula) → Reached stage b → readLines n stage b ls ≡ opened b′ → FormulaFacts b′ × (b′ .limits ≡ b .limits)
 unfolding readLines
 lines-facts n stage b [] b′ i e = absurd (never-opened 1 n b′ e)
 lines-facts n stage b (l ∷ []) b′ i e = absurd (never-opened 1 n b′ e)
