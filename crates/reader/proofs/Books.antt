@@ -1,43 +1,19 @@
 -- The book of a session's input: its lines up to the first `(end)`, found one after another; and lines counted.
-use Prim.Native.Nat.{ℕ, zero, suc, _+_, _<_, _≤_, _-_, min, zero-le}
-use mathlib.Core.Path.{_≡_, refl, sym, ap, subst, _∙_}
+use Prim.Native.Nat.{ℕ, zero, suc, _+_, _<_, _≤_, _-_, zero-le}
+use mathlib.Core.Path.{_≡_, sym, ap, subst, _∙_}
 use mathlib.Core.Bool.{Bool, true, false, cond}
 use mathlib.Core.List.{List, [], _∷_, _++_, append-assoc}
 use native.Mathlib.Omega.{arith}
 use native.Mathlib.Numerals.{add-one}
-use borrow.Author.Tests.{eqb-true, le-leb, lt-leb}
+use borrow.Author.Tests.{lt-leb}
 use lib.Dec.{eqb}
-use lib.ListN.{length, getD, take, drop, drop-of-length-le, length-drop, length-take}
-use lib.Seq.{take-suc, take-add, drop-cons, getD-at}
-use Rattle.layout.specs.Words.{Bytes, newline, onFirst, split, same}
+use lib.ListN.{length, getD, take, drop, drop-of-length-le, length-drop}
+use lib.Seq.{take-suc, take-add, drop-cons, getD-drop}
+use Rattle.layout.specs.Words.{Bytes, newline, split, same}
 use Rattle.layout.specs.Session.{endLine, Parted, onto, parted}
 use Rattle.reader.specs.Pieces.{piecesFrom, Piece}
 use Rattle.reader.specs.Books.{lineCount, BookEnd}
-use Rattle.reader.proofs.Texts.{split-some, pieces-at, piece-follows}
-
--- ---- pieces put together again
-joined : List Bytes → Bytes
-joined [] = []
-joined (w ∷ []) = w
-joined (w ∷ v ∷ ws) = w ++ (newline ∷ joined (v ∷ ws))
-
-joined-split : (s : Bytes) → joined (split newline s) ≡ s
-unfolding split joined
-joined-split [] = refl
-joined-split (b ∷ s) = by (eqb b newline) refl (split-some newline s) (joined-split s)
-  where
-    by : (t : Bool) → eqb b newline ≡ t → (w : Bytes) × (ws : List Bytes) × (split newline s ≡ w ∷ ws) → joined (split newline s) ≡ s → joined (cond t ([] ∷ split newline s) (onFirst b (split newline s))) ≡ b ∷ s
-    by true e (w, ws, q) ih = ap (λ (vs : List Bytes). joined ([] ∷ vs)) q ∙ ap (λ (vs : List Bytes). newline ∷ joined vs) (sym q) ∙ (λ i. sym (eqb-true b newline e) i ∷ ih i)
-    by false e (w, ws, q) ih = ap (λ (vs : List Bytes). joined (onFirst b vs)) q ∙ first ws ∙ ap (λ (vs : List Bytes). b ∷ joined vs) (sym q) ∙ ap (λ (t : Bytes). b ∷ t) ih
-      where
-        first : (ws : List Bytes) → joined ((b ∷ w) ∷ ws) ≡ b ∷ joined (w ∷ ws)
-        first [] = refl
-        first (v ∷ vs) = refl
-
-joined-more : (w : Bytes) (vs : List Bytes) → (v : Bytes) × (us : List Bytes) × (vs ≡ v ∷ us) → joined (w ∷ vs) ≡ w ++ (newline ∷ joined vs)
-unfolding joined
-joined-more w [] (v, us, q) = absurd (let z : _≡_ {A = ℕ} 0 1 = cc in omega (arith, z))
-joined-more w (x ∷ vs) (v, us, q) = refl
+use Rattle.reader.proofs.Texts.{pieces-at, piece-follows}
 
 -- ---- one line
 module _ {s : Bytes} {at e : ℕ} (p : Piece newline s at e) where
@@ -46,14 +22,8 @@ module _ {s : Bytes} {at e : ℕ} (p : Piece newline s at e) where
   none-left h = p .is ∙ ap (λ (ws : List Bytes). take (e - at) (drop at s) ∷ ws) (rw (lt-leb (e + 1) (length s) (omega (arith, h))))
 
   module _ (h : e < length s) where
-    size : length (take (e - at) (drop at s)) ≡ e - at
-    size = let q : min (e - at) (length (drop at s)) ≡ e - at = omega (arith, h, p .low, length-drop at s) in length-take (e - at) (drop at s) ∙ q
-
     byte : getD (drop at s) (e - at) 0 ≡ newline
-    byte =
-        ap (λ (t : Bytes). getD t (e - at) 0)
-        (sym (joined-split (drop at s)) ∙ ap joined (sym (pieces-at s at (omega (arith, h, p .low))) ∙ p .is) ∙ joined-more (take (e - at) (drop at s)) (piecesFrom newline s (e + 1)) (piece-follows s e h))
-        ∙ getD-at (take (e - at) (drop at s)) newline (joined (piecesFrom newline s (e + 1))) 0 (e - at) size
+    byte = let here : at + (e - at) ≡ e = omega (arith, p .low) in getD-drop at s (e - at) 0 ∙ ap (λ (k : ℕ). getD s k 0) here ∙ p .ended h
 
     -- a whole line and its byte 10 stand behind what came before
     whole : take (e + 1) s ≡ take at s ++ (take (e - at) (drop at s) ++ (newline ∷ []))

@@ -168,13 +168,13 @@ module _ {s : Bytes} {e : ℕ} (p : Piece space s 0 e) (w : CallWord) (g : Bool)
   call-is = by-first callFrom callWordOf callSigns callWith by-word p is-w is-g
 
   -- no items
-  pub call-none : (r : Count) (out : List ℤ) → Filled g (piecesFrom space s (e + 1)) r out → r ≡ NotItems → callFrom (split space s) ≡ none
-  call-none r out f i = call-is ∙ ap (λ (o : Option (List Literal)). then o (callWith w)) (subst (λ (x : Count). Filled g (piecesFrom space s (e + 1)) x out) i f)
+  pub call-none : (r : Count) (out : List ℤ) → Filled (items g (piecesFrom space s (e + 1))) r out → r ≡ NotItems → callFrom (split space s) ≡ none
+  call-none r out f i = call-is ∙ ap (λ (o : Option (List Literal)). then o (callWith w)) (subst (λ (x : Count). Filled (items g (piecesFrom space s (e + 1))) x out) i f)
 
   -- n items
-  module _ (r : Count) (out : List ℤ) {n : ℕ} (f : Filled g (piecesFrom space s (e + 1)) r out) (i : r ≡ Items n) where
-    read : Filled g (piecesFrom space s (e + 1)) (Items n) out
-    read = subst (λ (x : Count). Filled g (piecesFrom space s (e + 1)) x out) i f
+  module _ (r : Count) (out : List ℤ) {n : ℕ} (f : Filled (items g (piecesFrom space s (e + 1))) r out) (i : r ≡ Items n) where
+    read : Filled (items g (piecesFrom space s (e + 1))) (Items n) out
+    read = subst (λ (x : Count). Filled (items g (piecesFrom space s (e + 1))) x out) i f
 
     with-items : (v : CallWord) → w ≡ v → callFrom (split space s) ≡ callWith v (read .0)
     with-items v h = call-is ∙ ap (λ (o : Option (List Literal)). then o (callWith w)) (read .1) ∙ ap (λ (u : CallWord). callWith u (read .0)) h

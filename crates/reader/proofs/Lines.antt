@@ -20,7 +20,7 @@ use Rattle.reader.specs.declared.items.Count.the-variants.{Items}
 use Rattle.reader.proofs.Literals.{past}
 
 -- ---- the first word, and those after it
-pub rest-none : (g : Bool) (s : Bytes) (e : ℕ) (out : List Literal) → length s ≤ e → Filled g (piecesFrom space s (e + 1)) (Items 0) out
+pub rest-none : (g : Bool) (s : Bytes) (e : ℕ) (out : List Literal) → length s ≤ e → Filled (items g (piecesFrom space s (e + 1))) (Items 0) out
 unfolding items
 rest-none g s e out h = ([], ap (items g) (past s e h), record { count = refl; first = sym (take-nil (length out)) })
 
@@ -32,9 +32,9 @@ pub rest-bytes : (s : Bytes) (e : ℕ) → e < length s → take (length s - (e 
 rest-bytes s e h = take-all (length s - (e + 1)) (drop (e + 1) s) (simp length-drop (omega arith))
 
 pub rest-part : (g : Bool) (s : Bytes) (e : ℕ) (r : Count) (out : List Literal) → e < length s
-    → Filled g (split space (take (length s - (e + 1)) (drop (e + 1) s))) r out → Filled g (piecesFrom space s (e + 1)) r out
+    → Filled (items g (split space (take (length s - (e + 1)) (drop (e + 1) s)))) r out → Filled (items g (piecesFrom space s (e + 1))) r out
 rest-part g s e r out h p =
-    subst (λ (ws : List Bytes). Filled g ws r out) (ap (split space) (rest-bytes s e h) ∙ rest-some s e h) p
+    subst (λ (ws : List Bytes). Filled (items g ws) r out) (ap (split space) (rest-bytes s e h) ∙ rest-some s e h) p
 
 pub first-word : {s : Bytes} {e : ℕ} → Piece space s 0 e → split space s ≡ take e s ∷ piecesFrom space s (e + 1)
 unfolding piecesFrom

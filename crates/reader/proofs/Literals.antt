@@ -120,44 +120,29 @@ fill-more out ds l e = by (decLt (length ds) (length out))
         ∙ e
         ∙ sym (take-append-le (length out) ds (l ∷ []) k)
 
--- n literals are read, and the words from at on are left
-pub record Reading (g : Bool) (s : Bytes) (out₀ out : List Literal) (at n : ℕ) : Type 0 where
+-- Of the literals of a whole line n are read and stand in the table, and those that are left follow them.
+pub record Gathered (whole left : Option (List Literal)) (out₀ out : List Literal) (n : ℕ) : Type 0 where
   pub done : List Literal
   pub count : n ≡ length done
-  pub low : n ≤ at
-  pub high : at ≤ length s + 1
-  pub is : allNarrowed (items g (split space s)) ≡ followed done (allNarrowed (items g (piecesFrom space s at)))
+  pub is : allNarrowed whole ≡ followed done (allNarrowed left)
   pub size : length out ≡ length out₀
   pub filled : take n out ≡ take (length out) done
 
-pub read-none : (g : Bool) (s : Bytes) (out : List Literal) → Reading g s out out 0 0
-unfolding piecesFrom
-read-none g s out =
-    record {
-      done = [];
-      count = refl;
-      low = zero-le;
-      high = zero-le;
-      is = rw leb·zero (followed-nil (allNarrowed (items g (split space s))));
-      size = refl;
-      filled = sym (take-nil (length out));
-    }
+pub gathered-none : (o : Option (List Literal)) (out : List Literal) → Gathered o o out out 0
+gathered-none o out = record { done = []; count = refl; is = followed-nil (allNarrowed o); size = refl; filled = sym (take-nil (length out)) }
 
-module _ {g : Bool} {s : Bytes} {out₀ out : List Literal} {at n : ℕ} (p : Reading g s out₀ out at n) where
-  pub read-bad : items g (piecesFrom space s at) ≡ none → items g (split space s) ≡ none
+module _ {whole left : Option (List Literal)} {out₀ out : List Literal} {n : ℕ} (p : Gathered whole left out₀ out n) where
+  pub gathered-bad : left ≡ none → whole ≡ none
   unfolding allNarrowed followed
-  read-bad e = allNarrowed-none (items g (split space s)) (p .is ∙ ap (λ (o : Option (List Literal)). followed (p .done) (allNarrowed o)) e)
+  gathered-bad e = allNarrowed-none whole (p .is ∙ ap (λ (o : Option (List Literal)). followed (p .done) (allNarrowed o)) e)
 
-  pub read-more : (l : Literal) {next : ℕ} → at < next → next ≤ length s + 1
-      → allNarrowed (items g (piecesFrom space s at)) ≡ consed (λ x. x) (some l) (allNarrowed (items g (piecesFrom space s next)))
-      → {new : List Literal} → new ≡ set out n l → Reading g s out₀ new next (n + 1)
-  read-more l {next} h k e {new} w =
+  pub gathered-more : (l : Literal) {next : Option (List Literal)} → allNarrowed left ≡ consed (λ x. x) (some l) (allNarrowed next)
+      → {new : List Literal} → new ≡ set out n l → Gathered whole next out₀ new (n + 1)
+  gathered-more l {next} e {new} w =
       record {
         done = p .done ++ (l ∷ []);
         count = omega (arith, p .count, length-append (p .done) (l ∷ []));
-        low = omega (arith, p .low);
-        high = k;
-        is = p .is ∙ ap (followed (p .done)) e ∙ followed-more (p .done) l (allNarrowed (items g (piecesFrom space s next)));
+        is = p .is ∙ ap (followed (p .done)) e ∙ followed-more (p .done) l (allNarrowed next);
         size = long ∙ p .size;
         filled =
             ap (take (n + 1)) w
@@ -169,8 +154,31 @@ module _ {g : Bool} {s : Bytes} {out₀ out : List Literal} {at n : ℕ} (p : Re
       long : length new ≡ length out
       long = ap length w ∙ length-set out n l
 
-  pub read-end : length s < at → (ls : List Literal) × (items g (split space s) ≡ some ls) × Kept n out ls
-  unfolding allNarrowed followed piecesFrom items
-  read-end h =
-      let r = allNarrowed-some (items g (split space s)) (p .done) (p .is ∙ rw (lt-leb at (length s) h) (ap some (append-nil (p .done)))) in
+  pub gathered-all : left ≡ some [] → (ls : List Literal) × (whole ≡ some ls) × Kept n out ls
+  unfolding allNarrowed followed
+  gathered-all e =
+      let r = allNarrowed-some whole (p .done) (p .is ∙ ap (λ (o : Option (List Literal)). followed (p .done) (allNarrowed o)) e ∙ ap some (append-nil (p .done))) in
       (r .0, r .1, record { count = p .count ∙ ap length (sym (r .2)) ∙ length-map (r .0) narrowed; first = p .filled ∙ ap (take (length out)) (sym (r .2)) })
+
+-- n literals are read, and the words from at on are left
+pub record Reading (g : Bool) (s : Bytes) (out₀ out : List Literal) (at n : ℕ) : Type 0 where
+  pub low : n ≤ at
+  pub high : at ≤ length s + 1
+  pub gathered : Gathered (items g (split space s)) (items g (piecesFrom space s at)) out₀ out n
+
+pub read-none : (g : Bool) (s : Bytes) (out : List Literal) → Reading g s out out 0 0
+unfolding piecesFrom
+read-none g s out = record { low = zero-le; high = zero-le; gathered = rw leb·zero (gathered-none (items g (split space s)) out) }
+
+module _ {g : Bool} {s : Bytes} {out₀ out : List Literal} {at n : ℕ} (p : Reading g s out₀ out at n) where
+  pub read-bad : items g (piecesFrom space s at) ≡ none → items g (split space s) ≡ none
+  read-bad = gathered-bad (p .gathered)
+
+  pub read-more : (l : Literal) {next : ℕ} → at < next → next ≤ length s + 1
+      → allNarrowed (items g (piecesFrom space s at)) ≡ consed (λ x. x) (some l) (allNarrowed (items g (piecesFrom space s next)))
+      → {new : List Literal} → new ≡ set out n l → Reading g s out₀ new next (n + 1)
+  read-more l h k e w = record { low = omega (arith, p .low); high = k; gathered = gathered-more (p .gathered) l e w }
+
+  pub read-end : length s < at → (ls : List Literal) × (items g (split space s) ≡ some ls) × Kept n out ls
+  unfolding piecesFrom items
+  read-end h = gathered-all (p .gathered) (rw (lt-leb at (length s) h))

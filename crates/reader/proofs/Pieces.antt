@@ -76,6 +76,7 @@ module _ {c : ℕ} {s : Bytes} {at i : ℕ} (p : Passed c s at i) where
         high = p .high;
         is = at-start ∙ p .is ∙ ap (onto (take (i - at) (drop at s))) go ∙ onto-end (take (i - at) (drop at s)) (split c (drop (i + 1) s))
             ∙ ap (λ (ws : List Bytes). take (i - at) (drop at s) ∷ ws) (sym next);
+        ended = λ k. e;
       }
     where
       go : split c (drop i s) ≡ [] ∷ split c (drop (i + 1) s)
@@ -92,6 +93,7 @@ module _ {c : ℕ} {s : Bytes} {at i : ℕ} (p : Passed c s at i) where
         high = p .high;
         is = at-start ∙ p .is ∙ ap (onto (take (i - at) (drop at s))) go ∙ onto-end (take (i - at) (drop at s)) []
             ∙ ap (λ (ws : List Bytes). take (i - at) (drop at s) ∷ ws) (sym next);
+        ended = λ k. absurd (omega (arith, h, k));
       }
     where
       go : split c (drop i s) ≡ [] ∷ []

@@ -36,12 +36,12 @@ ItemRead signed s at (Lit l c) =
     (at < c .at) × (c .at ≤ length s + 1)
     × (allNarrowed (items signed (piecesFrom space s at)) ≡ consed (λ x. x) (some l) (allNarrowed (items signed (piecesFrom space s (c .at)))))
 
--- ---- all items of some words
+-- ---- all items of a line
 -- n literals are told, and as many of them as the table holds stand in it, narrowed
 pub record Kept (n : ℕ) (out : List ℤ) (ls : List Literal) : Type 0 where
   pub count : n ≡ length ls
   pub first : take n out ≡ take (length out) (map narrowed ls)
 
-abbrev pub Filled : Bool → List Bytes → Count → List ℤ → Type 0
-Filled signed ws NotItems out = items signed ws ≡ none
-Filled signed ws (Items n) out = (ls : List Literal) × (items signed ws ≡ some ls) × Kept n out ls
+abbrev pub Filled : Option (List Literal) → Count → List ℤ → Type 0
+Filled o NotItems out = o ≡ none
+Filled o (Items n) out = (ls : List Literal) × (o ≡ some ls) × Kept n out ls

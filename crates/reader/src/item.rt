@@ -26,7 +26,7 @@ pub enum Item {
 }
 
 // A number in 16 bits. It is judged before it is narrowed: one that is no variable's becomes the first that is none.
-fn narrow(v: u32) -> u16
+pub fn narrow(v: u32) -> u16
     ensures { λ r. ⌜ r ≡ narrow v ⌝ }
 {
     if v < tables::BY_NUMBER as u32 {
@@ -37,14 +37,14 @@ fn narrow(v: u32) -> u16
 }
 
 // "positive means on, its negation off"
-fn on(n: u16) -> i16
+pub fn on(n: u16) -> i16
     requires { ⌜ n ≤ suc (paper .numbers) ⌝ }
     ensures { λ r. ⌜ r ≡ pos n ⌝ }
 {
     n as i16
 }
 
-fn off(n: u16) -> i16
+pub fn off(n: u16) -> i16
     requires { ⌜ n ≤ suc (paper .numbers) ⌝ }
     ensures { λ r. ⌜ r ≡ off n ⌝ }
 {

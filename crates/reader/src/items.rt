@@ -6,6 +6,7 @@ ghost use mathlib.Core.Path.{_≡_};
 ghost use Prim.Native.Nat.{_+_, _≤_};
 ghost use lib.ListN.{length, set};
 ghost use Rattle.layout.specs.Words.{space, split};
+ghost use Rattle.layout.specs.Forms.{items};
 ghost use Rattle.reader.specs.Pieces.{piecesFrom};
 ghost use Rattle.reader.specs.Items.{Filled};
 
@@ -16,7 +17,7 @@ pub enum Count {
 }
 
 // Stores a literal, where the table has the place.
-fn put_literal(out: &mut [i16], n: usize, l: i16)
+pub fn put_literal(out: &mut [i16], n: usize, l: i16)
     ensures { λ _. ⌜ now (out .exit) ≡ set (now (out .entry)) n l ⌝ }
 {
     if n < out.len() {
@@ -25,7 +26,7 @@ fn put_literal(out: &mut [i16], n: usize, l: i16)
 }
 
 fn read_items(s: &[u8], signed: bool, out: &mut [i16]) -> Count
-    ensures { λ r. ⌜ Filled signed (split space (now (s .entry))) r (now (out .exit)) ⌝ }
+    ensures { λ r. ⌜ Filled (items signed (split space (now (s .entry)))) r (now (out .exit)) ⌝ }
 {
     let mut at: usize = 0;
     let mut n: usize = 0;
@@ -43,7 +44,7 @@ fn read_items(s: &[u8], signed: bool, out: &mut [i16]) -> Count
 // The items after the word that ends at e.
 pub fn rest(s: &[u8], e: usize, signed: bool, out: &mut [i16]) -> Count
     requires { ⌜ e ≤ length (now s) ⌝ }
-    ensures { λ r. ⌜ Filled signed (piecesFrom space (now (s .entry)) (e + 1)) r (now (out .exit)) ⌝ }
+    ensures { λ r. ⌜ Filled (items signed (piecesFrom space (now (s .entry)) (e + 1))) r (now (out .exit)) ⌝ }
 {
     if s.len() <= e {
         return Count::Items(0);

@@ -29,7 +29,7 @@ enum-told : tie.Need-enum-told Inv-loop μ-loop
 enum-told c = search needs
 
 same-length : tie.Need-same-length Inv-loop μ-loop
-same-length c = c .before .before .before .before .loop .inv .size
+same-length c = c .before .before .before .before .loop .inv .gathered .size
 
 returns : tie.Need-returns Inv-loop μ-loop
 returns c =
@@ -58,7 +58,7 @@ loop-again c =
     read-more (here .inv) _ (item .0) (item .1) (item .2) stored
 
 same-length-2 : tie.Need-same-length-2 Inv-loop μ-loop
-same-length-2 c = c .before .loop .inv .size
+same-length-2 c = c .before .loop .inv .gathered .size
 
 returns-2 : tie.Need-returns-2 Inv-loop μ-loop
 returns-2 c = read-end (c .before .loop .inv) (c .loop-test .left)

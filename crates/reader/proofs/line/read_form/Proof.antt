@@ -5,6 +5,7 @@ use native.Mathlib.Omega.{arith}
 use borrow.Author.Needs.{needs}
 use lib.ListN.{length-take}
 use Rattle.layout.specs.Words.{space}
+use Rattle.layout.specs.Forms.{items}
 use Rattle.reader.specs.Pieces.{piecesFrom}
 use Rattle.reader.specs.Items.{Filled}
 use Rattle.reader.specs.declared.items.Count.{Count}
@@ -43,7 +44,7 @@ returns c =
     let word = c .before .before .before .before .before .before .word-of in
     let signed = c .before .before .before .before .before .takes-signs in
     let out = c .before .before .before .rest .last .1 .1 .1 .0 in
-    let none-read = subst (λ (r : Count). Filled (signed .result) (piecesFrom space s (found .result + 1)) r out) (c .enum-told .given .1) (c .before .before .before .rest .ensures) in
+    let none-read = subst (λ (r : Count). Filled (items (signed .result) (piecesFrom space s (found .result + 1))) r out) (c .enum-told .given .1) (c .before .before .before .rest .ensures) in
     form-none (found .ensures) (word .result) (signed .result) (word .ensures) (signed .ensures) none-read
 
 line-of-requires : tie.Need-line-of-requires
@@ -59,7 +60,7 @@ returns-2 c =
     let word = c .before .before .before .before .before .before .before .before .word-of in
     let signed = c .before .before .before .before .before .before .before .takes-signs in
     let out = c .before .before .before .before .before .rest .last .1 .1 .1 .0 in
-    let read = subst (λ (r : Count). Filled (signed .result) (piecesFrom space s (found .result + 1)) r out) (c .before .before .n .given .1) (c .before .before .before .before .before .rest .ensures) in
+    let read = subst (λ (r : Count). Filled (items (signed .result) (piecesFrom space s (found .result + 1))) r out) (c .before .before .n .given .1) (c .before .before .before .before .before .rest .ensures) in
     form-some (found .ensures) (word .result) (signed .result) (word .ensures) (signed .ensures) (read .1) (read .2) (c .line-of .ensures)
 
 pub read-form-spec : {M : Type 1} → statement M
