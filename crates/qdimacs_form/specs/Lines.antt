@@ -52,7 +52,20 @@ pub data Line : Type 0 where
   group : Quantifier → List ℕ → Line
   clause : List Literal → Line
 
+-- the words that begin a header, a quantifier line of exists and one of forall
+abbrev pub headerWord : Bytes
+headerWord = ascii "p"
+
+abbrev pub existsWord : Bytes
+existsWord = ascii "e"
+
+abbrev pub forallWord : Bytes
+forallWord = ascii "a"
+
 -- `p cnf V C`
+abbrev pub cnfWord : Bytes
+cnfWord = ascii "cnf"
+
 abbrev pub headerOf : Bool → Option ℕ → Option ℕ → Option Line
 headerOf true (some v) (some c) = some (header v c)
 headerOf true (some v) none = none
@@ -60,7 +73,7 @@ headerOf true none c = none
 headerOf false v c = none
 
 abbrev pub headerFrom : List Bytes → Option Line
-headerFrom (w ∷ v ∷ c ∷ []) = headerOf (same w (ascii "cnf")) (number v) (number c)
+headerFrom (w ∷ v ∷ c ∷ []) = headerOf (same w cnfWord) (number v) (number c)
 headerFrom [] = none
 headerFrom (w ∷ []) = none
 headerFrom (w ∷ v ∷ []) = none
@@ -78,9 +91,9 @@ clauseOf ls = some (clause ls)
 unfoldable pub lineFrom : List Bytes → Option Line
 lineFrom [] = none
 lineFrom (w ∷ ws) =
-    cond (same w (ascii "p")) (headerFrom ws)
-    (cond (same w (ascii "e")) (then (literals false ws) (groupOf exists))
-    (cond (same w (ascii "a")) (then (literals false ws) (groupOf forall))
+    cond (same w headerWord) (headerFrom ws)
+    (cond (same w existsWord) (then (literals false ws) (groupOf exists))
+    (cond (same w forallWord) (then (literals false ws) (groupOf forall))
     (then (literals true (w ∷ ws)) clauseOf)))
 
 -- the byte of `c`

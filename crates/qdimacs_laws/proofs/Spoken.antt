@@ -11,11 +11,11 @@ use lib.ListN.{length, getD, drop}
 use lib.Dec.{leb, eqb}
 use Rattle.qbf.specs.Formula.{Quantifier, free, exists, forall, isFree, Literal, numberOf}
 use Rattle.theory.proofs.Basics.{and-left, and-right}
-use Rattle.layout.specs.Words.{Bytes, ascii, space, split, same, isDigit, digits, number}
+use Rattle.layout.specs.Words.{Bytes, space, split, same, isDigit, digits, number}
 use Rattle.layout.specs.Forms.{then, consed, off, block}
 use Rattle.layout.specs.Forms as own
 use Rattle.booktext_laws.proofs.Lines.{Short, Legible}
-use Rattle.qdimacs_form.specs.Lines.{filled, edged, minus, zeroWord, literalOf, literal, literals, Line, comment, header, group, clause, headerOf, headerFrom, groupOf, clauseOf, lineFrom, commentByte, lineOf}
+use Rattle.qdimacs_form.specs.Lines.{filled, edged, minus, zeroWord, literalOf, literal, literals, Line, comment, header, group, clause, headerWord, existsWord, forallWord, cnfWord, headerOf, headerFrom, groupOf, clauseOf, lineFrom, commentByte, lineOf}
 use Rattle.qdimacs_form.specs.Translation.{parsed}
 use Rattle.qdimacs_laws.proofs.Translated.{Spoken, AllSpoken}
 
@@ -123,7 +123,7 @@ header-spoken [] f z = absurd (none-some f z)
 header-spoken (w ∷ []) f z = absurd (none-some f z)
 header-spoken (w ∷ v ∷ []) f z = absurd (none-some f z)
 header-spoken (w ∷ v ∷ c ∷ x ∷ ws) f z = absurd (none-some f z)
-header-spoken (w ∷ v ∷ c ∷ []) f z = by (same w (ascii "cnf")) (number v) refl (number c) z
+header-spoken (w ∷ v ∷ c ∷ []) f z = by (same w cnfWord) (number v) refl (number c) z
   where
     by : (t : Bool) (o : Option ℕ) → number v ≡ o → (p : Option ℕ) → headerOf t o p ≡ some f → Spoken f
     by true (some n) q (some k) y = subst Spoken (some-same (header n k) f y) (number-short v n q)
@@ -134,7 +134,7 @@ header-spoken (w ∷ v ∷ c ∷ []) f z = by (same w (ascii "cnf")) (number v) 
 from-spoken : (ws : List Bytes) (f : Line) → lineFrom ws ≡ some f → Spoken f
 unfolding lineFrom
 from-spoken [] f z = absurd (none-some f z)
-from-spoken (w ∷ ws) f z = by (same w (ascii "p")) (same w (ascii "e")) (same w (ascii "a")) z
+from-spoken (w ∷ ws) f z = by (same w headerWord) (same w existsWord) (same w forallWord) z
   where
     by : (p e a : Bool) → cond p (headerFrom ws) (cond e (then (literals false ws) (groupOf exists)) (cond a (then (literals false ws) (groupOf forall)) (then (literals true (w ∷ ws)) clauseOf))) ≡ some f → Spoken f
     by true e a y = header-spoken ws f y

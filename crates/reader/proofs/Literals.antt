@@ -38,10 +38,10 @@ items-off : (g : Bool) (w v : Bytes) (ws : List Bytes) → (g && same w noWord) 
 unfolding items
 items-off g w v ws e = rw e
 
-pub narrowed-consed : (f : ℕ → Literal) (n : ℕ) (o : Option (List Literal)) → allNarrowed (consed f (some n) o) ≡ consed (λ x. x) (some (narrowed (f n))) (allNarrowed o)
+pub narrowed-consed : {A : Type 0} (f : A → Literal) (a : A) (o : Option (List Literal)) → allNarrowed (consed f (some a) o) ≡ consed (λ x. x) (some (narrowed (f a))) (allNarrowed o)
 unfolding consed allNarrowed
-narrowed-consed f n none = refl
-narrowed-consed f n (some ls) = refl
+narrowed-consed f a none = refl
+narrowed-consed f a (some ls) = refl
 
 -- no word follows the last
 pub past : (s : Bytes) (e : ℕ) → length s ≤ e → piecesFrom space s (e + 1) ≡ []

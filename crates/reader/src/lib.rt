@@ -2,11 +2,11 @@
 // definition in layout, for every byte string.
 mod brackets;
 pub mod call;
-mod item;
-mod items;
+pub mod item;
+pub mod items;
 pub mod keyword;
 pub mod line;
-mod number;
+pub mod number;
 pub mod text;
-mod word;
+pub mod word;
 pub mod write;
