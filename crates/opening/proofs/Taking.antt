@@ -10,12 +10,14 @@ use lib.Dec.{eqb}
 use lib.IntN.{ℤ}
 use Rattle.qbf.specs.Formula.{paper, Prefix, quantifiers, Literal, all, isFree}
 use Rattle.qbf.specs.Learning.{Store, emptyStore}
-use Rattle.qbf.specs.Calls.{rule, answer, ruleReply, given, ruleFault, withRule, storeAfterRule, clauseOk, constraintOk, wellFormed, guarded, State as Read}
+use Rattle.qbf.specs.Calls.{rule, answer, ruleReply, given, ruleFault, withRule, storeAfterRule, clauseOk, constraintOk, formulaOk, storeOk, wellFormed, guarded, State as Read}
 use Rattle.qbf.specs.Runs.{fresh}
-use Rattle.theory.proofs.Basics.{and-both}
+use Rattle.theory.proofs.Basics.{and-left, and-both}
+use Rattle.theory.proofs.WellFormed.{formula-facts}
 use Rattle.state.specs.declared.State.{State}
-use Rattle.state.specs.Reading.{quantifierOf, rowsFit, prefixOf, prefixIn, formulaIn, storeIn, stateIn, fits, readState, valid}
+use Rattle.state.specs.Reading.{quantifierOf, rowsFit, prefixOf, prefixIn, formulaIn, storeIn, stateIn, fits, readState, wellFormedRead, valid}
 use Rattle.state.proofs.Valid.{valid-facts}
+use Rattle.state.specs.Declare.{Sound}
 use Rattle.state.proofs.SoundPrefix.{valid-sound, sound-valid}
 use Rattle.serving.specs.Serves.{Said, saidOf, number, faultOf, outOf, nextOf, Serves}
 use Rattle.serving.proofs.Numbered.{numbered-is}
@@ -67,7 +69,7 @@ rank-most : (kind : ℕ) → blockRank kind ≤ 2
 rank-most zero = omega arith
 rank-most (suc k) = omega arith
 
-abbrev grownState : State → List ℕ → List ℕ → List ℕ → State
+abbrev pub grownState : State → List ℕ → List ℕ → List ℕ → State
 grownState x ns ls ks =
     record {
       numbers = ns;
@@ -80,6 +82,35 @@ grownState x ns ls ks =
       «learned_cubes» = x .«learned_cubes»;
       «learned_cube_sizes» = x .«learned_cube_sizes»;
     }
+
+-- tables by place that show a well-formed prefix, put into a state without a clause and with nothing stored
+module _ {stage : ℕ} {x : State} (s : Standing stage x) (no-clauses : formulaIn x .clauses ≡ []) {ns ls ks : List ℕ} (sound : Sound ns ls ks) where
+  grown-valid : valid (grownState x ns ls ks) ≡ true
+  grown-valid =
+      let f = valid-facts x (standing-valid s) in
+      let E = prefixOf ns ls ks in
+      sound-valid (grownState x ns ls ks) sound
+      (and-both (rowsFit (paper .literals) (paper .clauses) (x .«clause_sizes»)) (all (clauseOk paper E) (formulaIn x .clauses)) (f .clauses-fit) (ap (all (clauseOk paper E)) no-clauses))
+      (and-both (rowsFit (paper .numbers) (paper .constraints) (x .«learned_clause_sizes»)) (all (constraintOk E false) (storeIn x .clauses)) (f .learned-clauses-fit) (ap (λ (st : Store). all (constraintOk E false) (st .clauses)) (nothing-stored s)))
+      (and-both (rowsFit (paper .numbers) (paper .constraints) (x .«learned_cube_sizes»)) (all (constraintOk E true) (storeIn x .cubes)) (f .learned-cubes-fit) (ap (λ (st : Store). all (constraintOk E true) (st .cubes)) (nothing-stored s)))
+
+  grown-read : readState (grownState x ns ls ks) ≡ some (fresh (formulaIn (grownState x ns ls ks)))
+  grown-read = fresh-read (grownState x ns ls ks) grown-valid (nothing-stored s)
+
+  -- rules may follow
+  pub grown-standing : Standing 3 (grownState x ns ls ks)
+  unfolding valid
+  grown-standing =
+      record {
+        read = grown-read;
+        reached = record { facts = formula-facts (formulaIn y) (and-left (formulaOk (formulaIn y)) (storeOk paper (prefixIn y) emptyStore) formed); no-variables = λ h. absurd (omega (arith, h)); no-clauses = λ h. absurd (omega (arith, h)) };
+      }
+    where
+      y : State
+      y = grownState x ns ls ks
+
+      formed : wellFormed (fresh (formulaIn y)) ≡ true
+      formed = ap wellFormedRead (sym grown-read) ∙ grown-valid
 
 module _ {stage : ℕ} {x : State} (s : Standing stage x) (kind : ℕ) {t : Bool} (a : t ≡ allowed stage (blockRank kind)) where
   pub block-misplaced : not t ≡ true → (lits : List ℤ) {r : Taken} → r .refusal ≡ 1 → BlockTook stage x kind lits r
@@ -102,15 +133,6 @@ module _ {stage : ℕ} {x : State} (s : Standing stage x) (kind : ℕ) {t : Bool
       no-clauses : formulaIn x .clauses ≡ []
       no-clauses = s .reached .no-clauses (omega (arith, placed .0, rank-most kind))
 
-      grown-valid : r ≡ 0 → valid (grownState x ns′ ls′ ks′) ≡ true
-      grown-valid z =
-          let f = valid-facts x (standing-valid s) in
-          let E = prefixOf ns′ ls′ ks′ in
-          sound-valid (grownState x ns′ ls′ ks′) (w .sound z)
-          (and-both (rowsFit 16 255 (x .«clause_sizes»)) (all (clauseOk paper E) (formulaIn x .clauses)) (f .clauses-fit) (ap (all (clauseOk paper E)) no-clauses))
-          (and-both (rowsFit 40 64 (x .«learned_clause_sizes»)) (all (constraintOk E false) (storeIn x .clauses)) (f .learned-clauses-fit) (ap (λ (st : Store). all (constraintOk E false) (st .clauses)) (nothing-stored s)))
-          (and-both (rowsFit 40 64 (x .«learned_cube_sizes»)) (all (constraintOk E true) (storeIn x .cubes)) (f .learned-cubes-fit) (ap (λ (st : Store). all (constraintOk E true) (st .cubes)) (nothing-stored s)))
-
       pub block-taken : BlockTook stage x kind lits (taken r 2 (grownState x ns′ ls′ ks′))
       block-taken = λ ns p q.
           judged stage (formulaIn x) (block (quantifierOf kind) ns) (a ∙ ap (allowed stage) (rank-is kind ns)) g (s .reached) (sym p ∙ w .fault)
@@ -118,7 +140,7 @@ module _ {stage : ℕ} {x : State} (s : Standing stage x) (kind : ℕ) {t : Bool
             ap (λ (D : Prefix). record { limits = paper; prefix = D; clauses = formulaIn x .clauses })
                 (w .prefix z ∙ ap (λ (ms : List ℕ). prefixIn x ++ map (variable (quantifierOf kind)) ms) (q (sym p ∙ w .fault ∙ ap faultOf z))),
             stage-is kind ns,
-            fresh-read (grownState x ns′ ls′ ks′) (grown-valid z) (nothing-stored s),
+            grown-read s no-clauses (w .sound z),
           ))
 
 -- ---- a rule

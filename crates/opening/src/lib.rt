@@ -11,15 +11,15 @@ ghost use Rattle.opening.specs.Opened.{OpenedAs};
 use state::State;
 
 mod block;
-mod line;
-mod stage;
+pub mod line;
+pub mod stage;
 
 // "9 text over 65,536 bytes", which has no line; "a missing line is the one after the last"
-const TOO_LONG: u16 = 9;
+pub const TOO_LONG: u16 = 9;
 
-const NO_LINE: usize = 0;
+pub const NO_LINE: usize = 0;
 
-const MISSING: u16 = 1;
+pub const MISSING: u16 = 1;
 
 // Nothing is refused.
 pub const NONE: u16 = 0;
@@ -32,7 +32,7 @@ pub struct Opened {
     pub state: State,
 }
 
-fn refuse(number: u16, line: usize) -> Opened
+pub fn refuse(number: u16, line: usize) -> Opened
     ensures { λ r. ⌜ OpenedAs (refused number line) r ⌝ }
 {
     let none = state::closed();

@@ -60,7 +60,7 @@ fn take_book(x: State, stage: usize, edition: Number) -> Taken
     }
 }
 
-fn take_block(x: State, stage: usize, kind: u16, lits: &[i16]) -> Taken
+pub fn take_block(x: State, stage: usize, kind: u16, lits: &[i16]) -> Taken
     requires { ⌜ Standing stage x × (kind ≤ quantifierCode forall) ⌝ }
     ensures { λ r. ⌜ BlockTook stage x kind (now (lits .entry)) r ⌝ }
 {
@@ -82,7 +82,7 @@ fn take_block(x: State, stage: usize, kind: u16, lits: &[i16]) -> Taken
     }
 }
 
-fn take_rule(x: State, stage: usize, lits: &[i16]) -> Taken
+pub fn take_rule(x: State, stage: usize, lits: &[i16]) -> Taken
     requires { ⌜ Standing stage x ⌝ }
     ensures { λ r. ⌜ RuleTook stage x (now (lits .entry)) r ⌝ }
 {

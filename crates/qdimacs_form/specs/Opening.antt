@@ -17,9 +17,12 @@ abbrev pub flagsUpTo : Prefix → ℕ → List ℕ
 flagsUpTo D zero = []
 flagsUpTo D (suc v) = flagsUpTo D v ++ cond (eqb (placeOf D (suc v)) 0) (suc v ∷ []) []
 
+abbrev pub flagVariables : Prefix → ℕ → Prefix
+flagVariables D v = map (variable free) (flagsUpTo D v)
+
 -- the flags stand before the groups, though they are found after them
 abbrev pub completed : ℕ → Formula → Formula
-completed v b = record { limits = b .limits; prefix = map (variable free) (flagsUpTo (b .prefix) v) ++ b .prefix; clauses = b .clauses }
+completed v b = record { limits = b .limits; prefix = flagVariables (b .prefix) v ++ b .prefix; clauses = b .clauses }
 
 -- ---- what a line says
 -- What is read: at stage 0 nothing, at 1 the header and the groups of the formula, from the first clause on, at 2, a completed formula.

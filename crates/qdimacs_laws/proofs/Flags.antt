@@ -2,19 +2,20 @@
 use Prim.Native.Nat.{ℕ, zero, suc, _≤_, _<_}
 use mathlib.Core.Path.{_≡_, refl, sym, ap, _∙_, subst}
 use mathlib.Core.Logic.{inl, inr}
-use mathlib.Core.Bool.{Bool, true, false, cond, not, _||_, true≢false}
+use mathlib.Core.Bool.{Bool, true, false, cond, not, _&&_, _||_, true≢false}
 use mathlib.Core.List.{List, [], _∷_, _++_, map, append-assoc, append-nil, map-append}
 use mathlib.Core.Option.{Option, none}
 use native.Mathlib.Omega.{arith}
 use borrow.Author.Tests.{ne-eqb, eq-eqb, le-ltb}
-use lib.Dec.{eqb, ltb}
+use lib.Dec.{eqb, leb, ltb}
 use Rattle.qbf.specs.Formula.{Limits, Quantifier, free, Prefix, any, placeFrom, placeOf}
 use Rattle.qbf.specs.Card.{Mem}
-use Rattle.qbf.specs.Calls.{given, _orElse_}
-use Rattle.theory.proofs.Basics.{or-false, or-right}
+use Rattle.qbf.specs.Calls.{given, numbersOk, _orElse_}
+use Rattle.theory.proofs.Basics.{and-left, and-right, and-both, or-false, or-false-left, or-false-right, or-right}
 use Rattle.theory.proofs.Prefixes.{numbers}
 use Rattle.layout.specs.Opening.{variable, declareFault}
-use Rattle.qdimacs_form.specs.Opening.{flagsUpTo, groupFault}
+use Rattle.layout_laws.proofs.Blocks.{block-numbers}
+use Rattle.qdimacs_form.specs.Opening.{flagsUpTo, flagVariables, groupFault}
 
 -- ---- which numbers are declared
 abbrev declares : ℕ → Prefix → Bool
@@ -46,9 +47,6 @@ declares-mem n (d ∷ D) (inl p) = rw (eq-eqb n (d .number) p)
 declares-mem n (d ∷ D) (inr m) = or-right (eqb n (d .number)) (declares n D) (declares-mem n D m)
 
 -- ---- flags
-abbrev pub flagVariables : Prefix → ℕ → Prefix
-flagVariables D v = map (variable free) (flagsUpTo D v)
-
 -- a flag is none of the numbers that fail a test which every flag passes
 module _ (D : Prefix) (n : ℕ) where
   flags-lack : (v : ℕ) → ((m : ℕ) → 1 ≤ m → m ≤ v → eqb (placeOf D m) 0 ≡ true → n ≡ m → ⊥) → declares n (flagVariables D v) ≡ false
@@ -72,6 +70,19 @@ group-lacks D v n m =
 above-lacks : (D : Prefix) (v n : ℕ) → v < n → declares n (flagVariables D v) ≡ false
 above-lacks D v n h = flags-lack D n v (λ k a b c e. omega (arith, h, b, e))
 
+-- the next number is none yet
+pub flag-new : (D : Prefix) (v : ℕ) → eqb (placeOf (flagVariables D v) (suc v)) 0 ≡ true
+flag-new D v = declared-test (flagVariables D v) (suc v) ∙ ap not (above-lacks D v (suc v) (omega arith))
+
+-- it becomes one where no group declares it
+module _ (D : Prefix) (v : ℕ) where
+  pub flags-more : placeOf D (suc v) ≡ 0 → flagVariables D (suc v) ≡ flagVariables D v ++ (variable free (suc v) ∷ [])
+  flags-more e =
+      ap (λ (t : Bool). map (variable free) (flagsUpTo D v ++ cond t (suc v ∷ []) [])) (eq-eqb (placeOf D (suc v)) 0 e) ∙ map-append (variable free) (flagsUpTo D v) (suc v ∷ [])
+
+  pub flags-same : (placeOf D (suc v) ≡ 0 → ⊥) → flagVariables D (suc v) ≡ flagVariables D v
+  flags-same e = ap (λ (t : Bool). map (variable free) (flagsUpTo D v ++ cond t (suc v ∷ []) [])) (ne-eqb (placeOf D (suc v)) 0 e) ∙ ap (map (variable free)) (append-nil (flagsUpTo D v))
+
 -- ---- the flags' line
 declare-append : (L : Limits) (κ : Quantifier) (D : Prefix) (xs ys : List ℕ) → declareFault L κ D (xs ++ ys) ≡ (declareFault L κ D xs orElse declareFault L κ (D ++ map (variable κ) xs) ys)
 declare-append L κ D [] ys = rw (append-nil D)
@@ -94,12 +105,37 @@ flags-none L D (suc v) h =
     ∙ ap (λ (o : Option ℕ). o orElse declareFault L free (flagVariables D v) (cond (eqb (placeOf D (suc v)) 0) (suc v ∷ []) [])) (flags-none L D v (omega (arith, h)))
     ∙ last (eqb (placeOf D (suc v)) 0)
   where
-    fresh : eqb (placeOf (flagVariables D v) (suc v)) 0 ≡ true
-    fresh = declared-test (flagVariables D v) (suc v) ∙ ap not (above-lacks D v (suc v) (omega arith))
-
     last : (t : Bool) → declareFault L free (flagVariables D v) (cond t (suc v ∷ []) []) ≡ none
-    last true = rw (or-false (eqb (suc v) 0) (ltb (L .numbers) (suc v)) (ne-eqb (suc v) 0 (λ e. omega (arith, e))) (le-ltb (L .numbers) (suc v) h), fresh)
+    last true = rw (or-false (eqb (suc v) 0) (ltb (L .numbers) (suc v)) (ne-eqb (suc v) 0 (λ e. omega (arith, e))) (le-ltb (L .numbers) (suc v) h), flag-new D v)
     last false = refl
+
+-- ---- flags and groups together
+-- numbers are judged alike after lists that hold the same of them
+seen-same : (L : Limits) (s t : List ℕ) (D : Prefix) → ((n : ℕ) → Mem n (numbers D) → any (eqb n) s ≡ any (eqb n) t) → numbersOk L s D ≡ numbersOk L t D
+seen-same L s t [] h = refl
+seen-same L s t (d ∷ D) h =
+    rw (h (d .number) (inl refl))
+    (ap (λ (x : Bool). leb 1 (d .number) && leb (d .number) (L .numbers) && not (any (eqb (d .number)) t) && x)
+    (seen-same L (d .number ∷ s) (d .number ∷ t) D (λ n m. ap (λ (x : Bool). eqb n (d .number) || x) (h n (inr m)))))
+
+numbers-join : (L : Limits) (s : List ℕ) (F D : Prefix) → numbersOk L s F ≡ true → numbersOk L [] D ≡ true → ((n : ℕ) → Mem n (numbers D) → (any (eqb n) s ≡ false) × (declares n F ≡ false))
+    → numbersOk L s (F ++ D) ≡ true
+numbers-join L s [] D f d h = seen-same L s [] D (λ n m. h n m .0) ∙ d
+numbers-join L s (x ∷ F) D f d h =
+    and-both own (numbersOk L (x .number ∷ s) (F ++ D)) (and-left own (numbersOk L (x .number ∷ s) F) f)
+    (numbers-join L (x .number ∷ s) F D (and-right own (numbersOk L (x .number ∷ s) F) f) d
+    (λ n m.
+    let q = h n m in (
+      or-false (eqb n (x .number)) (any (eqb n) s) (or-false-left (eqb n (x .number)) (declares n F) (q .1)) (q .0),
+      or-false-right (eqb n (x .number)) (declares n F) (q .1),
+    )))
+  where
+    own : Bool
+    own = leb 1 (x .number) && leb (x .number) (L .numbers) && not (any (eqb (x .number)) s)
+
+-- the numbers of a completed prefix
+pub completed-numbers : (L : Limits) (D : Prefix) (v : ℕ) → v ≤ L .numbers → numbersOk L [] D ≡ true → numbersOk L [] (flagVariables D v ++ D) ≡ true
+completed-numbers L D v few d = numbers-join L [] (flagVariables D v) D (block-numbers L free [] (flagsUpTo D v) refl (flags-none L D v few)) d (λ n m. (refl, group-lacks D v n m))
 
 -- ---- a group's line
 -- a group of numbers up to the count, none of which is a flag, is judged as our own group after the flags

@@ -20,9 +20,9 @@ use Rattle.layout.specs.Opening as ours
 use Rattle.booktext.specs.Texts.{readForms, atEndForms}
 use Rattle.booktext_laws.proofs.Lines.{Legible}
 use Rattle.qdimacs_form.specs.Lines.{Line, comment, header, group, clause}
-use Rattle.qdimacs_form.specs.Opening.{flagsUpTo, Reading, whole, lineFault, after, atEnd, start}
+use Rattle.qdimacs_form.specs.Opening.{flagsUpTo, flagVariables, Reading, whole, lineFault, after, atEnd, start}
 use Rattle.qdimacs_form.specs.Translation.{countOf, quantified, formsOf, translated, unnumbered, inForm, promisedOf, clausesIn, Plain}
-use Rattle.qdimacs_laws.proofs.Flags.{flagVariables, flags-none, group-lacks, group-same}
+use Rattle.qdimacs_laws.proofs.Flags.{flags-none, group-lacks, group-same}
 
 abbrev formula : Limits → Prefix → List Clause → Formula
 formula L D R = record { limits = L; prefix = D; clauses = R }

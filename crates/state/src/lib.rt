@@ -5,12 +5,12 @@ ghost use mathlib.Core.Option.{some};
 ghost use Rattle.state.specs.Reading.{stateOf, readState, emptyState, valid};
 ghost use Rattle.state.specs.Derived.{Checked};
 
-mod cells;
+pub mod cells;
 pub mod declare;
 pub mod kinds;
 mod lengths;
 mod levels;
-mod numbers;
+pub mod numbers;
 pub mod prefix;
 mod rows;
 
