@@ -38,7 +38,7 @@ NumberedText (refused zero k) = ⊥
 NumberedText (refused (suc n) k) = Unit {0}
 NumberedText (opened b) = Unit {0}
 
-fault-numbered : (n : ℕ) (f : Option ℕ) (o : Opened) → Numbered f → NumberedText o → NumberedText (refusedOr n f o)
+pub fault-numbered : (n : ℕ) (f : Option ℕ) (o : Opened) → Numbered f → NumberedText o → NumberedText (refusedOr n f o)
 fault-numbered n none o h i = i
 fault-numbered n (some zero) o h i = absurd h
 fault-numbered n (some (suc k)) o h i = tt

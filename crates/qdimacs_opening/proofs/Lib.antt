@@ -5,3 +5,4 @@ pub mod Completing
 pub mod Taking
 pub mod Judging
 pub mod Turns
+pub mod Books
