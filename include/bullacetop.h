@@ -288,7 +288,7 @@ struct bullacetop_written bullacetop_print(const uint8_t *text, size_t n, uint8_
 
 /*
  * One call, as a line of n bytes without its newline: `(rule 1 (no 2))`, `(query 1)`, `(card)`, `(card 64)` for a table of 64 bytes,
- * `(forget)`, `(write)`, `(write 64)` for a table of 64 bytes. The number is the line's, for the text of a refusal. A line that is no call is refused with 1.
+ * `(forget)`, `(write)`, `(write 64)`. The number is the line's, for the text of a refusal. A line that is no call is refused with 1.
  */
 struct bullacetop_turn bullacetop_line(struct bullacetop_state x, const uint8_t *line, size_t n, uint64_t number, uint8_t *out, size_t m);
 
