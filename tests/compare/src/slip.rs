@@ -162,4 +162,20 @@ impl Slip {
     pub fn is_of_check(self) -> bool {
         matches!(self, Slip::CheckOmits(_) | Slip::StateJudgedLast)
     }
+
+    /// Whether only a book written back can show the slip.
+    pub fn is_of_writing(self) -> bool {
+        matches!(
+            self,
+            Slip::GroupsNotMerged
+                | Slip::EmptyFlagsLeftOut
+                | Slip::WrittenByNumber
+                | Slip::RulesNewestFirst
+                | Slip::SignLost
+                | Slip::TextTailKept
+                | Slip::TableKeptAfter31
+                | Slip::ExactTableRefused
+                | Slip::TableOneByteShort
+        )
+    }
 }
