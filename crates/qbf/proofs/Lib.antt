@@ -1,3 +1,4 @@
 pub mod Rows
 pub mod Bench
 pub mod Cases
+pub mod Finder

@@ -90,9 +90,27 @@ module _ (D : Prefix) where
   resolvent p v e₀ e₁ = reduce v (union (without p e₀) (without p e₁))
 
   -- ---- steps 1 to 4 of a visit
-  -- "The first dead rule, in order of adding"
+  -- the first dead clause, in order of adding: where the node one place above has none, it is the one that step 1 takes
   abbrev pub firstDead : Node → List Clause → Option Clause
   firstDead s R = first (dead D s) R
+
+  -- how far a clause reaches: the last place of its reduced form
+  abbrev pub reach : Clause → ℕ
+  reach c = lastPlace (reduce false c)
+
+  -- a further clause, dead or not, beside the lowest dead one before it: "the earliest added among equals"
+  abbrev pub lower : Bool → Option Clause → Clause → Option Clause
+  lower false best c = best
+  lower true none c = some c
+  lower true (some e) c = cond (ltb (reach c) (reach e)) (some c) (some e)
+
+  abbrev pub lowestFrom : Option Clause → Node → List Clause → Option Clause
+  lowestFrom best s [] = best
+  lowestFrom best s (c ∷ cs) = lowestFrom (lower (dead D s c) best c) s cs
+
+  -- "The finder now returns the dead rule whose reduced form has the lowest last place, the earliest added among equals."
+  abbrev pub lowestDead : Node → List Clause → Option Clause
+  lowestDead s R = lowestFrom none s R
 
   abbrev pub reducedFound : Polarity → Option Constraint → Option Constraint
   reducedFound v none = none
@@ -136,11 +154,11 @@ proceed (up r) g st = r
 proceed (onward k) g st = k (g st)
 
 module _ (D : Prefix) (R : List Clause) where
-  -- "1. The first dead rule: No, with that rule reduced as the bar. 2. The oldest eligible bar with all literals false: No, with it.
-  -- 3. Every rule satisfied: Yes. 4. The oldest eligible pass with all literals true: Yes, with it."
+  -- "1. The dead rule whose reduced form has the lowest last place: No, with that rule reduced as the bar. 2. The oldest eligible bar
+  -- with all literals false: No, with it. 3. Every rule satisfied: Yes. 4. The oldest eligible pass with all literals true: Yes, with it."
   abbrev pub leaf : (ℕ → ℕ → Bool) → Node → Store → Option (Outcome Constraint)
   leaf eligible s st =
-      concludeBy false (reducedFound D false (firstDead D s R))
+      concludeBy false (reducedFound D false (lowestDead D s R))
       (concludeBy false (eligibleMatch D eligible false s (constraints false st))
       (concludeBy true (cond (all (satisfied D s) R) (some (reduce D true (implicant D s R []))) none)
       (concludeBy true (eligibleMatch D eligible true s (constraints true st))

@@ -3,6 +3,7 @@ pub mod Truth
 pub mod Plain
 pub mod Learning
 pub mod Card
+pub mod Finder
 pub mod Calls
 pub mod Runs
 pub mod Demands

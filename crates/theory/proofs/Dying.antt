@@ -10,12 +10,13 @@ use mathlib.Core.Option.{Option, none, some}
 use lib.ListN.{length}
 use lib.Dec.{eqb}
 use Rattle.qbf.specs.Formula.{Clause, Literal, Node, Prefix, _▹_, all, dead, has, isOpen, place, quantifierAt, valueAt}
-use Rattle.qbf.specs.Learning.{Constraint, dropped, eligibleMatch, first, firstDead, lastPlace, reduce, reducedFound}
+use Rattle.qbf.specs.Learning.{Constraint, dropped, eligibleMatch, first, firstDead, lastPlace, lowestDead, reach, reduce, reducedFound}
 use Rattle.qbf.specs.Card.{Mem}
 use Rattle.theory.proofs.Basics.{all→, any-false→, and-both, and-left, and-right, dichotomy, eqb-true, has-low, le-or-lt, length-▹, or-left, or-right, true-eqb, value-high, →all}
 use Rattle.theory.proofs.Constraints.{last-max, reduce-rest, reduce-rising}
 use Rattle.theory.proofs.Game.{Dead, Rising, dead→Dead}
 use Rattle.theory.proofs.Sets.{Found, found}
+use Rattle.theory.proofs.Lowest.{lowest-first}
 use Rattle.theory.proofs.Shape.{Shaped, last-held, shaped-reduced}
 
 module _ (D : Prefix) where
@@ -99,7 +100,25 @@ module _ (D : Prefix) where
 pub none-dead : (D : Prefix) (s : Node) (R : List Clause) → firstDead D s R ≡ none → (r : Clause) → Mem r R → dead D s r ≡ false
 none-dead D s R e = any-false→ (dead D s) R (subst (λ (o : Option Clause). Found (dead D s) R o) e (found (dead D s) R))
 
+-- WISH 6: at every node that a search reaches below its start the clause that step 1 takes is the first dead one: one place above none
+-- is dead, so that all dead clauses reach to the node's last place
+pub lowest-inner : (D : Prefix) (R : List Clause) → ((r : Clause) → Mem r R → Rising D 0 r) → (s : Node) (b : Bool) → firstDead D s R ≡ none
+    → lowestDead D (s ▹ b) R ≡ firstDead D (s ▹ b) R
+lowest-inner D R up s b e = lowest-first D (s ▹ b) (length (s ▹ b)) R (λ r m q. at r (dead-ends D r (up r m) s b (none-dead D s R e r m) q))
+  where
+    at : (r : Clause) → ends D (s ▹ b) (reduce D false r) ≡ true → reach D r ≡ length (s ▹ b)
+    at r w = eqb-true (reach D r) (length (s ▹ b)) (and-left (eqb (reach D r) (length (s ▹ b))) (all (has D false (s ▹ b)) (reduce D false r)) w)
+
+-- at the empty node, where a card starts, likewise: what is dead there reduces to the empty clause
+pub lowest-root : (D : Prefix) (R : List Clause) → ((r : Clause) → Mem r R → Rising D 0 r) → lowestDead D [] R ≡ firstDead D [] R
+lowest-root D R up = lowest-first D [] 0 R (λ r m q. at r (up r m) (dead→Dead D [] [] r (up r m) q))
+  where
+    at : (r : Clause) → Rising D 0 r → Dead D [] [] r → reach D r ≡ 0
+    at r w d = omega (arith, last-held D false (reduce D false r) [] (shaped-reduced D false r [] w (d .low) (d .high) .held))
+
 -- step 1 at an inner node looks for a clause as step 2 does, among the reduced clauses
 pub dying : (D : Prefix) (R : List Clause) → ((r : Clause) → Mem r R → Rising D 0 r) → (s : Node) (b : Bool) → firstDead D s R ≡ none
-    → reducedFound D false (firstDead D (s ▹ b) R) ≡ eligibleMatch D eqb false (s ▹ b) (map (reduce D false) R)
-dying D R up s b e = first-reduced D (dead D (s ▹ b)) (ends D (s ▹ b)) R (λ r m. dies D r (up r m) s b (none-dead D s R e r m))
+    → reducedFound D false (lowestDead D (s ▹ b) R) ≡ eligibleMatch D eqb false (s ▹ b) (map (reduce D false) R)
+dying D R up s b e =
+    ap (reducedFound D false) (lowest-inner D R up s b e)
+    ∙ first-reduced D (dead D (s ▹ b)) (ends D (s ▹ b)) R (λ r m. dies D r (up r m) s b (none-dead D s R e r m))

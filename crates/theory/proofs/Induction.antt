@@ -10,10 +10,11 @@ use lib.ListN.{length}
 use lib.Dec.{eqb}
 use Rattle.qbf.specs.Formula.{Clause, Limits, Node, Prefix, Quantifier, _▹_, all, any, dead, has, satisfied}
 use Rattle.qbf.specs.Truth.{Outcome, decided, decidedNodes, mixed}
-use Rattle.qbf.specs.Learning.{Constraint, LearningResult, Store, afterBoth, afterOff, below, branch, concludeBy, constraints, dropped, first, firstDead, goesUp, goingUp, implicant, lastPlace, leaf, learn, mentions, proceed, raise, reduce, reducedFound, resolve, resolvent, settle, upOrOnward, visit}
+use Rattle.qbf.specs.Learning.{Constraint, LearningResult, Store, afterBoth, afterOff, below, branch, concludeBy, constraints, dropped, first, goesUp, goingUp, implicant, lastPlace, leaf, learn, lowestDead, mentions, proceed, raise, reduce, reducedFound, resolve, resolvent, settle, upOrOnward, visit}
 use Rattle.qbf.specs.Card.{Mem}
 use Rattle.theory.proofs.Basics.{or-cases, or-false-left, or-false-right, not-true, not-false, beq→≡}
 use Rattle.theory.proofs.Sets.{Found, found}
+use Rattle.theory.proofs.Lowest.{lowest-found}
 
 pub record Gives (S : Store → Type 0) (H : Outcome Constraint → Type 0) (r : LearningResult) : Type 0 where
   pub store-ok : S (r .store)
@@ -38,7 +39,7 @@ module _ (D : Prefix) (R : List Clause) (s : Node) where
   Leaf P (some (mixed ls)) = ⊥
 
   pub leaf-by : (eligible : ℕ → ℕ → Bool) (st : Store) (P : Bool → Constraint → Type 0) → LeafCases eligible st P → Leaf P (leaf D R eligible s st)
-  leaf-by eligible st P cases = one (firstDead D s R) (found (dead D s) R)
+  leaf-by eligible st P cases = one (lowestDead D s R) (lowest-found D s R)
     where
       four : any (dead D s) R ≡ false → all (satisfied D s) R ≡ false → (o : Option Constraint) → Found (hits eligible true) (constraints true st) o → Leaf P (concludeBy true o none)
       four nd ns none w = (nd, ns)

@@ -5,6 +5,7 @@ pub mod Game
 pub mod Constraints
 pub mod Sets
 pub mod Shape
+pub mod Lowest
 pub mod Dying
 pub mod Stepwise
 pub mod Resumed
