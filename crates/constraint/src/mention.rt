@@ -5,7 +5,7 @@ ghost use Rattle.qbf.specs.Formula.{Prefix};
 ghost use Rattle.qbf.specs.Learning.{lastPlace};
 ghost use Rattle.tables.specs.Views.{Places};
 
-pub fn last_place<'a>(lits: &'a [i16], places: &'a [u16; tables::BY_NUMBER]) -> usize
+pub fn last_place<'a>(lits: &'a [i16], places: &'a [u16]) -> usize
     ensures { λ r. ⌜ ((D : Prefix) → Places D (now (places .entry)) → r ≡ lastPlace D (now (lits .entry))) ⌝ }
 {
     let n = lits.len();

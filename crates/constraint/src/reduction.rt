@@ -19,19 +19,14 @@ fn drops(kind: u16, cube: bool) -> bool
     }
 }
 
-fn is_dropped<'a>(lit: i16, kinds: &'a [u16; tables::BY_NUMBER], cube: bool) -> bool
+fn is_dropped<'a>(lit: i16, kinds: &'a [u16], cube: bool) -> bool
     ensures { λ r. ⌜ ((D : Prefix) → Kinds D (now (kinds .entry)) → r ≡ dropped cube (quantifierAt D (place D lit))) ⌝ }
 {
     drops(literal_kind(kinds, lit), cube)
 }
 
 // How many of the first n literals are left.
-pub fn reduced_first<'a>(
-    lits: &'a [i16],
-    n: usize,
-    kinds: &'a [u16; tables::BY_NUMBER],
-    cube: bool,
-) -> usize
+pub fn reduced_first<'a>(lits: &'a [i16], n: usize, kinds: &'a [u16], cube: bool) -> usize
     requires { ⌜ n ≤ length (now lits) ⌝ }
     ensures { λ r. ⌜
         (r ≤ n)
@@ -52,7 +47,7 @@ pub fn reduced_first<'a>(
 }
 
 // How many of all the literals are left.
-pub fn reduced_len<'a>(lits: &'a [i16], kinds: &'a [u16; tables::BY_NUMBER], cube: bool) -> usize
+pub fn reduced_len<'a>(lits: &'a [i16], kinds: &'a [u16], cube: bool) -> usize
     ensures { λ r. ⌜
         (r ≤ length (now (lits .entry)))
         × ((D : Prefix) → Kinds D (now (kinds .entry)) → take r (now (lits .entry)) ≡ reduce D cube (now (lits .entry)))

@@ -61,7 +61,7 @@ pub fn cell_at<'a>(table: &'a [u16], i: usize) -> u16
 }
 
 // Whether a literal is open, false or true. A number past the table is open.
-pub fn status_of<'a>(values: &'a [u8; tables::BY_NUMBER], lit: i16) -> u8
+pub fn status_of<'a>(values: &'a [u8], lit: i16) -> u8
     ensures { λ r. ⌜ r ≡ status (now (values .entry)) lit ⌝ }
 {
     let n = number_of(lit).0;
@@ -73,7 +73,7 @@ pub fn status_of<'a>(values: &'a [u8; tables::BY_NUMBER], lit: i16) -> u8
 }
 
 // 0 where the number is not declared.
-pub fn place_of<'a>(places: &'a [u16; tables::BY_NUMBER], n: Number) -> Place
+pub fn place_of<'a>(places: &'a [u16], n: Number) -> Place
     ensures { λ r. ⌜ r .0 ≡ getD (now (places .entry)) (n .0) 0 ⌝ }
 {
     let i = n.0;
@@ -81,7 +81,7 @@ pub fn place_of<'a>(places: &'a [u16; tables::BY_NUMBER], n: Number) -> Place
 }
 
 // A number that is not declared counts as free.
-pub fn kind_of<'a>(kinds: &'a [u16; tables::BY_NUMBER], n: Number) -> u16
+pub fn kind_of<'a>(kinds: &'a [u16], n: Number) -> u16
     ensures { λ r. ⌜ r ≡ getD (now (kinds .entry)) (n .0) 0 ⌝ }
 {
     let i = n.0;
@@ -89,7 +89,7 @@ pub fn kind_of<'a>(kinds: &'a [u16; tables::BY_NUMBER], n: Number) -> u16
 }
 
 // The place of a literal's variable, 0 where it is not declared.
-pub fn literal_place<'a>(places: &'a [u16; tables::BY_NUMBER], lit: i16) -> usize
+pub fn literal_place<'a>(places: &'a [u16], lit: i16) -> usize
     ensures { λ r. ⌜
         (r ≡ getD (now (places .entry)) (numberOf lit) 0)
         × ((D : Prefix) → Places D (now (places .entry)) → r ≡ place D lit)
@@ -99,7 +99,7 @@ pub fn literal_place<'a>(places: &'a [u16; tables::BY_NUMBER], lit: i16) -> usiz
 }
 
 // The quantifier of a literal's variable.
-pub fn literal_kind<'a>(kinds: &'a [u16; tables::BY_NUMBER], lit: i16) -> u16
+pub fn literal_kind<'a>(kinds: &'a [u16], lit: i16) -> u16
     ensures { λ r. ⌜ r ≡ getD (now (kinds .entry)) (numberOf lit) 0 ⌝ }
 {
     kind_of(kinds, number_of(lit))

@@ -27,6 +27,19 @@ module _ {A : Type 0} (f : A → Bool) (d : A) where
       and-false true e = e
       and-false false e = refl
 
+  pub any-none : (xs : List A) → ((j : ℕ) → j < length xs → f (getD xs j d) ≡ false) → any f xs ≡ false
+  any-none [] h = refl
+  any-none (x ∷ xs) h = rw (h 0 (suc-le-suc zero-le)) (any-none xs (λ j l. h (suc j) (suc-le-suc l)))
+
+  pub any-at : (xs : List A) (i : ℕ) → i < length xs → f (getD xs i d) ≡ true → any f xs ≡ true
+  any-at [] i l e = absurd (not-suc-le-zero l)
+  any-at (x ∷ xs) zero l e = rw e
+  any-at (x ∷ xs) (suc i) l e = or-true (f x) (any-at xs i (le-of-suc-le-suc l) e)
+    where
+      or-true : (b : Bool) {c : Bool} → c ≡ true → (b || c) ≡ true
+      or-true true e = refl
+      or-true false e = e
+
   -- none before i
   pub index-at : (xs : List A) (i : ℕ) → i < length xs → ((j : ℕ) → j < i → f (getD xs j d) ≡ false) → f (getD xs i d) ≡ true → indexOf f xs ≡ i
   index-at [] i l h e = absurd (not-suc-le-zero l)

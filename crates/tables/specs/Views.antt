@@ -74,6 +74,11 @@ pub record Table {A : Type 0} (stride capacity : ℕ) (flat : List A) (sizes : L
   pub few : getD sizes 0 0 ≤ capacity
   pub short : (k : ℕ) → k < getD sizes 0 0 → getD sizes (suc k) 0 ≤ stride
 
+-- The rows that stand lie within the table, whatever room it has beyond them.
+pub record Standing {A : Type 0} (stride : ℕ) (flat : List A) (sizes : List ℕ) : Type 0 where
+  pub counted : getD sizes 0 0 < length sizes
+  pub inside : (k : ℕ) → k < getD sizes 0 0 → k * stride + getD sizes (suc k) 0 ≤ length flat
+
 -- ---- looking up
 -- "eligible at a node of length k if its last place is k; at the start node, if it is at most k"
 abbrev pub eligible : Bool → ℕ → ℕ → Bool

@@ -11,7 +11,7 @@ kind-of-requires : tie.Need-kind-of-requires
 kind-of-requires c κs = search needs
 
 returns : tie.Need-returns
-returns c = cc (back (c .before .before .fits .lit))
+returns c = cc (back (c .before .before .before .fits .lit))
 
 pub literal-kind-spec : {M : Type 1} → statement M
 literal-kind-spec = tie.close (tie.spec number-of-requires kind-of-requires returns)

@@ -12,7 +12,7 @@ place-of-requires : tie.Need-place-of-requires
 place-of-requires c κs = search needs
 
 returns : tie.Need-returns
-returns c = (cc (back (c .before .before .fits .lit)), λ D shown. cc (back (c .before .before .fits .lit), shown .at (numberOf (c .before .before .args .lit))))
+returns c = (cc (back (c .before .before .before .fits .lit)), λ D shown. cc (back (c .before .before .before .fits .lit), shown .at (numberOf (c .before .before .before .args .lit))))
 
 pub literal-place-spec : {M : Type 1} → statement M
 literal-place-spec = tie.close (tie.spec number-of-requires place-of-requires returns)

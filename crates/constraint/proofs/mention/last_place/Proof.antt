@@ -9,7 +9,7 @@ use Rattle.literal.proofs.Signed.{back}
 use Rattle.constraint.proofs.Mentioning.{last-place-none, last-place-some}
 
 returns : tie.Need-returns
-returns c = λ D s. last-place-none D (now (c .before .args .lits)) (c .if1 .taken)
+returns c = λ D s. last-place-none D (now (c .before .before .args .lits)) (c .if1 .taken)
 
 sub-last : tie.Need-sub-last
 sub-last c = search needs
@@ -24,7 +24,7 @@ literal-place-requires : tie.Need-literal-place-requires
 literal-place-requires c κs = search needs
 
 returns-2 : tie.Need-returns-2
-returns-2 c = λ D s. last-place-some D (now (c .before .before .before .args .lits)) (pos 0) (c .before .before .if1 .left) (back (sfits-of (c .before .last .given))) (c .literal-place .ensures .1 D s)
+returns-2 c = λ D s. last-place-some D (now (c .before .before .before .before .args .lits)) (pos 0) (c .before .before .if1 .left) (back (sfits-of (c .before .last .given))) (c .literal-place .ensures .1 D s)
 
 pub last-place-spec : {M : Type 1} → statement M
 last-place-spec =

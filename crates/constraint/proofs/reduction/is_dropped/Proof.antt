@@ -18,8 +18,8 @@ drops-requires c κs = search needs
 returns : tie.Need-returns
 returns c =
     λ D s.
-    c .drops .ensures (quantifierAt D (place D (c .before .before .args .lit)))
-    (c .before .literal-kind .ensures ∙ ap (λ (z : ℤ). getD (now (c .before .before .args .kinds)) (numberOf z) 0) (back (c .before .before .fits .lit)) ∙ s .at (numberOf (c .before .before .args .lit)))
+    c .drops .ensures (quantifierAt D (place D (c .before .before .before .args .lit)))
+    (c .before .literal-kind .ensures ∙ ap (λ (z : ℤ). getD (now (c .before .before .before .args .kinds)) (numberOf z) 0) (back (c .before .before .before .fits .lit)) ∙ s .at (numberOf (c .before .before .before .args .lit)))
 
 pub is-dropped-spec : {M : Type 1} → statement M
 is-dropped-spec = tie.close (tie.spec literal-kind-requires drops-requires returns)

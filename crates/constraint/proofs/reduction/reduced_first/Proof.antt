@@ -23,7 +23,7 @@ abbrev μ-loop : tie.MeasureT-loop
 μ-loop lits n kinds cube left₀ left = left
 
 loop-holds : tie.Need-loop-holds Inv-loop μ-loop
-loop-holds c = (search needs, c .pre, λ D s. refl)
+loop-holds c = (search needs, c .before .pre, λ D s. refl)
 
 sub-last : tie.Need-sub-last Inv-loop μ-loop
 sub-last c = search needs
@@ -41,7 +41,7 @@ returns : tie.Need-returns Inv-loop μ-loop
 returns c = (
   omega arith,
   λ D s.
-      reduce-stop D (c .before .before .before .before .before .args .cube) (now (c .before .before .before .before .before .args .lits)) (c .before .before .before .before .loop .left) (pos 0) (omega arith) (omega arith) (back (sfits-of (c .before .before .last .given))) (c .before .is-dropped .ensures D s) (not-true _ (c .if1 .taken))
+      reduce-stop D (c .before .before .before .before .before .before .args .cube) (now (c .before .before .before .before .before .before .args .lits)) (c .before .before .before .before .loop .left) (pos 0) (omega arith) (omega arith) (back (sfits-of (c .before .before .last .given))) (c .before .is-dropped .ensures D s) (not-true _ (c .if1 .taken))
       ∙ c .before .before .before .before .loop .inv .2 D s,
 )
 
@@ -56,13 +56,13 @@ loop-again c = (
   omega arith,
   omega arith,
   λ D s.
-      sym (reduce-less D (c .before .before .before .before .before .args .cube) (now (c .before .before .before .before .before .args .lits)) (c .before .before .before .before .loop .left) (pos 0) (omega arith) (omega arith) (back (sfits-of (c .before .before .last .given))) (c .before .is-dropped .ensures D s) (not-false _ (c .if1 .left)))
+      sym (reduce-less D (c .before .before .before .before .before .before .args .cube) (now (c .before .before .before .before .before .before .args .lits)) (c .before .before .before .before .loop .left) (pos 0) (omega arith) (omega arith) (back (sfits-of (c .before .before .last .given))) (c .before .is-dropped .ensures D s) (not-false _ (c .if1 .left)))
       ∙ c .before .before .before .before .loop .inv .2 D s,
 )
 
 returns-2 : tie.Need-returns-2 Inv-loop μ-loop
 returns-2 c =
-    (omega arith, λ D s. reduce-none D (c .before .before .args .cube) (now (c .before .before .args .lits)) (c .before .loop .left) (omega arith) ∙ c .before .loop .inv .2 D s)
+    (omega arith, λ D s. reduce-none D (c .before .before .before .args .cube) (now (c .before .before .before .args .lits)) (c .before .loop .left) (omega arith) ∙ c .before .loop .inv .2 D s)
 
 pub reduced-first-spec : {M : Type 1} → statement M
 reduced-first-spec =

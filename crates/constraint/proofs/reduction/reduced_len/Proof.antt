@@ -12,7 +12,7 @@ reduced-first-requires c κs = search needs
 
 returns : tie.Need-returns
 returns c =
-    (c .reduced-first .ensures .0, λ D s. c .reduced-first .ensures .1 D s ∙ ap (reduce D (c .before .args .cube)) (take-length (now (c .before .args .lits))))
+    (c .reduced-first .ensures .0, λ D s. c .reduced-first .ensures .1 D s ∙ ap (reduce D (c .before .before .args .cube)) (take-length (now (c .before .before .args .lits))))
 
 pub reduced-len-spec : {M : Type 1} → statement M
 reduced-len-spec = tie.close (tie.spec reduced-first-requires returns)

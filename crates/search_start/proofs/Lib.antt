@@ -1,0 +1,9 @@
+pub mod Flat
+pub mod Scan
+pub mod Lost
+pub mod Next
+pub mod Lowering
+pub mod Satisfying
+pub mod Tried
+pub mod Matching
+pub mod Starting

@@ -1,0 +1,29 @@
+use borrow.Author.Needs.{needs}
+use Rattle.search_start.proofs.lowest.reach_of.Statement.{statement}
+use Rattle.search_start.proofs.lowest.reach_of.Tie as tie
+use Rattle.search_start.proofs.lowest.reach_of.Reads as reads
+use Rattle.search_start.proofs.lowest.reach_of.Lts as lts
+use Rattle.constraint.proofs.mention.last_place.Reads as last-place-reads
+use Rattle.constraint.proofs.reduction.reduced_len.Reads as reduced-len-reads
+use mathlib.Core.Path.{sym, ap, _∙_}
+use denote.Ref.{now}
+use lib.Seq.{length-take-le}
+use native.Mathlib.Omega.{arith}
+use Rattle.qbf.specs.Learning.{lastPlace}
+
+reduced-len-requires : tie.Need-reduced-len-requires
+reduced-len-requires c κs = search needs
+
+slice-aggregate-last-place : tie.Need-slice-aggregate-last-place
+slice-aggregate-last-place c = sym (length-take-le (c .before .reduced-len .result) (now (c .before .before .before .before .args .lits)) (c .before .reduced-len .ensures .0))
+
+last-place-requires : tie.Need-last-place-requires
+last-place-requires c κs = search needs
+
+returns : tie.Need-returns
+returns c = λ D p k. c .last-place .ensures D p ∙ ap (lastPlace D) (c .before .before .reduced-len .ensures .1 D k)
+
+pub reach-of-spec : {M : Type 1} → statement M
+reach-of-spec =
+    tie.close
+    (tie.spec reduced-len-requires slice-aggregate-last-place last-place-requires returns)
