@@ -6,7 +6,7 @@ use mathlib.Core.Path.{_≡_, refl, sym, ap, _∙_, subst}
 use mathlib.Core.Bool.{Bool, true, false, cond, _&&_}
 use mathlib.Core.List.{List, [], map}
 use mathlib.Core.Option.{Option, none, some}
-use lib.ListN.{length, getD, take, drop, replicate, length-map}
+use lib.ListN.{length, getD, drop, replicate, length-map}
 use lib.IntN.{ℤ}
 use lib.Dec.{leb}
 use borrow.Author.Tests.{leb-true}
@@ -42,10 +42,10 @@ use Rattle.state.specs.declared.State.{State}
 use Rattle.state.specs.Reading.{stateOf, rowsFit, prefixFits, readState, valid, prefixIn, formulaIn, storeIn, stateIn}
 use Rattle.state.specs.Derived.{Sized}
 use Rattle.state.proofs.Valid.{ValidFacts, valid-facts, table-rows, valid-tables, valid-numbers}
-use Rattle.leaf.specs.Leaf.{leafRead}
-use Rattle.leaf.specs.declared.Leaf.{Leaf}
-use Rattle.leaf.specs.declared.Leaf.the-variants.{No as NoLeaf, Yes as YesLeaf, Open}
-use Rattle.answers.specs.Run.{Ready, Starts, AtStart, Ends, FoundBy, belowStart, BelowBy, Below, Over, Searched, Ran}
+use Rattle.search_start.specs.Start.{Starts}
+use Rattle.search_start.specs.declared.Start.{Start}
+use Rattle.search_start.specs.declared.Start.the-variants.{No as NoStart, Yes as YesStart, Open}
+use Rattle.answers.specs.Run.{Ready, AtStart, Ends, FoundBy, belowStart, BelowBy, Below, Over, Searched, Ran}
 
 -- a start node that is decided without branching
 abbrev decidedAt : Verdict → Answer
@@ -79,12 +79,6 @@ ends : (D : Prefix) (w : Verdict) (cs : List ℕ) (o : Outcome Constraint) → R
 ends D Yes cs o h = (h .0, h .1)
 ends D No cs o h = (h .0, h .1)
 ends D Mixed cs o h = h
-
--- steps 1 to 4 at the start node, by what the code found
-pub starts : (r : Leaf) (up : List ℤ) (o : Option (Outcome Constraint)) → leafRead r up ≡ o → Starts r o
-starts (NoLeaf n) up o e = (take n up, sym e)
-starts (YesLeaf n) up o e = (take n up, sym e)
-starts Open up o e = sym e
 
 -- the search below an open start node, from what the visit there gives
 pub below-shown : (rows links numbers quantifiers values statuses cs cl qs ql table firsts : List ℕ) (at free : ℕ) (a : Answer) (up cs′ cl′ qs′ ql′ table′ : List ℕ)
@@ -243,23 +237,23 @@ module _ (x : State) (v : valid x ≡ true) where
               (record { verdict = is (start s ps ks vs long .0); visits = refl; state = f .read; covers = cov; lines = refl });
         })
 
-    module _ (r : Leaf) (start : AtStart x places kinds values at r) where
-      by-leaf : {l : Leaf} → r ≡ l → (s : Node) → Places (prefixIn x) places → Kinds (prefixIn x) kinds → Values (prefixIn x) s values → length s ≡ at
+    module _ (r : Start) (start : AtStart x places kinds values at r) where
+      by-start : {l : Start} → r ≡ l → (s : Node) → Places (prefixIn x) places → Kinds (prefixIn x) kinds → Values (prefixIn x) s values → length s ≡ at
           → Starts l (leaf (prefixIn x) (formulaIn x .clauses) leb s (storeIn x))
-      by-leaf e s ps ks vs long = subst (λ (l : Leaf). Starts l (leaf (prefixIn x) (formulaIn x .clauses) leb s (storeIn x))) e (start .read s ps ks vs long)
+      by-start e s ps ks vs long = subst (λ (l : Start). Starts l (leaf (prefixIn x) (formulaIn x .clauses) leb s (storeIn x))) e (start .read s ps ks vs long)
 
-      pub start-no : (n : ℕ) → r ≡ NoLeaf n → {y : Answer} → y ≡ decidedAt No → Ran x places kinds values at free table y x table
-      start-no n e q = decided-found No false (λ c. (c, refl)) (by-leaf e) q
+      pub start-no : r ≡ NoStart → {y : Answer} → y ≡ decidedAt No → Ran x places kinds values at free table y x table
+      start-no e q = decided-found No false (λ c. (c, refl)) (by-start e) q
 
-      pub start-yes : (n : ℕ) → r ≡ YesLeaf n → {y : Answer} → y ≡ decidedAt Yes → Ran x places kinds values at free table y x table
-      start-yes n e q = decided-found Yes true (λ c. (c, refl)) (by-leaf e) q
+      pub start-yes : r ≡ YesStart → {y : Answer} → y ≡ decidedAt Yes → Ran x places kinds values at free table y x table
+      start-yes e q = decided-found Yes true (λ c. (c, refl)) (by-start e) q
 
       -- one that is open
       pub start-open : r ≡ Open → (a : Answer) (y : State) (table′ : List ℕ) → Searched x places kinds values at free table a y table′ → Ran x places kinds values at free table a y table′
       start-open e a y table′ h =
           record {
             found = λ s ps ks vs long frees cov.
-                let none-yet = by-leaf e s ps ks vs long in
+                let none-yet = by-start e s ps ks vs long in
                 subst (λ (o : Option (Outcome Constraint)). FoundBy x (settle o (below paper (prefixIn x) (formulaIn x .clauses) (drop at (quantifiers (prefixIn x)))) s (storeIn x)) free a y table′)
                 (sym none-yet)
                 (h .found s ps ks vs long frees cov (open-alive (prefixIn x) (formulaIn x .clauses) leb s (storeIn x) none-yet));

@@ -16,8 +16,8 @@ use Rattle.tables.specs.Formed.{Clauses, Stores, Formed}
 use Rattle.tables.specs.Codes.{Quantified}
 use Rattle.tables.specs.Shelves.{StoreShown}
 use Rattle.tables.specs.Matrices.{MatrixShown}
-use Rattle.leaf.specs.declared.Leaf.{Leaf}
-use Rattle.leaf.specs.declared.Leaf.the-variants.{No as NoLeaf, Yes as YesLeaf, Open}
+use Rattle.search_start.specs.declared.Start.{Start}
+use Rattle.search_start.specs.Start.{Starts}
 use Rattle.node.specs.declared.Answer.{Answer}
 use Rattle.cover.specs.Cover.{Covers}
 use Rattle.node.specs.Node.{newLines}
@@ -49,12 +49,7 @@ pub record Ready (numbers : List ℕ) (clauses : List ℤ) (sizes : List ℕ) (l
   pub learned-in : Stores lc lcs lq lqs
 
 -- steps 1 to 4 at the start node: a verdict, or the node is open
-abbrev pub Starts : Leaf → Option (Outcome Constraint) → Type 0
-Starts (NoLeaf n) o = (e : Constraint) × (o ≡ some (decided false e))
-Starts (YesLeaf n) o = (e : Constraint) × (o ≡ some (decided true e))
-Starts Open o = o ≡ none
-
-pub record AtStart (x : State) (places kinds values : List ℕ) (at : ℕ) (r : Leaf) : Type 0 where
+pub record AtStart (x : State) (places kinds values : List ℕ) (at : ℕ) (r : Start) : Type 0 where
   pub read : (s : Node) → Places (prefixIn x) places → Kinds (prefixIn x) kinds → Values (prefixIn x) s values → length s ≡ at
       → Starts r (leaf (prefixIn x) (formulaIn x .clauses) leb s (storeIn x))
 

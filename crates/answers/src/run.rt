@@ -15,7 +15,6 @@ ghost use Rattle.tables.specs.Matrices.{Matrix};
 ghost use Rattle.answers.specs.Run.{Ready, AtStart, Below, Over, Searched, Ran};
 use coding::quantifiers::quantifiers_of;
 use coding::statuses::statuses_of;
-use leaf::Leaf;
 use loading::clauses::load_clauses;
 use loading::entries::load;
 use loading::entries::unload;
@@ -23,6 +22,7 @@ use node::Answer;
 use node::Position;
 use node::Verdict;
 use search_entry::Source;
+use search_start::Start;
 
 // Room for the constraint that each level of the search puts aside.
 const SAVED: usize = tables::NUMBERS * tables::NUMBERS;
@@ -39,7 +39,7 @@ fn at_start<'a>(
     by_number: &'a [u16; tables::BY_NUMBER],
     values: &'a [u8; tables::BY_NUMBER],
     at: usize,
-) -> Leaf
+) -> Start
     requires { ⌜
         Clauses (now clauses) (now «clause_sizes»)
         × Stores (now «learned_clauses») (now «learned_clause_sizes») (now «learned_cubes») (now «learned_cube_sizes»)
@@ -76,21 +76,18 @@ fn at_start<'a>(
         r)
         ⌝ }
 {
-    let start = true;
-    let mut up = [0i16; tables::AREA];
-    leaf::conclude(
+    search_start::conclude(
         clauses,
         clause_sizes,
-        places,
-        by_number,
-        values,
         learned_clauses,
         learned_clause_sizes,
         learned_cubes,
         learned_cube_sizes,
-        &mut up,
+        tables::NUMBERS,
+        places,
+        by_number,
+        values,
         at,
-        start,
     )
 }
 
@@ -496,9 +493,9 @@ pub fn run<'a>(
         at,
     );
     match start {
-        Leaf::No(n) => decided(Verdict::No),
-        Leaf::Yes(n) => decided(Verdict::Yes),
-        Leaf::Open => {
+        Start::No => decided(Verdict::No),
+        Start::Yes => decided(Verdict::Yes),
+        Start::Open => {
             searched(
                 numbers,
                 clauses,

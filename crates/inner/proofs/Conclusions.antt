@@ -9,11 +9,10 @@ use lib.Dec.{eqb}
 use lib.ListN.{length}
 use Rattle.qbf.specs.Formula.{Prefix, Clause, Node, all, satisfied}
 use Rattle.qbf.specs.Truth.{Verdict, Outcome}
-use Rattle.qbf.specs.Learning.{Constraint, Store, concludeBy, reduce, firstDead, reducedFound, eligibleMatch, implicant, leaf}
+use Rattle.qbf.specs.Learning.{Constraint, Store, concludeBy, reduce, lowestDead, reducedFound, eligibleMatch, implicant, leaf}
 use Rattle.tables.specs.Codes.{codes}
 use Rattle.tables.specs.Marks.{Passed, Fresh}
-use Rattle.leaf.specs.Conflict.{firstOf}
-use Rattle.leaf.specs.Solution.{matched, satisfiedOr}
+use Rattle.inner.specs.Steps.{firstOf, matched, satisfiedOr}
 use Rattle.search_entry.specs.Entry.{entryAt, Bounded}
 use Rattle.search_entry.specs.declared.Bounds.{Bounds}
 use Rattle.inner.specs.declared.Leaf.{Leaf}
@@ -26,12 +25,12 @@ use Rattle.inner.specs.declared.Step.{Step}
 -- ---- steps 1 and 2
 module _ {D : Prefix} {R : List Clause} {s : Node} (fresh : Fresh D s R) (next : Option Constraint) {x : Found} (cls cs area : List ℕ)
     (f : FoundCoded D x cls cs area (eligibleMatch D eqb false s (map (reduce D false) R))) where
-  pub dying-found : {b : Bounds} → x ≡ At b → FoundCoded D (At b) cls cs area (firstOf (reducedFound D false (firstDead D s R)) next)
+  pub dying-found : {b : Bounds} → x ≡ At b → FoundCoded D (At b) cls cs area (firstOf (reducedFound D false (lowestDead D s R)) next)
   dying-found q =
       let g = subst (λ (y : Found). FoundCoded D y cls cs area (eligibleMatch D eqb false s (map (reduce D false) R))) q f in
       (g .0, ap (λ (o : Option Constraint). firstOf o next) (fresh .dying ∙ g .1), g .2)
 
-  pub dying-none : x ≡ Nothing → (y : Found) → FoundCoded D y cls cs area next → FoundCoded D y cls cs area (firstOf (reducedFound D false (firstDead D s R)) next)
+  pub dying-none : x ≡ Nothing → (y : Found) → FoundCoded D y cls cs area next → FoundCoded D y cls cs area (firstOf (reducedFound D false (lowestDead D s R)) next)
   dying-none q y g =
       let e = subst (λ (z : Found). FoundCoded D z cls cs area (eligibleMatch D eqb false s (map (reduce D false) R))) q f in
       subst (FoundCoded D y cls cs area) (sym (ap (λ (o : Option Constraint). firstOf o next) (fresh .dying ∙ e))) g
@@ -74,14 +73,14 @@ first-then v (some e) b next = refl
 
 module _ (D : Prefix) (R : List Clause) (s : Node) (st : Store) where
   abbrev conflictOf : Option Constraint
-  conflictOf = firstOf (reducedFound D false (firstDead D s R)) (eligibleMatch D eqb false s (st .clauses))
+  conflictOf = firstOf (reducedFound D false (lowestDead D s R)) (eligibleMatch D eqb false s (st .clauses))
 
   abbrev after : Option (Outcome Constraint)
   after = satisfiedOr D R s (matched D eqb s (st .cubes))
 
   in-order : (o : Option Constraint) → conflictOf ≡ o → leaf D R eqb s st ≡ concludeBy false o after
   in-order o e =
-      sym (first-then false (reducedFound D false (firstDead D s R)) (eligibleMatch D eqb false s (st .clauses)) after)
+      sym (first-then false (reducedFound D false (lowestDead D s R)) (eligibleMatch D eqb false s (st .clauses)) after)
       ∙ ap (λ (c : Option Constraint). concludeBy false c after) e
 
   module _ {x : Found} (cls cs qs area : List ℕ) (f : FoundCoded D x cls cs area conflictOf) where

@@ -20,15 +20,14 @@ ghost use Prim.Native.Nat.{ℕ, _≤_};
 ghost use lib.ListN.{length, take};
 ghost use lib.Dec.{eqb};
 ghost use Rattle.qbf.specs.Formula.{paper, Prefix, Clause, Node, all, satisfied};
-ghost use Rattle.qbf.specs.Learning.{Constraint, Store, firstDead, reduce, reducedFound, eligibleMatch};
+ghost use Rattle.qbf.specs.Learning.{Constraint, Store, lowestDead, reduce, reducedFound, eligibleMatch};
 ghost use Rattle.qbf.specs.Calls.{prefixOk};
 ghost use Rattle.tables.specs.Formed.{Formed};
 ghost use Rattle.tables.specs.Codes.{codes, Statuses, Quantified};
 ghost use Rattle.tables.specs.Shelves.{Entries, entriesOf, Shelves, StoreShown};
 ghost use Rattle.tables.specs.Matrices.{Matrix, MatrixShown, dyingRows};
 ghost use Rattle.tables.specs.Marks.{Passed, Fresh};
-ghost use Rattle.leaf.specs.Conflict.{firstOf};
-ghost use Rattle.leaf.specs.Solution.{matched, satisfiedOr};
+ghost use Rattle.inner.specs.Steps.{firstOf, matched, satisfiedOr};
 ghost use Rattle.inner.specs.Inner.{FoundCoded, FoundBounded, LeafCoded, LeafBounded, Entered, Concluded};
 
 // What decides the node, with the constraint that goes up by its bounds, or that it is open.
@@ -69,7 +68,7 @@ fn conflict<'a>(
         (now (clauses .entry))
         (now (learned .entry))
         area
-        (firstOf (reducedFound D false (firstDead D s R)) (eligibleMatch D eqb false s cs)))
+        (firstOf (reducedFound D false (lowestDead D s R)) (eligibleMatch D eqb false s cs)))
         ⌝ }
 {
     let dead = dead(clauses, links, statuses, at);

@@ -18,7 +18,7 @@ use Rattle.theory.proofs.Basics.{and-both, dichotomy}
 use Rattle.tables.specs.Views.{Table, rowsOf}
 use Rattle.tables.proofs.Laws.{rows-length}
 use Rattle.constraint.proofs.Lists.{drop-more, drop-end}
-use Rattle.learned.proofs.Rows.{appended-rows, appended-table}
+use Rattle.rules.proofs.Rows.{appended-rows, appended-table}
 use Rattle.state.specs.declared.State.{State}
 use Rattle.state.specs.Reading.{rowsFit, prefixFits, stateOf, prefixIn, formulaIn, storeIn, stateIn, fits, valid}
 use Rattle.state.specs.Derived.{Checked}

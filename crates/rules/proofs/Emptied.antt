@@ -14,7 +14,7 @@ use Rattle.qbf.specs.Formula.{paper}
 use Rattle.qbf.specs.Calls.{forget}
 use Rattle.theory.proofs.Basics.{and-both}
 use Rattle.tables.specs.Views.{rowsOf}
-use Rattle.learned.proofs.Rows.{none-rows}
+use Rattle.rules.proofs.Rows.{none-rows}
 use Rattle.state.specs.declared.State.{State}
 use Rattle.state.specs.Reading.{atMost, listing, entryAt, rowsFit, prefixFits, stateOf, formulaIn, valid}
 use Rattle.state.specs.Derived.{Sized}
@@ -31,7 +31,7 @@ module _ (w cap : ℕ) (s : List ℕ) (empty : getD s 0 0 ≡ 0) where
   none-fit = ap (λ (n : ℕ). leb n cap && atMost w (listing (entryAt s) 0 n)) empty ∙ ap (λ (b : Bool). b && true) (le-leb 0 cap zero-le)
 
   pub none-stand : (f : List ℤ) → rowsOf w f s ≡ []
-  none-stand f = none-rows w cap f s empty
+  none-stand f = none-rows w f s empty
 
 -- ---- "Forget empties the store."
 module _ (x : State) (v : valid x ≡ true) (z : Sized x) where

@@ -1,3 +1,4 @@
+pub mod Rows
 pub mod Emptied
 pub mod Refusing
 pub mod Adding

@@ -5,9 +5,9 @@ ghost use Rattle.state.specs.Reading.{stateOf};
 ghost use Rattle.serving.specs.Serves.{Serves};
 ghost use Rattle.rules.specs.Rules.{changeSaid};
 use crate::Change;
+use crate::cells::clear;
 use crate::clauses::accept;
 use crate::refusals;
-use learned::store::clear;
 use state::check_tables;
 
 // "Forget empties the store."

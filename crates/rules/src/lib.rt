@@ -4,6 +4,7 @@ ghost use Rattle.qbf.specs.Calls.{rule, forget};
 ghost use Rattle.serving.specs.Serves.{number, Serves};
 ghost use Rattle.rules.specs.Rules.{changeSaid};
 
+mod cells; // what they write into the state's tables
 mod clauses; // an accepted rule
 mod refusals; // the refusals of a rule
 pub mod in_place; // the calls on lent tables

@@ -10,13 +10,14 @@ use lib.ListN.{length, take, drop, length-map, drop-of-length-le}
 use lib.Dec.{eqb}
 use Rattle.qbf.specs.Formula.{paper, Quantifier, free, exists, forall, Prefix, Clause, Node, _▹_, quantifiers, quantifierAt}
 use Rattle.qbf.specs.Truth.{Outcome, decided}
-use Rattle.qbf.specs.Learning.{Constraint, Store, LearningResult, below, leaf, settle, firstDead, reducedFound, concludeBy}
+use Rattle.qbf.specs.Learning.{Constraint, Store, LearningResult, below, leaf, settle, firstDead, lowestDead, reducedFound, concludeBy}
 use Rattle.qbf.specs.Card.{byteOf, Mem}
 use Rattle.theory.proofs.Basics.{le-or-lt, length-▹}
 use Rattle.theory.proofs.WellFormed.{numbers-ok}
 use Rattle.theory.proofs.Widths.{prefix-width}
 use Rattle.theory.proofs.ShapedSearch.{raise-nothing}
 use Rattle.theory.proofs.Dying.{dying}
+use Rattle.theory.proofs.Lowest.{lowest-none}
 use Rattle.theory.proofs.Game.{Rising}
 use Rattle.tables.specs.Formed.{Formed}
 use Rattle.tables.specs.Views.{quantifierCode}
@@ -99,7 +100,7 @@ none-found D v (some r) next e = absurd (never e)
 
 -- no clause is dead at it
 pub open-alive : (D : Prefix) (R : List Clause) (eligible : ℕ → ℕ → Bool) (s : Node) (st : Store) → leaf D R eligible s st ≡ none → firstDead D s R ≡ none
-open-alive D R eligible s st e = none-found D false (firstDead D s R) _ e
+open-alive D R eligible s st e = lowest-none D s R (none-found D false (lowestDead D s R) _ e)
 
 -- nor where the steps were taken before
 entered-alive : (D : Prefix) (R : List Clause) (s : Node) (st : Store) (start : Bool) → Entered D s R start → steps D R s st start ≡ none → firstDead D s R ≡ none

@@ -1,8 +1,8 @@
 -- Laws of the views: what a table says of a literal, and the rows of a flat table.
-use Prim.Native.Nat.{ℕ, zero, suc, _+_, _-_, _≤_, _<_, suc-le-suc, zero-le}
-use native.Mathlib.Nat.{le-of-suc-le-suc, not-suc-le-zero}
+use Prim.Native.Nat.{ℕ, zero, suc, _+_, _*_, _-_, _≤_, _<_, suc-le-suc, zero-le}
+use native.Mathlib.Nat.{le-of-suc-le-suc, not-suc-le-zero, suc-mul, mul-le-mul-right}
 use native.Mathlib.Omega.{arith}
-use mathlib.Core.Path.{_≡_, refl, sym, ap, _∙_}
+use mathlib.Core.Path.{_≡_, refl, sym, ap, subst, _∙_}
 use mathlib.Core.Logic.{_⊎_, inl, inr}
 use mathlib.Core.Bool.{Bool, true, false, cond, Bool·beq}
 use mathlib.Core.List.{List, [], _∷_, _++_}
@@ -12,7 +12,7 @@ use lib.IntN.{pos, negsuc}
 use lib.Dec.{eqb}
 use Rattle.qbf.specs.Formula.{Quantifier, free, exists, forall, Prefix, Literal, Node, numberOf, positive, place, quantifierAt, valueAt, equals, isOpen, has}
 use Rattle.qbf.specs.Learning.{Polarity, dropped}
-use Rattle.tables.specs.Views.{quantifierCode, valueCode, Kinds, Values, signed, status, row, rows}
+use Rattle.tables.specs.Views.{quantifierCode, valueCode, Kinds, Values, signed, status, row, rows, Table, Standing}
 
 -- ---- literals
 -- the truth value of a literal by its status: 2 true, 1 false, 0 open
@@ -76,6 +76,18 @@ rows-suc w flat sizes n = refl
 pub rows-zero : {A : Type 0} (w : ℕ) (flat : List A) (sizes : List ℕ) → rows w flat sizes 0 ≡ []
 unfolding rows
 rows-zero w flat sizes = refl
+
+-- row k ends before row n begins
+pub before : (w k n : ℕ) → k < n → k * w + w ≤ n * w
+before w k n h = subst (λ (m : ℕ). m ≤ n * w) (suc-mul k w) (mul-le-mul-right w h)
+
+-- a table with room for all its rows has those that stand
+pub standing : {A : Type 0} {w cap : ℕ} {flat : List A} {sizes : List ℕ} → Table w cap flat sizes → Standing w flat sizes
+standing {A} {w} {cap} {flat} {sizes} t =
+    record {
+      counted = omega (arith, t .counted, t .few);
+      inside = λ k h. omega (arith, t .room, t .short k h, before w k cap (omega (arith, t .few, h)));
+    }
 
 getD-left : {A : Type 0} (xs ys : List (List A)) (i : ℕ) → i < length xs → getD (xs ++ ys) i [] ≡ getD xs i []
 getD-left [] ys i h = absurd (not-suc-le-zero h)

@@ -7,7 +7,7 @@ use lib.ListN.{length, getD, take}
 use lib.Dec.{eqb}
 use mathlib.Core.Option.{Option, none, some}
 use Rattle.qbf.specs.Formula.{Prefix, Clause, Literal, Node, all, has, satisfied}
-use Rattle.qbf.specs.Learning.{first, implicant, firstDead, reducedFound, eligibleMatch, reduce}
+use Rattle.qbf.specs.Learning.{first, implicant, lowestDead, reducedFound, eligibleMatch, reduce}
 use Rattle.tables.specs.Codes.{codeAt, codeOf, codes}
 
 -- the codes of the true literals of the marked places, from the place p on, where the node's values are those given
@@ -39,4 +39,4 @@ pub record Passed (D : Prefix) (s : Node) (R : List Clause) (k : ℕ) (firsts : 
 
 -- No clause was dead above the node s: what dies there is found by its last place.
 pub record Fresh (D : Prefix) (s : Node) (R : List Clause) : Type 0 where
-  pub dying : reducedFound D false (firstDead D s R) ≡ eligibleMatch D eqb false s (map (reduce D false) R)
+  pub dying : reducedFound D false (lowestDead D s R) ≡ eligibleMatch D eqb false s (map (reduce D false) R)

@@ -7,7 +7,7 @@ use denote.Ref.{now}
 use mathlib.Core.Path.{_≡_, sym, subst, _∙_}
 use lib.Dec.{eqb}
 use lib.ListN.{length}
-use Rattle.leaf.specs.Solution.{matched, satisfiedOr}
+use Rattle.inner.specs.Steps.{matched, satisfiedOr}
 use Rattle.search_entry.specs.Entry.{Bounded}
 use Rattle.search_entry.specs.declared.Bounds.{Bounds}
 use Rattle.search_entry.specs.declared.Source.the-variants.{Area}

@@ -8,46 +8,57 @@ use Rattle.answers.proofs.Running.{decided-few, start-no, start-yes, st
 at-start-requires : tie.Need-at-start-requires
 at-start-requires c κs = search needs
 
-enum-known-start : tie.Need-enum-known-start
-enum-known-start c = search needs
+enum-told : tie.Need-enum-told
+enum-told c = search needs
 
 decided-requires : tie.Need-decided-requires
 decided-requires c κs = search needs
 
-enum-known-start-2 : tie.Need-enum-known-start-2
-enum-known-start-2 c = search needs
+enum-told-2 : tie.Need-enum-told-2
+enum-told-2 c = search needs
 
 decided-requires-2 : tie.Need-decided-requires-2
 decided-requires-2 c κs = search needs
 
-enum-told : tie.Need-enum-told
-enum-told c = search needs
+enum-told-3 : tie.Need-enum-told-3
+enum-told-3 c = search needs
 
 searched-requires : tie.Need-searched-requires
 searched-requires c κs = search needs
 
 returns : tie.Need-returns
-returns c = ((refl, decided-few (c .decided .ensures)), λ ls ks v. start-no _ v _ _ _ (c .before .before .before .before .before .before .before .before .before .before .args .at) (c .before .before .before .before .before .before .before .before .before .before .args .free) _ (c .before .before .before .before .at-start .result) (c .before .before .before .before .at-start .ensures _ ls ks v) _ (c .before .before .start .given .1) (c .decided .ensures))
+returns c =
+    let start = c .before .before .before in
+    let entry = start .before .before .before .before .before .before in
+    ((refl, decided-few (c .decided .ensures)), λ ls ks v. start-no _ v _ _ _ (entry .args .at) (entry .args .free) _ (start .at-start .result) (start .at-start .ensures _ ls ks v) (c .before .enum-told .given .1) (c .decided .ensures))
 
 returns-2 : tie.Need-returns-2
-returns-2 c = ((refl, decided-few (c .decided2 .ensures)), λ ls ks v. start-yes _ v _ _ _ (c .before .before .before .before .before .before .before .before .before .before .args .at) (c .before .before .before .before .before .before .before .before .before .before .args .free) _ (c .before .before .before .before .at-start .result) (c .before .before .before .before .at-start .ensures _ ls ks v) _ (c .before .before .start2 .given .1) (c .decided2 .ensures))
+returns-2 c =
+    let start = c .before .before .before in
+    let entry = start .before .before .before .before .before .before in
+    ((refl, decided-few (c .decided2 .ensures)), λ ls ks v. start-yes _ v _ _ _ (entry .args .at) (entry .args .free) _ (start .at-start .result) (start .at-start .ensures _ ls ks v) (c .before .enum-told2 .given .1) (c .decided2 .ensures))
 
 same-length : tie.Need-same-length
 same-length c = search needs
 
 returns-3 : tie.Need-returns-3
-returns-3 c = ((c .before .before .searched .ensures .0 .0, c .before .before .searched .ensures .0 .1), λ ls ks v. start-open _ v _ _ _ (c .before .before .before .before .before .before .before .before .before .before .before .before .before .before .before .before .args .at) (c .before .before .before .before .before .before .before .before .before .before .before .before .before .before .before .before .args .free) _ (c .before .before .before .before .before .before .before .before .before .before .at-start .result) (c .before .before .before .before .before .before .before .before .before .before .at-start .ensures _ ls ks v) (c .before .before .before .before .before .before .before .before .enum-told .given .1) _ _ _ (c .before .before .searched .ensures .1 ls ks v))
+returns-3 c =
+    let told = c .before .before .before .before .before .before .before .before in
+    let start = told .before .before in
+    let entry = start .before .before .before .before .before .before in
+    let below = c .before .before .searched .ensures in
+    ((below .0 .0, below .0 .1), λ ls ks v. start-open _ v _ _ _ (entry .args .at) (entry .args .free) _ (start .at-start .result) (start .at-start .ensures _ ls ks v) (told .enum-told3 .given .1) _ _ _ (below .1 ls ks v))
 
 pub run-spec : {M : Type 1} → statement M
 run-spec =
     tie.close
     (tie.spec
     at-start-requires
-    enum-known-start
-    decided-requires
-    enum-known-start-2
-    decided-requires-2
     enum-told
+    decided-requires
+    enum-told-2
+    decided-requires-2
+    enum-told-3
     searched-requires
     returns
     returns-2

@@ -1,7 +1,7 @@
-// Literals written into a table of literals.
+// What the calls write into the state's tables: literals into a table of literals, and that no row stands.
 ghost use mathlib.Core.Path.{_≡_};
 ghost use Prim.Native.Nat.{_+_, _≤_};
-ghost use lib.ListN.{length};
+ghost use lib.ListN.{length, set};
 ghost use lib.Seq.{paste};
 
 pub fn write(cells: &mut [i16], at: usize, lits: &[i16])
@@ -13,4 +13,11 @@ pub fn write(cells: &mut [i16], at: usize, lits: &[i16])
         cells[at + i] = lits[i];
         i += 1;
     }
+}
+
+// The cells are left as they are.
+pub fn clear(sizes: &mut [u16; tables::CONSTRAINT_SIZES])
+    ensures { λ _. ⌜ now (sizes .exit) ≡ set (now (sizes .entry)) 0 0 ⌝ }
+{
+    sizes[0] = 0;
 }

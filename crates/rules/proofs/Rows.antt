@@ -1,16 +1,16 @@
 -- The rows of a flat table after one was written behind the others.
-use mathlib.Core.Path.{_≡_, sym, ap, subst, _∙_}
+use mathlib.Core.Path.{_≡_, sym, ap, _∙_}
 use mathlib.Core.List.{List, [], _∷_, _++_, append-assoc}
 use Prim.Native.Nat.{ℕ, zero, suc, _+_, _*_, _<_, _≤_}
 use native.Mathlib.Omega.{arith}
-use native.Mathlib.Nat.{zero-add, suc-add, suc-mul, mul-le-mul-right, le-refl}
+use native.Mathlib.Nat.{zero-add, suc-add, le-refl}
 use native.Mathlib.Numerals.{add-one}
 use borrow.Author.Count.{below-more}
 use lib.IntN.{ℤ}
 use lib.ListN.{length, getD, take, drop, set, length-set, length-append}
 use lib.Seq.{take-all, take-at, drop-at, take-nil, take-append-le, take-take, paste, length-paste, length-take-le, getD-set-same, getD-set-other}
 use Rattle.tables.specs.Views.{row, rows, rowsOf, Table}
-use Rattle.tables.proofs.Laws.{rows-suc, rows-zero}
+use Rattle.tables.proofs.Laws.{before, rows-suc, rows-zero}
 
 -- ---- parts of lists
 module _ {A : Type 0} where
@@ -48,10 +48,6 @@ module _ (w : ℕ) (f : List ℤ) (l : List ℕ) (f′ : List ℤ) (l′ : List 
       ∙ ap (λ (x : List ℤ). rows w f′ l′ n ++ (x ∷ [])) (h n (le-refl (suc n)))
       ∙ ap (λ (xs : List (List ℤ)). xs ++ (row w f l n ∷ [])) (same-rows n (λ k lt. h k (omega arith)))
       ∙ sym (rows-suc w f l n)
-
--- row k ends before row n begins
-pub before : (w k n : ℕ) → k < n → k * w + w ≤ n * w
-before w k n h = subst (λ (m : ℕ). m ≤ n * w) (suc-mul k w) (mul-le-mul-right w h)
 
 -- ---- a row written behind the others: at n, which is how many stand
 module _ (w cap : ℕ) (f : List ℤ) (l : List ℕ) (e : List ℤ) (t : Table w cap f l) (low : getD l 0 0 < cap) (fits : length e ≤ w) where
@@ -108,9 +104,5 @@ module _ (w cap : ℕ) (f : List ℤ) (l : List ℕ) (e : List ℤ) (t : Table w
   }
 
 -- ---- a table in which no row stands
-module _ (w cap : ℕ) where
-  pub none-rows : (f : List ℤ) (l : List ℕ) → getD l 0 0 ≡ 0 → rowsOf w f l ≡ []
-  none-rows f l h = ap (rows w f l) h ∙ rows-zero w f l
-
-  pub none-table : (f : List ℤ) (l : List ℕ) → length f ≡ cap * w → length l ≡ suc cap → getD l 0 0 ≡ 0 → Table w cap f l
-  none-table f l r c h = record { room = r; counted = c; few = omega arith; short = λ k lt. absurd (omega arith) }
+pub none-rows : (w : ℕ) (f : List ℤ) (l : List ℕ) → getD l 0 0 ≡ 0 → rowsOf w f l ≡ []
+none-rows w f l h = ap (rows w f l) h ∙ rows-zero w f l

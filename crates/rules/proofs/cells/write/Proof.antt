@@ -1,6 +1,6 @@
--- `learned::cells::write` meets its contract: after i turns the first i literals are written.
-use Rattle.learned.proofs.cells.write.Statement.{statement}
-use Rattle.learned.proofs.cells.write.Tie as tie
+-- `rules::cells::write` meets its contract: after i turns the first i literals are written.
+use Rattle.rules.proofs.cells.write.Statement.{statement}
+use Rattle.rules.proofs.cells.write.Tie as tie
 use borrow.Author.Needs.{needs}
 use Prim.Native.Nat.{_+_, _-_, _≤_}
 use native.Mathlib.Omega.{arith}

@@ -1,3 +1,0 @@
-pub mod Implicants
-pub mod Conflicts
-pub mod Verdicts

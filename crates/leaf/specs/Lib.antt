@@ -1,3 +1,0 @@
-pub mod Leaf
-pub mod Conflict
-pub mod Solution

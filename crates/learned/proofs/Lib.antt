@@ -1,4 +1,0 @@
-pub mod Rows
-pub mod Search
-pub mod Matches
-pub mod Parts
