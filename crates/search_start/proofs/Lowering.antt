@@ -3,19 +3,17 @@ use Prim.Native.Nat.{ℕ, zero, suc, _+_, _-_, _≤_, _<_}
 use native.Mathlib.Omega.{arith}
 use native.Mathlib.Numerals.{add-one}
 use mathlib.Core.Path.{_≡_, refl, sym, ap, subst, _∙_}
-use mathlib.Core.Logic.{_⊎_, inl, inr}
 use mathlib.Core.Bool.{Bool, true, false, cond}
-use mathlib.Core.List.{List, [], _∷_, _++_}
+use mathlib.Core.List.{List, [], _∷_}
 use mathlib.Core.Option.{Option, none, some}
 use borrow.Author.Tests.{eq-eqb, ne-eqb, lt-ltb, le-ltb}
 use lib.Dec.{eqb, ltb}
 use lib.IntN.{ℤ}
 use lib.ListN.{getD}
 use Rattle.qbf.specs.Formula.{paper, Prefix, Clause, Node, dead}
-use Rattle.qbf.specs.Learning.{reach, lower, lowestFrom, lowestDead}
-use Rattle.theory.proofs.Basics.{le-or-lt}
+use Rattle.qbf.specs.Learning.{reach, lower, lowestDead}
 use Rattle.theory.proofs.Lowest.{lowest-append}
-use Rattle.tables.specs.Views.{Places, Kinds, Values, rows, rowsOf}
+use Rattle.tables.specs.Views.{Places, Kinds, Values, rows}
 use Rattle.tables.proofs.Laws.{rows-suc, rows-zero}
 use Rattle.search_start.specs.Dead.{clauseAt, NextDead, clauseFound, FoundLowest, lowerOf}
 use Rattle.search_start.specs.declared.lowest.Lowest.{Lowest}

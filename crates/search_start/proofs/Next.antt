@@ -4,7 +4,6 @@ use native.Mathlib.Omega.{arith}
 use mathlib.Core.Path.{sym, _∙_}
 use mathlib.Core.List.{List}
 use lib.IntN.{ℤ}
-use lib.ListN.{getD}
 use Rattle.qbf.specs.Formula.{paper}
 use Rattle.tables.specs.Views.{Standing}
 use Rattle.search_start.specs.Dead.{clauseAt, NextDead}

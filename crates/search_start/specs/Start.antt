@@ -6,7 +6,7 @@ use mathlib.Core.Option.{Option, none, some}
 use lib.Dec.{leb}
 use Rattle.qbf.specs.Formula.{Prefix, Clause, Node, any, all, dead, satisfied}
 use Rattle.qbf.specs.Truth.{Outcome, decided}
-use Rattle.qbf.specs.Learning.{Constraint, Store, leaf}
+use Rattle.qbf.specs.Learning.{Constraint, leaf}
 use Rattle.search_start.specs.Match.{matching}
 use Rattle.search_start.specs.declared.Start.{Start}
 use Rattle.search_start.specs.declared.Start.the-variants.{No, Yes, Open}

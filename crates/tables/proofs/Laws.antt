@@ -10,7 +10,7 @@ use mathlib.Core.Option.{Option, none, some}
 use lib.ListN.{length, getD, length-append}
 use lib.IntN.{pos, negsuc}
 use lib.Dec.{eqb}
-use Rattle.qbf.specs.Formula.{Quantifier, free, exists, forall, Prefix, Literal, Node, numberOf, positive, place, quantifierAt, valueAt, equals, isOpen, has}
+use Rattle.qbf.specs.Formula.{Quantifier, free, exists, forall, Prefix, Literal, Node, numberOf, positive, place, quantifierAt, valueAt, equals, has}
 use Rattle.qbf.specs.Learning.{Polarity, dropped}
 use Rattle.tables.specs.Views.{quantifierCode, valueCode, Kinds, Values, signed, status, row, rows, Table, Standing}
 
@@ -32,23 +32,12 @@ signed-false (negsuc n) none = refl
 signed-false (negsuc n) (some true) = refl
 signed-false (negsuc n) (some false) = refl
 
-signed-open : (l : Literal) (o : Option Bool) → eqb (signed l (valueCode o)) 0 ≡ isOpen o
-signed-open (pos n) none = refl
-signed-open (pos n) (some true) = refl
-signed-open (pos n) (some false) = refl
-signed-open (negsuc n) none = refl
-signed-open (negsuc n) (some true) = refl
-signed-open (negsuc n) (some false) = refl
-
 module _ (D : Prefix) (s : Node) (vs : List ℕ) (shown : Values D s vs) where
   pub status-true : (l : Literal) → eqb (status vs l) 2 ≡ has D true s l
   status-true l = ap (λ (v : ℕ). eqb (signed l v) 2) (shown .at (numberOf l)) ∙ signed-true l (valueAt s (place D l))
 
   pub status-false : (l : Literal) → eqb (status vs l) 1 ≡ has D false s l
   status-false l = ap (λ (v : ℕ). eqb (signed l v) 1) (shown .at (numberOf l)) ∙ signed-false l (valueAt s (place D l))
-
-  pub status-open : (l : Literal) → eqb (status vs l) 0 ≡ isOpen (valueAt s (place D l))
-  status-open l = ap (λ (v : ℕ). eqb (signed l v) 0) (shown .at (numberOf l)) ∙ signed-open l (valueAt s (place D l))
 
 -- ---- quantifiers
 code-dropped : (v : Polarity) (κ : Quantifier) → dropped v κ ≡ eqb (quantifierCode κ) (cond v 1 2)

@@ -1,8 +1,7 @@
 -- Lists by what a test says at each index: every one, some, the first.
 use Prim.Native.Nat.{ℕ, zero, suc, _-_, _≤_, _<_, suc-le-suc, zero-le}
 use native.Mathlib.Nat.{le-of-suc-le-suc, not-suc-le-zero}
-use native.Mathlib.Omega.{arith}
-use mathlib.Core.Path.{_≡_, refl, sym, ap, _∙_}
+use mathlib.Core.Path.{_≡_, refl, ap, _∙_}
 use mathlib.Core.Bool.{Bool, true, false, cond, _&&_, _||_}
 use mathlib.Core.List.{List, [], _∷_}
 use mathlib.Core.Option.{none, some}
@@ -78,15 +77,6 @@ module _ {A : Type 0} (f : A → Bool) (d : A) where
       step : (b : Bool) → (length xs ≤ indexOf f xs → first f xs ≡ none) → suc (length xs) ≤ cond b 0 (suc (indexOf f xs)) → cond b (some x) (first f xs) ≡ none
       step true ih m = absurd (not-suc-le-zero m)
       step false ih m = ih (le-of-suc-le-suc m)
-
-  -- what is found passes the test
-  pub found-passes : (xs : List A) {y : A} → first f xs ≡ some y → f y ≡ true
-  found-passes [] e = let z : _≡_ {A = ℕ} 0 1 = cc in absurd (omega arith)
-  found-passes (x ∷ xs) {y} e = step (f x) refl (found-passes xs) e
-    where
-      step : (b : Bool) → f x ≡ b → (first f xs ≡ some y → f y ≡ true) → cond b (some x) (first f xs) ≡ some y → f y ≡ true
-      step true p ih q = let same : x ≡ y = cc in sym (ap f same) ∙ p
-      step false p ih q = ih q
 
 -- ---- two tests that agree
 module _ {A : Type 0} (f g : A → Bool) (same : (x : A) → f x ≡ g x) where

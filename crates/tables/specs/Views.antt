@@ -6,8 +6,7 @@ use mathlib.Core.Bool.{Bool, true, false, cond}
 use mathlib.Core.List.{List, [], _∷_, _++_, map}
 use mathlib.Core.Option.{Option, none, some}
 use lib.ListN.{length, getD, take, drop}
-use lib.IntN.{ℤ, pos, negsuc}
-use lib.Dec.{leb, eqb}
+use lib.IntN.{pos, negsuc}
 use Rattle.qbf.specs.Formula.{Quantifier, free, exists, forall, Prefix, Literal, Node, numberOf, placeOf, quantifierAt, valueAt}
 
 -- ---- the codes of the tables' cells
@@ -80,11 +79,6 @@ pub record Standing {A : Type 0} (stride : ℕ) (flat : List A) (sizes : List �
   pub inside : (k : ℕ) → k < getD sizes 0 0 → k * stride + getD sizes (suc k) 0 ≤ length flat
 
 -- ---- looking up
--- "eligible at a node of length k if its last place is k; at the start node, if it is at most k"
-abbrev pub eligible : Bool → ℕ → ℕ → Bool
-eligible true = leb
-eligible false = eqb
-
 -- the index of the first element at which the test passes; how many there are where none does
 abbrev pub indexOf : {A : Type 0} → (A → Bool) → List A → ℕ
 indexOf f [] = 0

@@ -1,10 +1,7 @@
+-- `search_start::conclude` meets its contract: the steps in order.
 use borrow.Author.Needs.{needs}
 use Rattle.search_start.proofs.conclude.Statement.{statement}
 use Rattle.search_start.proofs.conclude.Tie as tie
-use Rattle.search_start.proofs.conclude.Reads as reads
-use Rattle.search_start.proofs.conclude.Lts as lts
-use Rattle.search_start.proofs.is_no.Reads as is-no-reads
-use Rattle.search_start.proofs.is_yes.Reads as is-yes-reads
 use mathlib.Core.Path.{sym, _∙_}
 use mathlib.Core.List.{List}
 use denote.Ref.{now}
@@ -27,16 +24,26 @@ is-no-requires : tie.Need-is-no-requires
 is-no-requires c κs = search needs
 
 returns : tie.Need-returns
-returns c = λ D s p k v h. let e = c .before .before .before .before .before .before .before .before in concludes-no D s (clauses e) (learned e) (cubes e) (sym (c .before .is-no .ensures D s p k v h) ∙ c .if1 .taken)
+returns c =
+    let e = c .before .before .before .before .before .before .before .before in
+    λ D s p k v h. concludes-no D s (clauses e) (learned e) (cubes e) (sym (c .before .is-no .ensures D s p k v h) ∙ c .if1 .taken)
 
 is-yes-requires : tie.Need-is-yes-requires
 is-yes-requires c κs = search needs
 
 returns-2 : tie.Need-returns-2
-returns-2 c = λ D s p k v h. let e = c .before .before .before .before .before .before .before .before .before .before in concludes-yes D s (clauses e) (learned e) (cubes e) (sym (c .before .before .before .is-no .ensures D s p k v h) ∙ c .before .before .if1 .left) (sym (c .before .is-yes .ensures D s p v h) ∙ c .if2 .taken)
+returns-2 c =
+    let e = c .before .before .before .before .before .before .before .before .before .before in
+    λ D s p k v h.
+    concludes-yes D s (clauses e) (learned e) (cubes e)
+    (sym (c .before .before .before .is-no .ensures D s p k v h) ∙ c .before .before .if1 .left) (sym (c .before .is-yes .ensures D s p v h) ∙ c .if2 .taken)
 
 returns-3 : tie.Need-returns-3
-returns-3 c = λ D s p k v h. let e = c .before .before .before .before .before .before .before .before .before .before in concludes-open D s (clauses e) (learned e) (cubes e) (sym (c .before .before .before .is-no .ensures D s p k v h) ∙ c .before .before .if1 .left) (sym (c .before .is-yes .ensures D s p v h) ∙ c .if2 .left)
+returns-3 c =
+    let e = c .before .before .before .before .before .before .before .before .before .before in
+    λ D s p k v h.
+    concludes-open D s (clauses e) (learned e) (cubes e)
+    (sym (c .before .before .before .is-no .ensures D s p k v h) ∙ c .before .before .if1 .left) (sym (c .before .is-yes .ensures D s p v h) ∙ c .if2 .left)
 
 pub conclude-spec : {M : Type 1} → statement M
 conclude-spec = tie.close (tie.spec is-no-requires returns is-yes-requires returns-2 returns-3)

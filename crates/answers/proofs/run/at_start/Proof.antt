@@ -1,5 +1,4 @@
 -- `answers::run::at_start` meets its contract: the tables of a state have room for all their rows.
-use borrow.Author.Needs.{needs}
 use Rattle.tables.proofs.Laws.{standing}
 use Rattle.answers.proofs.run.at_start.Statement.{statement}
 use Rattle.answers.proofs.run.at_start.Tie as tie

@@ -1,7 +1,6 @@
+-- `search_start::lowest::lower` meets its contract, case by case.
 use Rattle.search_start.proofs.lowest.lower.Statement.{statement}
 use Rattle.search_start.proofs.lowest.lower.Tie as tie
-use Rattle.search_start.proofs.lowest.lower.Reads as reads
-use Rattle.search_start.proofs.lowest.lower.Lts as lts
 use Rattle.search_start.proofs.Lowering.{lower-none, lower-takes, lower-stays}
 
 returns : tie.Need-returns

@@ -1,13 +1,7 @@
+-- `search_start::lowest::lowest_dead` meets its contract: `best` is the lowest dead clause before k, and k is dead, or past the last.
 use borrow.Author.Needs.{needs}
 use Rattle.search_start.proofs.lowest.lowest_dead.Statement.{statement}
 use Rattle.search_start.proofs.lowest.lowest_dead.Tie as tie
-use Rattle.search_start.proofs.lowest.lowest_dead.Reads as reads
-use Rattle.search_start.proofs.lowest.lowest_dead.Lts as lts
-use Rattle.literal.proofs.cell_at.Reads as cell-at-reads
-use Rattle.search_start.proofs.dead.next_dead.Reads as next-dead-reads
-use Rattle.search_start.proofs.lowest.lower.Reads as lower-reads
-use Rattle.search_start.proofs.lowest.reach_of.Reads as reach-of-reads
-use Rattle.search_start.proofs.rows.row.Reads as row-reads
 use Prim.Native.Nat.{_-_}
 use native.Mathlib.Omega.{arith}
 use mathlib.Core.Path.{ap, _∙_}
@@ -51,7 +45,10 @@ loop-less : tie.Need-loop-less Inv-loop μ-loop
 loop-less c = omega (arith, c .before .before .before .before .loop-test .taken, c .next-dead2 .ensures .after, c .next-dead2 .ensures .within, c .before .before .before .before .before .loop .inv .counted)
 
 loop-again : tie.Need-loop-again Inv-loop μ-loop
-loop-again c = lowered (lowering-more (c .before .before .before .before .before .loop .inv) (c .before .before .before .before .loop-test .taken) (λ D p k. c .before .before .reach-of .ensures D p k ∙ ap (reach D) (c .before .before .before .row .ensures)) (c .next-dead2 .ensures)) (c .before .lower .ensures)
+loop-again c =
+    lowered
+    (lowering-more (c .before .before .before .before .before .loop .inv) (c .before .before .before .before .loop-test .taken)
+    (λ D p k. c .before .before .reach-of .ensures D p k ∙ ap (reach D) (c .before .before .before .row .ensures)) (c .next-dead2 .ensures)) (c .before .lower .ensures)
 
 returns : tie.Need-returns Inv-loop μ-loop
 returns c = lowering-end (c .before .loop .inv) (c .loop-test .left)

@@ -1,14 +1,10 @@
+-- `search_start::lowest::reach_of` meets its contract: what is left of the clause is its reduced form.
 use borrow.Author.Needs.{needs}
 use Rattle.search_start.proofs.lowest.reach_of.Statement.{statement}
 use Rattle.search_start.proofs.lowest.reach_of.Tie as tie
-use Rattle.search_start.proofs.lowest.reach_of.Reads as reads
-use Rattle.search_start.proofs.lowest.reach_of.Lts as lts
-use Rattle.constraint.proofs.mention.last_place.Reads as last-place-reads
-use Rattle.constraint.proofs.reduction.reduced_len.Reads as reduced-len-reads
 use mathlib.Core.Path.{sym, ap, _∙_}
 use denote.Ref.{now}
 use lib.Seq.{length-take-le}
-use native.Mathlib.Omega.{arith}
 use Rattle.qbf.specs.Learning.{lastPlace}
 
 reduced-len-requires : tie.Need-reduced-len-requires

@@ -1,9 +1,6 @@
+-- `search_start::matches::all_have` meets its contract: the literals before i have the truth value.
 use Rattle.search_start.proofs.matches.all_have.Statement.{statement}
 use Rattle.search_start.proofs.matches.all_have.Tie as tie
-use Rattle.search_start.proofs.matches.all_have.Reads as reads
-use Rattle.search_start.proofs.matches.all_have.Lts as lts
-use Rattle.literal.proofs.status_of.Reads as status-of-reads
-use Rattle.search_start.proofs.matches.wanted.Reads as wanted-reads
 use mathlib.Core.Path.{refl}
 use Prim.Native.Nat.{_-_}
 use borrow.Author.Needs.{needs, sfits-of}

@@ -1,18 +1,12 @@
+-- `search_start::matches::any_match` meets its contract: no row before k matches.
 use borrow.Author.Needs.{needs}
 use Rattle.search_start.proofs.matches.any_match.Statement.{statement}
 use Rattle.search_start.proofs.matches.any_match.Tie as tie
-use Rattle.search_start.proofs.matches.any_match.Reads as reads
-use Rattle.search_start.proofs.matches.any_match.Lts as lts
-use Rattle.literal.proofs.cell_at.Reads as cell-at-reads
-use Rattle.search_start.proofs.matches.is_match.Reads as is-match-reads
-use Rattle.search_start.proofs.rows.row.Reads as row-reads
 use Prim.Native.Nat.{_-_}
-use native.Mathlib.Omega.{arith}
 use mathlib.Core.Path.{_≡_, sym, ap, _∙_}
 use mathlib.Core.Bool.{false}
 use denote.Ref.{now}
 use lib.ListN.{length}
-use Rattle.qbf.specs.Formula.{Prefix, Node}
 use Rattle.tables.specs.Views.{Places, Values}
 use Rattle.search_start.specs.Match.{matching}
 use Rattle.search_start.proofs.Tried.{Tried, tried-none, tried-more, tried-below, none-passes}
@@ -40,7 +34,13 @@ is-match-requires : tie.Need-is-match-requires Inv-loop μ-loop
 is-match-requires c κs = search needs
 
 returns : tie.Need-returns Inv-loop μ-loop
-returns c = λ D s p v h. sym (rows-some (matching D (c .before .before .before .before .before .before .before .before .before .args .cube) s) (c .before .before .before .before .before .before .before .before .before .args .width) (now (c .before .before .before .before .before .before .before .before .before .args .learned)) (now (c .before .before .before .before .before .before .before .before .before .args .sizes)) (c .before .before .before .before .loop .k) (tried-below (c .before .before .before .before .loop .inv) (c .before .before .before .loop-test .taken)) (ap (matching D (c .before .before .before .before .before .before .before .before .before .args .cube) s) (sym (c .before .before .row .ensures)) ∙ sym (c .before .is-match .ensures D s p v h) ∙ c .if1 .taken))
+returns c =
+    let head = c .before .before .before .before in
+    let e = head .before .before .before .before .before in
+    λ D s p v h.
+    sym
+    (rows-some (matching D (e .args .cube) s) (e .args .width) (now (e .args .learned)) (now (e .args .sizes)) (head .loop .k) (tried-below (head .loop .inv) (c .before .before .before .loop-test .taken))
+    (ap (matching D (e .args .cube) s) (sym (c .before .before .row .ensures)) ∙ sym (c .before .is-match .ensures D s p v h) ∙ c .if1 .taken))
 
 add-k : tie.Need-add-k Inv-loop μ-loop
 add-k c = search needs
@@ -49,7 +49,10 @@ loop-less : tie.Need-loop-less Inv-loop μ-loop
 loop-less c = search needs
 
 loop-again : tie.Need-loop-again Inv-loop μ-loop
-loop-again c = tried-more (c .before .before .before .before .loop .inv) (c .before .before .before .loop-test .taken) (λ D s q. ap (matching D (c .before .before .before .before .before .before .before .before .before .args .cube) s) (sym (c .before .before .row .ensures)) ∙ sym (c .before .is-match .ensures D s (q .0) (q .1) (q .2)) ∙ c .if1 .left)
+loop-again c =
+    let head = c .before .before .before .before in
+    tried-more (head .loop .inv) (c .before .before .before .loop-test .taken)
+    (λ D s q. ap (matching D (head .before .before .before .before .before .args .cube) s) (sym (c .before .before .row .ensures)) ∙ sym (c .before .is-match .ensures D s (q .0) (q .1) (q .2)) ∙ c .if1 .left)
 
 returns-2 : tie.Need-returns-2 Inv-loop μ-loop
 returns-2 c = λ D s p v h. none-passes (c .before .loop .inv) (c .loop-test .left) D s (p, v, h)

@@ -1,8 +1,7 @@
+-- `search_start::rows::row` meets its contract: the part lies within the table.
 use borrow.Author.Needs.{needs}
 use Rattle.search_start.proofs.rows.row.Statement.{statement}
 use Rattle.search_start.proofs.rows.row.Tie as tie
-use Rattle.search_start.proofs.rows.row.Reads as reads
-use Rattle.search_start.proofs.rows.row.Lts as lts
 use native.Mathlib.Omega.{arith}
 use Rattle.search_start.proofs.Flat.{row-fits, row-part}
 

@@ -1,18 +1,13 @@
+-- `search_start::satisfied::all_satisfied` meets its contract: all rows before k are satisfied.
 use borrow.Author.Needs.{needs}
 use Rattle.search_start.proofs.satisfied.all_satisfied.Statement.{statement}
 use Rattle.search_start.proofs.satisfied.all_satisfied.Tie as tie
-use Rattle.search_start.proofs.satisfied.all_satisfied.Reads as reads
-use Rattle.search_start.proofs.satisfied.all_satisfied.Lts as lts
-use Rattle.literal.proofs.cell_at.Reads as cell-at-reads
-use Rattle.search_start.proofs.rows.row.Reads as row-reads
-use Rattle.search_start.proofs.satisfied.is_satisfied.Reads as is-satisfied-reads
 use Prim.Native.Nat.{_-_}
-use native.Mathlib.Omega.{arith}
 use mathlib.Core.Path.{sym, ap, _∙_}
 use mathlib.Core.Bool.{true}
 use denote.Ref.{now}
 use borrow.Author.Tests.{not-true, not-false}
-use Rattle.qbf.specs.Formula.{paper, Prefix, Node, satisfied}
+use Rattle.qbf.specs.Formula.{paper, satisfied}
 use Rattle.tables.specs.Views.{Values}
 use Rattle.search_start.proofs.Tried.{Tried, tried-none, tried-more, tried-below, all-pass}
 use Rattle.search_start.proofs.Flat.{rows-fail}
@@ -39,7 +34,13 @@ is-satisfied-requires : tie.Need-is-satisfied-requires Inv-loop μ-loop
 is-satisfied-requires c κs = search needs
 
 returns : tie.Need-returns Inv-loop μ-loop
-returns c = λ D s values. sym (rows-fail (satisfied D s) (paper .literals) (now (c .before .before .before .before .before .before .before .before .args .clauses)) (now (c .before .before .before .before .before .before .before .before .args .sizes)) (c .before .before .before .before .loop .k) (tried-below (c .before .before .before .before .loop .inv) (c .before .before .before .loop-test .taken)) (ap (satisfied D s) (sym (c .before .before .row .ensures)) ∙ sym (c .before .is-satisfied .ensures D s values) ∙ not-true _ (c .if1 .taken)))
+returns c =
+    let head = c .before .before .before .before in
+    let e = head .before .before .before .before in
+    λ D s values.
+    sym
+    (rows-fail (satisfied D s) (paper .literals) (now (e .args .clauses)) (now (e .args .sizes)) (head .loop .k) (tried-below (head .loop .inv) (c .before .before .before .loop-test .taken))
+    (ap (satisfied D s) (sym (c .before .before .row .ensures)) ∙ sym (c .before .is-satisfied .ensures D s values) ∙ not-true _ (c .if1 .taken)))
 
 add-k : tie.Need-add-k Inv-loop μ-loop
 add-k c = search needs
@@ -48,7 +49,9 @@ loop-less : tie.Need-loop-less Inv-loop μ-loop
 loop-less c = search needs
 
 loop-again : tie.Need-loop-again Inv-loop μ-loop
-loop-again c = tried-more (c .before .before .before .before .loop .inv) (c .before .before .before .loop-test .taken) (λ D s values. ap (satisfied D s) (sym (c .before .before .row .ensures)) ∙ sym (c .before .is-satisfied .ensures D s values) ∙ not-false _ (c .if1 .left))
+loop-again c =
+    tried-more (c .before .before .before .before .loop .inv) (c .before .before .before .loop-test .taken)
+    (λ D s values. ap (satisfied D s) (sym (c .before .before .row .ensures)) ∙ sym (c .before .is-satisfied .ensures D s values) ∙ not-false _ (c .if1 .left))
 
 returns-2 : tie.Need-returns-2 Inv-loop μ-loop
 returns-2 c = λ D s values. all-pass (c .before .loop .inv) (c .loop-test .left) D s values

@@ -1,8 +1,6 @@
+-- `search_start::satisfied::is_satisfied` meets its contract: no literal before i is true.
 use Rattle.search_start.proofs.satisfied.is_satisfied.Statement.{statement}
 use Rattle.search_start.proofs.satisfied.is_satisfied.Tie as tie
-use Rattle.search_start.proofs.satisfied.is_satisfied.Reads as reads
-use Rattle.search_start.proofs.satisfied.is_satisfied.Lts as lts
-use Rattle.literal.proofs.status_of.Reads as status-of-reads
 use Prim.Native.Nat.{_-_}
 use native.Mathlib.Omega.{arith}
 use borrow.Author.Needs.{needs, sfits-of}

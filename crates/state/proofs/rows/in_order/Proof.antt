@@ -1,8 +1,5 @@
 use Rattle.state.proofs.rows.in_order.Statement.{statement}
 use Rattle.state.proofs.rows.in_order.Tie as tie
-use Rattle.state.proofs.rows.in_order.Reads as reads
-use Rattle.state.proofs.rows.in_order.Lts as lts
-use Rattle.literal.proofs.literal_place.Reads as literal-place-reads
 use borrow.Author.Needs.{needs}
 use Prim.Native.Nat.{_-_}
 use mathlib.Core.Path.{_≡_, ap, _∙_}

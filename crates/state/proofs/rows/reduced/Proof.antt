@@ -1,11 +1,6 @@
 use borrow.Author.Needs.{needs}
 use Rattle.state.proofs.rows.reduced.Statement.{statement}
 use Rattle.state.proofs.rows.reduced.Tie as tie
-use Rattle.state.proofs.rows.reduced.Reads as reads
-use Rattle.state.proofs.rows.reduced.Lts as lts
-use Rattle.literal.proofs.kind_of.Reads as kind-of-reads
-use Rattle.literal.proofs.number_of.Reads as number-of-reads
-use Rattle.state.proofs.rows.dropped_kind.Reads as dropped-kind-reads
 use mathlib.Core.Path.{ap, _∙_}
 use borrow.Author.Needs.{needs, sfits-of}
 use Prim.Native.Nat.{ℕ, _-_}
