@@ -1,8 +1,3 @@
-pub mod Marking
-pub mod Below
-pub mod Rows
-pub mod Linked
-pub mod Advancing
 pub mod Gathering
 pub mod LastLiteral
 pub mod Lookups
