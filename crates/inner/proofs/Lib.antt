@@ -1,4 +1,5 @@
 pub mod Gathering
 pub mod LastLiteral
 pub mod Lookups
+pub mod Stepping
 pub mod Conclusions

@@ -63,10 +63,11 @@ pub record Entered (D : Prefix) (s : Node) (R : List Clause) (wc : ℕ) (sat mar
   pub alive : firstDead D (take k s) R ≡ none
   pub known : Descended D s R wc sat marks k
 
--- the tables show the prefix D, the clauses R, the store st and the node s
-pub record NodeShown (D : Prefix) (R : List Clause) (s : Node) (st : Store) (wc : ℕ) (clauses sets quantifiers statuses cs cl qs ql : List ℕ) : Type 0 where
+-- the tables show the prefix D, the clauses R, the store st and the node s of `at` places
+pub record NodeShown (D : Prefix) (R : List Clause) (s : Node) (st : Store) (at wc : ℕ) (clauses sets quantifiers statuses cs cl qs ql : List ℕ) : Type 0 where
   pub quantified : Quantified D quantifiers
   pub statused : Statuses s statuses
+  pub long : length s ≡ at
   pub matrix : MatrixShown D R wc clauses sets
   pub stored : StoreShown D st cs cl qs ql
   pub formed : Formed D R st

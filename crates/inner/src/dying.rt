@@ -18,6 +18,14 @@ ghost use Rattle.tables.specs.Formed.{Formed};
 ghost use Rattle.tables.specs.Matrices.{MatrixShown, leftAt, dyingAt};
 ghost use Rattle.inner.specs.Inner.{FoundCoded, FoundBounded, Inside, LastGiven, Entered};
 
+// How many codes universal reduction leaves of clause k.
+fn left_at<'a>(clauses: &'a [u16; tables::CLAUSE_ROWS], k: usize) -> u16
+    requires { ⌜ k < paper .clauses ⌝ }
+    ensures { λ r. ⌜ r ≡ leftAt (now (clauses .entry)) k ⌝ }
+{
+    clauses[k * tables::CLAUSE_ROW]
+}
+
 // Clause k under universal reduction: its row, behind its length. Rows that are no clause's are free, and nothing is read there.
 fn clause_at<'a>(clauses: &'a [u16; tables::CLAUSE_ROWS], k: usize) -> Found
     ensures { λ r. ⌜ FoundBounded r ⌝ }
@@ -30,10 +38,9 @@ fn clause_at<'a>(clauses: &'a [u16; tables::CLAUSE_ROWS], k: usize) -> Found
         ⌝ }
 {
     if k < tables::CLAUSES {
-        let from = k * tables::CLAUSE_ROW;
-        let size = clauses[from] as usize;
+        let size = left_at(clauses, k) as usize;
         if size <= tables::LITERALS {
-            return Found::At(placed(Source::Clauses, from + 1, size));
+            return Found::At(placed(Source::Clauses, k * tables::CLAUSE_ROW + 1, size));
         }
     }
     Found::Nothing

@@ -103,7 +103,7 @@ fn stored_cube<'a>(
 
 // Steps 3 and 4: the cube of a node that satisfies all clauses, or a cube that is true there.
 fn solution<'a>(
-    satisfied: bool,
+    every: bool,
     marks: &'a [u8; tables::BY_NUMBER],
     quantifiers: &'a [u8; tables::CODES],
     statuses: &'a [u8; tables::CODES],
@@ -124,11 +124,11 @@ fn solution<'a>(
         → 1 ≤ at
         → entriesOf (now (cubes .entry)) (now («cube_links» .entry)) ≡ map (codes D) (st .cubes)
         → MarkedSteps D s R (now (marks .entry)) at
-        → satisfied ≡ all (satisfied D s) R
+        → every ≡ all (satisfied D s) R
         → LeafCoded D r clauses learned (now (cubes .entry)) (now (up .exit)) (satisfiedOr D R s (matched D eqb s (st .cubes))))
         ⌝ }
 {
-    if satisfied {
+    if every {
         let n = cube(marks, statuses, quantifiers, at, up);
         return Leaf::Yes(placed(Source::Area, 0, n));
     }
@@ -167,6 +167,7 @@ pub fn conclude<'a>(
         R
         s
         st
+        at
         words
         (now (clauses .entry))
         (now (sets .entry))
