@@ -13,8 +13,9 @@ use lib.Seq.{length-take-le, take-all, take-append-le, take-suc, take-take}
 use lib.Dec.{leb}
 use borrow.Author.Tests.{le-leb, lt-leb}
 use Rattle.qbf.specs.Formula.{Clause, Node, Prefix, _▹_, all, any, dead, has, place, satisfied, valueAt}
-use Rattle.qbf.specs.Learning.{first, firstDead, reduce}
+use Rattle.qbf.specs.Learning.{first, firstDead, lowestDead, reduce}
 use Rattle.qbf.specs.Card.{Mem}
+use Rattle.theory.proofs.Dying.{lowest-inner}
 use Rattle.theory.proofs.Basics.{and-false-right, le-or-lt, or-false-left, or-false-right, or-right, value-some, →any-false}
 use Rattle.theory.proofs.Game.{Rising}
 use Rattle.theory.proofs.Sets.{Found, found}
@@ -176,15 +177,19 @@ module _ (D : Prefix) (t : Node) (k : ℕ) (b : Bool) (long : length t ≡ suc k
       pub least-dead : Finds (dead D t) [] R (wc * width) (leastBelow (outside sets (dyingRow wc (codeAt (suc k) b)) sat (k * wc)) (wc * width))
       least-dead = least-first (dead D t) [] R (wc * width) kills killed
 
-      -- where no index passes no clause is dead
-      pub none-dies : someBelow (outside sets (dyingRow wc (codeAt (suc k) b)) sat (k * wc)) (wc * width) ≡ false → firstDead D t R ≡ none
-      none-dies e = first-none (dead D t) R (sym some-dead ∙ e)
+      -- all dead clauses end at the node's last place: the first is the lowest
+      lowest : lowestDead D t R ≡ firstDead D t R
+      lowest = ap (λ (u : Node). lowestDead D u R) node-split ∙ lowest-inner D R up (take k t) b alive ∙ ap (λ (u : Node). firstDead D u R) (sym node-split)
 
-      -- where one does the first dead clause is that of the least
+      -- where no index passes no clause is dead
+      pub none-dies : someBelow (outside sets (dyingRow wc (codeAt (suc k) b)) sat (k * wc)) (wc * width) ≡ false → lowestDead D t R ≡ none
+      none-dies e = lowest ∙ first-none (dead D t) R (sym some-dead ∙ e)
+
+      -- where one does the lowest dead clause is that of the least
       pub first-dies : someBelow (outside sets (dyingRow wc (codeAt (suc k) b)) sat (k * wc)) (wc * width) ≡ true
           → {i : ℕ} → i ≡ leastBelow (outside sets (dyingRow wc (codeAt (suc k) b)) sat (k * wc)) (wc * width)
-          → (i < length R) × (firstDead D t R ≡ some (getD R i []))
-      first-dies e {i} is = by (le-or-lt (wc * width) i) (subst (Finds (dead D t) [] R (wc * width)) (sym is) least-dead)
+          → (i < length R) × (lowestDead D t R ≡ some (getD R i []))
+      first-dies e {i} is = let w = by (le-or-lt (wc * width) i) (subst (Finds (dead D t) [] R (wc * width)) (sym is) least-dead) in (w .0, lowest ∙ w .1)
         where
           by : (wc * width ≤ i) ⊎ (i < wc * width) → Finds (dead D t) [] R (wc * width) i → (i < length R) × (firstDead D t R ≡ some (getD R i []))
           by (inl h) w = absurd (true≢false (sym e ∙ some-dead ∙ subst (Found (dead D t) R) (w .nothing h) (found (dead D t) R)))

@@ -29,14 +29,20 @@ pub const AREA: usize = NUMBERS * 2;
 // code, one for the newest row's number, and one for each slot.
 pub const CODES: usize = BY_NUMBER * 2;
 
-// The clauses inside a search: of each its length under universal reduction, its whole length, and its codes.
-pub const CLAUSE_ROW: usize = LITERALS + 2;
+// The clauses inside a search: of each how many codes universal reduction leaves, and its codes.
+pub const CLAUSE_ROW: usize = LITERALS + 1;
 
 pub const CLAUSE_ROWS: usize = CLAUSES * CLAUSE_ROW;
 
-// They are linked by their last code under universal reduction: for each code the number of the first clause that ends in it, then the count of
-// the clauses, then for each clause the number of the next one with the same last code. Numbers run from 1; 0 is no clause.
-pub const CLAUSE_LINKS: usize = CODES + 1 + CLAUSES;
+// Sets of clauses are rows of words, a multiple of a block; the longest has room for one number more than there are clauses. Of each code there are two
+// rows; of each place, and before the first, there is one.
+pub const BLOCK: usize = 4;
+
+pub const ROW_WORDS: usize = (CLAUSES / (bitset::rows::WIDTH * BLOCK) + 1) * BLOCK;
+
+pub const CLAUSE_SETS: usize = CODES * 2 * ROW_WORDS;
+
+pub const SATISFIED: usize = BY_NUMBER * ROW_WORDS;
 
 pub const CONSTRAINT_CODES: usize = CONSTRAINTS * (NUMBERS + 1);
 
