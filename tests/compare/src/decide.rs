@@ -1,7 +1,8 @@
 //! What decides a node without branching: steps 1 to 4 of the learning search.
 
 use crate::constraint::{last_place, Constraint, Polarity};
-use crate::formula::{Literal, Quantifier};
+use crate::dead::dead_clause;
+use crate::formula::Literal;
 use crate::learning::LearningSearch;
 use crate::slip::Slip;
 
@@ -21,18 +22,10 @@ impl LearningSearch<'_> {
             .or_else(|| self.eligible_match(Polarity::Cube))
     }
 
-    /// "The first dead rule, in order of adding: No, with that rule reduced as the bar."
+    /// Step 1, as paper 02 amends it: No, with the rule that the finder returns "reduced as the bar".
     fn dead_clause(&self) -> Option<Constraint> {
-        let hope = |quantifier| match quantifier {
-            Quantifier::Exists => true,
-            Quantifier::Forall => self.options.slips(Slip::OpenForallIsHope),
-            Quantifier::Free => !self.options.slips(Slip::OpenFreeIsNoHope),
-        };
-        let mut dead =
-            self.formula.clauses.iter().filter(|c| self.formula.dead(&self.node, c, hope));
-        let found =
-            if self.options.slips(Slip::LastDeadClause) { dead.next_back() } else { dead.next() };
-        let mut clause = Constraint::new(Polarity::Clause, found?.clone());
+        let index = dead_clause(self.formula, &self.node, self.options)?;
+        let mut clause = Constraint::new(Polarity::Clause, self.formula.clauses[index].clone());
         clause.reduce(self.formula, self.options);
         Some(clause)
     }

@@ -9,6 +9,7 @@ pub mod answer;
 pub mod cases;
 pub mod check;
 pub mod constraint;
+pub mod dead;
 mod decide;
 pub mod finder;
 pub mod formula;

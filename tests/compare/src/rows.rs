@@ -23,9 +23,27 @@ pub struct Row {
 
 /// The rows that a file lists under a name.
 pub fn read(file: &str, name: &str) -> io::Result<Vec<Row>> {
-    let folder = Path::new(env!("CARGO_MANIFEST_DIR")).join("../../crates/qbf/proofs");
-    let source = Source::new(&fs::read_to_string(folder.join(file))?);
+    let source = open(file)?;
     Ok(source.list(&source.named(name)).iter().map(|term| source.row(term)).collect())
+}
+
+/// A node and clauses, and the clause that the finder of step 1 returns there.
+#[derive(Clone, Debug)]
+pub struct FinderRow {
+    pub formula: Formula,
+    pub node: Vec<bool>,
+    pub lowest: Option<Vec<Literal>>,
+}
+
+/// The rows of the finder alone.
+pub fn read_finder() -> io::Result<Vec<FinderRow>> {
+    let source = open("Finder.antt")?;
+    Ok(source.list(&source.named("table")).iter().map(|term| source.finder_row(term)).collect())
+}
+
+fn open(file: &str) -> io::Result<Source> {
+    let folder = Path::new(env!("CARGO_MANIFEST_DIR")).join("../../crates/qbf/proofs");
+    Ok(Source::new(&fs::read_to_string(folder.join(file))?))
 }
 
 #[derive(Clone, Debug)]
@@ -131,6 +149,25 @@ impl Source {
             }
             _ => panic!("{name} is no prefix"),
         }
+    }
+
+    fn is_true(&self, term: &Term) -> bool {
+        match &*self.open(term).0 {
+            "true" => true,
+            "false" => false,
+            name => panic!("{name} is no value"),
+        }
+    }
+
+    /// The last of the terms, the first dead clause, belongs to paper 01's finder.
+    fn finder_row(&self, term: &Term) -> FinderRow {
+        let (name, args) = self.open(term);
+        let [prefix, node, clauses, lowest, _] = &args[..] else { panic!("{name} is no row") };
+        let formula = Formula { prefix: self.prefix(prefix), clauses: self.clauses(clauses) };
+        let node = self.list(node).iter().map(|value| self.is_true(value)).collect();
+        let (found, lowest) = self.open(lowest);
+        let lowest = (found == "some").then(|| self.literals(&lowest[0]));
+        FinderRow { formula, node, lowest }
     }
 
     fn limits(&self, term: &Term) -> Limits {

@@ -23,7 +23,9 @@ pub enum Slip {
     // Steps 1 to 4.
     OpenForallIsHope,
     OpenFreeIsNoHope,
-    LastDeadClause,
+    UnreducedPlacesCompared,
+    LaterOfEqualDead,
+    FirstDeadClause,
     StartTestsExactOnly,
     InnerTestsAtMost,
     NewestClauseFirst,
@@ -95,7 +97,9 @@ pub const ALL: &[(Slip, &str)] = &[
     (Slip::DisplacementChangesEntryGoingUp, "displacement changes the off side's entry going up"),
     (Slip::OpenForallIsHope, "an open forall literal keeps a clause alive"),
     (Slip::OpenFreeIsNoHope, "an open free literal does not keep a clause alive"),
-    (Slip::LastDeadClause, "the last dead clause instead of the first"),
+    (Slip::UnreducedPlacesCompared, "dead clauses compared by their last places unreduced"),
+    (Slip::LaterOfEqualDead, "the later of dead clauses with one last place"),
+    (Slip::FirstDeadClause, "the first dead clause instead of the lowest"),
     (Slip::StartTestsExactOnly, "a start node tests only entries that end exactly there"),
     (Slip::InnerTestsAtMost, "inner nodes test entries that end at or before them"),
     (Slip::NewestClauseFirst, "the newest eligible learned clause first"),
@@ -161,6 +165,18 @@ impl Slip {
     /// Whether only a malformed state can show the slip.
     pub fn is_of_check(self) -> bool {
         matches!(self, Slip::CheckOmits(_) | Slip::StateJudgedLast)
+    }
+
+    /// Whether the slip is one of the finder of dead clauses, which can be asked alone.
+    pub fn is_of_finder(self) -> bool {
+        use Slip::{FirstDeadClause, LaterOfEqualDead, UnreducedPlacesCompared};
+        matches!(self, UnreducedPlacesCompared | LaterOfEqualDead | FirstDeadClause)
+    }
+
+    /// Whether no call shows the slip: the dead clauses that a search meets end at one place, and a
+    /// start node's clause goes nowhere.
+    pub fn is_hidden(self) -> bool {
+        self == Slip::FirstDeadClause
     }
 
     /// Whether only a book written back can show the slip.

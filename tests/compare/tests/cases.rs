@@ -127,12 +127,14 @@ fn sessions_of_the_plain_run() {
 }
 
 /// Slips that no text and no session can show: calls on an opened formula meet neither a
-/// malformed state nor an entry that a sound search does not store, and print no table.
+/// malformed state nor an entry that a sound search does not store, print no table, and meet dead
+/// clauses that end at different places only where nobody learns from them.
 fn hidden(slip: Slip) -> bool {
     use Slip::*;
     let given_store = [InnerTestsAtMost, SatisfiedBeforeStoredClause, EqualNotStoredAgain];
     let table = [TableTailKept, TableKeptAfter21, TextTailKept, TableKeptAfter31];
-    slip.is_of_check() || given_store.contains(&slip) || table.contains(&slip)
+    let of_state = slip.is_of_check() || given_store.contains(&slip);
+    of_state || table.contains(&slip) || slip.is_hidden()
 }
 
 /// The stored cases are strong enough: every other slip changes what some case prints.

@@ -1,7 +1,8 @@
-//! The rows that the definitions answer by computation (`crates/qbf/proofs/Bench.antt` and
-//! `Cases.antt`), answered by this implementation.
+//! The rows that the definitions answer by computation (`crates/qbf/proofs/Bench.antt`,
+//! `Cases.antt` and `Finder.antt`), answered by this implementation.
 
-use compare::rows::{read, Row};
+use compare::dead::dead_clause;
+use compare::rows::{read, read_finder, FinderRow, Row};
 use compare::slip::{Slip, ALL};
 use compare::{Answer, Call, Options, PlainRun, Said, Solver, Subject};
 
@@ -48,13 +49,34 @@ fn changes(row: &Row, slip: Slip) -> bool {
 }
 
 /// The rows are strong enough: every slip changes what one of them answers. No row writes a book; its slips are shown by `slips` and the cases.
+/// The slips of the finder change one of its own rows.
 #[test]
 fn every_slip_changes_a_row() {
     let (last, others) = TABLES.split_last().expect("there are tables");
     let malformed = rows(last.0, last.1);
     let sound: Vec<Row> = others.iter().flat_map(|table| rows(table.0, table.1)).collect();
-    for (slip, words) in ALL.iter().filter(|entry| !entry.0.is_of_writing()) {
+    let of_calls = |slip: Slip| !slip.is_of_writing() && !slip.is_of_finder();
+    for (slip, words) in ALL.iter().filter(|entry| of_calls(entry.0)) {
         let rows = if slip.is_of_check() { &malformed } else { &sound };
         assert!(rows.iter().any(|row| changes(row, *slip)), "{slip:?}: {words}");
+    }
+}
+
+/// What the finder returns at a row's node.
+fn found(row: &FinderRow, options: &Options) -> Option<Vec<i16>> {
+    let index = dead_clause(&row.formula, &row.node, options)?;
+    Some(row.formula.clauses[index].clone())
+}
+
+#[test]
+fn every_row_of_the_finder() {
+    let rows = read_finder().expect("the computed table can be read");
+    assert!(rows.len() >= 8, "only {} rows", rows.len());
+    for (index, row) in rows.iter().enumerate() {
+        assert_eq!(found(row, &Options::paper()), row.lowest, "row {}: {row:?}", index + 1);
+    }
+    for (slip, words) in ALL.iter().filter(|entry| entry.0.is_of_finder()) {
+        let options = Options { slip: Some(*slip), ..Options::paper() };
+        assert!(rows.iter().any(|row| found(row, &options) != row.lowest), "{slip:?}: {words}");
     }
 }

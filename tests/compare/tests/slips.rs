@@ -21,9 +21,20 @@ fn source(slip: Slip) -> Source {
 
 #[test]
 fn every_slip_is_shown() {
-    for (slip, words) in ALL {
+    for (slip, words) in ALL.iter().filter(|(slip, _)| !slip.is_hidden()) {
         let found = find(*slip, Difference::Answer, source(*slip), 1, effort(300_000));
         assert!(found.is_some(), "{slip:?}: {words}");
+    }
+}
+
+/// No call shows which dead clause the finder takes where they end at different places.
+#[test]
+fn the_finder_stays_hidden() {
+    for (slip, words) in ALL.iter().filter(|(slip, _)| slip.is_hidden()) {
+        for source in [Source::Opened, Source::GivenStore] {
+            let found = find(*slip, Difference::Answer, source, 1, effort(30_000));
+            assert!(found.is_none(), "{slip:?}: {words}");
+        }
     }
 }
 

@@ -50,7 +50,8 @@ const INPUTS: u64 = 8_000;
 fn every_slip_is_told_apart() {
     let seed = seed();
     let mut hidden = vec![];
-    for (slip, words) in ALL.iter().filter(|(slip, _)| !COUNTS.contains(slip)) {
+    let shown_by_calls = |slip: &Slip| !COUNTS.contains(slip) && !slip.is_hidden();
+    for (slip, words) in ALL.iter().filter(|(slip, _)| shown_by_calls(slip)) {
         let indices = (0..INPUTS).flat_map(|index| sources(*slip).iter().map(move |s| (*s, index)));
         let mut indices =
             indices.filter(|(source, index)| told_apart(*slip, *source, seed, *index));

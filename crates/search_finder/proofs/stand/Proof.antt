@@ -2,6 +2,7 @@
 use Rattle.search_finder.proofs.stand.Statement.{statement}
 use Rattle.search_finder.proofs.stand.Tie as tie
 use Prim.Native.Nat.{_-_}
+use native.Mathlib.Omega.{arith}
 use borrow.Author.Needs.{needs}
 use Rattle.qbf.specs.Formula.{paper}
 use Rattle.search_finder.proofs.Lying.{Lying, no-room, lying-none, lying-more, lying-over, lying-all}
@@ -40,7 +41,7 @@ add-end : tie.Need-add-end Inv-loop μ-loop
 add-end c = search needs
 
 returns-2 : tie.Need-returns-2 Inv-loop μ-loop
-returns-2 c = lying-over (c .before .before .before .loop .inv) (c .before .before .loop-test .taken) (c .before .cell-at2 .ensures) (c .if2 .taken)
+returns-2 c = lying-over (c .before .before .before .loop .inv) (c .before .before .loop-test .taken) (c .before .cell-at2 .ensures) (omega (arith, c .if2 .taken))
 
 add-k : tie.Need-add-k Inv-loop μ-loop
 add-k c = search needs
@@ -49,7 +50,7 @@ loop-less : tie.Need-loop-less Inv-loop μ-loop
 loop-less c = search needs
 
 loop-again : tie.Need-loop-again Inv-loop μ-loop
-loop-again c = lying-more (c .before .before .before .loop .inv) (c .before .before .loop-test .taken) (c .before .cell-at2 .ensures) (c .if2 .left)
+loop-again c = lying-more (c .before .before .before .loop .inv) (c .before .before .loop-test .taken) (c .before .cell-at2 .ensures) (omega (arith, c .if2 .left))
 
 returns-3 : tie.Need-returns-3 Inv-loop μ-loop
 returns-3 c = lying-all (c .before .loop .inv) (c .loop-test .left)

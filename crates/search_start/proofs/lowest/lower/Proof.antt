@@ -1,16 +1,17 @@
 -- `search_start::lowest::lower` meets its contract, case by case.
 use Rattle.search_start.proofs.lowest.lower.Statement.{statement}
 use Rattle.search_start.proofs.lowest.lower.Tie as tie
+use native.Mathlib.Omega.{arith}
 use Rattle.search_start.proofs.Lowering.{lower-none, lower-takes, lower-stays}
 
 returns : tie.Need-returns
 returns c = lower-none _ _ _ _ (c .if1 .taken)
 
 returns-2 : tie.Need-returns-2
-returns-2 c = lower-takes _ _ _ _ (c .before .before .if1 .left) (c .if2 .taken)
+returns-2 c = lower-takes _ _ _ _ (c .before .before .if1 .left) (omega (arith, c .if2 .taken))
 
 returns-3 : tie.Need-returns-3
-returns-3 c = lower-stays _ _ _ _ (c .before .before .if1 .left) (c .if2 .left)
+returns-3 c = lower-stays _ _ _ _ (c .before .before .if1 .left) (omega (arith, c .if2 .left))
 
 pub lower-spec : {M : Type 1} → statement M
 lower-spec = tie.close (tie.spec returns returns-2 returns-3)

@@ -3,6 +3,7 @@ use borrow.Author.Needs.{needs}
 use Rattle.search_start.proofs.lowest.reach_of.Statement.{statement}
 use Rattle.search_start.proofs.lowest.reach_of.Tie as tie
 use mathlib.Core.Path.{sym, ap, _∙_}
+use native.Mathlib.Omega.{arith}
 use denote.Ref.{now}
 use lib.Seq.{length-take-le}
 use Rattle.qbf.specs.Learning.{lastPlace}
@@ -11,7 +12,7 @@ reduced-len-requires : tie.Need-reduced-len-requires
 reduced-len-requires c κs = search needs
 
 slice-aggregate-last-place : tie.Need-slice-aggregate-last-place
-slice-aggregate-last-place c = sym (length-take-le (c .before .reduced-len .result) (now (c .before .before .before .before .args .lits)) (c .before .reduced-len .ensures .0))
+slice-aggregate-last-place c = sym (length-take-le _ (now (c .before .before .before .before .args .lits)) (omega (arith, c .before .reduced-len .ensures .0)))
 
 last-place-requires : tie.Need-last-place-requires
 last-place-requires c κs = search needs
