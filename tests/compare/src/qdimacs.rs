@@ -8,8 +8,10 @@ use crate::refusal;
 use crate::text::{TextRefusal, LARGEST_TEXT};
 use crate::write;
 
+mod books;
 mod slip;
 
+pub use books::{by_place, lines};
 pub use slip::{QdimacsSlip, ALL};
 
 use QdimacsSlip as Slip;

@@ -1,9 +1,9 @@
 //! Books that come as QDIMACS: what opens, and that it is what our own text would give.
 
 use compare::finder::Shape;
-use compare::qdimacs::{open, program};
+use compare::qdimacs::{by_place, lines, open, program};
 use compare::random::Random;
-use compare::{write, Formula, Options, Quantifier};
+use compare::{write, Options};
 
 fn refusal(text: &str) -> Option<(u8, usize)> {
     open(text.as_bytes(), &Options::paper(), None).err().map(|fault| (fault.number, fault.line))
@@ -24,39 +24,13 @@ fn readings_of_the_paper() {
     assert_eq!(refusal("p cnf 1 1\n1 0\n1 0\n2 0\n"), Some((5, 4)));
 }
 
-/// The book with its variables named by place, so that the flags are in rising number.
-fn by_place(formula: &Formula) -> Formula {
-    let mut named = formula.clone();
-    for (index, variable) in named.prefix.iter_mut().enumerate() {
-        variable.number = index as i16 + 1;
-    }
-    let place = |&literal: &i16| formula.declared_place(literal).0 as i16 * literal.signum();
-    named.clauses =
-        formula.clauses.iter().map(|clause| clause.iter().map(place).collect()).collect();
-    named
-}
-
-/// Groups as they stand, one to a line.
-fn as_qdimacs(formula: &Formula) -> String {
-    let mut text = format!("p cnf {} {}\n", formula.prefix.len(), formula.clauses.len());
-    for variable in formula.prefix.iter().filter(|v| v.quantifier != Quantifier::Free) {
-        let letter = if variable.quantifier == Quantifier::Exists { 'e' } else { 'a' };
-        text += &format!("{letter} {} 0\n", variable.number);
-    }
-    for clause in &formula.clauses {
-        let items: String = clause.iter().map(|literal| format!("{literal} ")).collect();
-        text += &format!("{items}0\n");
-    }
-    text
-}
-
 /// "give the same book that our own text would give".
 #[test]
 fn the_same_book() {
     let mut random = Random::new(20_241);
     for attempt in 0..4_000 {
         let formula = by_place(&Shape::of_attempt(attempt).formula(&mut random));
-        let text = as_qdimacs(&formula);
+        let text = lines(&formula, || random.one_in(3)).join("\n") + "\n";
         let own = write::text(&formula, &Options::paper());
         assert_eq!(program(text.as_bytes(), &Options::paper(), None), own, "{text}");
         assert_eq!(compare::text::open(own.as_bytes(), &Options::paper()), Ok(formula));
