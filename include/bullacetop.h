@@ -60,6 +60,7 @@ extern "C" {
 #define BULLACETOP_RULES_FULL 20
 #define BULLACETOP_TABLE_TOO_SMALL 21
 #define BULLACETOP_MALFORMED 22
+#define BULLACETOP_CLAUSE_COUNT 30
 #define BULLACETOP_TEXT_TABLE_TOO_SHORT 31
 #define BULLACETOP_NO_PAGE 36
 
@@ -304,6 +305,13 @@ struct bullacetop_opened {
 
 /* Opens a text of n bytes. Refusals 9, then line by line 1, 2, and as the calls. */
 struct bullacetop_opened bullacetop_open(const uint8_t *text, size_t n);
+
+/*
+ * Opens a QDIMACS 1.1 text of n bytes: variables up to the header's count that stand in no quantifier line are the flags, in rising number.
+ * Refusals 9; then line by line 1; header 3; quantifier line, each number 3, 5, 4; clause as a rule; at the end, on the line after the last, 1
+ * where there is no header, and 30 where the count of clauses is not the header's.
+ */
+struct bullacetop_opened bullacetop_open_qdimacs(const uint8_t *text, size_t n);
 
 /* The arrays follow one another without a gap. */
 typedef char bullacetop_state_has_no_gap[sizeof(struct bullacetop_state) == 19418 ? 1 : -1];

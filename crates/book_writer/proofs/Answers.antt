@@ -30,7 +30,7 @@ pub too-long : (size : ℕ) (t : Bytes) → size < length t → writtenTo size t
 too-long size t h = ap (λ (q : Bool). cond q (written (length t) (t ++ replicate (size - length t) 0)) (writeRefused 31 (zeroTable size))) (lt-leb (length t) size h)
 
 -- ---- written: the text, and zeros in the part behind it
-fits : (size : ℕ) (t : Bytes) → length t ≤ size → writtenTo size t ≡ written (length t) (t ++ replicate (size - length t) 0)
+pub fits : (size : ℕ) (t : Bytes) → length t ≤ size → writtenTo size t ≡ written (length t) (t ++ replicate (size - length t) 0)
 fits size t h = ap (λ (q : Bool). cond q (written (length t) (t ++ replicate (size - length t) 0)) (writeRefused 31 (zeroTable size))) (le-leb (length t) size h)
 
 pub written-told : {d₀ t d : Bytes} {r : ℕ} → Wrote d₀ 0 t d r → length t ≤ length d₀ → {zeros : Bytes} → zeros ≡ zeroTable (length (take (length d - r) (drop r d)))

@@ -1,29 +1,33 @@
 -- What follows from the contract of writing, for whatever meets it. Paper 02, wish 2. "Not refused" is the answer 0.
-use Prim.Native.Nat.{ℕ, _-_, _≤_}
+use Prim.Native.Nat.{ℕ, zero, suc, _-_, _≤_}
 use mathlib.Core.Path.{_≡_, refl, sym, ap, _∙_}
 use mathlib.Core.Logic.{_↔_}
 use mathlib.Core.Bool.{Bool, true, false, cond}
 use mathlib.Core.List.{_++_}
+use mathlib.Core.Option.{Option, none, some}
 use native.Mathlib.Omega.{arith}
 use lib.ListN.{length, take, replicate, length-append}
 use lib.Seq.{take-at}
 use lib.Dec.{leb}
-use Rattle.qbf.specs.Formula.{paper}
+use Rattle.qbf.specs.Formula.{paper, Formula}
 use Rattle.qbf.specs.Card.{zeroTable}
-use Rattle.qbf.specs.Calls.{formulaOk, storeOk}
+use Rattle.qbf.specs.Calls.{formulaOk, storeOk, State as Read}
+use Rattle.qbf.specs.Runs.{fresh}
 use Rattle.theory.proofs.Basics.{and-left}
 use Rattle.theory.proofs.AcceptedRule.{some-none}
+use Rattle.theory.proofs.WellFormed.{formula-facts}
 use Rattle.state.specs.declared.State.{State}
-use Rattle.state.specs.Reading.{formulaIn, storeIn, valid}
+use Rattle.state.specs.Reading.{formulaIn, storeIn, readState, wellFormedRead, valid}
 use Rattle.state.proofs.Valid.{valid-facts}
 use Rattle.layout.specs.Words.{Bytes}
 use Rattle.layout.specs.Opening.{opened, openText}
+use Rattle.layout_laws.proofs.Opened.{fresh-formed}
 use Rattle.booktext.specs.Texts.{readText}
-use Rattle.booktext.specs.Books.{written, writeRefused, writtenTo, bookText}
+use Rattle.booktext.specs.Books.{written, writeRefused, writtenTo, bookText, textRoom}
 use Rattle.booktext_laws.proofs.Books.{read-back, open-back, equal-texts, SameBook}
 use Rattle.booktext_laws.proofs.Room.{text-room, paper-room}
 use Rattle.book_writer.specs.Writes.{Answer, answered, told, Writes}
-use Rattle.book_writer.proofs.Answers.{malformed-is, valid-is}
+use Rattle.book_writer.proofs.Answers.{fits, malformed-is, valid-is}
 
 -- ---- what is not refused
 -- the state is valid, and the table begins with its book's text
@@ -56,14 +60,42 @@ formula-ok x v = and-left (formulaOk (formulaIn x)) (storeOk paper (formulaIn x 
 pub count-within : {x : State} {size count : ℕ} {table : Bytes} → Writes x size 0 count table → count ≤ length table
 count-within {x} {size} {count} {table} w = by (valid x) refl
   where
-    fits : (t : Bytes) (q : Bool) → answered 0 count table ≡ told (cond q (written (length t) (t ++ replicate (size - length t) 0)) (writeRefused 31 (zeroTable size))) → count ≤ length table
-    fits t true e =
+    held : (t : Bytes) (q : Bool) → answered 0 count table ≡ told (cond q (written (length t) (t ++ replicate (size - length t) 0)) (writeRefused 31 (zeroTable size))) → count ≤ length table
+    held t true e =
         omega (arith, ap (λ (a : Answer). a .length) e, ap (λ (a : Answer). length (a .table)) e, length-append t (replicate (size - length t) 0))
-    fits t false e = refused e
+    held t false e = refused e
 
     by : (q : Bool) → valid x ≡ q → count ≤ length table
-    by true v = fits (bookText (formulaIn x)) (leb (length (bookText (formulaIn x))) size) (w .said ∙ ap told (valid-is x size v))
+    by true v = held (bookText (formulaIn x)) (leb (length (bookText (formulaIn x))) size) (w .said ∙ ap told (valid-is x size v))
     by false v = refused (w .said ∙ ap told (malformed-is x size v))
+
+-- ---- a state with nothing learned, in a table that holds every text
+formulaOr : Formula → Option Read → Formula
+formulaOr c none = c
+formulaOr c (some y) = y .formula
+
+module _ (x : State) (b : Formula) (e : readState x ≡ some (fresh b)) (ok : formulaOk b ≡ true) where
+  fresh-valid : valid x ≡ true
+  unfolding valid
+  fresh-valid = ap wellFormedRead e ∙ fresh-formed b (formula-facts b ok)
+
+  fresh-formula : formulaIn x ≡ b
+  unfolding formulaOr
+  fresh-formula = ap (formulaOr b) (sym (valid-facts x fresh-valid .read) ∙ e)
+
+  -- it is not refused
+  pub fresh-written : {size refusal count : ℕ} {table : Bytes} → Writes x size refusal count table → textRoom paper ≤ size → (count ≤ length table) × (take count table ≡ bookText b)
+  fresh-written {size} {refusal} {count} {table} w room = by refusal w
+    where
+      t : Bytes
+      t = bookText (formulaIn x)
+
+      room-for : length t ≤ size
+      room-for = omega (arith, room, text-room (formulaIn x) (formula-ok x fresh-valid))
+
+      by : (k : ℕ) → Writes x size k count table → (count ≤ length table) × (take count table ≡ bookText b)
+      by zero v = (count-within v, text-written v .is ∙ ap bookText fresh-formula)
+      by (suc n) v = absurd (some-none (ap (λ (a : Answer). a .refusal) (v .said ∙ ap told (valid-is x size fresh-valid ∙ fits size t room-for))))
 
 -- ---- the theorems
 -- "Reading the text gives the same variables, places, kinds and rules, with an empty store": a text opens a formula, and the state of an opened

@@ -14,6 +14,7 @@ mod lengths; // how many bytes a text has
 mod rules; // the lines of the rules
 mod variables; // the lines of the variables
 
+use state::State;
 use writer::bytes::put_word;
 
 // The number of the refusal, 0 where there is none, and the length of the text, which stands in the first bytes of the lent table.
@@ -30,6 +31,9 @@ pub const MALFORMED: u16 = 22;
 
 // "A table too short is 31, after 22"
 pub const TEXT_TABLE_TOO_SHORT: u16 = 31;
+
+// A text is no longer: numbers have at most two digits, and every variable may stand on a line of its own (`textRoom`).
+pub const LONGEST: usize = 23 + tables::NUMBERS * 12 + tables::CLAUSES * (7 + tables::LITERALS * 8);
 
 // "and zeroed"
 fn refused(table: &mut [u8], number: u16) -> Written
@@ -163,4 +167,22 @@ pub fn write<'a>(
         return refused(table, MALFORMED);
     }
     write_formula(numbers, levels, kinds, clauses, clause_sizes, table)
+}
+
+// The book of a state by value.
+pub fn write_book(x: State, table: &mut [u8]) -> Written
+    ensures { λ r. ⌜ Writes x (length (now (table .entry))) (r .refusal) (r .length) (now (table .exit)) ⌝ }
+{
+    write(
+        &x.numbers,
+        &x.levels,
+        &x.kinds,
+        &x.clauses,
+        &x.clause_sizes,
+        &x.learned_clauses,
+        &x.learned_clause_sizes,
+        &x.learned_cubes,
+        &x.learned_cube_sizes,
+        table,
+    )
 }

@@ -74,7 +74,7 @@ mul-le c zero b h = omega arith
 mul-le c (suc a) zero h = absurd (not-suc-le-zero h)
 mul-le c (suc a) (suc b) h = omega (arith, mul-le c a b (omega (arith, h)), suc-mul a c, suc-mul b c)
 
-literal-most : (l : Literal) → length (literalText l) ≤ 5 + length (decimal (numberOf l))
+pub literal-most : (l : Literal) → length (literalText l) ≤ 5 + length (decimal (numberOf l))
 unfolding literalText
 literal-most (pos n) = omega arith
 literal-most (negsuc n) = omega (arith, length-append (ascii "(no " ++ decimal (suc n)) (ascii ")"))

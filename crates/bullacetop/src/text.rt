@@ -8,6 +8,7 @@ ghost use mathlib.Core.Path.{_≡_};
 ghost use Rattle.qbf.specs.Formula.{paper};
 ghost use Rattle.layout.specs.Opening.{openText};
 ghost use Rattle.opening.specs.Opened.{OpenedAs};
+ghost use Rattle.qdimacs_form.specs.Opening.{openQdimacs};
 ghost use Rattle.serve.specs.Line.{answerBytes, ServesLine};
 ghost use Rattle.serve.specs.Books.{PrintsCard};
 
@@ -32,6 +33,14 @@ pub extern "C" fn bullacetop_open(text: &[u8]) -> Opened
     ensures { λ r. ⌜ OpenedAs (openText paper (now (text .entry))) r ⌝ }
 {
     opening::open_text(text)
+}
+
+// A QDIMACS text opened likewise, to the state that our own text would give.
+#[no_mangle]
+pub extern "C" fn bullacetop_open_qdimacs(text: &[u8]) -> Opened
+    ensures { λ r. ⌜ OpenedAs (openQdimacs paper (now (text .entry))) r ⌝ }
+{
+    qdimacs_opening::open_qdimacs(text)
 }
 
 // One call line, without its byte 10, and its number in the input.

@@ -17,6 +17,7 @@ use Rattle.layout.specs.Forms.{end}
 use Rattle.layout.specs.Opening.{textBytes, Opened, refused, opened, emptyFormula, openText}
 use Rattle.layout_laws.proofs.Opened.{lines-facts, reached-none, fresh-formed}
 use Rattle.booktext.specs.Texts.{formsText, readText}
+use Rattle.booktext.specs.Books.{textRoom}
 use Rattle.booktext_laws.proofs.Lines.{Short}
 use Rattle.booktext_laws.proofs.Texts.{AllLegible, legible-append, forms-read, text-fits}
 use Rattle.qdimacs_form.specs.Lines.{Line, comment, header, group, clause}
@@ -25,6 +26,7 @@ use Rattle.qdimacs_form.specs.Translation.{parsed, countOf, quantified, formsOf
 use Rattle.qdimacs_laws.proofs.Translated.{AllSpoken, plain-forms}
 use Rattle.qdimacs_laws.proofs.Spoken.{parsed-spoken}
 use Rattle.qdimacs_laws.proofs.Plain.{opened-parsed, parsed-read, opened-plain}
+use Rattle.qdimacs_laws.proofs.Room.{forms-room}
 
 -- ---- the translated text can be written
 forms-legible : (ls : List Line) → AllSpoken ls → AllLegible (formsOf ls)
@@ -100,10 +102,6 @@ module _ (L : Limits) (s : Bytes) (b : Formula) (e : openQdimacs L s ≡ opened 
       by true z = absurd (let y : _≡_ {A = ℕ} 0 1 = cc in omega arith)
       by false z = z
 
-  -- our own text opens the same book, where it fits
-  pub own-text : (t : Translates L s b) → length (formsText (translated (t .lines))) ≤ textBytes → openText L (formsText (translated (t .lines))) ≡ opened b
-  own-text t h = text-fits L (formsText (translated (t .lines))) h ∙ t .same
-
   pub translates : Translates L s b
   translates = same-book L s b read-opened
 
@@ -120,3 +118,14 @@ module _ (L : Limits) (s : Bytes) (b : Formula) (e : openQdimacs L s ≡ opened 
 
   pub opened-state : limitsOk L ≡ true → wellFormed (fresh b) ≡ true
   opened-state room = fresh-formed b (facts room .0)
+
+  -- our own text is no longer than the text of a book under these limits can be
+  text-most : (t : Translates L s b) → limitsOk L ≡ true → length (formsText (translated (t .lines))) ≤ textRoom L
+  unfolding readText
+  text-most t room =
+      let legible = translated-legible (t .lines) (parsed-spoken (split newline s) (t .lines) (t .are)) in
+      forms-room 1 L (translated (t .lines)) b legible (sym (forms-read 1 0 (emptyFormula L) (translated (t .lines)) legible) ∙ t .same) (facts room .0) (facts room .1)
+
+  -- and opens the same book
+  pub own-text : (t : Translates L s b) → limitsOk L ≡ true → textRoom L ≤ textBytes → openText L (formsText (translated (t .lines))) ≡ opened b
+  own-text t room fits = text-fits L (formsText (translated (t .lines))) (omega (arith, text-most t room, fits)) ∙ t .same

@@ -4,4 +4,5 @@ pub mod Flags
 pub mod Translated
 pub mod Spoken
 pub mod Plain
+pub mod Room
 pub mod Books

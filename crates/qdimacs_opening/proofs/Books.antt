@@ -1,6 +1,6 @@
 -- WISH 1 of the code: "Read that form and give the same book that our own text would give." In each theorem r is what `open_qdimacs`, or
 -- its export, answers for a text: `OpenedAs` is its `ensures`.
-use Prim.Native.Nat.{ℕ, zero, suc, _≤_}
+use Prim.Native.Nat.{ℕ, zero, suc}
 use mathlib.Core.Path.{_≡_, refl, sym, subst, _∙_}
 use mathlib.Core.Bool.{Bool, true, false, cond, not, _||_}
 use mathlib.Core.List.{List, [], _∷_, _++_, map}
@@ -24,6 +24,7 @@ use Rattle.opening.proofs.Numbered.{numbered-given, rule-numbered}
 use Rattle.opening.proofs.Apart.{NumberedText, fault-numbered}
 use Rattle.opening.proofs.Closed.{saidMalformed, closed-served}
 use Rattle.booktext.specs.Texts.{formsText}
+use Rattle.booktext_laws.proofs.Room.{paper-room}
 use Rattle.qdimacs_form.specs.Lines.{Line, comment, header, group, clause, lineOf}
 use Rattle.qdimacs_form.specs.Opening.{Reading, groupFault, whole, lineFault, after, readLine, endFault, readLines, start, readQdimacs, openQdimacs}
 use Rattle.qdimacs_form.specs.Translation.{translated}
@@ -84,10 +85,10 @@ module _ (s : Bytes) (r : Answer) (told : OpenedAs (openQdimacs paper s) r) wher
     reads = subst (λ (o : Opened). OpenedAs o r) is told .2
 
     -- THE SAME BOOK: the text has the lines of a translation into our own text, and whatever `open_text` answers for that has the same
-    -- state, with no refusal. The translated text is within 65,536 bytes.
-    pub own-book : (t : Translates paper s b) → length (formsText (translated (t .lines))) ≤ textBytes
-        → (q : Answer) → OpenedAs (openText paper (formsText (translated (t .lines)))) q → (q .refusal ≡ 0) × (readState (q .state) ≡ readState (r .state))
-    own-book t fits q answered = let o = subst (λ (o : Opened). OpenedAs o q) (own-text paper s b is t fits) answered in (o .0, o .2 ∙ sym reads)
+    -- state, with no refusal.
+    pub own-book : (t : Translates paper s b) (q : Answer) → OpenedAs (openText paper (formsText (translated (t .lines)))) q
+        → (q .refusal ≡ 0) × (readState (q .state) ≡ readState (r .state))
+    own-book t q answered = let o = subst (λ (o : Opened). OpenedAs o q) (own-text paper s b is t refl paper-room) answered in (o .0, o .2 ∙ sym reads)
 
     pub translation : Translates paper s b
     translation = translates paper s b is

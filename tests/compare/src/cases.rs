@@ -3,7 +3,7 @@
 
 use crate::options::Options;
 use crate::page::pages_program;
-use crate::{session, text};
+use crate::{qdimacs, session, text};
 use std::path::{Path, PathBuf};
 use std::process::Command;
 use std::{fs, io};
@@ -13,6 +13,7 @@ pub enum Program {
     Card,
     Session,
     Pages,
+    Qdimacs,
 }
 
 #[derive(Clone, Debug)]
@@ -34,6 +35,7 @@ pub fn stored(program: Program) -> io::Result<Vec<StoredCase>> {
         Program::Card => "tests/cases/card",
         Program::Session => "tests/cases/session",
         Program::Pages => "tests/cases/pages",
+        Program::Qdimacs => "tests/cases/qdimacs",
     });
     read_all(&folder, program, "in", "out")
 }
@@ -86,6 +88,7 @@ impl StoredCase {
         match self.program {
             Program::Card => text::card_program(&self.input, options).into_bytes(),
             Program::Pages => pages_program(&self.input, options, None),
+            Program::Qdimacs => qdimacs::program(&self.input, options, None).into_bytes(),
             Program::Session => {
                 let mut output = vec![];
                 session::run(&self.input[..], &mut output, options).expect("bytes in, bytes out");

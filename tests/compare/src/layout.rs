@@ -92,13 +92,16 @@ impl<'a> Cursor<'a> {
         Some(Item { number, negated: true })
     }
 
-    /// "Numbers have 1 to 5 digits and no leading zero (0 alone is allowed)."
     fn number(&mut self) -> Option<i32> {
-        let digits = self.take_while(|byte| byte.is_ascii_digit());
-        let leading_zero = digits.len() > 1 && digits[0] == b'0';
-        if digits.is_empty() || digits.len() > 5 || leading_zero {
-            return None;
-        }
-        Some(digits.iter().fold(0, |number, digit| 10 * number + i32::from(digit - b'0')))
+        number(self.take_while(|byte| byte.is_ascii_digit()))
     }
+}
+
+/// "Numbers have 1 to 5 digits and no leading zero (0 alone is allowed)."
+pub(crate) fn number(digits: &[u8]) -> Option<i32> {
+    let leading_zero = digits.len() > 1 && digits[0] == b'0';
+    if !(1..=5).contains(&digits.len()) || leading_zero || !digits.iter().all(u8::is_ascii_digit) {
+        return None;
+    }
+    Some(digits.iter().fold(0, |number, digit| 10 * number + i32::from(digit - b'0')))
 }

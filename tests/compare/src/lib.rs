@@ -19,6 +19,7 @@ pub mod options;
 pub mod page;
 pub mod plain;
 pub mod plain_run;
+pub mod qdimacs;
 pub mod random;
 pub mod refusal;
 pub mod rows;

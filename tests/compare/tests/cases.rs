@@ -2,6 +2,7 @@
 
 use compare::cases::{self, Program, StoredCase};
 use compare::page::{self, PageSlip};
+use compare::qdimacs;
 use compare::slip::{Slip, ALL};
 use compare::{session, text, truth, Call, Options, PlainRun, Said, Solver, Subject};
 
@@ -35,6 +36,23 @@ fn sessions() {
 #[test]
 fn pages() {
     hold(cases::stored(Program::Pages).expect("cases can be read"), 14, as_printed);
+}
+
+#[test]
+fn books_that_come_as_qdimacs() {
+    hold(cases::stored(Program::Qdimacs).expect("cases can be read"), 100, as_printed);
+}
+
+/// Every slip of reading QDIMACS changes what some case prints.
+#[test]
+fn every_slip_of_qdimacs_changes_a_case() {
+    let cases = cases::stored(Program::Qdimacs).expect("cases can be read");
+    for (slip, words) in qdimacs::ALL {
+        let printed =
+            |case: &StoredCase| qdimacs::program(&case.input, &Options::paper(), Some(*slip));
+        let shown = cases.iter().any(|case| printed(case).as_bytes() != case.expected);
+        assert!(shown, "{slip:?}: {words}");
+    }
 }
 
 /// Every slip of a page that the program can meet changes what some case prints.

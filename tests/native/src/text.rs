@@ -23,6 +23,7 @@ extern "C" {
     fn bullacetop_room() -> usize;
     fn bullacetop_print(text: *const u8, count: usize, out: *mut u8, room: usize) -> Written;
     fn bullacetop_open(text: *const u8, count: usize) -> RawOpened;
+    fn bullacetop_open_qdimacs(text: *const u8, count: usize) -> RawOpened;
     fn bullacetop_line(
         x: Raw,
         line: *const u8,
@@ -63,8 +64,18 @@ pub struct Opened {
 }
 
 pub fn open(text: &[u8]) -> Result<Opened, String> {
+    open_by(bullacetop_open, text)
+}
+
+pub fn open_qdimacs(text: &[u8]) -> Result<Opened, String> {
+    open_by(bullacetop_open_qdimacs, text)
+}
+
+type OpenCall = unsafe extern "C" fn(*const u8, usize) -> RawOpened;
+
+fn open_by(call: OpenCall, text: &[u8]) -> Result<Opened, String> {
     let lent = Lent::new(text);
-    let RawOpened { refusal, line, state } = unsafe { bullacetop_open(lent.address(), text.len()) };
+    let RawOpened { refusal, line, state } = unsafe { call(lent.address(), text.len()) };
     lent.kept(text)?;
     Ok(Opened { refusal, line, state: Box::new(state) })
 }

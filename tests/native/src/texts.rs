@@ -1,5 +1,6 @@
-//! Random texts: books, call lines, and both with a fault.
+//! Random texts: books, call lines, books as QDIMACS, and all of them with a fault.
 
+use compare::qdimacs::{by_place, lines};
 use compare::random::Random;
 use compare::{Call, Formula, Quantifier};
 
@@ -31,6 +32,25 @@ pub fn book(formula: &Formula, random: &mut Random) -> Vec<u8> {
     (text + "(end)\n").into_bytes()
 }
 
+/// A book as QDIMACS: its variables are named by place, so that the flags are in rising number. Comments
+/// and runs of spaces stand here and there.
+pub fn qdimacs(formula: &Formula, random: &mut Random) -> Vec<u8> {
+    let mut named = by_place(formula);
+    for clause in &mut named.clauses {
+        random.shuffle(clause);
+    }
+    let mut text = String::new();
+    for line in lines(&named, || random.one_in(5)) {
+        if random.one_in(8) {
+            text.push_str(random.pick(&["c\n", "c 1 0\n", "cnf\t\n"]));
+        }
+        let words: Vec<&str> = line.split(' ').collect();
+        text.push_str(&words.join(random.pick(&[" ", " ", " ", "  ", "    "])));
+        text.push('\n');
+    }
+    text.into_bytes()
+}
+
 /// A call's line without its byte 10. A negative number of a query is no layout of a query.
 pub fn line(call: &Call) -> Vec<u8> {
     let text = match call {
@@ -53,72 +73,127 @@ fn items(literals: &[i16]) -> String {
     literals.iter().map(item).collect()
 }
 
-const WORDS: [&str; 23] = [
-    "0", "1", "40", "41", "00", "01", "99999", "100000", "32767", "32768", "65536", "65537",
-    "(no 1)", "(no 0)", "(no", "rule", "flags", "exists", "forall", "query", "end", "card",
-    "write",
-];
+/// What faults of a form put into a text.
+pub struct Faults {
+    words: &'static [&'static str],
+    bytes: &'static [u8],
+    lines: &'static [&'static str],
+    ends: &'static [&'static str],
+}
 
-const BYTES: &[u8] = b" ()()0129\n\n\t\rano\0\xff\x80";
+const OWN: Faults = Faults {
+    words: &[
+        "0", "1", "40", "41", "00", "01", "99999", "100000", "32767", "32768", "65536", "65537",
+        "(no 1)", "(no 0)", "(no", "rule", "flags", "exists", "forall", "query", "end", "card",
+        "write",
+    ],
+    bytes: b" ()()0129\n\n\t\rano\0\xff\x80",
+    lines: &[
+        "\n",
+        "(rule)\n",
+        "(flags)\n",
+        "(exists)\n",
+        "(book 1)\n",
+        "(book 2)\n",
+        "(book 99999)\n",
+    ],
+    ends: &["\n", " ", "(end)\n", "x", "(rule)\n"],
+};
+
+pub const QDIMACS: Faults = Faults {
+    words: &[
+        "0", "-0", "1", "-1", "2", "-2", "40", "-40", "41", "-41", "00", "01", "-01", "99999",
+        "-99999", "100000", "-32768", "65537", "+1", "--1", "-", "c", "p", "cnf", "e", "a",
+    ],
+    bytes: b"  -0129\n\n\t\rceap\0\xff\x80",
+    lines: &[
+        "\n",
+        "c\n",
+        "c 1 0\n",
+        "cnf\n",
+        "C\n",
+        "0\n",
+        "-0\n",
+        "e 0\n",
+        "a 0\n",
+        "e -1 0\n",
+        "e 1 0\n",
+        "a 2 0\n",
+        "1 0\n",
+        "1 0 2 0\n",
+        "-1 0\n",
+        "p cnf 1 1\n",
+        "p cnf 0 0\n",
+        "p cnf 41 0\n",
+    ],
+    ends: &["\n", " ", "c\n", "c", "c x", "1 0\n", "1 0", "0\n", "\r\n", "\t", "x"],
+};
 
 /// One fault or a few, which may leave a text that is in the layout.
 pub fn spoil(text: &mut Vec<u8>, random: &mut Random) {
-    for _ in 0..random.pick(&[1, 1, 1, 2, 4]) {
-        match random.below(10) {
-            0 => {
-                text.insert(random.below(text.len() + 1), random.pick(BYTES));
-            }
-            1 if !text.is_empty() => {
-                text.remove(random.below(text.len()));
-            }
-            2 if !text.is_empty() => {
-                let index = random.below(text.len());
-                text[index] = random.pick(BYTES);
-            }
-            3 => text.truncate(random.below(text.len() + 1)),
-            4 => text.extend(random.pick(&["\n", " ", "(end)\n", "x", "(rule)\n"]).bytes()),
-            5..=6 => lines(text, random),
-            _ => words(text, random),
-        }
-    }
+    OWN.spoil(text, random);
 }
 
-/// A line taken out, doubled, moved or emptied.
-fn lines(text: &mut Vec<u8>, random: &mut Random) {
-    let mut lines: Vec<Vec<u8>> =
-        text.split_inclusive(|&byte| byte == b'\n').map(<[u8]>::to_vec).collect();
-    if lines.is_empty() {
-        return;
-    }
-    let (one, other) = (random.below(lines.len()), random.below(lines.len()));
-    match random.below(5) {
-        0 => drop(lines.remove(one)),
-        1 => lines.insert(other, lines[one].clone()),
-        2 => lines.swap(one, other),
-        3 => lines[one] = random.pick(&["\n", "(rule)\n", "(flags)\n", "(exists)\n"]).into(),
-        _ => lines[one] = random.pick(&["(book 1)\n", "(book 2)\n", "(book 99999)\n"]).into(),
-    }
-    *text = lines.concat();
-}
-
-/// A word replaced, doubled or taken out.
-fn words(text: &mut Vec<u8>, random: &mut Random) {
-    let mut words: Vec<Vec<u8>> = text.split(|&byte| byte == b' ').map(<[u8]>::to_vec).collect();
-    let index = random.below(words.len());
-    let (word, end) = {
-        let all = &words[index];
-        let length = all.iter().take_while(|byte| byte.is_ascii_alphanumeric()).count();
-        (all[..length].to_vec(), all[length..].to_vec())
-    };
-    match random.below(4) {
-        0 => words.insert(index, word),
-        1 if words.len() > 1 => drop(words.remove(index)),
-        2 => {
-            for _ in 0..random.between(1, 45) {
-                words.insert(index, random.pick(&WORDS).into());
+impl Faults {
+    /// One fault or a few, which may leave a text that is in the form.
+    pub fn spoil(&self, text: &mut Vec<u8>, random: &mut Random) {
+        for _ in 0..random.pick(&[1, 1, 1, 2, 4]) {
+            match random.below(10) {
+                0 => {
+                    text.insert(random.below(text.len() + 1), random.pick(self.bytes));
+                }
+                1 if !text.is_empty() => {
+                    text.remove(random.below(text.len()));
+                }
+                2 if !text.is_empty() => {
+                    let index = random.below(text.len());
+                    text[index] = random.pick(self.bytes);
+                }
+                3 => text.truncate(random.below(text.len() + 1)),
+                4 => text.extend(random.pick(self.ends).bytes()),
+                5..=6 => self.lines(text, random),
+                _ => self.words(text, random),
             }
         }
-        _ => words[index] = [random.pick(&WORDS).as_bytes(), &end].concat(),
     }
-    *text = words.join(&b' ');
+
+    /// A line taken out, doubled, moved or replaced.
+    fn lines(&self, text: &mut Vec<u8>, random: &mut Random) {
+        let mut lines: Vec<Vec<u8>> =
+            text.split_inclusive(|&byte| byte == b'\n').map(<[u8]>::to_vec).collect();
+        if lines.is_empty() {
+            return;
+        }
+        let (one, other) = (random.below(lines.len()), random.below(lines.len()));
+        match random.below(5) {
+            0 => drop(lines.remove(one)),
+            1 => lines.insert(other, lines[one].clone()),
+            2 => lines.swap(one, other),
+            _ => lines[one] = random.pick(self.lines).into(),
+        }
+        *text = lines.concat();
+    }
+
+    /// A word replaced, doubled or taken out.
+    fn words(&self, text: &mut Vec<u8>, random: &mut Random) {
+        let mut words: Vec<Vec<u8>> =
+            text.split(|&byte| byte == b' ').map(<[u8]>::to_vec).collect();
+        let index = random.below(words.len());
+        let (word, end) = {
+            let all = &words[index];
+            let length = all.iter().take_while(|byte| byte.is_ascii_alphanumeric()).count();
+            (all[..length].to_vec(), all[length..].to_vec())
+        };
+        match random.below(4) {
+            0 => words.insert(index, word),
+            1 if words.len() > 1 => drop(words.remove(index)),
+            2 => {
+                for _ in 0..random.between(1, 45) {
+                    words.insert(index, random.pick(self.words).into());
+                }
+            }
+            _ => words[index] = [random.pick(self.words).as_bytes(), &end].concat(),
+        }
+        *text = words.join(&b' ');
+    }
 }
