@@ -1,7 +1,7 @@
 -- `size_of` meets its contract: a number, at most the whole table.
 use borrow.Author.Needs.{needs}
-use Rattle.reader.proofs.write.size_of.Statement.{statement}
-use Rattle.reader.proofs.write.size_of.Tie as tie
+use Rattle.reader.proofs.request.size_of.Statement.{statement}
+use Rattle.reader.proofs.request.size_of.Tie as tie
 use native.Mathlib.Omega.{arith}
 use borrow.Author.Tests.{le-leb, lt-leb}
 use Rattle.layout.specs.Program.{tableBytes}
