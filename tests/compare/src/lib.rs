@@ -12,6 +12,7 @@ pub mod constraint;
 mod decide;
 pub mod finder;
 pub mod formula;
+pub mod last_card;
 pub mod layout;
 pub mod learning;
 pub mod options;

@@ -53,10 +53,10 @@ fn items(literals: &[i16]) -> String {
     literals.iter().map(item).collect()
 }
 
-const WORDS: [&str; 23] = [
+const WORDS: [&str; 24] = [
     "0", "1", "40", "41", "00", "01", "99999", "100000", "32767", "32768", "65536", "65537",
     "(no 1)", "(no 0)", "(no", "rule", "flags", "exists", "forall", "query", "end", "card",
-    "write",
+    "write", "page",
 ];
 
 const BYTES: &[u8] = b" ()()0129\n\n\t\rano\0\xff\x80";
