@@ -80,8 +80,9 @@ static void open(void)
 static void line(void)
 {
     static const uint8_t bytes[] = "(card)";
+    static uint8_t cards[BULLACETOP_CARD_TABLE];
 
-    turn = bullacetop_line(book, bytes, sizeof bytes - 1, 1, page, sizeof page);
+    turn = bullacetop_line(book, bytes, sizeof bytes - 1, 1, bullacetop_no_card(), cards, page, sizeof page);
 }
 
 static const struct {

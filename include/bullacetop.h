@@ -42,6 +42,9 @@ extern "C" {
 #define BULLACETOP_KEEP 1
 #define BULLACETOP_SWAP 2
 
+/* The table of a session's cards. */
+#define BULLACETOP_CARD_TABLE 65536
+
 /* Bytes of a card table. */
 #define BULLACETOP_OPEN 0
 #define BULLACETOP_OFF 1
@@ -270,15 +273,30 @@ static inline struct bullacetop_written bullacetop_write_at(const struct bullace
 }
 
 /*
+ * The card answered last in a session: its lines stand in the first `size` bytes of a table that the caller keeps beside it. Where the refusal is
+ * not 0 there is none: no card has been answered yet, the last one was refused, or a rule was accepted since.
+ */
+struct bullacetop_shown {
+    uint16_t refusal;
+    size_t size;
+    size_t lines;
+    size_t flags;
+};
+
+/* What a session begins with. */
+struct bullacetop_shown bullacetop_no_card(void);
+
+/*
  * Books and call lines as text. A text is written to the first bytes of `out`, for which the caller has m bytes, at least bullacetop_room();
  * what stands there after the told length means nothing, and the refusal is 0, whatever the text says. Where m is less nothing is done: the
- * refusal is BULLACETOP_TEXT_TABLE_TOO_SHORT, the length is 0, all m bytes are zero, and the state is the one that was given.
+ * refusal is BULLACETOP_TEXT_TABLE_TOO_SHORT, the length is 0, all m bytes are zero, and the state and the card are those that were given.
  */
 struct bullacetop_turn {
     /* As in struct bullacetop_written. */
     uint16_t refusal;
     size_t length;
     struct bullacetop_state state;
+    struct bullacetop_shown shown;
 };
 
 /* The bytes that an answer's text may need. */
@@ -288,10 +306,20 @@ size_t bullacetop_room(void);
 struct bullacetop_written bullacetop_print(const uint8_t *text, size_t n, uint8_t *out, size_t m);
 
 /*
- * One call, as a line of n bytes without its newline: `(rule 1 (no 2))`, `(query 1)`, `(card)`, `(card 64)` for a table of 64 bytes,
- * `(forget)`, `(write)`, `(write 64)`. The number is the line's, for the text of a refusal. A line that is no call is refused with 1.
+ * One line of a session, of n bytes without its newline: `(rule 1 (no 2))`, `(query 1)`, `(card)`, `(card 64)` for a table of 64 bytes,
+ * `(forget)`, `(write)`, `(write 64)`, `(page 1)`. The number is the line's, for the text of a refusal. A line that is none of them is refused
+ * with 1. `shown` and `cards` tell the card answered last: hand in what the last turn returned, and the table as that turn left it. A page is
+ * printed from them; only a card writes to the table.
  */
-struct bullacetop_turn bullacetop_line(struct bullacetop_state x, const uint8_t *line, size_t n, uint64_t number, uint8_t *out, size_t m);
+struct bullacetop_turn bullacetop_line(
+    struct bullacetop_state x,
+    const uint8_t *line,
+    size_t n,
+    uint64_t number,
+    struct bullacetop_shown shown,
+    uint8_t cards[BULLACETOP_CARD_TABLE],
+    uint8_t *out,
+    size_t m);
 
 /*
  * What a text opens. Opened: refusal and line are 0, and the state has the book, with nothing learned. Refused: the number, the line from 1 (0

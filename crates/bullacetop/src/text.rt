@@ -2,15 +2,19 @@
 // and refused with 31.
 use book_writer::Written;
 use opening::Opened;
-use serve::Spoken;
+use reader::call::TABLE;
+use serve::shown::Shown;
+use session_line::Spoken;
 use state::State;
 ghost use mathlib.Core.Path.{_≡_};
 ghost use Rattle.qbf.specs.Formula.{paper};
 ghost use Rattle.layout.specs.Opening.{openText};
 ghost use Rattle.opening.specs.Opened.{OpenedAs};
 ghost use Rattle.qdimacs_form.specs.Opening.{openQdimacs};
-ghost use Rattle.serve.specs.Line.{answerBytes, ServesLine};
+ghost use Rattle.serve.specs.Line.{answerBytes};
+ghost use Rattle.serve.specs.Shown.{noCard};
 ghost use Rattle.serve.specs.Books.{PrintsCard};
+ghost use Rattle.session_line.specs.Line.{ServesLine};
 
 #[no_mangle]
 pub extern "C" fn bullacetop_room() -> usize
@@ -43,10 +47,27 @@ pub extern "C" fn bullacetop_open_qdimacs(text: &[u8]) -> Opened
     qdimacs_opening::open_qdimacs(text)
 }
 
-// One call line, without its byte 10, and its number in the input.
+// No card has been answered yet: what a session begins with.
 #[no_mangle]
-pub extern "C" fn bullacetop_line(x: State, line: &[u8], number: u64, out: &mut [u8]) -> Spoken
-    ensures { λ r. ⌜ ServesLine x (now (line .entry)) number (now (out .entry)) r (now (out .exit)) ⌝ }
+pub extern "C" fn bullacetop_no_card() -> Shown
+    ensures { λ r. ⌜ r ≡ noCard ⌝ }
 {
-    serve::serve_line(x, line, number, out)
+    serve::shown::no_card()
+}
+
+// One line of a session, without its byte 10, and its number in the input. The lines of the card answered last stand in the lent table of cards.
+#[no_mangle]
+pub extern "C" fn bullacetop_line(
+    x: State,
+    line: &[u8],
+    number: u64,
+    shown: Shown,
+    cards: &mut [u8; TABLE],
+    out: &mut [u8],
+) -> Spoken
+    ensures { λ r. ⌜
+        ServesLine x (now (line .entry)) number shown (now (cards .entry)) (now (out .entry)) r (now (cards .exit)) (now (out .exit))
+        ⌝ }
+{
+    session_line::serve_line(x, line, number, shown, cards, out)
 }

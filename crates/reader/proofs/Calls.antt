@@ -119,26 +119,31 @@ size-read s e h = ap number (rest-bytes s e h) ∙ size-text (drop (e + 1) s) �
 unfoldable pub sized : {A : Type 0} → (ℕ → A) → ℕ → Option A
 sized part n = cond (leb n tableBytes) (some (part n)) none
 
-module _ {A : Type 0} (whole : A) (part : ℕ → A) where
-  -- two items give no size
-  two-items : (o p : Option ℕ) (r : Option (List Literal)) → then (consed pos o (consed pos p r)) (sizedBy whole part) ≡ none
+-- what a line says with one item that is a number, and with no two items
+module _ {A : Type 0} (says : List Literal → Option A) (told : ℕ → Option A) (one : (n : ℕ) → says (pos n ∷ []) ≡ told n) (two : (l m : Literal) (ls : List Literal) → says (l ∷ m ∷ ls) ≡ none) where
+  two-items : (o p : Option ℕ) (r : Option (List Literal)) → then (consed pos o (consed pos p r)) says ≡ none
   unfolding consed
   two-items none p r = refl
   two-items (some n) none r = refl
   two-items (some n) (some m) none = refl
-  two-items (some n) (some m) (some ls) = refl
+  two-items (some n) (some m) (some ls) = two (pos n) (pos m) ls
 
   -- at least one item
-  pub size-is : (w : Bytes) (ws : List Bytes) → then (items false (w ∷ ws)) (sizedBy whole part) ≡ then (cardSize (w ∷ ws)) (sized part)
-  unfolding items consed sized
-  size-is w [] = by (number w)
+  pub one-item : (w : Bytes) (ws : List Bytes) → then (items false (w ∷ ws)) says ≡ then (cardSize (w ∷ ws)) told
+  unfolding items consed
+  one-item w [] = by (number w)
     where
-      by : (o : Option ℕ) → then (consed pos o (some [])) (sizedBy whole part) ≡ then o (sized part)
+      by : (o : Option ℕ) → then (consed pos o (some [])) says ≡ then o told
       by none = refl
-      by (some n) = refl
-  size-is w (v ∷ ws) =
-      ap (λ (o : Option (List Literal)). then o (sizedBy whole part)) (items-on false w (v ∷ ws) refl ∙ ap (consed pos (number w)) (items-on false v ws refl))
+      by (some n) = one n
+  one-item w (v ∷ ws) =
+      ap (λ (o : Option (List Literal)). then o says) (items-on false w (v ∷ ws) refl ∙ ap (consed pos (number w)) (items-on false v ws refl))
       ∙ two-items (number w) (number v) (items false ws)
+
+-- .. the size of a table
+pub size-is : {A : Type 0} (whole : A) (part : ℕ → A) (w : Bytes) (ws : List Bytes) → then (items false (w ∷ ws)) (sizedBy whole part) ≡ then (cardSize (w ∷ ws)) (sized part)
+unfolding sized
+size-is whole part w ws = one-item (sizedBy whole part) (sized part) (λ n. refl) (λ l m ls. refl) w ws
 
 card-is : (ws : List Bytes) → then (items false ws) cardCall ≡ then (cardSize ws) (sized card)
 unfolding items sized

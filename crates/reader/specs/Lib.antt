@@ -4,4 +4,4 @@ pub mod Items
 pub mod Lines
 pub mod Calls
 pub mod Books
-pub mod Writes
+pub mod Requests

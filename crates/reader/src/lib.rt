@@ -7,6 +7,6 @@ pub mod items;
 pub mod keyword;
 pub mod line;
 pub mod number;
+pub mod request; // the book's text, a page
 pub mod text;
 pub mod word;
-pub mod write;

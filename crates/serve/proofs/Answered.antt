@@ -26,7 +26,7 @@ use Rattle.serve.specs.Texts.{changeText, rulingText}
 
 -- ---- rule and forget
 -- done, or refused with a number
-abbrev Changing : Reply → Type 0
+abbrev pub Changing : Reply → Type 0
 Changing done = Unit {0}
 Changing (refused zero) = ⊥
 Changing (refused (suc n)) = Unit {0}

@@ -1,7 +1,7 @@
 -- What was served, as the call that was read.
-use Prim.Native.Nat.{ℕ, suc, _≤_, _<_, min}
+use Prim.Native.Nat.{ℕ, suc, _≤_, min}
 use native.Mathlib.Omega.{arith}
-use mathlib.Core.Path.{_≡_, refl, sym, subst}
+use mathlib.Core.Path.{_≡_, refl, sym, subst, _∙_}
 use mathlib.Core.Bool.{Bool, true, false, cond}
 use mathlib.Core.List.{List, [], _∷_, map}
 use mathlib.Core.Option.{Option, none, some}
@@ -23,11 +23,11 @@ use Rattle.reader.specs.Calls.{CallRead}
 use Rattle.reader.specs.declared.call.CallLine.{CallLine}
 use Rattle.reader.specs.declared.call.CallLine.the-variants as line
 use Rattle.serve.specs.declared.Turn.{Turn}
-use Rattle.serve.specs.declared.Spoken.{Spoken}
-use Rattle.sessions.specs.Session.{requestOf}
-use Rattle.serve.specs.Line.{CallServed, Turned, RequestTurned, TooShort, spokenTurn, ServesLine, answerBytes}
+use Rattle.serve.specs.declared.shown.Shown.{Shown}
+use Rattle.serve.specs.Shown.{cardIn}
+use Rattle.serve.specs.Line.{CallServed, Turned, TurnedBeside}
 use Rattle.serve.specs.Calls.{Small}
-use Rattle.serve.proofs.Cut.{rule-served, query-served}
+use Rattle.serve.proofs.Cut.{rule-served, rule-card, query-served}
 
 -- ---- a card asks for no more than the table has
 abbrev Fits : Option Call → Type 0
@@ -79,53 +79,50 @@ small-call l line.Forget out h = tt
 small-call l line.NotCall out h = tt
 
 -- ---- by the literals that stand in the table
-module _ {x : State} {number : ℕ} {r : Turn} {d : Bytes} (n : ℕ) (lits : List ℤ) (room : length lits ≡ suc (paper .numbers)) where
-  pub rule-turned : (k : ℕ) → k ≡ min n (suc (paper .numbers)) → Turned x (some (rule (take k lits))) number r d → (ls : List Literal) → Kept n lits ls → Turned x (some (rule ls)) number r d
-  rule-turned k e t ls q =
-      record {
-        within = t .within;
-        served = rule-served x n lits room number (take (r .length) d) (r .state) ls q (subst (λ (m : ℕ). CallServed x (some (rule (take m lits))) number (take (r .length) d) (r .state)) e (t .served));
-      }
+module _ {x : State} {number : ℕ} {s : Shown} {r : Turn} {d : Bytes} (n : ℕ) (lits : List ℤ) (room : length lits ≡ suc (paper .numbers)) where
+  pub rule-turned : (k : ℕ) → k ≡ min n (suc (paper .numbers)) → TurnedBeside x (some (rule (take k lits))) number s r d → (ls : List Literal) → Kept n lits ls → TurnedBeside x (some (rule ls)) number s r d
+  rule-turned k e h ls q = λ t. by (subst (λ (m : ℕ). Turned x (some (rule (take m lits))) number s t r t d) e (h t))
+    where
+      by : {t : Bytes} → Turned x (some (rule (take (min n (suc (paper .numbers))) lits))) number s t r t d → Turned x (some (rule ls)) number s t r t d
+      by {t} u =
+          record {
+            within = u .within;
+            served = rule-served x n lits room number (take (r .length) d) (r .state) ls q (u .served);
+            shown = u .shown ∙ rule-card x n lits room ls q (cardIn s t);
+          }
 
-  pub query-turned : (k : ℕ) → k ≡ min n (suc (paper .numbers)) → Turned x (some (query (take k lits))) number r d → (ns : List ℕ) → Kept n lits (map pos ns) → Turned x (some (query (map pos ns))) number r d
-  query-turned k e t ns q =
-      record {
-        within = t .within;
-        served = query-served x n lits room number (take (r .length) d) (r .state) ns q (subst (λ (m : ℕ). CallServed x (some (query (take m lits))) number (take (r .length) d) (r .state)) e (t .served));
-      }
+  pub query-turned : (k : ℕ) → k ≡ min n (suc (paper .numbers)) → TurnedBeside x (some (query (take k lits))) number s r d → (ns : List ℕ) → Kept n lits (map pos ns) → TurnedBeside x (some (query (map pos ns))) number s r d
+  query-turned k e h ns q = λ t. by (subst (λ (m : ℕ). Turned x (some (query (take m lits))) number s t r t d) e (h t))
+    where
+      by : {t : Bytes} → Turned x (some (query (take (min n (suc (paper .numbers))) lits))) number s t r t d → Turned x (some (query (map pos ns))) number s t r t d
+      by {t} u = record { within = u .within; served = query-served x n lits room number (take (r .length) d) (r .state) ns q (u .served); shown = u .shown }
 
 -- ---- by the kind of the call
-meant : {x : State} {number : ℕ} {r : Turn} {d : Bytes} (c c′ : Option Call) → c ≡ c′ → Turned x c′ number r d → Turned x c number r d
-meant {x} {number} {r} {d} c c′ e t = subst (λ (o : Option Call). Turned x o number r d) (sym e) t
+module _ {x : State} {number : ℕ} {s₀ : Shown} {t₀ : Bytes} {r : Turn} {t d : Bytes} where
+  meant : (c c′ : Option Call) → c ≡ c′ → Turned x c′ number s₀ t₀ r t d → Turned x c number s₀ t₀ r t d
+  meant c c′ e h = subst (λ (o : Option Call). Turned x o number s₀ t₀ r t d) (sym e) h
 
-module _ {x : State} {number : ℕ} {r : Turn} {d : Bytes} (lits : List ℤ) (q : CallLine) (c : Option Call) (h : CallRead c q lits) where
-  pub called-rule : (n : ℕ) → q ≡ line.Rule n → ((ls : List Literal) → Kept n lits ls → Turned x (some (rule ls)) number r d) → Turned x c number r d
-  called-rule n e t = by (subst (λ (z : CallLine). CallRead c z lits) e h)
-    where
-      by : CallRead c (line.Rule n) lits → Turned x c number r d
-      by (ls, i, k) = meant c (some (rule ls)) i (t ls k)
+  module _ (lits : List ℤ) (q : CallLine) (c : Option Call) (h : CallRead c q lits) where
+    pub called-rule : (n : ℕ) → q ≡ line.Rule n → ((ls : List Literal) → Kept n lits ls → Turned x (some (rule ls)) number s₀ t₀ r t d) → Turned x c number s₀ t₀ r t d
+    called-rule n e u = by (subst (λ (z : CallLine). CallRead c z lits) e h)
+      where
+        by : CallRead c (line.Rule n) lits → Turned x c number s₀ t₀ r t d
+        by (ls, i, k) = meant c (some (rule ls)) i (u ls k)
 
-  pub called-query : (n : ℕ) → q ≡ line.Query n → ((ns : List ℕ) → Kept n lits (map pos ns) → Turned x (some (query (map pos ns))) number r d) → Turned x c number r d
-  called-query n e t = by (subst (λ (z : CallLine). CallRead c z lits) e h)
-    where
-      by : CallRead c (line.Query n) lits → Turned x c number r d
-      by (ns, i, k) = meant c (some (query (map pos ns))) i (t ns k)
+    pub called-query : (n : ℕ) → q ≡ line.Query n → ((ns : List ℕ) → Kept n lits (map pos ns) → Turned x (some (query (map pos ns))) number s₀ t₀ r t d) → Turned x c number s₀ t₀ r t d
+    called-query n e u = by (subst (λ (z : CallLine). CallRead c z lits) e h)
+      where
+        by : CallRead c (line.Query n) lits → Turned x c number s₀ t₀ r t d
+        by (ns, i, k) = meant c (some (query (map pos ns))) i (u ns k)
 
-  pub called-card : (size : ℕ) → q ≡ line.Card size → Turned x (some (card size)) number r d → Turned x c number r d
-  called-card size e t = meant c (some (card size)) (subst (λ (z : CallLine). CallRead c z lits) e h) t
+    pub called-card : (size : ℕ) → q ≡ line.Card size → Turned x (some (card size)) number s₀ t₀ r t d → Turned x c number s₀ t₀ r t d
+    called-card size e u = meant c (some (card size)) (subst (λ (z : CallLine). CallRead c z lits) e h) u
 
-  pub called-forget : q ≡ line.Forget → Turned x (some forget) number r d → Turned x c number r d
-  called-forget e t = meant c (some forget) (subst (λ (z : CallLine). CallRead c z lits) e h) t
+    pub called-forget : q ≡ line.Forget → Turned x (some forget) number s₀ t₀ r t d → Turned x c number s₀ t₀ r t d
+    called-forget e u = meant c (some forget) (subst (λ (z : CallLine). CallRead c z lits) e h) u
 
-  pub called-none : q ≡ line.NotCall → Turned x none number r d → Turned x c number r d
-  called-none e t = meant c none (subst (λ (z : CallLine). CallRead c z lits) e h) t
-
--- ---- the whole line
-pub not-served : {x : State} {l : Bytes} {n : ℕ} {r : Spoken} (d₀ d : Bytes) → length d₀ < answerBytes → TooShort (r .refusal) (r .length) d₀ d → r .state ≡ x → ServesLine x l n d₀ r d
-not-served d₀ d h t e = record { short = λ q. (t, e); served = λ q. absurd (omega (arith, h, q)) }
-
-pub line-served : {x : State} {l : Bytes} {n : ℕ} {r : Spoken} {d : Bytes} (d₀ : Bytes) → answerBytes ≤ length d₀ → r .refusal ≡ 0 → RequestTurned x (requestOf l) n (spokenTurn r) d → ServesLine x l n d₀ r d
-line-served d₀ h e t = record { short = λ q. absurd (omega (arith, h, q)); served = λ q. (e, t) }
+    pub called-none : q ≡ line.NotCall → Turned x none number s₀ t₀ r t d → Turned x c number s₀ t₀ r t d
+    called-none e u = meant c none (subst (λ (z : CallLine). CallRead c z lits) e h) u
 
 -- a line that is no call
 pub none-served : (x : State) (n : ℕ) (t : Bytes) → t ≡ refusalText 1 n → CallServed x none n t x

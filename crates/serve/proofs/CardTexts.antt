@@ -60,7 +60,7 @@ module _ (size : ℕ) where
       by true e = inr (ap (λ (t : Bool). cond t (lines (cardLines y) (tableOf (freeVariables (y .formula .prefix)) size (cardLines y))) (cardRefused 21 (zeroTable size))) e, leb-true (length (cardLines y) * freeVariables (y .formula .prefix)) size e)
       by false e = inl (20, zeroTable size, ap (λ (t : Bool). cond t (lines (cardLines y) (tableOf (freeVariables (y .formula .prefix)) size (cardLines y))) (cardRefused 21 (zeroTable size))) e)
 
-  card-cases : (o : Option Read) → Refused (outOf o (card size) .reply) ⊎ ((y : Read) × (o ≡ some y) × (wellFormed y ≡ true) × Listed y (outOf o (card size) .reply))
+  pub card-cases : (o : Option Read) → Refused (outOf o (card size) .reply) ⊎ ((y : Read) × (o ≡ some y) × (wellFormed y ≡ true) × Listed y (outOf o (card size) .reply))
   card-cases none = inl (21, zeroTable size, refl)
   card-cases (some y) = by (wellFormed y) refl
     where

@@ -19,7 +19,8 @@ use Rattle.state.specs.Reading.{fits, stateIn, readState}
 use Rattle.serving.specs.Serves.{outOf, nextOf}
 use Rattle.reader.specs.Items.{narrowed, Kept}
 use Rattle.reader.proofs.Judged.{cut-same, rule-cut, rule-cut-same}
-use Rattle.serve.specs.Line.{prefixRead, CallServed}
+use Rattle.sessions.specs.Session.{Card, cardAfterRule}
+use Rattle.serve.specs.Line.{prefixRead, CallServed, lineCard}
 use Rattle.serve.proofs.Queries.{query-width, first-decide, query-judged, query-same}
 
 -- ---- one step
@@ -124,6 +125,12 @@ module _ (c c′ : Call) (word : doneText c ≡ doneText c′) (malformed : outO
     where
       D : Prefix
       D = prefixRead (readState x)
+
+-- a rule by what stands in the table leaves the card answered last, or does not, as the rule of the text does
+pub rule-card : (x : State) (n : ℕ) (out : List ℤ) → length out ≡ suc (paper .numbers) → (ls : List Literal) → Kept n out ls → (z : Option Card)
+    → lineCard (readState x) (some (rule (take (min n (suc (paper .numbers))) out))) z ≡ lineCard (readState x) (some (rule ls)) z
+rule-card x n out room ls k z =
+    ap (λ (a : Answer). cardAfterRule (a .reply) z) (same-out (rule (take (min n (suc (paper .numbers))) out)) (rule ls) refl refl (λ y p. rule-same-step y p n out room ls k) (readState x) (papered x))
 
 module _ (x : State) (n : ℕ) (out : List ℤ) (room : length out ≡ suc (paper .numbers)) (line : ℕ) (t : Bytes) (x′ : State) where
   -- a rule by what stands in the table

@@ -2,10 +2,10 @@ pub mod Queries
 pub mod Cut
 pub mod FreeLines
 pub mod Answered
-pub mod Session
 pub mod Demands
 pub mod Room
 pub mod CardTexts
+pub mod LastCard
 pub mod Called
 pub mod Books
 pub mod Writing

@@ -14,7 +14,10 @@ use Rattle.writer.specs.Wrote.{Wrote}
 use Rattle.writer.proofs.Lengths.{refusal-length, overflow-length, query-length}
 use Rattle.serve.specs.declared.Turn.{Turn}
 use Rattle.book_writer.specs.declared.Written.{Written}
-use Rattle.serve.specs.Line.{CallServed, answerBytes, Turned, TooShort}
+use Rattle.state.specs.Reading.{readState}
+use Rattle.serve.specs.declared.shown.Shown.{Shown}
+use Rattle.serve.specs.Shown.{cardIn}
+use Rattle.serve.specs.Line.{CallServed, lineCard, answerBytes, Turned, TooShort}
 use Rattle.serve.specs.Books.{Prints}
 use Rattle.serve.specs.Texts.{changeText}
 
@@ -48,9 +51,9 @@ wrote-as {d₀} {d} {t} {u} {at} {r} e w = subst (λ (v : Bytes). Wrote d₀ at 
 pub within : {d₀ d t : Bytes} {r : ℕ} → Wrote d₀ 0 t d r → r ≤ length d
 within {d₀} {d} {t} {r} w = omega (arith, w .next, ap length (w .is), length-take r d)
 
-pub turned : {d₀ d t : Bytes} {r : ℕ} (x : State) (c : Option Call) (n : ℕ) (x′ : State) → Wrote d₀ 0 t d r → ((u : Bytes) → u ≡ t → CallServed x c n u x′)
-    → Turned x c n (record { state = x′; length = r }) d
-turned {d₀} {d} {t} {r} x c n x′ w s = record { within = within w; served = s (take r d) (w .is) }
+pub turned : {d₀ d t : Bytes} {r : ℕ} (x : State) (c : Option Call) (n : ℕ) (x′ : State) (s₀ s : Shown) → Wrote d₀ 0 t d r → ((u : Bytes) → u ≡ t → CallServed x c n u x′)
+    → (t₀ t₁ : Bytes) → cardIn s t₁ ≡ lineCard (readState x) c (cardIn s₀ t₀) → Turned x c n s₀ t₀ (record { state = x′; length = r; shown = s }) t₁ d
+turned {d₀} {d} {t} {r} x c n x′ s₀ s w served t₀ t₁ shown = record { within = within w; served = served (take r d) (w .is); shown = shown }
 
 pub prints : (t d₀ : Bytes) {d : Bytes} {n : ℕ} {r : Written} → answerBytes ≤ length d₀ → Wrote d₀ 0 t d n → (r .refusal ≡ 0) × (r .length ≡ n) → Prints t d₀ r d
 prints t d₀ {d} {n} {r} h w (z, e) =
@@ -61,5 +64,5 @@ pub prints-short : (t d₀ : Bytes) {d : Bytes} {r : Written} → length d₀ < 
 prints-short t d₀ h s = record { short = λ q. s; printed = λ q. absurd (omega (arith, h, q)) }
 
 -- a card in a part of a table
-pub card-sized : {x : State} {line : ℕ} {r : Turn} {d : Bytes} (m size : ℕ) → m ≡ size → Turned x (some (card m)) line r d → Turned x (some (card size)) line r d
-card-sized {x} {line} {r} {d} m size e h = subst (λ (k : ℕ). Turned x (some (card k)) line r d) e h
+pub card-sized : {x : State} {line : ℕ} {s₀ : Shown} {t₀ : Bytes} {r : Turn} {t d : Bytes} (m size : ℕ) → m ≡ size → Turned x (some (card m)) line s₀ t₀ r t d → Turned x (some (card size)) line s₀ t₀ r t d
+card-sized {x} {line} {s₀} {t₀} {r} {t} {d} m size e h = subst (λ (k : ℕ). Turned x (some (card k)) line s₀ t₀ r t d) e h

@@ -7,13 +7,12 @@ use native.Mathlib.Omega.{arith}
 use lib.ListN.{length, take, length-append}
 use lib.Seq.{take-append-le}
 use Rattle.qbf.specs.Formula.{paper}
-use Rattle.qbf.specs.Calls.{Call, State as Read}
+use Rattle.qbf.specs.Calls.{State as Read}
 use Rattle.theory.proofs.AcceptedRule.{some-none}
 use Rattle.layout.specs.Words.{Bytes}
-use Rattle.layout.specs.Forms.{then}
 use Rattle.layout.specs.Output.{refusalText}
 use Rattle.booktext.specs.Books.{Written, written, writeRefused, writeCall, textRoom}
-use Rattle.sessions.specs.Session.{Request, write, callRequest, writtenAnswer}
+use Rattle.sessions.specs.Session.{writtenAnswer}
 use Rattle.state.specs.declared.State.{State}
 use Rattle.state.specs.Reading.{readState}
 use Rattle.serving.specs.Serves.{number}
@@ -21,7 +20,8 @@ use Rattle.writer.specs.Wrote.{Wrote}
 use Rattle.book_writer.specs.Writes.{Answer, answered, told, writtenOf, Writes}
 use Rattle.book_writer.proofs.Books.{count-within}
 use Rattle.serve.specs.declared.Turn.{Turn}
-use Rattle.serve.specs.Line.{writeAnswer, Turned, RequestTurned}
+use Rattle.serve.specs.declared.shown.Shown.{Shown}
+use Rattle.serve.specs.Line.{writeAnswer, WriteTurned}
 use Rattle.serve.proofs.Cut.{Papered, papered}
 use Rattle.serve.proofs.Room.{within}
 
@@ -48,39 +48,31 @@ module _ (n : ℕ) where
 
 -- ---- the turn
 -- the part of the table that the line asks for has so many bytes
-module _ (x : State) (size n refusal : ℕ) where
+module _ (x : State) (size n : ℕ) (s : Shown) (refusal : ℕ) where
   pub write-refused : {count m : ℕ} {part d₀ d : Bytes} {r : ℕ} → m ≡ size → Writes x m refusal count part → (refusal ≡ 0 → ⊥) → Wrote d₀ 0 (refusalText refusal n) d r
-      → RequestTurned x (some (write (some size))) n (record { state = x; length = r }) d
+      → WriteTurned x (some size) n s (record { state = x; length = r; shown = s }) d
   write-refused {count} {m} {part} {d₀} {d} {r} e w h v =
       record {
         within = within v;
-        served = (v .is ∙ sym (refused-is n (writtenOf m (readState x)) refusal h (w .said)) ∙ ap (λ (k : ℕ). writtenAnswer n (writtenOf k (readState x))) e ∙ sized-answer n size (readState x), refl);
+        text = v .is ∙ sym (refused-is n (writtenOf m (readState x)) refusal h (w .said)) ∙ ap (λ (k : ℕ). writtenAnswer n (writtenOf k (readState x))) e ∙ sized-answer n size (readState x);
+        state = refl;
+        shown = refl;
       }
 
   pub write-shown : {count m : ℕ} {part : Bytes} → refusal ≡ 0 → m ≡ size → (after : Bytes) → Writes x m refusal count part
-      → RequestTurned x (some (write (some size))) n (record { state = x; length = count }) (part ++ after)
+      → WriteTurned x (some size) n s (record { state = x; length = count; shown = s }) (part ++ after)
   write-shown {count} {m} {part} z e after w =
       record {
         within = omega (arith, count-within none-refused, length-append part after);
-        served = (
-          take-append-le count part after (count-within none-refused) ∙ shown-is n (writtenOf m (readState x)) (none-refused .said)
-              ∙ ap (λ (k : ℕ). writtenAnswer n (writtenOf k (readState x))) e ∙ sized-answer n size (readState x),
-          refl,
-        );
+        text =
+            take-append-le count part after (count-within none-refused) ∙ shown-is n (writtenOf m (readState x)) (none-refused .said)
+            ∙ ap (λ (k : ℕ). writtenAnswer n (writtenOf k (readState x))) e ∙ sized-answer n size (readState x);
+        state = refl;
+        shown = refl;
       }
     where
       none-refused : Writes x m 0 count part
       none-refused = subst (λ (k : ℕ). Writes x m k count part) z w
 
-pub whole-turned : (x : State) (size n : ℕ) (r : Turn) (d : Bytes) → size ≡ textRoom paper → RequestTurned x (some (write (some size))) n r d
-    → RequestTurned x (some (write none)) n r d
-whole-turned x size n r d e t = record { within = t .within; served = (t .served .0 ∙ whole-answer n size e (readState x) (papered x), t .served .1) }
-
--- ---- by what the line asks for
-pub requested : {x : State} {n : ℕ} {r : Turn} {d : Bytes} (q q′ : Option Request) → q ≡ q′ → RequestTurned x q′ n r d → RequestTurned x q n r d
-requested {x} {n} {r} {d} q q′ e t = subst (λ (o : Option Request). RequestTurned x o n r d) (sym e) t
-
--- a call, or none
-pub call-turned : (x : State) (c : Option Call) (n : ℕ) (r : Turn) (d : Bytes) → Turned x c n r d → RequestTurned x (then c callRequest) n r d
-call-turned x none n r d t = record { within = t .within; served = t .served }
-call-turned x (some c) n r d t = record { within = t .within; served = t .served }
+pub whole-turned : (x : State) (size n : ℕ) (s : Shown) (r : Turn) (d : Bytes) → size ≡ textRoom paper → WriteTurned x (some size) n s r d → WriteTurned x none n s r d
+whole-turned x size n s r d e t = record { within = t .within; text = t .text ∙ whole-answer n size e (readState x) (papered x); state = t .state; shown = t .shown }

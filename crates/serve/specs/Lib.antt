@@ -1,3 +1,4 @@
+pub mod Shown
 pub mod Line
 pub mod Texts
 pub mod Calls

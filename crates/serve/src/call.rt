@@ -6,7 +6,9 @@ use crate::change::serve_forget;
 use crate::change::serve_rule;
 use crate::query::serve_query;
 use crate::refusal::refuse;
+use crate::shown::Shown;
 use reader::call::CallLine;
+use reader::call::TABLE;
 use reader::call::read_call;
 use reader::line::kept;
 use state::State;
@@ -21,69 +23,85 @@ ghost use Rattle.qbf.specs.Calls.{Call, rule, query};
 ghost use Rattle.layout.specs.Session.{callOf};
 ghost use Rattle.reader.specs.Items.{Kept};
 ghost use Rattle.reader.specs.Calls.{CallRead};
-ghost use Rattle.serve.specs.Line.{answerBytes, Turned};
+ghost use Rattle.serve.specs.Line.{answerBytes, Turned, TurnedBeside};
 ghost use Rattle.serve.specs.Calls.{Small};
 
 // "1 text not in the layout"
 const NOT_IN_LAYOUT: u16 = 1;
 
-fn rule_of(x: State, lits: &[i16], n: usize, line: u64, out: &mut [u8]) -> Turn
+fn rule_of(x: State, lits: &[i16], n: usize, line: u64, shown: Shown, out: &mut [u8]) -> Turn
     requires { ⌜ length (now lits) ≡ suc (paper .numbers) ⌝ }
     requires { ⌜ answerBytes ≤ length (now out) ⌝ }
     ensures { λ r. ⌜ ((ls : List Literal)
         → Kept n (now (lits .entry)) ls
-        → Turned x (some (rule ls)) line r (now (out .exit))) ⌝ }
+        → TurnedBeside x (some (rule ls)) line shown r (now (out .exit))) ⌝ }
 {
     let k = kept(n);
-    serve_rule(x, &lits[..k], line, out)
+    serve_rule(x, &lits[..k], line, shown, out)
 }
 
-fn query_of(x: State, lits: &[i16], n: usize, line: u64, out: &mut [u8]) -> Turn
+fn query_of(x: State, lits: &[i16], n: usize, line: u64, shown: Shown, out: &mut [u8]) -> Turn
     requires { ⌜ length (now lits) ≡ suc (paper .numbers) ⌝ }
     requires { ⌜ answerBytes ≤ length (now out) ⌝ }
     ensures { λ r. ⌜ ((ns : List ℕ)
         → Kept n (now (lits .entry)) (map pos ns)
-        → Turned x (some (query (map pos ns))) line r (now (out .exit))) ⌝ }
+        → TurnedBeside x (some (query (map pos ns))) line shown r (now (out .exit))) ⌝ }
 {
     let k = kept(n);
-    serve_query(x, &lits[..k], line, out)
+    serve_query(x, &lits[..k], line, shown, out)
 }
 
 // A line that is no call leaves the state.
-fn no_call(x: State, line: u64, out: &mut [u8]) -> Turn
+fn no_call(x: State, line: u64, shown: Shown, out: &mut [u8]) -> Turn
     requires { ⌜ answerBytes ≤ length (now out) ⌝ }
-    ensures { λ r. ⌜ Turned x none line r (now (out .exit)) ⌝ }
+    ensures { λ r. ⌜ TurnedBeside x none line shown r (now (out .exit)) ⌝ }
 {
     let length = refuse(out, NOT_IN_LAYOUT, line);
     Turn {
         state: x,
         length: length,
+        shown: shown,
     }
 }
 
-fn serve_call(x: State, call: CallLine, lits: &[i16], line: u64, out: &mut [u8]) -> Turn
+fn serve_call(
+    x: State,
+    call: CallLine,
+    lits: &[i16],
+    line: u64,
+    shown: Shown,
+    cards: &mut [u8; TABLE],
+    out: &mut [u8],
+) -> Turn
     requires { ⌜ Small call ⌝ }
     requires { ⌜ length (now lits) ≡ suc (paper .numbers) ⌝ }
     requires { ⌜ answerBytes ≤ length (now out) ⌝ }
     ensures { λ r. ⌜ ((c : Option Call)
         → CallRead c call (now (lits .entry))
-        → Turned x c line r (now (out .exit))) ⌝ }
+        → Turned x c line shown (now (cards .entry)) r (now (cards .exit)) (now (out .exit))) ⌝ }
 {
     match call {
-        CallLine::Rule(n) => rule_of(x, lits, n, line, out),
-        CallLine::Query(n) => query_of(x, lits, n, line, out),
-        CallLine::Card(size) => serve_card(x, size, line, out),
-        CallLine::Forget => serve_forget(x, line, out),
-        CallLine::NotCall => no_call(x, line, out),
+        CallLine::Rule(n) => rule_of(x, lits, n, line, shown, out),
+        CallLine::Query(n) => query_of(x, lits, n, line, shown, out),
+        CallLine::Card(size) => serve_card(x, size, line, cards, out),
+        CallLine::Forget => serve_forget(x, line, shown, out),
+        CallLine::NotCall => no_call(x, line, shown, out),
     }
 }
 
 // A line that is a call, or none.
-pub fn serve_made(x: State, line: &[u8], number: u64, out: &mut [u8]) -> Turn
+pub fn serve_made(
+    x: State,
+    line: &[u8],
+    number: u64,
+    shown: Shown,
+    cards: &mut [u8; TABLE],
+    out: &mut [u8],
+) -> Turn
     requires { ⌜ answerBytes ≤ length (now out) ⌝ }
-    ensures { λ r. ⌜ Turned x (callOf (now (line .entry))) number r (now (out .exit)) ⌝ }
+    ensures { λ r. ⌜ Turned x (callOf (now (line .entry))) number shown (now (cards .entry)) r (now (cards .exit)) (now (out .exit)) ⌝ }
 {
     let mut lits = [0i16; tables::BY_NUMBER];
     let call = read_call(line, &mut lits);
-    serve_call(x, call, &lits, number, out)
+    serve_call(x, call, &lits, number, shown, cards, out)
 }

@@ -1,23 +1,26 @@
 // The line of a card: its lines and visits, or refused.
 use crate::Turn;
 use crate::refusal::refuse;
+use crate::shown::card_of;
 use answers::lines_of;
 use answers::refusal_of;
+use reader::call::TABLE;
 use state::State;
 use writer::answer::put_overflow;
 use writer::card::put_card;
 ghost use mathlib.Core.Path.{_≡_};
-ghost use mathlib.Core.List.{[]};
+ghost use mathlib.Core.List.{_++_};
 ghost use mathlib.Core.Option.{none, some};
 ghost use Prim.Native.Nat.{ℕ, _≤_};
 ghost use lib.ListN.{length};
 ghost use Rattle.qbf.specs.Calls.{card};
+ghost use Rattle.layout.specs.Words.{Bytes};
 ghost use Rattle.layout.specs.Program.{tableBytes};
 ghost use Rattle.layout.specs.Session.{cardRefusalText};
 ghost use Rattle.state.specs.Reading.{readState};
 ghost use Rattle.serving.specs.Serves.{said, saidOf, outOf};
-ghost use Rattle.answers.specs.Answers.{cardSaid};
 ghost use Rattle.writer.specs.Wrote.{Wrote};
+ghost use Rattle.serve.specs.declared.shown.Shown.{Shown};
 ghost use Rattle.serve.specs.Line.{lineAnswer, answerBytes, Turned};
 
 // A card too large tells its visits.
@@ -50,18 +53,21 @@ pub fn put_shown(out: &mut [u8], x: State, table: &[u8], lines: usize, visits: u
 fn serve_in(x: State, table: &mut [u8], line: u64, out: &mut [u8]) -> Turn
     requires { ⌜ length (now table) ≤ tableBytes ⌝ }
     requires { ⌜ answerBytes ≤ length (now out) ⌝ }
-    ensures { λ r. ⌜ Turned x (some (card (length (now (table .entry))))) line r (now (out .exit)) ⌝ }
+    ensures { λ r. ⌜ ((s : Shown) (t after : Bytes)
+        → Turned x (some (card (length (now (table .entry))))) line s t r (now (table .exit) ++ after) (now (out .exit))) ⌝ }
 {
     let shown = answers::card(x, table);
     let printed = shown.printed;
     let visits = shown.visits;
     let next = shown.state;
     let refusal = refusal_of(printed);
+    let made = card_of(x, printed, table.len());
     if refusal != 0 {
         let length = put_card_refusal(out, refusal, visits, line);
         return Turn {
             state: next,
             length: length,
+            shown: made,
         };
     }
     let lines = lines_of(printed);
@@ -69,23 +75,23 @@ fn serve_in(x: State, table: &mut [u8], line: u64, out: &mut [u8]) -> Turn
     Turn {
         state: next,
         length: length,
+        shown: made,
     }
 }
 
-// The first bytes of a table, as many as the call asks for.
-fn serve_part(x: State, table: &mut [u8], size: usize, line: u64, out: &mut [u8]) -> Turn
-    requires { ⌜ (size ≤ tableBytes) × (size ≤ length (now table)) ⌝ }
+// The first bytes of the table of cards, as many as the call asks for.
+fn serve_part(x: State, cards: &mut [u8], size: usize, line: u64, out: &mut [u8]) -> Turn
+    requires { ⌜ (size ≤ tableBytes) × (size ≤ length (now cards)) ⌝ }
     requires { ⌜ answerBytes ≤ length (now out) ⌝ }
-    ensures { λ r. ⌜ Turned x (some (card size)) line r (now (out .exit)) ⌝ }
+    ensures { λ r. ⌜ ((s : Shown) (t : Bytes) → Turned x (some (card size)) line s t r (now (cards .exit)) (now (out .exit))) ⌝ }
 {
-    serve_in(x, &mut table[..size], line, out)
+    serve_in(x, &mut cards[..size], line, out)
 }
 
-pub fn serve_card(x: State, size: usize, line: u64, out: &mut [u8]) -> Turn
+pub fn serve_card(x: State, size: usize, line: u64, cards: &mut [u8; TABLE], out: &mut [u8]) -> Turn
     requires { ⌜ size ≤ tableBytes ⌝ }
     requires { ⌜ answerBytes ≤ length (now out) ⌝ }
-    ensures { λ r. ⌜ Turned x (some (card size)) line r (now (out .exit)) ⌝ }
+    ensures { λ r. ⌜ ((s : Shown) (t : Bytes) → Turned x (some (card size)) line s t r (now (cards .exit)) (now (out .exit))) ⌝ }
 {
-    let mut table = [tables::OPEN; reader::call::TABLE];
-    serve_part(x, &mut table, size, line, out)
+    serve_part(x, cards, size, line, out)
 }

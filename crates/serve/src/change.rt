@@ -1,6 +1,8 @@
 // The lines of rule and forget: accepted, forgotten, or refused.
 use crate::Turn;
 use crate::refusal::refuse;
+use crate::shown::Shown;
+use crate::shown::after_rule;
 use rules::refusal_of;
 use state::State;
 use writer::bytes::put_word;
@@ -9,7 +11,7 @@ ghost use Prim.Native.Nat.{_≤_};
 ghost use lib.ListN.{length};
 ghost use Rattle.qbf.specs.Calls.{rule, forget};
 ghost use Rattle.writer.specs.Wrote.{Wrote};
-ghost use Rattle.serve.specs.Line.{answerBytes, Turned};
+ghost use Rattle.serve.specs.Line.{answerBytes, TurnedBeside};
 ghost use Rattle.serve.specs.Texts.{changeText};
 
 // The word of a call that is done, or the refusal.
@@ -24,9 +26,9 @@ fn put_change(out: &mut [u8], done: &[u8], refusal: u16, line: u64) -> usize
     refuse(out, refusal, line)
 }
 
-pub fn serve_rule(x: State, lits: &[i16], line: u64, out: &mut [u8]) -> Turn
+pub fn serve_rule(x: State, lits: &[i16], line: u64, shown: Shown, out: &mut [u8]) -> Turn
     requires { ⌜ answerBytes ≤ length (now out) ⌝ }
-    ensures { λ r. ⌜ Turned x (some (rule (now (lits .entry)))) line r (now (out .exit)) ⌝ }
+    ensures { λ r. ⌜ TurnedBeside x (some (rule (now (lits .entry)))) line shown r (now (out .exit)) ⌝ }
 {
     let changed = rules::rule(x, lits);
     let change = changed.change;
@@ -36,12 +38,13 @@ pub fn serve_rule(x: State, lits: &[i16], line: u64, out: &mut [u8]) -> Turn
     Turn {
         state: next,
         length: length,
+        shown: after_rule(shown, refusal),
     }
 }
 
-pub fn serve_forget(x: State, line: u64, out: &mut [u8]) -> Turn
+pub fn serve_forget(x: State, line: u64, shown: Shown, out: &mut [u8]) -> Turn
     requires { ⌜ answerBytes ≤ length (now out) ⌝ }
-    ensures { λ r. ⌜ Turned x (some forget) line r (now (out .exit)) ⌝ }
+    ensures { λ r. ⌜ TurnedBeside x (some forget) line shown r (now (out .exit)) ⌝ }
 {
     let changed = rules::forget(x);
     let change = changed.change;
@@ -51,5 +54,6 @@ pub fn serve_forget(x: State, line: u64, out: &mut [u8]) -> Turn
     Turn {
         state: next,
         length: length,
+        shown: shown,
     }
 }

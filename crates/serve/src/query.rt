@@ -1,6 +1,7 @@
 // The line of a query: swap or keep with the visits, or refused.
 use crate::Turn;
 use crate::refusal::refuse;
+use crate::shown::Shown;
 use answers::Ruling;
 use state::State;
 use writer::answer::put_query;
@@ -9,7 +10,7 @@ ghost use Prim.Native.Nat.{_≤_};
 ghost use lib.ListN.{length};
 ghost use Rattle.qbf.specs.Calls.{query};
 ghost use Rattle.writer.specs.Wrote.{Wrote};
-ghost use Rattle.serve.specs.Line.{answerBytes, Turned};
+ghost use Rattle.serve.specs.Line.{answerBytes, TurnedBeside};
 ghost use Rattle.serve.specs.Texts.{rulingText};
 
 fn put_ruling(out: &mut [u8], ruling: Ruling, visits: u64, line: u64) -> usize
@@ -23,9 +24,9 @@ fn put_ruling(out: &mut [u8], ruling: Ruling, visits: u64, line: u64) -> usize
     }
 }
 
-pub fn serve_query(x: State, on: &[i16], line: u64, out: &mut [u8]) -> Turn
+pub fn serve_query(x: State, on: &[i16], line: u64, shown: Shown, out: &mut [u8]) -> Turn
     requires { ⌜ answerBytes ≤ length (now out) ⌝ }
-    ensures { λ r. ⌜ Turned x (some (query (now (on .entry)))) line r (now (out .exit)) ⌝ }
+    ensures { λ r. ⌜ TurnedBeside x (some (query (now (on .entry)))) line shown r (now (out .exit)) ⌝ }
 {
     let asked = answers::query(x, on);
     let ruling = asked.ruling;
@@ -35,5 +36,6 @@ pub fn serve_query(x: State, on: &[i16], line: u64, out: &mut [u8]) -> Turn
     Turn {
         state: next,
         length: length,
+        shown: shown,
     }
 }

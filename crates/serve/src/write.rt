@@ -1,6 +1,7 @@
 // The line that asks for the book's text: it is written into the first bytes of the lent table, or refused.
 use crate::Turn;
 use crate::refusal::refuse;
+use crate::shown::Shown;
 use book_writer::LONGEST;
 use book_writer::NONE;
 use book_writer::write_book;
@@ -8,14 +9,13 @@ use state::State;
 ghost use mathlib.Core.Option.{none, some};
 ghost use Prim.Native.Nat.{_≤_};
 ghost use lib.ListN.{length};
-ghost use Rattle.sessions.specs.Session.{write};
-ghost use Rattle.serve.specs.Line.{answerBytes, RequestTurned};
+ghost use Rattle.serve.specs.Line.{answerBytes, WriteTurned};
 
 // `(write 4)`: the first bytes of the table, as many as the line asks for.
-pub fn serve_write(x: State, size: usize, line: u64, out: &mut [u8]) -> Turn
+pub fn serve_write(x: State, size: usize, line: u64, shown: Shown, out: &mut [u8]) -> Turn
     requires { ⌜ size ≤ length (now out) ⌝ }
     requires { ⌜ answerBytes ≤ length (now out) ⌝ }
-    ensures { λ r. ⌜ RequestTurned x (some (write (some size))) line r (now (out .exit)) ⌝ }
+    ensures { λ r. ⌜ WriteTurned x (some size) line shown r (now (out .exit)) ⌝ }
 {
     let written = write_book(x, &mut out[..size]);
     if written.refusal != NONE {
@@ -23,18 +23,20 @@ pub fn serve_write(x: State, size: usize, line: u64, out: &mut [u8]) -> Turn
         return Turn {
             state: x,
             length: length,
+            shown: shown,
         };
     }
     Turn {
         state: x,
         length: written.length,
+        shown: shown,
     }
 }
 
 // `(write)`: a table that holds every text.
-pub fn serve_whole(x: State, line: u64, out: &mut [u8]) -> Turn
+pub fn serve_whole(x: State, line: u64, shown: Shown, out: &mut [u8]) -> Turn
     requires { ⌜ answerBytes ≤ length (now out) ⌝ }
-    ensures { λ r. ⌜ RequestTurned x (some (write none)) line r (now (out .exit)) ⌝ }
+    ensures { λ r. ⌜ WriteTurned x none line shown r (now (out .exit)) ⌝ }
 {
-    serve_write(x, LONGEST, line, out)
+    serve_write(x, LONGEST, line, shown, out)
 }

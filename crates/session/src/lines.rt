@@ -2,7 +2,12 @@
 use crate::input::read_more;
 use crate::input::to_front;
 use output::print;
+use reader::call::TABLE;
 use reader::text::line_end;
+use serve::shown::Shown;
+use serve::shown::no_card;
+use session_line::Spoken;
+use session_line::serve_line;
 use state::State;
 ghost use Prim.Native.Nat.{_+_, _≤_, _<_};
 ghost use mathlib.Core.Path.{_≡_};
@@ -18,9 +23,10 @@ pub struct Input {
     pub open: bool,
 }
 
-// The state and the input after a turn.
+// The state, the card answered last and the input after a turn.
 pub struct Turn {
     pub state: State,
+    pub shown: Shown,
     pub input: Input,
 }
 
@@ -61,15 +67,16 @@ fn answer_line(
     from: usize,
     end: usize,
     number: u64,
+    shown: Shown,
+    cards: &mut [u8; TABLE],
     answer: &mut [u8],
-) -> State
+) -> Spoken
     requires { ⌜ (from ≤ end) × (end ≤ length (now text)) ⌝ }
     ensures { λ _. ⌜ length (now (answer .exit)) ≡ length (now (answer .entry)) ⌝ }
 {
-    let turn = serve::serve_line(x, &text[from..end], number, answer);
-    print(answer, turn.length);
-    let next = turn.state;
-    next
+    let spoken = serve_line(x, &text[from..end], number, shown, cards, answer);
+    print(answer, spoken.length);
+    spoken
 }
 
 // Behind a whole line that ends at `end`.
@@ -122,29 +129,47 @@ fn refill(text: &mut [u8], s: Input) -> Input
 }
 
 // The input has ended: a last line that is not ended is no call.
-fn finish(x: State, text: &[u8], s: Input, answer: &mut [u8]) {
+fn finish(
+    x: State,
+    text: &[u8],
+    s: Input,
+    shown: Shown,
+    cards: &mut [u8; TABLE],
+    answer: &mut [u8],
+) {
     let unended = s.skipping || s.held > 0;
     if unended {
-        answer_line(x, text, 0, 0, s.number, answer);
+        answer_line(x, text, 0, 0, s.number, shown, cards, answer);
     }
 }
 
 // One turn: a whole line is answered, or more is read.
-fn serve_turn(x: State, text: &mut [u8], s: Input, answer: &mut [u8]) -> Turn
+fn serve_turn(
+    x: State,
+    text: &mut [u8],
+    s: Input,
+    shown: Shown,
+    cards: &mut [u8; TABLE],
+    answer: &mut [u8],
+) -> Turn
     requires { ⌜ (s .at ≤ s .held) × (s .held ≤ length (now text)) ⌝ }
     ensures { λ r. ⌜ (r .input .at ≤ r .input .held) × (r .input .held ≤ length (now (text .exit))) × (length (now (text .exit)) ≡ length (now (text .entry))) ⌝ }
 {
     let end = line_end(&text[..s.held], s.at);
     if end < s.held {
         let from = line_start(s, end);
-        let next = answer_line(x, text, from, end, s.number, answer);
+        let spoken = answer_line(x, text, from, end, s.number, shown, cards, answer);
+        let next = spoken.state;
+        let last = spoken.shown;
         return Turn {
             state: next,
+            shown: last,
             input: behind(s, end),
         };
     }
     Turn {
         state: x,
+        shown: shown,
         input: refill(text, s),
     }
 }
@@ -161,17 +186,25 @@ fn turns_left(turns: u64, open: bool) -> u64
 }
 
 // The lines one after another, until the input ends; a proved loop counts its turns down, from a number that no session uses up.
-pub fn serve_all(start: State, text: &mut [u8], from: Input, answer: &mut [u8])
+pub fn serve_all(
+    start: State,
+    text: &mut [u8],
+    from: Input,
+    cards: &mut [u8; TABLE],
+    answer: &mut [u8],
+)
     requires { ⌜ (from .at ≤ from .held) × (from .held ≤ length (now text)) ⌝ }
 {
     let mut x = start;
     let mut s = from;
+    let mut shown = no_card();
     let mut turns = u64::MAX;
     while turns > 0 {
-        let next = serve_turn(x, text, s, answer);
+        let next = serve_turn(x, text, s, shown, cards, answer);
         x = next.state;
         s = next.input;
+        shown = next.shown;
         turns = turns_left(turns, s.open);
     }
-    finish(x, text, s, answer);
+    finish(x, text, s, shown, cards, answer);
 }

@@ -3,6 +3,8 @@ mod book;
 mod input;
 mod lines;
 
+use reader::call::TABLE;
+
 // A refused book.
 fn print_refusal(refusal: u16, line: usize, answer: &mut [u8; serve::ANSWER]) {
     let written = serve::book::print_refusal(refusal, line, answer);
@@ -10,7 +12,7 @@ fn print_refusal(refusal: u16, line: usize, answer: &mut [u8; serve::ANSWER]) {
 }
 
 // The lines are counted from the book's first.
-fn serve_book(text: &mut [u8], answer: &mut [u8; serve::ANSWER]) {
+fn serve_book(text: &mut [u8], cards: &mut [u8; TABLE], answer: &mut [u8; serve::ANSWER]) {
     let read = book::read_book(text);
     let opened = opening::open_text(&text[..read.end]);
     if opened.refusal != opening::NONE {
@@ -23,6 +25,7 @@ fn serve_book(text: &mut [u8], answer: &mut [u8; serve::ANSWER]) {
         x,
         text,
         lines::behind_book(read.end, read.held, before),
+        cards,
         answer,
     );
 }
@@ -32,6 +35,7 @@ const ROOM: usize = reader::text::TEXT + 1;
 
 fn main() {
     let mut text = [0u8; ROOM];
+    let mut cards = [tables::OPEN; TABLE];
     let mut answer = [0u8; serve::ANSWER];
-    serve_book(&mut text, &mut answer);
+    serve_book(&mut text, &mut cards, &mut answer);
 }

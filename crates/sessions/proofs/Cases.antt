@@ -1,12 +1,15 @@
 -- What the program `session` prints, by computation.
 use Prim.Native.String.{String}
 use mathlib.Core.Path.{_≡_, refl}
+use Prim.Native.Nat.{ℕ, zero, suc, _-_}
 use mathlib.Core.List.{List, [], _∷_, _++_}
+use lib.ListN.{length, replicate}
 use Rattle.qbf.specs.Formula.{paper, placeOf}
-use Rattle.layout.specs.Words.{Bytes, ascii, split, same, digits, number, closed, inside}
+use Rattle.layout.specs.Words.{Bytes, ascii, newline, space, split, same, digits, number, closed, inside}
 use Rattle.layout.specs.Forms.{items, consed, formFrom, formOf}
 use Rattle.layout.specs.Opening.{readLines, openText}
 use Rattle.layout.specs.Output.{lastDigits, decimal, literalText, itemsText, lineText, linesText, visitsText, cardText, refusalText, overflowText, queryText}
+use Rattle.layout.specs.Page.{aligned, signOf, pageOf, noPage}
 use Rattle.layout.specs.Session.{callFrom, answerText, parted}
 use Rattle.booktext.specs.Texts.{bodyText, lineOf, formText, formsText}
 use Rattle.booktext.specs.Books.{bookForms, bookText, writeCall, textRoom}
@@ -49,3 +52,59 @@ rows =
 session-rows : printed rows ≡ expected rows
 unfolding split same digits number items consed closed inside formFrom formOf readLines openText placeOf lastDigits decimal literalText itemsText lineText linesText visitsText cardText refusalText overflowText queryText callFrom answerText requestFrom requestOf bodyText lineOf formText formsText bookForms bookText textRoom writeCall serveLines parted sessionProgram
 session-rows = refl
+
+-- ---- pages
+-- a row of a page: what stands in it, and blanks up to column 71
+abbrev wide : String → Bytes
+wide s = ascii s ++ (replicate (71 - length (ascii s)) space ++ (newline ∷ []))
+
+abbrev blank : ℕ → Bytes
+blank zero = []
+blank (suc k) = wide "" ++ blank k
+
+-- page 1 of book A's card, and of its card with the rule 1 beside the others
+abbrev pageA : Bytes
+pageA = wide "CARD                                                                  1" ++ (wide "    1  01" ++ (wide "    2  11" ++ blank 21))
+
+abbrev pageA1 : Bytes
+pageA1 = wide "CARD                                                                  1" ++ (wide "    1  11" ++ blank 22)
+
+abbrev cardA : String
+cardA = "(card 1)\n(line (no 1) 2)\n(line 1 2)\n(visits 11)\n(end)\n"
+
+-- what is printed before a page, the page, and what is printed after it
+record Paged : Type 0 where
+  calls : String
+  output : Bytes
+
+abbrev paged : String → Bytes → Paged
+paged c o = record { calls = c; output = o }
+
+abbrev shown : List Paged → List Bytes
+shown [] = []
+shown (r ∷ rs) = sessionProgram paper (ascii bookA ++ ascii (r .calls)) ∷ shown rs
+
+abbrev outputs : List Paged → List Bytes
+outputs [] = []
+outputs (r ∷ rs) = r .output ∷ outputs rs
+
+abbrev pages : List Paged
+pages =
+    -- no card has been answered yet; then pages that the card has not
+    paged "(page 1)\n(card)\n(page 1)\n(page 0)\n(page 2)\n(page 99999)\n"
+    (ascii "(refused 36 9)\n" ++ (ascii cardA ++ (pageA ++ ascii "(refused 36 12)\n(refused 36 13)\n(refused 36 14)\n")))
+    -- calls that change no rule leave it
+    ∷ paged "(card)\n(rule 5)\n(query 3)\n(query 2)\n(forget)\n(write 0)\n(card 65537)\n(page 1)\n(page 1)\n"
+    (ascii cardA ++ (ascii "(refused 5 10)\n(refused 8 11)\n(swap (visits 1))\n(forgotten)\n(refused 31 14)\n(refused 1 15)\n" ++ (pageA ++ pageA)))
+    -- an accepted rule does not
+    ∷ paged "(card)\n(rule 1)\n(page 1)\n(card)\n(page 1)\n"
+    (ascii cardA ++ (ascii "(accepted)\n(refused 36 11)\n(card 1)\n(line 1 2)\n(visits 7)\n(end)\n" ++ pageA1))
+    -- nor does a refused card
+    ∷ paged "(card)\n(card 3)\n(page 1)\n" (ascii cardA ++ ascii "(refused 21 10 (visits 9))\n(refused 36 11)\n")
+    ∷ paged "(card)\n(page)\n(page 01)\n(page 100000)\n(page (no 1))\n(page 1 2)\n"
+    (ascii cardA ++ ascii "(refused 1 10)\n(refused 1 11)\n(refused 1 12)\n(refused 1 13)\n(refused 1 14)\n")
+    ∷ []
+
+session-pages : shown pages ≡ outputs pages
+unfolding split same digits number items consed closed inside formFrom formOf readLines openText placeOf lastDigits decimal literalText itemsText lineText linesText visitsText cardText refusalText overflowText queryText callFrom answerText requestFrom requestOf bodyText lineOf formText formsText bookForms bookText textRoom writeCall serveLines parted sessionProgram aligned signOf pageOf noPage
+session-pages = refl

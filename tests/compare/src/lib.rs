@@ -13,6 +13,7 @@ pub mod dead;
 mod decide;
 pub mod finder;
 pub mod formula;
+pub mod last_card;
 pub mod layout;
 pub mod learning;
 pub mod options;

@@ -2,6 +2,7 @@
 
 use crate::answer::{Answer, Call, Said, Subject};
 use crate::formula::Formula;
+use crate::last_card::{LastCard, LastCardSlip};
 use crate::layout::{self, Item};
 use crate::options::Options;
 use crate::solver::Solver;
@@ -12,9 +13,17 @@ use std::io::{self, BufRead, Read, Write};
 /// The longest line of a call, counted without its byte 10.
 pub const LARGEST_LINE: usize = 65_536;
 
+/// What a line asks for.
+#[derive(Clone, Debug, PartialEq, Eq)]
+pub enum Request {
+    Call(Call),
+    /// A page of the card answered last.
+    Page(usize),
+}
+
 /// Answers the whole of an input.
 pub fn run(input: impl BufRead, output: impl Write, options: &Options) -> io::Result<()> {
-    run_on(input, output, options, |formula| Solver::opened(formula, *options))
+    run_on(input, output, options, None, |formula| Solver::opened(formula, *options))
 }
 
 /// Answers the whole of an input by what `start` makes of the opened formula.
@@ -22,6 +31,7 @@ pub fn run_on<S: Subject>(
     mut input: impl BufRead,
     mut output: impl Write,
     options: &Options,
+    slip: Option<LastCardSlip>,
     start: impl FnOnce(Formula) -> S,
 ) -> io::Result<()> {
     let book = read_book(&mut input)?;
@@ -33,12 +43,18 @@ pub fn run_on<S: Subject>(
         }
     };
     let mut subject = start(formula.clone());
+    let mut last = LastCard::none(formula.free_count(), slip);
     let mut line = book.iter().filter(|&&byte| byte == b'\n').count();
-    while let Some(call) = read_call(&mut input)? {
+    while let Some(asked) = read_request(&mut input)? {
         line += 1;
-        let printed = match call {
-            Some(call) => print(&formula, &subject.call(&call), line),
-            None => format!("(refused 1 {line})\n"),
+        let printed = match asked {
+            Some(Request::Call(call)) => {
+                let answer = subject.call(&call);
+                last.after(&call, &answer);
+                print(&formula, &answer, line)
+            }
+            Some(Request::Page(number)) => print_page(&mut last, number, line),
+            None => refusal(1, line),
         };
         output.write_all(printed.as_bytes())?;
         output.flush()?;
@@ -61,8 +77,8 @@ fn read_book(input: &mut impl BufRead) -> io::Result<Vec<u8>> {
     Ok(text)
 }
 
-/// The next line: none at the end of the input; within it the call, where the line holds one.
-fn read_call(input: &mut impl BufRead) -> io::Result<Option<Option<Call>>> {
+/// The next line: none at the end of the input; within it the request, where the line holds one.
+fn read_request(input: &mut impl BufRead) -> io::Result<Option<Option<Request>>> {
     let mut line = vec![];
     let room = LARGEST_LINE + 1;
     if input.take(room as u64).read_until(b'\n', &mut line)? == 0 {
@@ -72,7 +88,18 @@ fn read_call(input: &mut impl BufRead) -> io::Result<Option<Option<Call>>> {
     if !ended && line.len() == LARGEST_LINE {
         input.skip_until(b'\n')?;
     }
-    Ok(Some(if ended { call(&line) } else { None }))
+    Ok(Some(if ended { request(&line) } else { None }))
+}
+
+/// The request on a line, without its byte 10. None: no request stands there.
+pub fn request(line: &[u8]) -> Option<Request> {
+    match layout::items(line)? {
+        (b"page", items) => match &items[..] {
+            [number] if !number.negated => Some(Request::Page(number.number as usize)),
+            _ => None,
+        },
+        _ => call(line).map(Request::Call),
+    }
 }
 
 /// The call on a line, without its byte 10. None: no call stands there.
@@ -103,6 +130,18 @@ fn narrow(number: i32) -> i16 {
     number.clamp(-i32::from(i16::MAX), i32::from(i16::MAX)) as i16
 }
 
+fn refusal(number: u8, line: usize) -> String {
+    format!("(refused {number} {line})\n")
+}
+
+/// "24 rows: page K of the card .. answered last", or 36.
+pub fn print_page(last: &mut LastCard, number: usize, line: usize) -> String {
+    match last.page(number) {
+        Ok(rows) => String::from_utf8(rows).expect("rows are ASCII"),
+        Err(number) => refusal(number, line),
+    }
+}
+
 /// What is printed for an answer. The formula is the opened one: calls change no declaration.
 pub fn print(formula: &Formula, answer: &Answer, line: usize) -> String {
     let visits = answer.visits;
@@ -112,7 +151,7 @@ pub fn print(formula: &Formula, answer: &Answer, line: usize) -> String {
         Said::Swap => format!("(swap (visits {visits}))\n"),
         Said::Keep => format!("(keep (visits {visits}))\n"),
         Said::Refused(21) => format!("(refused 21 {line} (visits {visits}))\n"),
-        Said::Refused(number) => format!("(refused {number} {line})\n"),
+        Said::Refused(number) => refusal(number, line),
         Said::Lines(count) => text::print_card(formula, count, &answer.table, visits),
         Said::Written(length) => String::from_utf8_lossy(&answer.table[..length]).into(),
     }
@@ -223,6 +262,38 @@ mod tests {
         let more = book.replace("(end)", "(rule 3)\n(end)");
         assert_eq!(on_a("(rule 3)\n(write)\n"), format!("(accepted)\n{more}"));
         for line in ["(write 65537)", "(write (no 1))", "(write 1 2)", "(write )", "(write 01)"] {
+            assert_eq!(on_a(&format!("{line}\n")), "(refused 1 9)\n", "{line}");
+        }
+    }
+
+    /// Page 1 of book A's card.
+    fn a_page() -> String {
+        let row = |text: &str| format!("{text:<71}\n");
+        let head = row(&format!("CARD{:>67}", 1));
+        head + &row("    1  01") + &row("    2  11") + &row("").repeat(21)
+    }
+
+    #[test]
+    fn pages_of_the_card_answered_last() {
+        let card = on_a("(card)\n");
+        let page = a_page();
+        assert_eq!(on_a("(page 1)\n"), "(refused 36 9)\n");
+        assert_eq!(on_a("(card)\n(page 1)\n"), format!("{card}{page}"));
+        let none = "(refused 36 10)\n(refused 36 11)\n(refused 36 12)\n";
+        assert_eq!(on_a("(card)\n(page 0)\n(page 2)\n(page 99999)\n"), format!("{card}{none}"));
+        let kept = "(query 1 1)\n(rule 5)\n(forget)\n(page 7)\n\n(page 1)\n(page 1)\n";
+        let expected = "(refused 8 10)\n(refused 5 11)\n(forgotten)\n(refused 36 13)\n(refused 1 14)\n";
+        assert_eq!(on_a(&format!("(card)\n{kept}")), format!("{card}{expected}{page}{page}"));
+    }
+
+    /// "a page never shows lines that no longer hold".
+    #[test]
+    fn pages_that_no_longer_hold() {
+        let card = on_a("(card)\n");
+        let lost = "(accepted)\n(refused 36 11)\n";
+        assert_eq!(on_a("(card)\n(rule 1)\n(page 1)\n"), format!("{card}{lost}"));
+        assert!(on_a("(card)\n(card 3)\n(page 1)\n").ends_with("(refused 36 11)\n"));
+        for line in ["(page)", "(page (no 1))", "(page 1 1)", "(page 01)", "(page 100000)", "(page )"] {
             assert_eq!(on_a(&format!("{line}\n")), "(refused 1 9)\n", "{line}");
         }
     }

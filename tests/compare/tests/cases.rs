@@ -1,6 +1,7 @@
 //! The stored cases, the examples and the vectors of the source documents, on this implementation.
 
 use compare::cases::{self, Program, StoredCase};
+use compare::last_card;
 use compare::page::{self, PageSlip};
 use compare::qdimacs;
 use compare::slip::{Slip, ALL};
@@ -77,6 +78,25 @@ fn every_slip_of_a_page_changes_a_case() {
     }
 }
 
+/// Every slip of the card answered last changes what some session prints.
+#[test]
+fn every_slip_of_the_last_card_changes_a_case() {
+    let options = Options::paper();
+    let cases = cases::stored(Program::Session).expect("cases can be read");
+    let asks = |case: &&StoredCase| case.input.windows(6).any(|bytes| bytes == b"(page ");
+    let cases: Vec<_> = cases.iter().filter(asks).collect();
+    for (slip, words) in last_card::ALL {
+        let changed = |case: &&StoredCase| {
+            let mut output = vec![];
+            let start = |formula| Solver::opened(formula, options);
+            session::run_on(&case.input[..], &mut output, &options, Some(*slip), start)
+                .expect("bytes in and out");
+            output != case.expected
+        };
+        assert!(cases.iter().any(changed), "{slip:?}: {words}");
+    }
+}
+
 #[test]
 fn examples() {
     hold(cases::examples().expect("examples can be read"), 4, as_printed);
@@ -139,7 +159,7 @@ fn sessions_of_the_plain_run() {
     for case in cases::stored(Program::Session).expect("cases can be read") {
         let mut output = vec![];
         let start = |formula| PlainRun::new(formula, options.limits);
-        session::run_on(&case.input[..], &mut output, &options, start).expect("bytes in and out");
+        session::run_on(&case.input[..], &mut output, &options, None, start).expect("bytes in and out");
         assert_eq!(without_visits(&output), without_visits(&case.expected), "{}", case.name);
     }
 }

@@ -1,6 +1,7 @@
 //! The library's functions on texts. The lent page stands between guard bytes.
 
 use crate::raw::{Raw, Written};
+use compare::answer::LENT_BYTE;
 use std::ptr;
 
 #[repr(C)]
@@ -9,6 +10,17 @@ struct Turn {
     refusal: u16,
     length: usize,
     state: Raw,
+    shown: Shown,
+}
+
+/// The card answered last, beside the table of its lines.
+#[repr(C)]
+#[derive(Clone, Copy, Debug, PartialEq, Eq)]
+pub struct Shown {
+    pub refusal: u16,
+    pub size: usize,
+    pub lines: usize,
+    pub flags: usize,
 }
 
 #[repr(C)]
@@ -24,11 +36,14 @@ extern "C" {
     fn bullacetop_print(text: *const u8, count: usize, out: *mut u8, room: usize) -> Written;
     fn bullacetop_open(text: *const u8, count: usize) -> RawOpened;
     fn bullacetop_open_qdimacs(text: *const u8, count: usize) -> RawOpened;
+    fn bullacetop_no_card() -> Shown;
     fn bullacetop_line(
         x: Raw,
         line: *const u8,
         count: usize,
         number: u64,
+        shown: Shown,
+        cards: *mut u8,
         out: *mut u8,
         room: usize,
     ) -> Turn;
@@ -48,6 +63,37 @@ pub fn room() -> usize {
 pub struct Page {
     bytes: Vec<u8>,
     length: usize,
+}
+
+/// The bytes of a session's table of cards.
+pub const CARD_TABLE: usize = 65_536;
+
+/// The card answered last and the table of its lines, which stands between guard bytes.
+#[derive(Clone)]
+pub struct Cards {
+    pub shown: Shown,
+    bytes: Vec<u8>,
+}
+
+impl Cards {
+    /// No card has been answered yet; the table holds bytes that no line has.
+    pub fn none() -> Cards {
+        Cards::of(unsafe { bullacetop_no_card() }, &[LENT_BYTE; CARD_TABLE])
+    }
+
+    pub fn of(shown: Shown, table: &[u8]) -> Cards {
+        assert_eq!(table.len(), CARD_TABLE);
+        Cards { shown, bytes: [&[GUARD; GUARDS], table, &[GUARD; GUARDS]].concat() }
+    }
+
+    pub fn table(&self) -> &[u8] {
+        &self.bytes[GUARDS..GUARDS + CARD_TABLE]
+    }
+
+    fn is_guarded(&self) -> bool {
+        let after = &self.bytes[GUARDS + CARD_TABLE..];
+        self.bytes[..GUARDS].iter().chain(after).all(|&byte| byte == GUARD)
+    }
 }
 
 /// The next state and an answer's text; none where the page is too short.
@@ -113,11 +159,24 @@ impl Page {
         self.answer(told)
     }
 
-    pub fn line(&mut self, state: &Raw, line: &[u8], number: u64) -> Result<Answered, String> {
-        let (length, out, lent) = (self.length, self.out(), Lent::new(line));
-        let Turn { refusal, length, state } =
-            unsafe { bullacetop_line(*state, lent.address(), line.len(), number, out, length) };
+    /// One line of a session; the card answered last changes with it.
+    pub fn line(
+        &mut self,
+        state: &Raw,
+        line: &[u8],
+        number: u64,
+        cards: &mut Cards,
+    ) -> Result<Answered, String> {
+        let (room, out, lent) = (self.length, self.out(), Lent::new(line));
+        let (count, table) = (line.len(), cards.bytes[GUARDS..].as_mut_ptr());
+        let Turn { refusal, length, state, shown } = unsafe {
+            bullacetop_line(*state, lent.address(), count, number, cards.shown, table, out, room)
+        };
         lent.kept(line)?;
+        cards.shown = shown;
+        if !cards.is_guarded() {
+            return Err("a byte outside the table of cards is written".into());
+        }
         let text = self.answer(Written { refusal, length })?;
         Ok(Answered { state: Box::new(state), text })
     }

@@ -51,7 +51,7 @@ fn a_call_in_place_needs_less_than_128_kib() {
 #[cfg(feature = "text")]
 fn a_text_needs_less_than_512_kib() {
     use compare::random::Random;
-    use native::text::{open, room, Page};
+    use native::text::{open, room, Cards, Page};
     use native::texts;
 
     let text = texts::book(&deepest(), &mut Random::new(1));
@@ -61,7 +61,11 @@ fn a_text_needs_less_than_512_kib() {
         assert_eq!(page.print(&text), Ok(Some(expected.into())));
         let opened = open(&text).expect("lent bytes are only read");
         assert_eq!((opened.refusal, opened.line), (0, 0));
-        let answered = page.line(&opened.state, b"(card)", 1).expect("lent bytes are only read");
-        assert_eq!(answered.text, Some(expected.into()));
+        let cards = &mut Cards::none();
+        let mut answer = |line: &[u8]| {
+            page.line(&opened.state, line, 1, cards).expect("lent bytes are only read").text
+        };
+        assert_eq!(answer(b"(card)"), Some(expected.into()));
+        assert_eq!(answer(b"(page 1)").map(|rows| rows.len()), Some(24 * 72));
     });
 }

@@ -18,7 +18,7 @@ fn card(case: &StoredCase) -> Option<Vec<u8>> {
 
 fn session(case: &StoredCase) -> Vec<u8> {
     let mut output = vec![];
-    session::run_on(&case.input[..], &mut output, &Options::paper(), Native::opened)
+    session::run_on(&case.input[..], &mut output, &Options::paper(), None, Native::opened)
         .expect("bytes in, bytes out");
     output
 }

@@ -2,19 +2,20 @@
 #![cfg(feature = "text")]
 
 use compare::cases::{self, Program};
+use compare::last_card::LastCard;
+use compare::page::Card;
 use compare::random::Random;
-use compare::session::{self, LARGEST_LINE};
+use compare::session::{self, Request, LARGEST_LINE};
 use compare::text::{self, LARGEST_TEXT};
 use compare::{Answer, Call, Formula, Options, Said, Solver, State, Store, Subject};
 use native::budget::{self, Walk};
 use native::generate::{Shape, SHAPES};
-use native::hold::Case;
 use native::input::{draw, Source};
 use native::library::Native;
 use native::raw::Raw;
 use native::reading;
 use native::run::{amount, seed, timed, Amount};
-use native::text::{self as library, room, Page};
+use native::text::{self as library, room, Cards, Page, Shown};
 use native::texts;
 use std::time::Instant;
 
@@ -81,34 +82,65 @@ fn no_book(state: &Raw) {
     }
 }
 
-/// A line on both sides: the answer's text and the next state.
-fn hold_line(
-    state: &mut Box<Raw>,
-    solver: &mut Option<Solver>,
-    line: &[u8],
-    number: u64,
-    page: &mut Page,
-) -> Said {
-    let call = (line.len() <= LARGEST_LINE).then(|| session::call(line)).flatten();
-    let formula = solver.as_ref().map_or(Formula::default(), |s| s.state.formula.clone());
-    let answer = match (&call, solver.as_mut()) {
-        (None, _) => Answer::new(Said::Refused(1)),
-        (Some(call), Some(solver)) => solver.call(call),
-        (Some(_), None) => Answer::new(Said::Refused(22)),
-    };
-    let expected = session::print(&formula, &answer, number as usize);
-    let found = page.line(state, line, number).unwrap();
-    let text = found.text.expect("the page is large enough");
-    assert_eq!(shown(&text), shown(expected.as_bytes()), "line {}", shown(line));
-    assert_eq!(text, expected.as_bytes());
-    if matches!(answer.said, Said::Refused(number) if number != 21) {
-        assert!(found.state == *state, "the state is not the given one: {}", shown(line));
+/// A session on both sides: the library's state and cards, and what they are compared with. Where
+/// the state does not read there is no solver.
+struct Both {
+    state: Box<Raw>,
+    cards: Cards,
+    solver: Option<Solver>,
+    last: LastCard,
+}
+
+impl Both {
+    fn new(state: Box<Raw>) -> Both {
+        let solver = reading::read(&state).map(|state| Solver::new(state, Options::paper()));
+        let flags = solver.as_ref().map_or(0, |solver| solver.state.formula.free_count());
+        Both { state, cards: Cards::none(), solver, last: LastCard::none(flags, None) }
     }
-    if let Some(solver) = solver {
-        assert_eq!(reading::read(&found.state).as_ref(), Some(&solver.state), "{}", shown(line));
+
+    /// The answer to a line: its text and what it says.
+    fn expected(&mut self, line: &[u8], number: u64) -> (String, Said) {
+        let formula = self.solver.as_ref().map_or(Formula::default(), |s| s.state.formula.clone());
+        let asked = (line.len() <= LARGEST_LINE).then(|| session::request(line)).flatten();
+        let answer = match (asked, &mut self.solver) {
+            (None, _) => Answer::new(Said::Refused(1)),
+            (Some(Request::Page(page)), _) => {
+                let printed = session::print_page(&mut self.last, page, number as usize);
+                let refused = printed.starts_with("(refused 36 ");
+                let said = if refused { Said::Refused(36) } else { Said::Written(printed.len()) };
+                return (printed, said);
+            }
+            (Some(Request::Call(call)), solver) => {
+                let refused = || Answer::new(Said::Refused(22));
+                let answer = solver.as_mut().map_or_else(refused, |solver| solver.call(&call));
+                self.last.after(&call, &answer);
+                answer
+            }
+        };
+        (session::print(&formula, &answer, number as usize), answer.said)
     }
-    *state = found.state;
-    answer.said
+
+    /// A line on both sides: the answer's text and the next state.
+    fn hold(&mut self, line: &[u8], number: u64, page: &mut Page) -> Said {
+        let (expected, said) = self.expected(line, number);
+        let before = self.cards.clone();
+        let found = page.line(&self.state, line, number, &mut self.cards).unwrap();
+        let text = found.text.expect("the page is large enough");
+        assert_eq!(shown(&text), shown(expected.as_bytes()), "line {}", shown(line));
+        assert_eq!(text, expected.as_bytes());
+        if matches!(said, Said::Refused(number) if number != 21) {
+            assert!(found.state == self.state, "the state is not the given one: {}", shown(line));
+        }
+        if !line.starts_with(b"(card") {
+            assert!(self.cards.table() == before.table(), "cards are written: {}", shown(line));
+        }
+        if let Some(solver) = &self.solver {
+            let read = reading::read(&found.state);
+            assert_eq!(read.as_ref(), Some(&solver.state), "{}", shown(line));
+        }
+        self.state = found.state;
+        said
+    }
 }
 
 #[test]
@@ -140,7 +172,7 @@ fn stored_sessions() {
         let (book, rest) = split_book(&case.input);
         let opened = library::open(book).unwrap();
         let mut output = vec![];
-        let mut state = opened.state;
+        let (mut state, mut cards) = (opened.state, Cards::none());
         let mut number = book.iter().filter(|&&byte| byte == b'\n').count() as u64;
         if opened.refusal != 0 {
             output.extend(format!("(refused {} {})\n", opened.refusal, opened.line).bytes());
@@ -151,7 +183,7 @@ fn stored_sessions() {
                     output.extend(format!("(refused 1 {number})\n").bytes());
                     continue;
                 };
-                let answered = page.line(&state, line, number).unwrap();
+                let answered = page.line(&state, line, number, &mut cards).unwrap();
                 output.extend(answered.text.expect("the page is large enough"));
                 state = answered.state;
             }
@@ -199,14 +231,9 @@ fn long_texts() {
             let mut line = text.split_off(21);
             line.resize(length, b')');
             let case = draw(Source::Opened, seed, random.below(40) as u64).case;
-            let mut solver = solver_of(&case);
-            hold_line(&mut case.raw.clone(), &mut solver, &line, u64::MAX, page);
+            Both::new(case.raw).hold(&line, u64::MAX, page);
         }
     }
-}
-
-fn solver_of(case: &Case) -> Option<Solver> {
-    reading::read(&case.raw).map(|state| Solver::new(state, Options::paper()))
 }
 
 /// Up to so many variables every line that comes of a fault is affordable.
@@ -218,9 +245,10 @@ const SMALL: Shape =
 fn random_lines() {
     let (seed, page) = (seed(), &mut page());
     let mut said = std::collections::BTreeMap::<String, u64>::new();
+    let mut paged = said.clone();
     rounds(6_000, |index| {
         let random = &mut Random::new(seed ^ index.wrapping_mul(0x9E37_79B9) ^ 1);
-        let (mut raw, calls, small) = match index % 4 {
+        let (raw, calls, small) = match index % 4 {
             0 | 1 => {
                 let formula = SMALL.formula(Walk::Plain, random);
                 let calls = SMALL.calls(&formula, Walk::Plain, random);
@@ -229,7 +257,7 @@ fn random_lines() {
             2 => given(draw(Source::GivenStore, seed, index)),
             _ => given(draw(Source::Malformed, seed, index)),
         };
-        let mut solver = reading::read(&raw).map(|state| Solver::new(state, Options::paper()));
+        let mut both = Both::new(raw);
         let mut number = random.pick(&[0, 1, 5, 250, 4_294_967_295, u64::MAX - 100]);
         for call in calls {
             let mut line = texts::line(&narrowed(call));
@@ -237,11 +265,15 @@ fn random_lines() {
                 texts::spoil(&mut line, random);
             }
             number += 1;
-            let answer = hold_line(&mut raw, &mut solver, &line, number, page);
+            let answer = both.hold(&line, number, page);
             *said.entry(kind(answer)).or_default() += 1;
+            let asked = format!("(page {})", random.pick(&[1, 1, 1, 2, 0, 3, 99_999]));
+            let answer = both.hold(asked.as_bytes(), number, page);
+            *paged.entry(kind(answer)).or_default() += 1;
         }
     });
-    println!("{said:?}");
+    println!("{said:?}, pages {paged:?}");
+    assert!(timed() || ["36", "written"].iter().all(|n| paged.contains_key(*n)));
     assert!(
         timed()
             || ["1", "3", "5", "6", "7", "8", "21", "22", "31", "written"]
@@ -288,9 +320,42 @@ fn short_pages() {
             assert_eq!(printed.is_some(), fits, "{length} bytes");
         }
         for line in lines {
-            let answered = Page::new(length).line(&case.raw, line, 7).unwrap();
+            let mut cards = Cards::none();
+            let before = cards.clone();
+            let answered = Page::new(length).line(&case.raw, line, 7, &mut cards).unwrap();
             assert_eq!(answered.text.is_some(), fits, "{length} bytes");
-            assert!(fits || answered.state == case.raw, "{length} bytes");
+            let kept = (cards.shown, cards.table()) == (before.shown, before.table());
+            assert!(fits || answered.state == case.raw && kept, "{length} bytes");
         }
     }
+}
+
+/// Whatever is handed in as the card answered last, a page is one of what it tells, or 36.
+#[test]
+fn cards_of_any_bytes() {
+    let (page, state) = (&mut page(), draw(Source::Opened, seed(), 3).case.raw);
+    let mut random = Random::new(seed());
+    let mut printed = 0;
+    rounds(3_000, |_| {
+        let any = [0, 1, 2, 22, 45, 3_000, 65_536, 65_537, 99_999, 100_000, usize::MAX];
+        let mut shown = || random.pick(&any);
+        let (size, lines, flags, number) = (shown(), shown(), shown().min(70), shown() % 100_000);
+        let refusal = random.pick(&[0, 0, 0, 21, 36]);
+        let mut table = vec![random.pick(&[0, 1, 2]); 65_536];
+        table[random.below(65_536)] = random.pick(&[0, 1, 2, 3, 255]);
+        let told = Shown { refusal, size, lines, flags };
+        let mut cards = Cards::of(told, &table);
+        let asked = format!("(page {number})");
+        let answered = page.line(&state, asked.as_bytes(), 9, &mut cards).unwrap();
+        let held = Card { table: &table[..size.min(65_536)], lines, flags };
+        let expected = match held.page(number, None) {
+            Ok(rows) if refusal == 0 => rows,
+            _ => b"(refused 36 9)\n".to_vec(),
+        };
+        printed += u64::from(expected.len() > 20);
+        assert!(answered.text == Some(expected), "{told:?} {asked}");
+        assert!((cards.shown, cards.table()) == (told, &table[..]), "{told:?} {asked}");
+        assert!(answered.state == state);
+    });
+    assert!(timed() || printed > 100, "only {printed} pages");
 }

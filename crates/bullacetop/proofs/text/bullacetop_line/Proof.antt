@@ -1,4 +1,4 @@
--- `bullacetop::text::bullacetop_line` meets its contract: it is `serve::serve_line`'s.
+-- `bullacetop::text::bullacetop_line` meets its contract: it is `session_line::serve_line`'s.
 use borrow.Author.Needs.{needs}
 use Rattle.bullacetop.proofs.text.bullacetop_line.Statement.{statement}
 use Rattle.bullacetop.proofs.text.bullacetop_line.Tie as tie

@@ -2,6 +2,7 @@
 use borrow.Author.Needs.{needs}
 use Rattle.serve.proofs.call.no_call.Statement.{statement}
 use Rattle.serve.proofs.call.no_call.Tie as tie
+use mathlib.Core.Path.{refl}
 use mathlib.Core.Option.{none}
 use Rattle.serve.proofs.Room.{turned}
 use Rattle.serve.proofs.Called.{none-served}
@@ -13,7 +14,9 @@ same-length : tie.Need-same-length
 same-length c = search needs
 
 returns : tie.Need-returns
-returns c = turned (c .before .before .before .before .before .args .x) none (c .before .before .before .before .before .args .line) (c .before .before .before .before .before .args .x) (c .before .before .refuse .ensures) (λ u e. none-served (c .before .before .before .before .before .args .x) (c .before .before .before .before .before .args .line) u e)
+returns c = λ t.
+    let args = c .before .before .before .before .before .args in
+    turned (args .x) none (args .line) (args .x) (args .shown) (args .shown) (c .before .before .refuse .ensures) (λ u e. none-served (args .x) (args .line) u e) t t refl
 
 pub no-call-spec : {M : Type 1} → statement M
 no-call-spec = tie.close (tie.spec refuse-requires same-length returns)

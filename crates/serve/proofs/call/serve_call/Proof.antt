@@ -24,7 +24,7 @@ enum-known-call-3 : tie.Need-enum-known-call-3
 enum-known-call-3 c = search needs
 
 serve-card-requires : tie.Need-serve-card-requires
-serve-card-requires c κs = (subst Small (c .before .before .call3 .given .1) (c .before .before .before .before .before .pre .0), omega (arith, c .before .before .before .before .before .pre .1 .1))
+serve-card-requires c κs = (subst Small (c .before .before .before .call3 .given .1) (c .before .before .before .before .before .before .pre .0), omega (arith, c .before .before .before .before .before .before .pre .1 .1))
 
 enum-told : tie.Need-enum-told
 enum-told c = search needs
@@ -42,31 +42,41 @@ same-length : tie.Need-same-length
 same-length c = search needs
 
 returns : tie.Need-returns
-returns c = λ o h. called-rule (now (c .before .before .before .before .before .before .before .before .args .lits)) (c .before .before .before .before .before .before .before .before .args .call) o h (c .before .before .before .before .before .call .given .0 .0) (c .before .before .before .before .before .call .given .1) (c .before .before .rule-of .ensures)
+returns c = λ o h.
+    let args = c .before .before .before .before .before .before .before .before .args in
+    called-rule (now (args .lits)) (args .call) o h (c .before .before .before .before .before .call .given .0 .0) (c .before .before .before .before .before .call .given .1) (λ ls k. c .before .before .rule-of .ensures ls k (now (args .cards)))
 
 same-length-2 : tie.Need-same-length-2
 same-length-2 c = search needs
 
 returns-2 : tie.Need-returns-2
-returns-2 c = λ o h. called-query (now (c .before .before .before .before .before .before .before .before .args .lits)) (c .before .before .before .before .before .before .before .before .args .call) o h (c .before .before .before .before .before .call2 .given .0 .0) (c .before .before .before .before .before .call2 .given .1) (c .before .before .query-of .ensures)
+returns-2 c = λ o h.
+    let args = c .before .before .before .before .before .before .before .before .args in
+    called-query (now (args .lits)) (args .call) o h (c .before .before .before .before .before .call2 .given .0 .0) (c .before .before .before .before .before .call2 .given .1) (λ ns k. c .before .before .query-of .ensures ns k (now (args .cards)))
 
 same-length-3 : tie.Need-same-length-3
 same-length-3 c = search needs
 
 returns-3 : tie.Need-returns-3
-returns-3 c = λ o h. called-card (now (c .before .before .before .before .before .before .before .before .args .lits)) (c .before .before .before .before .before .before .before .before .args .call) o h (c .before .before .before .before .before .call3 .given .0 .0) (c .before .before .before .before .before .call3 .given .1) (c .before .before .serve-card .ensures)
+returns-3 c = λ o h.
+    let args = c .before .before .before .before .before .before .before .before .before .args in
+    called-card (now (args .lits)) (args .call) o h (c .before .before .before .before .before .before .call3 .given .0 .0) (c .before .before .before .before .before .before .call3 .given .1) (c .before .before .serve-card .ensures (args .shown) (now (args .cards)))
 
 same-length-4 : tie.Need-same-length-4
 same-length-4 c = search needs
 
 returns-4 : tie.Need-returns-4
-returns-4 c = λ o h. called-forget (now (c .before .before .before .before .before .before .before .args .lits)) (c .before .before .before .before .before .before .before .args .call) o h (c .before .before .before .before .enum-told .given .1) (c .before .before .serve-forget .ensures)
+returns-4 c = λ o h.
+    let args = c .before .before .before .before .before .before .before .args in
+    called-forget (now (args .lits)) (args .call) o h (c .before .before .before .before .enum-told .given .1) (c .before .before .serve-forget .ensures (now (args .cards)))
 
 same-length-5 : tie.Need-same-length-5
 same-length-5 c = search needs
 
 returns-5 : tie.Need-returns-5
-returns-5 c = λ o h. called-none (now (c .before .before .before .before .before .before .before .args .lits)) (c .before .before .before .before .before .before .before .args .call) o h (c .before .before .before .before .enum-told2 .given .1) (c .before .before .no-call .ensures)
+returns-5 c = λ o h.
+    let args = c .before .before .before .before .before .before .before .args in
+    called-none (now (args .lits)) (args .call) o h (c .before .before .before .before .enum-told2 .given .1) (c .before .before .no-call .ensures (now (args .cards)))
 
 pub serve-call-spec : {M : Type 1} → statement M
 serve-call-spec =

@@ -18,18 +18,15 @@ slice-aggregate-serve-call c = search needs
 
 serve-call-requires : tie.Need-serve-call-requires
 serve-call-requires c κs =
-    let args = c .before .before .before .before .before .before .before .args in
-    let read-call = c .before .before .before .read-call in
+    let args = c .before .before .before .before .before .before .before .before .args in
+    let read-call = c .before .before .before .before .read-call in
     (small-call (now (args .line)) (read-call .result) (read-call .last .1 .0) (read-call .ensures), (search needs, omega arith))
 
 same-length : tie.Need-same-length
 same-length c = search needs
 
 returns : tie.Need-returns
-returns c =
-    let args = c .before .before .before .before .before .before .before .before .before .before .args in
-    let read-call = c .before .before .before .before .before .before .read-call in
-    c .before .before .serve-call .ensures (callOf (now (args .line))) (read-call .ensures)
+returns c = c .before .before .serve-call .ensures (callOf (now (c .before .before .before .before .before .before .before .before .before .before .before .args .line))) (c .before .before .before .before .before .before .before .read-call .ensures)
 
 pub serve-made-spec : {M : Type 1} → statement M
 serve-made-spec =

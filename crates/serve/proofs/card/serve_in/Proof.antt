@@ -4,21 +4,27 @@ use Rattle.serve.proofs.card.serve_in.Statement.{statement}
 use Rattle.serve.proofs.card.serve_in.Tie as tie
 use native.Mathlib.Omega.{arith}
 use mathlib.Core.Path.{_≡_, _∙_, ap}
+use mathlib.Core.List.{_++_}
 use mathlib.Core.Option.{some}
 use denote.Ref.{now}
 use lib.ListN.{length}
 use Rattle.qbf.specs.Calls.{card}
 use Rattle.state.specs.Reading.{readState}
 use Rattle.answers.specs.Answers.{cardSaid}
+use Rattle.serve.specs.Shown.{cardIn}
 use Rattle.serve.specs.Line.{lineAnswer}
 use Rattle.serve.proofs.Room.{turned}
 use Rattle.serve.proofs.CardTexts.{refused-served, shown-served, shown-said}
+use Rattle.serve.proofs.LastCard.{card-left}
 
 card-requires : tie.Need-card-requires
 card-requires c κs = search needs
 
 refusal-of-requires : tie.Need-refusal-of-requires
 refusal-of-requires c κs = search needs
+
+card-of-requires : tie.Need-card-of-requires
+card-of-requires c κs = search needs
 
 put-card-refusal-requires : tie.Need-put-card-refusal-requires
 put-card-refusal-requires c κs = search needs
@@ -30,21 +36,30 @@ same-length-2 : tie.Need-same-length-2
 same-length-2 c = search needs
 
 returns : tie.Need-returns
-returns c =
-    turned (c .before .before .before .before .before .before .before .before .before .before .before .before .before .args .x) (some (card (length (now (c .before .before .before .before .before .before .before .before .before .before .before .before .before .args .table))))) (c .before .before .before .before .before .before .before .before .before .before .before .before .before .args .line) (c .before .before .before .before .before .before .before .before .before .card .result .state) (c .before .before .put-card-refusal .ensures)
-    (λ u e. refused-served (c .before .before .before .before .before .before .before .before .before .before .before .before .before .args .x) (length (now (c .before .before .before .before .before .before .before .before .before .before .before .before .before .args .table))) (c .before .before .before .before .before .before .before .before .before .before .before .before .before .args .line) (c .before .before .before .before .before .refusal-of .result) (c .before .before .before .before .before .before .before .before .before .card .result .printed) (c .before .before .before .before .before .before .before .before .before .card .result .visits) (c .before .before .before .before .before .before .before .before .before .card .last .1 .0) (c .before .before .before .before .before .before .before .before .before .card .result .state) u (c .before .before .before .before .before .before .before .before .before .card .ensures) (c .before .before .before .before .before .refusal-of .ensures) (c .before .before .before .before .if1 .taken) e)
+returns c = λ s t after.
+    let args = c .before .before .before .before .before .before .before .before .before .before .before .before .before .before .args in
+    let size = length (now (c .before .before .before .before .before .before .before .before .before .before .before .before .before .before .args .table)) in
+    let made = c .before .before .before .before .before .before .before .before .before .before .card in
+    turned (args .x) (some (card size)) (args .line) (made .result .state) s (c .before .before .before .before .before .card-of .result) (c .before .before .put-card-refusal .ensures)
+    (λ u e. refused-served (args .x) size (args .line) (c .before .before .before .before .before .before .refusal-of .result) (made .result .printed) (made .result .visits) (made .last .1 .0) (made .result .state) u (made .ensures) (c .before .before .before .before .before .before .refusal-of .ensures) (c .before .before .before .before .if1 .taken) e)
+    t (made .last .1 .0 ++ after)
+    (card-left (args .x) size (made .result .printed) (made .result .visits) (made .last .1 .0) (made .result .state) (made .ensures) (c .before .before .before .before .before .card-of .result) (c .before .before .before .before .before .card-of .ensures) after (cardIn s t))
 
 lines-of-requires : tie.Need-lines-of-requires
 lines-of-requires c κs = search needs
 
 put-shown-requires : tie.Need-put-shown-requires
-put-shown-requires c κs = (
-  (let q : length (c .before .before .before .before .before .before .before .before .card .last .1 .0) ≡ length (now (c .before .before .before .before .before .before .before .before .before .before .before .before .args .table)) = search needs in omega (arith, q, c .before .before .before .before .before .before .before .before .before .before .before .before .pre .0)),
-  (
-    shown-said (c .before .before .before .before .before .before .before .before .before .before .before .before .args .x) (length (now (c .before .before .before .before .before .before .before .before .before .before .before .before .args .table))) (c .before .before .before .before .refusal-of .result) (c .before .before .lines-of .result) (c .before .before .before .before .before .before .before .before .card .result .printed) (c .before .before .before .before .before .before .before .before .card .result .visits) (c .before .before .before .before .before .before .before .before .card .last .1 .0) (c .before .before .before .before .before .before .before .before .card .result .state) (search needs) (c .before .before .before .before .before .before .before .before .card .ensures) (c .before .before .before .before .refusal-of .ensures) (c .before .before .before .if1 .left) (c .before .before .lines-of .ensures),
-    omega arith,
-  ),
-)
+put-shown-requires c κs =
+    let args = c .before .before .before .before .before .before .before .before .before .before .before .before .before .args in
+    let size = length (now (c .before .before .before .before .before .before .before .before .before .before .before .before .before .args .table)) in
+    let made = c .before .before .before .before .before .before .before .before .before .card in
+    let long : length (c .before .before .before .before .before .before .before .before .before .card .last .1 .0) ≡ length (now (c .before .before .before .before .before .before .before .before .before .before .before .before .before .args .table)) = search needs in (
+      omega (arith, long, c .before .before .before .before .before .before .before .before .before .before .before .before .before .pre .0),
+      (
+        shown-said (args .x) size (c .before .before .before .before .before .refusal-of .result) (c .before .before .lines-of .result) (made .result .printed) (made .result .visits) (made .last .1 .0) (made .result .state) long (made .ensures) (c .before .before .before .before .before .refusal-of .ensures) (c .before .before .before .if1 .left) (c .before .before .lines-of .ensures),
+        c .before .before .before .before .before .before .before .before .before .before .before .before .before .pre .1,
+      ),
+    )
 
 same-length-3 : tie.Need-same-length-3
 same-length-3 c = search needs
@@ -53,9 +68,15 @@ same-length-4 : tie.Need-same-length-4
 same-length-4 c = search needs
 
 returns-2 : tie.Need-returns-2
-returns-2 c =
-    turned (c .before .before .before .before .before .before .before .before .before .before .before .before .before .before .before .args .x) (some (card (length (now (c .before .before .before .before .before .before .before .before .before .before .before .before .before .before .before .args .table))))) (c .before .before .before .before .before .before .before .before .before .before .before .before .before .before .before .args .line) (c .before .before .before .before .before .before .before .before .before .before .before .card .result .state) (c .before .before .put-shown .ensures (c .before .before .before .before .before .before .before .before .before .before .before .before .before .before .before .args .line))
-    (λ u e. shown-served (c .before .before .before .before .before .before .before .before .before .before .before .before .before .before .before .args .x) (length (now (c .before .before .before .before .before .before .before .before .before .before .before .before .before .before .before .args .table))) (c .before .before .before .before .before .before .before .before .before .before .before .before .before .before .before .args .line) (cardSaid (c .before .before .before .before .before .before .before .before .before .before .before .card .result .printed) (c .before .before .before .before .before .before .before .before .before .before .before .card .result .visits) (c .before .before .before .before .before .before .before .before .before .before .before .card .last .1 .0)) (c .before .before .before .before .before .before .before .before .before .before .before .card .result .state) u (c .before .before .before .before .before .before .before .before .before .before .before .card .ensures) (e ∙ ap (λ m. lineAnswer (readState (c .before .before .before .before .before .before .before .before .before .before .before .before .before .before .before .args .x)) (c .before .before .before .before .before .before .before .before .before .before .before .before .before .before .before .args .line) (some (card m))) (let q : length (c .before .before .before .before .before .before .before .before .before .before .before .card .last .1 .0) ≡ length (now (c .before .before .before .before .before .before .before .before .before .before .before .before .before .before .before .args .table)) = search needs in q)))
+returns-2 c = λ s t after.
+    let args = c .before .before .before .before .before .before .before .before .before .before .before .before .before .before .before .before .args in
+    let size = length (now (c .before .before .before .before .before .before .before .before .before .before .before .before .before .before .before .before .args .table)) in
+    let made = c .before .before .before .before .before .before .before .before .before .before .before .before .card in
+    let long : length (c .before .before .before .before .before .before .before .before .before .before .before .before .card .last .1 .0) ≡ length (now (c .before .before .before .before .before .before .before .before .before .before .before .before .before .before .before .before .args .table)) = search needs in
+    turned (args .x) (some (card size)) (args .line) (made .result .state) s (c .before .before .before .before .before .before .before .card-of .result) (c .before .before .put-shown .ensures (args .line))
+    (λ u e. shown-served (args .x) size (args .line) (cardSaid (made .result .printed) (made .result .visits) (made .last .1 .0)) (made .result .state) u (made .ensures) (e ∙ ap (λ m. lineAnswer (readState (args .x)) (args .line) (some (card m))) long))
+    t (made .last .1 .0 ++ after)
+    (card-left (args .x) size (made .result .printed) (made .result .visits) (made .last .1 .0) (made .result .state) (made .ensures) (c .before .before .before .before .before .before .before .card-of .result) (c .before .before .before .before .before .before .before .card-of .ensures) after (cardIn s t))
 
 pub serve-in-spec : {M : Type 1} → statement M
 serve-in-spec =
@@ -63,6 +84,7 @@ serve-in-spec =
     (tie.spec
     card-requires
     refusal-of-requires
+    card-of-requires
     put-card-refusal-requires
     same-length
     same-length-2

@@ -4,7 +4,7 @@ use Rattle.serve.proofs.card.serve_part.Statement.{statement}
 use Rattle.serve.proofs.card.serve_part.Tie as tie
 use native.Mathlib.Omega.{arith}
 use denote.Ref.{now}
-use lib.ListN.{length, take, length-take}
+use lib.ListN.{length, take, drop, length-take}
 use Rattle.serve.proofs.Room.{card-sized}
 
 slice-relend-prefix-serve-in : tie.Need-slice-relend-prefix-serve-in
@@ -14,7 +14,7 @@ slice-aggregate-serve-in : tie.Need-slice-aggregate-serve-in
 slice-aggregate-serve-in c = simp length-take (omega arith)
 
 serve-in-requires : tie.Need-serve-in-requires
-serve-in-requires c κs = (omega (arith, length-take (c .before .before .before .before .args .size) (now (c .before .before .before .before .args .table)), c .before .before .before .before .pre .0 .0), omega arith)
+serve-in-requires c κs = (omega (arith, length-take (c .before .before .before .before .args .size) (now (c .before .before .before .before .args .cards)), c .before .before .before .before .pre .0 .0), omega arith)
 
 same-length : tie.Need-same-length
 same-length c = search needs
@@ -23,7 +23,9 @@ same-length-2 : tie.Need-same-length-2
 same-length-2 c = search needs
 
 returns : tie.Need-returns
-returns c = card-sized (length (take (c .before .before .before .before .before .before .before .before .before .args .size) (now (c .before .before .before .before .before .before .before .before .before .args .table)))) (c .before .before .before .before .before .before .before .before .before .args .size) (omega (arith, length-take (c .before .before .before .before .before .before .before .before .before .args .size) (now (c .before .before .before .before .before .before .before .before .before .args .table)), c .before .before .before .before .before .before .before .before .before .pre .0 .1)) (c .before .before .before .before .serve-in .ensures)
+returns c = λ s t.
+    let args = c .before .before .before .before .before .before .before .before .before .args in
+    card-sized (length (take (args .size) (now (args .cards)))) (args .size) (omega (arith, length-take (args .size) (now (args .cards)), c .before .before .before .before .before .before .before .before .before .pre .0 .1)) (c .before .before .before .before .serve-in .ensures s t (drop (args .size) (now (args .cards))))
 
 pub serve-part-spec : {M : Type 1} → statement M
 serve-part-spec =

@@ -2,7 +2,7 @@
 use borrow.Author.Needs.{needs}
 use Rattle.serve.proofs.change.serve_forget.Statement.{statement}
 use Rattle.serve.proofs.change.serve_forget.Tie as tie
-use mathlib.Core.Path.{_∙_, ap}
+use mathlib.Core.Path.{refl, _∙_, ap}
 use mathlib.Core.Option.{some}
 use Rattle.qbf.specs.Calls.{forget}
 use Rattle.layout.specs.Output.{forgottenText}
@@ -26,7 +26,12 @@ same-length : tie.Need-same-length
 same-length c = search needs
 
 returns : tie.Need-returns
-returns c = turned (c .before .before .before .before .before .before .before .before .before .args .x) (some forget) (c .before .before .before .before .before .before .before .before .before .args .line) (c .before .before .before .before .before .before .before .forget .result .state) (c .before .before .put-change .ensures) (λ u e. change-served (c .before .before .before .before .before .before .before .before .before .args .x) forget (c .before .before .before .before .before .before .before .before .before .args .line) (c .before .before .before .before .before .before .before .forget .result .change) (c .before .before .before .before .before .before .before .forget .result .state) u forget-changing (c .before .before .before .before .before .before .before .forget .ensures) (e ∙ ap (λ k. changeText forgottenText k (c .before .before .before .before .before .before .before .before .before .args .line)) (c .before .before .before .before .before .refusal-of .ensures)))
+returns c = λ t.
+    let args = c .before .before .before .before .before .before .before .before .before .args in
+    let made = c .before .before .before .before .before .before .before .forget in
+    turned (args .x) (some forget) (args .line) (made .result .state) (args .shown) (args .shown) (c .before .before .put-change .ensures)
+    (λ u e. change-served (args .x) forget (args .line) (made .result .change) (made .result .state) u forget-changing (made .ensures) (e ∙ ap (λ k. changeText forgottenText k (args .line)) (c .before .before .before .before .before .refusal-of .ensures)))
+    t t refl
 
 pub serve-forget-spec : {M : Type 1} → statement M
 serve-forget-spec =

@@ -7,8 +7,10 @@ use mathlib.Core.Option.{some}
 use denote.Ref.{now}
 use Rattle.qbf.specs.Calls.{rule}
 use Rattle.layout.specs.Output.{acceptedText}
+use Rattle.state.specs.Reading.{readState}
 use Rattle.serve.specs.Texts.{changeText}
 use Rattle.serve.proofs.Answered.{rule-changing, change-served}
+use Rattle.serve.proofs.LastCard.{rule-leaves}
 use Rattle.serve.proofs.Room.{turned}
 
 rule-requires : tie.Need-rule-requires
@@ -23,11 +25,20 @@ slice-aggregate-put-change c = search needs
 put-change-requires : tie.Need-put-change-requires
 put-change-requires c κs = search needs
 
+after-rule-requires : tie.Need-after-rule-requires
+after-rule-requires c κs = search needs
+
 same-length : tie.Need-same-length
 same-length c = search needs
 
 returns : tie.Need-returns
-returns c = turned (c .before .before .before .before .before .before .before .before .before .args .x) (some (rule (now (c .before .before .before .before .before .before .before .before .before .args .lits)))) (c .before .before .before .before .before .before .before .before .before .args .line) (c .before .before .before .before .before .before .before .rule .result .state) (c .before .before .put-change .ensures) (λ u e. change-served (c .before .before .before .before .before .before .before .before .before .args .x) (rule (now (c .before .before .before .before .before .before .before .before .before .args .lits))) (c .before .before .before .before .before .before .before .before .before .args .line) (c .before .before .before .before .before .before .before .rule .result .change) (c .before .before .before .before .before .before .before .rule .result .state) u (rule-changing (now (c .before .before .before .before .before .before .before .before .before .args .lits))) (c .before .before .before .before .before .before .before .rule .ensures) (e ∙ ap (λ k. changeText acceptedText k (c .before .before .before .before .before .before .before .before .before .args .line)) (c .before .before .before .before .before .refusal-of .ensures)))
+returns c = λ t.
+    let args = c .before .before .before .before .before .before .before .before .before .before .args in
+    let made = c .before .before .before .before .before .before .before .before .rule in
+    let told = c .before .before .before .before .before .before .refusal-of in
+    turned (args .x) (some (rule (now (args .lits)))) (args .line) (made .result .state) (args .shown) (c .after-rule .result) (c .before .before .before .put-change .ensures)
+    (λ u e. change-served (args .x) (rule (now (args .lits))) (args .line) (made .result .change) (made .result .state) u (rule-changing (now (args .lits))) (made .ensures) (e ∙ ap (λ k. changeText acceptedText k (args .line)) (told .ensures)))
+    t t (rule-leaves (args .x) (rule (now (args .lits))) (made .result .change) (made .result .state) (args .shown) (told .result) (rule-changing (now (args .lits)) (readState (args .x))) (made .ensures) (told .ensures) (c .after-rule .result) (c .after-rule .ensures) t)
 
 pub serve-rule-spec : {M : Type 1} → statement M
 serve-rule-spec =
@@ -37,5 +48,6 @@ serve-rule-spec =
     refusal-of-requires
     slice-aggregate-put-change
     put-change-requires
+    after-rule-requires
     same-length
     returns)

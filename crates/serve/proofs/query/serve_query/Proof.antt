@@ -2,6 +2,7 @@
 use borrow.Author.Needs.{needs}
 use Rattle.serve.proofs.query.serve_query.Statement.{statement}
 use Rattle.serve.proofs.query.serve_query.Tie as tie
+use mathlib.Core.Path.{refl}
 use mathlib.Core.Option.{some}
 use denote.Ref.{now}
 use Rattle.qbf.specs.Calls.{query}
@@ -18,7 +19,12 @@ same-length : tie.Need-same-length
 same-length c = search needs
 
 returns : tie.Need-returns
-returns c = turned (c .before .before .before .before .before .before .before .args .x) (some (query (now (c .before .before .before .before .before .before .before .args .on)))) (c .before .before .before .before .before .before .before .args .line) (c .before .before .before .before .before .query .result .state) (c .before .before .put-ruling .ensures) (λ u e. query-answered (c .before .before .before .before .before .before .before .args .x) (now (c .before .before .before .before .before .before .before .args .on)) (c .before .before .before .before .before .before .before .args .line) (c .before .before .before .before .before .query .result .ruling) (c .before .before .before .before .before .query .result .visits) (c .before .before .before .before .before .query .result .state) u (c .before .before .before .before .before .query .ensures) e)
+returns c = λ t.
+    let args = c .before .before .before .before .before .before .before .args in
+    let asked = c .before .before .before .before .before .query in
+    turned (args .x) (some (query (now (args .on)))) (args .line) (asked .result .state) (args .shown) (args .shown) (c .before .before .put-ruling .ensures)
+    (λ u e. query-answered (args .x) (now (args .on)) (args .line) (asked .result .ruling) (asked .result .visits) (asked .result .state) u (asked .ensures) e)
+    t t refl
 
 pub serve-query-spec : {M : Type 1} → statement M
 serve-query-spec = tie.close (tie.spec query-requires put-ruling-requires same-length returns)

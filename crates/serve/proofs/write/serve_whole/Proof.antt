@@ -15,7 +15,7 @@ same-length c = search needs
 returns : tie.Need-returns
 returns c =
     let args = c .before .before .before .before .before .args in
-    whole-turned (args .x) _ (args .line) _ _ (sym paper-longest) (c .before .before .serve-write .ensures)
+    whole-turned (args .x) _ (args .line) (args .shown) _ _ (sym paper-longest) (c .before .before .serve-write .ensures)
 
 pub serve-whole-spec : {M : Type 1} → statement M
 serve-whole-spec = tie.close (tie.spec serve-write-requires same-length returns)

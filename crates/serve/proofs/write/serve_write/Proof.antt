@@ -33,7 +33,7 @@ returns c =
     let args = start .args in
     let write-book = c .before .before .before .before .before .before .before .before .write-book in
     let if1 = c .before .before .before .before .if1 in
-    write-refused (args .x) (args .size) (args .line) (write-book .result .refusal) (asked (start)) (write-book .ensures) (if1 .taken) (c .before .before .refuse .ensures)
+    write-refused (args .x) (args .size) (args .line) (args .shown) (write-book .result .refusal) (asked (start)) (write-book .ensures) (if1 .taken) (c .before .before .refuse .ensures)
 
 same-length-2 : tie.Need-same-length-2
 same-length-2 c = search needs
@@ -43,7 +43,7 @@ returns-2 c =
     let start = c .before .before .before .before .before .before .before in
     let args = start .args in
     let write-book = c .before .before .before .before .write-book in
-    write-shown (args .x) (args .size) (args .line) (write-book .result .refusal) (c .if1 .left) (asked (start)) _ (write-book .ensures)
+    write-shown (args .x) (args .size) (args .line) (args .shown) (write-book .result .refusal) (c .if1 .left) (asked (start)) _ (write-book .ensures)
 
 pub serve-write-spec : {M : Type 1} → statement M
 serve-write-spec =

@@ -7,10 +7,13 @@ use borrow.Author.Needs.{needs}
 use lib.ListN.{length}
 
 abbrev Inv-loop : tie.InvT-loop
-Inv-loop text₀ answer₀ x₀ s₀ turns₀ text answer x s turns = (s .at ≤ s .held) × (s .held ≤ length text) × (length text ≡ length text₀) × (length answer ≡ length answer₀)
+Inv-loop text₀ cards₀ answer₀ x₀ s₀ shown₀ turns₀ text cards answer x s shown turns = (s .at ≤ s .held) × (s .held ≤ length text) × (length text ≡ length text₀) × (length answer ≡ length answer₀)
 
 abbrev μ-loop : tie.MeasureT-loop
-μ-loop text₀ answer₀ x₀ s₀ turns₀ text answer x s turns = turns
+μ-loop text₀ cards₀ answer₀ x₀ s₀ shown₀ turns₀ text cards answer x s shown turns = turns
+
+no-card-requires : tie.Need-no-card-requires Inv-loop μ-loop
+no-card-requires c κs = search needs
 
 loop-holds : tie.Need-loop-holds Inv-loop μ-loop
 loop-holds c = search needs
@@ -45,6 +48,7 @@ serve-all-spec =
     (tie.spec
     Inv-loop
     μ-loop
+    no-card-requires
     loop-holds
     serve-turn-requires
     turns-left-requires

@@ -1,0 +1,103 @@
+-- What becomes of the card answered last, from what a call's contract says in numbers.
+use Prim.Native.Nat.{ℕ, zero, suc}
+use mathlib.Core.Path.{_≡_, refl, sym, ap, _∙_}
+use mathlib.Core.Logic.{_⊎_, inl, inr}
+use mathlib.Core.Bool.{Bool, true, false, cond}
+use mathlib.Core.List.{[], _++_}
+use mathlib.Core.Option.{Option, none, some}
+use lib.ListN.{length, take}
+use borrow.Author.Tests.{ne-eqb}
+use lib.Seq.{take-all, take-append-le}
+use native.Mathlib.Omega.{arith}
+use lib.Dec.{eqb}
+use Rattle.qbf.specs.Truth.{freeVariables}
+use Rattle.qbf.specs.Card.{tableOf}
+use Rattle.qbf.specs.Calls.{Call, card, Reply, done, refused, swap, keep, lines, cardRefused, Answer, State as Read, wellFormed}
+use Rattle.layout.specs.Words.{Bytes}
+use Rattle.sessions.specs.Session.{Card, cardOf, cardAfterRule}
+use Rattle.state.specs.declared.State.{State}
+use Rattle.state.specs.Reading.{readState, valid, wellFormedRead, prefixIn}
+use Rattle.state.proofs.Valid.{valid-facts, valid-numbers, valid-quantified}
+use Rattle.serving.specs.Serves.{Said, said, saidReply, number, outOf, Serves}
+use Rattle.rules.specs.Rules.{changeSaid}
+use Rattle.rules.specs.declared.Change.{Change}
+use Rattle.answers.specs.Answers.{cardSaid}
+use Rattle.answers.specs.declared.Printed.{Printed}
+use Rattle.answers.proofs.Told.{card-said}
+use Rattle.serve.specs.declared.shown.Shown.{Shown}
+use Rattle.serve.specs.Shown.{cardIn, noCard, CardTold}
+use Rattle.serve.specs.Line.{prefixRead, lineCard}
+use Rattle.serve.proofs.Answered.{Changing}
+use Rattle.serve.proofs.FreeLines.{cardLines}
+use Rattle.serve.proofs.CardTexts.{Listed, Refused, card-cases, said-by}
+
+-- a refusal has a number
+some-number : (n : ℕ) → eqb (suc n) 0 ≡ false
+some-number n = ne-eqb (suc n) 0 (λ e. omega (arith, e))
+
+-- ---- a rule
+rule-left : (s : Shown) (t : Bytes) (r : Reply) (k : ℕ) → Changing r → cardIn (cond (eqb (number (saidReply r k .refusal)) 0) noCard s) t ≡ cardAfterRule r (cardIn s t)
+rule-left s t done k h = refl
+rule-left s t (refused zero) k h = absurd h
+rule-left s t (refused (suc n)) k h = ap (λ (b : Bool). cardIn (cond b noCard s) t) (some-number n)
+rule-left s t swap k h = absurd h
+rule-left s t keep k h = absurd h
+rule-left s t (lines ls tb) k h = absurd h
+rule-left s t (cardRefused n tb) k h = absurd h
+
+-- from the contract of the call and the number of its refusal
+pub rule-leaves : (x : State) (c : Call) (ch : Change) (x′ : State) (s : Shown) (n : ℕ) → Changing (outOf (readState x) c .reply) → Serves x c (changeSaid ch) x′ → n ≡ number (changeSaid ch .refusal)
+    → (r : Shown) → r ≡ cond (eqb n 0) noCard s → (t : Bytes) → cardIn r t ≡ cardAfterRule (outOf (readState x) c .reply) (cardIn s t)
+rule-leaves x c ch x′ s n h w e r is t =
+    ap (λ (z : Shown). cardIn z t) (is ∙ ap (λ (k : ℕ). cond (eqb k 0) noCard s) (e ∙ ap (λ (q : Said). number (q .refusal)) (w .answered)))
+    ∙ rule-left s t (outOf (readState x) c .reply) (outOf (readState x) c .visits) h
+
+-- ---- a card
+readable : (x : State) (y : Read) → readState x ≡ some y → wellFormed y ≡ true → valid x ≡ true
+unfolding valid
+readable x y i g = ap wellFormedRead i ∙ g
+
+module _ (x : State) (size : ℕ) (p : Printed) (k : ℕ) (tb : Bytes) (x′ : State) (w : Serves x (card size) (cardSaid p k tb) x′) (r : Shown) (told : CardTold x p (length tb) r) (after : Bytes) where
+  abbrev a : Answer
+  a = outOf (readState x) (card size)
+
+  said-is : (reply : Reply) → a .reply ≡ reply → said (cardSaid p 0 [] .refusal) 0 (cardSaid p 0 [] .lines) k tb ≡ saidReply reply (a .visits)
+  said-is reply z = sym (card-said p k tb) ∙ w .answered ∙ said-by a reply z
+
+  front : take (r .size) (tb ++ after) ≡ tb
+  front = take-append-le (r .size) tb after (omega (arith, told .size)) ∙ take-all (r .size) tb (omega (arith, told .size))
+
+  -- the card that the table shows is the answer's
+  pub card-left : (z : Option Card) → cardIn r (tb ++ after) ≡ lineCard (readState x) (some (card size)) z
+  card-left z = by (card-cases size (readState x))
+    where
+      held : Option Card
+      held = some (record { table = take (r .size) (tb ++ after); lines = r .lines; free = r .free })
+
+      by : Refused size (a .reply) ⊎ ((y : Read) × (readState x ≡ some y) × (wellFormed y ≡ true) × Listed size y (a .reply)) → cardIn r (tb ++ after) ≡ cardOf (prefixRead (readState x)) (a .reply)
+      by (inl (m, tb′, e)) =
+          let q = said-is (cardRefused (suc m) tb′) e in
+          ap (λ (n : ℕ). cond (eqb n 0) held none) (told .refusal ∙ ap (λ (v : Said). number (v .refusal)) q)
+          ∙ ap (λ (b : Bool). cond b held none) (some-number m)
+          ∙ sym (ap (cardOf (prefixRead (readState x))) e)
+      by (inr (y, i, g, l)) =
+          (λ j. cond (eqb (refusal j) 0) (some (record { table = table j; lines = count j; free = free j })) none)
+          ∙ sym (ap (cardOf (prefixRead (readState x))) (l .0))
+        where
+          q : said (cardSaid p 0 [] .refusal) 0 (cardSaid p 0 [] .lines) k tb ≡ said none 0 (length (cardLines y)) (a .visits) (tableOf (freeVariables (y .formula .prefix)) size (cardLines y))
+          q = said-is (lines (cardLines y) (tableOf (freeVariables (y .formula .prefix)) size (cardLines y))) (l .0)
+
+          refusal : r .refusal ≡ 0
+          refusal = told .refusal ∙ ap (λ (v : Said). number (v .refusal)) q
+
+          table : take (r .size) (tb ++ after) ≡ tableOf (freeVariables (y .formula .prefix)) size (cardLines y)
+          table = front ∙ ap (λ (v : Said). v .table) q
+
+          count : r .lines ≡ length (cardLines y)
+          count = told .lines ∙ ap (λ (v : Said). v .lines) q
+
+          is-valid : valid x ≡ true
+          is-valid = readable x y i g
+
+          free : r .free ≡ freeVariables (prefixRead (readState x))
+          free = told .free (prefixIn x) (valid-numbers x is-valid) (valid-quantified x is-valid) ∙ ap (λ (o : Option Read). freeVariables (prefixRead o)) (sym (valid-facts x is-valid .read))

@@ -1,0 +1,26 @@
+-- `serve::shown::card_of` meets its contract.
+use borrow.Author.Needs.{needs}
+use Rattle.serve.proofs.shown.card_of.Statement.{statement}
+use Rattle.serve.proofs.shown.card_of.Tie as tie
+use mathlib.Core.Path.{refl}
+
+free-count-requires : tie.Need-free-count-requires
+free-count-requires c κs = search needs
+
+refusal-of-requires : tie.Need-refusal-of-requires
+refusal-of-requires c κs = search needs
+
+lines-of-requires : tie.Need-lines-of-requires
+lines-of-requires c κs = search needs
+
+returns : tie.Need-returns
+returns c = record { refusal = c .before .refusal-of .ensures; size = refl; lines = c .lines-of .ensures; free = c .before .before .free-count .ensures }
+
+pub card-of-spec : {M : Type 1} → statement M
+card-of-spec =
+    tie.close
+    (tie.spec
+    free-count-requires
+    refusal-of-requires
+    lines-of-requires
+    returns)
