@@ -1,6 +1,6 @@
 pub mod Rows
 pub mod Loading
+pub mod Filling
 pub mod Coding
-pub mod Linking
 pub mod Matrix
 pub mod Unloading
