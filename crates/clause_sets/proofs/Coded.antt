@@ -18,8 +18,7 @@ use Rattle.theory.proofs.Game.{Rising, rising-above}
 use Rattle.theory.proofs.Shape.{Holds}
 use Rattle.theory.proofs.Stepwise.{endsAt, isAt, same-bool}
 use Rattle.tables.specs.Codes.{codeAt, codeOf, codes, lastFrom}
-use Rattle.tables.specs.Marks.{markedFrom}
-use Rattle.tables.specs.Sets.{hasCode}
+use Rattle.tables.specs.Sets.{hasCode, markedFrom}
 use Rattle.tables.specs.Shelves.{endsIn}
 
 -- ---- a code tells place and sign

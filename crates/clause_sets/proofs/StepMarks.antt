@@ -16,8 +16,7 @@ use Rattle.theory.proofs.Game.{Rising}
 use Rattle.theory.proofs.Implicants.{implicant-steps}
 use Rattle.theory.proofs.Leaves.{implicant-rising, implicant-true}
 use Rattle.tables.specs.Codes.{codes}
-use Rattle.tables.specs.Marks.{markedFrom}
-use Rattle.tables.specs.Sets.{MarkedSteps, newly}
+use Rattle.tables.specs.Sets.{MarkedSteps, markedFrom, newly}
 use Rattle.clause_sets.proofs.Coded.{marked-codes}
 
 module _ {D : Prefix} {R : List Clause} where

@@ -1,5 +1,5 @@
 -- The true literals of the marked places, place after place.
-use Prim.Native.Nat.{ℕ, _+_, _*_, _≤_, _<_}
+use Prim.Native.Nat.{ℕ, suc, _+_, _*_, _≤_, _<_}
 use native.Mathlib.Omega.{arith}
 use native.Mathlib.Numerals.{add-one}
 use mathlib.Core.Path.{_≡_, refl, sym, ap, _∙_}
@@ -7,15 +7,13 @@ use mathlib.Core.Bool.{Bool, true, false, cond}
 use mathlib.Core.List.{List, [], _∷_, _++_, append-nil}
 use mathlib.Core.Option.{some}
 use lib.ListN.{length, getD, take, set}
-use lib.Seq.{take-suc, take-suc-set, length-take-le, take-all, take-length}
+use lib.Seq.{take-suc, take-suc-set, length-take-le, take-all}
 use lib.Dec.{eqb}
 use borrow.Author.Tests.{ne-eqb}
-use Rattle.qbf.specs.Formula.{Clause, Node, Prefix, valueAt}
-use Rattle.qbf.specs.Learning.{implicant}
+use Rattle.qbf.specs.Formula.{Node, _▹_, valueAt}
 use Rattle.theory.proofs.Basics.{value-some}
-use Rattle.tables.specs.Codes.{codeAt, codes, Statuses, statusOf}
-use Rattle.tables.specs.Marks.{markedFrom, Marked}
-use Rattle.inner.proofs.Below.{marked-snoc}
+use Rattle.tables.specs.Codes.{codeAt, Statuses, statusOf}
+use Rattle.tables.specs.Sets.{markedFrom}
 
 -- ---- the code of the true literal of a place
 module _ (p : ℕ) {t : List ℕ} (s : Node) (b : Bool) (shown : Statuses s t) (value : valueAt s p ≡ some b) where
@@ -37,6 +35,19 @@ module _ (p : ℕ) {t : List ℕ} (s : Node) (b : Bool) (shown : Statuses s t) (
       by : (x : Bool) → (statusOf true (some x) ≡ 2 → ⊥) → p * 2 ≡ codeAt p x
       by true g = absurd (g refl)
       by false g = omega arith
+
+-- ---- one place more
+marked-snoc : (p : ℕ) (s : Node) (b : Bool) (marks : List ℕ)
+    → markedFrom p (s ▹ b) marks ≡ markedFrom p s marks ++ cond (eqb (getD marks (p + length s) 0) 1) (codeAt (p + length s) b ∷ []) []
+marked-snoc p [] b marks = let z : p ≡ p + 0 = omega arith in ap (λ (q : ℕ). cond (eqb (getD marks q 0) 1) (codeAt q b ∷ []) []) z
+marked-snoc p (x ∷ s) b marks =
+    let z : suc p + length s ≡ p + suc (length s) = omega arith in
+    by (eqb (getD marks p 0) 1) _ (rw z at (marked-snoc (suc p) s b marks))
+  where
+    by : (o : Bool) (end : List ℕ) → markedFrom (suc p) (s ▹ b) marks ≡ markedFrom (suc p) s marks ++ end
+        → cond o (codeAt p x ∷ markedFrom (suc p) (s ▹ b) marks) (markedFrom (suc p) (s ▹ b) marks) ≡ cond o (codeAt p x ∷ markedFrom (suc p) s marks) (markedFrom (suc p) s marks) ++ end
+    by true end e = ap (λ (cs : List ℕ). codeAt p x ∷ cs) e
+    by false end e = e
 
 -- ---- a code put behind the others where its place is marked
 module _ (up : List ℕ) (n mark code : ℕ) where
@@ -83,7 +94,3 @@ module _ {marks statuses : List ℕ} {at n i : ℕ} {up : List ℕ} (g : Gathere
   -- all of them
   pub gathered-all : at ≤ i → (s : Node) → Statuses s statuses → length s ≡ at → take n up ≡ markedFrom 1 s marks
   gathered-all h s shown long = g .is s shown long ∙ ap (λ (vs : Node). markedFrom 1 vs marks) (take-all i s (omega arith))
-
--- the marked places where every clause is satisfied
-pub marked-cube : (D : Prefix) (s : Node) (R : List Clause) (marks : List ℕ) → Marked D s R (length R) marks → markedFrom 1 s marks ≡ codes D (implicant D s R [])
-marked-cube D s R marks m = sym (m .chosen) ∙ ap (λ (rs : List Clause). codes D (implicant D s rs [])) (take-length R)

@@ -1,9 +1,5 @@
-pub mod Marking
-pub mod Below
-pub mod Rows
-pub mod Linked
-pub mod Advancing
 pub mod Gathering
 pub mod LastLiteral
 pub mod Lookups
+pub mod Stepping
 pub mod Conclusions

@@ -1,9 +1,9 @@
 -- The code that is looked up at an inner node, and what the lookup found.
-use Prim.Native.Nat.{ℕ, zero, suc, _+_, _*_, _-_, _≤_, _<_}
+use Prim.Native.Nat.{ℕ, zero, suc, _+_, _*_, _-_, _%_, _≤_, _<_}
 use native.Mathlib.Omega.{arith}
 use native.Mathlib.Numerals.{add-one}
 use mathlib.Core.Path.{_≡_, refl, sym, ap, subst, _∙_}
-use mathlib.Core.Bool.{Bool, true, false, cond, Bool·beq}
+use mathlib.Core.Bool.{Bool, true, false, cond, not, Bool·beq, true≢false, false≢true}
 use mathlib.Core.List.{List, [], _∷_, map}
 use mathlib.Core.Option.{Option, none, some}
 use borrow.Author.Tests.{lt-ltb, le-ltb}
@@ -11,34 +11,33 @@ use lib.Dec.{eqb}
 use lib.ListN.{length, getD, take, drop}
 use Rattle.qbf.specs.Formula.{paper, Prefix, Node, valueAt}
 use Rattle.qbf.specs.Learning.{Constraint, eligibleMatch}
-use Rattle.tables.specs.Codes.{sign, codeAt, codes, statusOf, wanted, Statuses}
+use Rattle.tables.specs.Codes.{codeAt, codes, wanted, Statuses}
 use Rattle.tables.specs.Shelves.{lengthAt, rowAt, foundAt, firstMatch}
-use Rattle.tables.specs.Matrices.{dyingAt, numbered}
 use Rattle.search_entry.specs.Entry.{entryAt}
 use Rattle.search_entry.specs.declared.Bounds.{Bounds}
-use Rattle.inner.specs.Inner.{FoundCoded}
+use Rattle.inner.specs.Inner.{FoundCoded, LastGiven}
 use Rattle.inner.specs.declared.found.Found.the-variants.{At}
-use Rattle.inner.proofs.LastLiteral.{coded, last-value, last-literal}
+use Rattle.inner.proofs.LastLiteral.{coded, last-literal}
 
--- ---- the literal of a place by the status of its positive literal
-value-is : (b : Bool) → eqb (statusOf true (some b)) 2 ≡ b
-value-is true = refl
-value-is false = refl
+-- ---- the code of a literal and of its opposite
+pub opposite-up : (code : ℕ) → code % 2 ≡ 0 → (p : ℕ) (b : Bool) → code ≡ codeAt p b → code + 1 ≡ codeAt p (not b)
+opposite-up code e p true is = absurd (omega (arith, e, is))
+opposite-up code e p false is = omega (arith, is)
 
-module _ {s : Node} {t : List ℕ} (shown : Statuses s t) (p : ℕ) {b : Bool} (value : valueAt s p ≡ some b) {n : ℕ} (read : n ≡ getD t (p * 2 + 1) 0) (holds : Bool) where
-  on-is : eqb n 2 ≡ b
-  on-is = ap (λ (m : ℕ). eqb m 2) (read ∙ shown .at p true ∙ ap (statusOf true) value) ∙ value-is b
+pub opposite-down : (code : ℕ) → (code % 2 ≡ 0 → ⊥) → (p : ℕ) (b : Bool) → code ≡ codeAt p b → code - 1 ≡ codeAt p (not b)
+opposite-down code e p true is = omega (arith, is)
+opposite-down code e p false is = absurd (e (omega (arith, is)))
 
-  sign-of : (x : Bool) → Bool·beq (eqb n 2) holds ≡ x → sign x ≡ sign (Bool·beq b holds)
-  sign-of x e = ap sign (sym e ∙ ap (λ (a : Bool). Bool·beq a holds) on-is)
+-- the literal with a truth value, by the place's value
+pub holds-in : (p : ℕ) (b cube : Bool) → cube ≡ true → {code : ℕ} → code ≡ codeAt p b → code ≡ codeAt p (Bool·beq b cube)
+holds-in p true true e is = is
+holds-in p false true e is = is
+holds-in p b false e is = absurd (false≢true e)
 
-  pub code-positive : Bool·beq (eqb n 2) holds ≡ true → p * 2 + 1 ≡ codeAt p (Bool·beq b holds)
-  code-positive e = ap (λ (m : ℕ). p * 2 + m) (sign-of true e)
-
-  pub code-negative : Bool·beq (eqb n 2) holds ≡ false → p * 2 ≡ codeAt p (Bool·beq b holds)
-  code-negative e =
-      let z : sign (Bool·beq b holds) ≡ 0 = sym (sign-of false e) in
-      omega (arith, z)
+pub fails-in : (p : ℕ) (b cube : Bool) → cube ≡ false → {code : ℕ} → code ≡ codeAt p (not b) → code ≡ codeAt p (Bool·beq b cube)
+fails-in p true false e is = is
+fails-in p false false e is = is
+fails-in p b true e is = absurd (true≢false e)
 
 -- ---- the constraint of the codes that were found
 uncoded : (D : Prefix) (o : Option Constraint) {row : List ℕ} → some row ≡ coded D o → (e : Constraint) × (o ≡ some e) × (row ≡ codes D e)
@@ -50,22 +49,19 @@ uncoded-none D none h = refl
 uncoded-none D (some e) h = absurd (let z : _≡_ {A = ℕ} 0 1 = cc in omega arith)
 
 -- what was found among the rows of the constraints is what is eligible
-module _ {t : List ℕ} (v : Bool) {k code want : ℕ}
-    (code-is : (s : Node) (b : Bool) → Statuses s t → valueAt s k ≡ some b → code ≡ codeAt k (Bool·beq b v)) (want-is : want ≡ wanted v)
-    {rows : List (List ℕ)} {result : Option (List ℕ)} (found : result ≡ firstMatch code t want rows)
-    (D : Prefix) (s : Node) (es : List Constraint) (shown : Statuses s t) (long : length s ≡ k) (inner : 1 ≤ k)
+module _ {t : List ℕ} (v : Bool) {at code last want : ℕ} (last-is : (p : ℕ) (b : Bool) → code ≡ codeAt p b → last ≡ codeAt p (Bool·beq b v)) (want-is : want ≡ wanted v)
+    {rows : List (List ℕ)} {result : Option (List ℕ)} (found : result ≡ firstMatch last t want rows)
+    (D : Prefix) (s : Node) (es : List Constraint) (shown : Statuses s t) (given : LastGiven s at code) (inner : 1 ≤ at)
     (same : rows ≡ map (codes D) es) where
   looked-up : result ≡ coded D (eligibleMatch D eqb v s es)
   looked-up =
-      let far : 1 ≤ length s = omega (arith, long) in
-      let value = last-value s far in
-      let is : code ≡ codeAt (length s) (Bool·beq (value .0) v) =
-      code-is s (value .0) shown (ap (valueAt s) (sym long) ∙ value .1) ∙ ap (λ (p : ℕ). codeAt p (Bool·beq (value .0) v)) (sym long) in
+      let is : last ≡ codeAt (length s) (Bool·beq (given .value) v) =
+      last-is at (given .value) (given .coded) ∙ ap (λ (p : ℕ). codeAt p (Bool·beq (given .value) v)) (sym (given .long)) in
       found
-      ∙ ap (firstMatch code t want) same
-      ∙ ap (λ (w : ℕ). firstMatch code t w (map (codes D) es)) want-is
+      ∙ ap (firstMatch last t want) same
+      ∙ ap (λ (w : ℕ). firstMatch last t w (map (codes D) es)) want-is
       ∙ ap (λ (c : ℕ). firstMatch c t (wanted v) (map (codes D) es)) is
-      ∙ last-literal D s v (value .0) (value .1) far t shown es
+      ∙ last-literal D s v (given .value) (ap (valueAt s) (given .long) ∙ given .last) (omega (arith, given .long, inner)) t shown es
 
   pub found-row : {row : List ℕ} → result ≡ some row → (e : Constraint) × (eligibleMatch D eqb v s es ≡ some e) × (row ≡ codes D e)
   found-row is = uncoded D (eligibleMatch D eqb v s es) (sym is ∙ looked-up)
@@ -95,17 +91,10 @@ row-part cells slot row is =
     ∙ take-again (lengthAt (paper .numbers) cells slot) (drop (suc (slot * suc (paper .numbers))) cells)
     ∙ sym is
 
--- ---- what is in a slot, and what has a number
+-- ---- what is in a slot
 module _ (stride slots : ℕ) (cells : List ℕ) (r : ℕ) where
   pub slot-row : r < slots → {row : List ℕ} → row ≡ rowAt stride cells r → foundAt stride slots cells r ≡ some row
   slot-row low is = ap (λ (b : Bool). cond b (some (rowAt stride cells r)) none) (lt-ltb r slots low) ∙ ap some (sym is)
 
   pub slot-none : slots ≤ r → foundAt stride slots cells r ≡ none
   slot-none high = ap (λ (b : Bool). cond b (some (rowAt stride cells r)) none) (le-ltb r slots high)
-
-module _ (cells : List ℕ) (number : ℕ) where
-  pub number-row : (number ≡ 0 → ⊥) → {row : List ℕ} → row ≡ dyingAt cells (number - 1) → numbered cells number ≡ some row
-  number-row h is = let z : number ≡ suc (number - 1) = omega (arith, h) in ap (numbered cells) z ∙ ap some (sym is)
-
-  pub number-none : number ≡ 0 → numbered cells number ≡ none
-  number-none h = ap (numbered cells) h

@@ -1,81 +1,75 @@
 // Step 1: "The first dead rule, in order of adding". No clause was dead above, so that one that dies at an inner node ends, under universal
-// reduction, in the literal of the node's last place that is false there: only the clauses linked by that literal are scanned.
+// reduction, in the literal of the node's last place that is false there, and was not satisfied above: the first such clause is looked for.
 use crate::found::Found;
-use crate::found::code_here;
-use coding::code::cell;
+use bitset::rows::any_outside;
+use bitset::rows::first_outside;
 use search_entry::Source;
 use search_entry::placed;
 ghost use mathlib.Core.Path.{_≡_};
 ghost use mathlib.Core.Bool.{false};
-ghost use mathlib.Core.List.{List, map};
-ghost use Prim.Native.Nat.{ℕ, _≤_, _<_};
-ghost use lib.Dec.{eqb};
+ghost use mathlib.Core.List.{List};
+ghost use mathlib.Core.Option.{some};
+ghost use Prim.Native.Nat.{ℕ, suc, _≤_, _<_};
 ghost use lib.ListN.{length};
 ghost use Rattle.qbf.specs.Formula.{paper, Prefix, Clause, Node};
-ghost use Rattle.qbf.specs.Learning.{reduce, eligibleMatch};
-ghost use Rattle.tables.specs.Codes.{codes, Statuses};
-ghost use Rattle.tables.specs.Shelves.{codeCount, firstMatch};
-ghost use Rattle.tables.specs.Matrices.{Matrix, countOf, dyingRows, numbered};
-ghost use Rattle.inner.specs.Inner.{FoundCoded, FoundBounded};
+ghost use Rattle.qbf.specs.Learning.{Constraint, Store, firstDead, reducedFound};
+ghost use Rattle.tables.specs.Codes.{codes};
+ghost use Rattle.tables.specs.Formed.{Formed};
+ghost use Rattle.tables.specs.Matrices.{MatrixShown, leftAt, dyingAt};
+ghost use Rattle.inner.specs.Inner.{FoundCoded, FoundBounded, Inside, LastGiven, Entered};
 
-// The number of the first clause that ends in the code and all of whose literals are false, under universal reduction; 0 where none is. A
-// literal that is not false leaves its clause by the label.
-fn first_dying<'a>(
-    clauses: &'a [u16; tables::CLAUSE_ROWS],
-    links: &'a [u16; tables::CLAUSE_LINKS],
-    code: u16,
-    statuses: &'a [u8; tables::CODES],
-) -> usize
-    requires { ⌜ Matrix (now clauses) (now links) × (code < codeCount) ⌝ }
-    ensures within { λ r. ⌜ r ≤ countOf (now (links .entry)) ⌝ }
-    ensures first { λ r. ⌜
-        numbered (now (clauses .entry)) r
-        ≡ firstMatch code (now (statuses .entry)) 1 (dyingRows (now (clauses .entry)) (now (links .entry)))
-        ⌝ }
+// How many codes universal reduction leaves of clause k.
+fn left_at<'a>(clauses: &'a [u16; tables::CLAUSE_ROWS], k: usize) -> u16
+    requires { ⌜ k < paper .clauses ⌝ }
+    ensures { λ r. ⌜ r ≡ leftAt (now (clauses .entry)) k ⌝ }
 {
-    let cells: &[u16] = clauses;
-    let mut number = links[code as usize] as usize;
-    'clauses: while 0 < number {
-        let from = (number - 1) * tables::CLAUSE_ROW;
-        let size = clauses[from] as usize;
-        let mut i: usize = 0;
-        while i < size {
-            let lit = cells[from + 2 + i];
-            if cell(statuses, lit) != tables::OFF {
-                number = links[tables::CODES + number] as usize;
-                continue 'clauses;
-            }
-            i += 1;
-        }
-        return number;
-    }
-    0
+    clauses[k * tables::CLAUSE_ROW]
 }
 
-// The clause that dies at an inner node, under universal reduction: the first codes of its row.
-pub fn dead<'a>(
-    clauses: &'a [u16; tables::CLAUSE_ROWS],
-    links: &'a [u16; tables::CLAUSE_LINKS],
-    statuses: &'a [u8; tables::CODES],
-    at: usize,
-) -> Found
-    requires { ⌜ Matrix (now clauses) (now links) × (at ≤ paper .numbers) ⌝ }
+// Clause k under universal reduction: its row, behind its length. Rows that are no clause's are free, and nothing is read there.
+fn clause_at<'a>(clauses: &'a [u16; tables::CLAUSE_ROWS], k: usize) -> Found
     ensures { λ r. ⌜ FoundBounded r ⌝ }
     ensures { λ r. ⌜
-        ((D : Prefix) (s : Node) (R : List Clause) (learned area : List ℕ)
-        → Statuses s (now (statuses .entry))
-        → length s ≡ at
-        → 1 ≤ at
-        → dyingRows (now (clauses .entry)) (now (links .entry)) ≡ map (codes D) (map (reduce D false) R)
-        → FoundCoded D r (now (clauses .entry)) learned area (eligibleMatch D eqb false s (map (reduce D false) R)))
+        ((D : Prefix) (e : Constraint) (learned area : List ℕ)
+        → k < paper .clauses
+        → leftAt (now (clauses .entry)) k ≤ paper .literals
+        → dyingAt (now (clauses .entry)) k ≡ codes D e
+        → FoundCoded D r (now (clauses .entry)) learned area (some e))
         ⌝ }
 {
-    let code = code_here(statuses, at, false);
-    let number = first_dying(clauses, links, code, statuses);
-    if number == 0 {
+    if k < tables::CLAUSES {
+        let size = left_at(clauses, k) as usize;
+        if size <= tables::LITERALS {
+            return Found::At(placed(Source::Clauses, k * tables::CLAUSE_ROW + 1, size));
+        }
+    }
+    Found::Nothing
+}
+
+// The clause that dies at an inner node, under universal reduction.
+pub fn dead<'a>(
+    clauses: &'a [u16; tables::CLAUSE_ROWS],
+    sets: &'a [u64; tables::CLAUSE_SETS],
+    sat: &'a [u64; tables::SATISFIED],
+    code: u16,
+    at: usize,
+    words: usize,
+) -> Found
+    requires { ⌜ Inside at code words ⌝ }
+    ensures { λ r. ⌜ FoundBounded r ⌝ }
+    ensures { λ r. ⌜
+        ((D : Prefix) (R : List Clause) (s : Node) (st : Store) (k : ℕ) (marks learned area : List ℕ)
+        → LastGiven s at code
+        → MatrixShown D R words (now (clauses .entry)) (now (sets .entry))
+        → Formed D R st
+        → Entered D s R words (now (sat .entry)) marks k
+        → FoundCoded D r (now (clauses .entry)) learned area (reducedFound D false (firstDead D s R)))
+        ⌝ }
+{
+    let dying = code as usize * 2 * words + words;
+    let above = (at - 1) * words;
+    if !any_outside(sets, dying, sat, above, words) {
         return Found::Nothing;
     }
-    let from = (number - 1) * tables::CLAUSE_ROW;
-    let size = clauses[from] as usize;
-    Found::At(placed(Source::Clauses, from + 2, size))
+    clause_at(clauses, first_outside(sets, dying, sat, above, words))
 }

@@ -1,5 +1,5 @@
 -- The lines of a card after a side, and after both.
-use Prim.Native.Nat.{ℕ, _+_, _-_}
+use Prim.Native.Nat.{ℕ, zero, suc, _+_, _-_}
 use native.Mathlib.Omega.{arith}
 use mathlib.Core.Path.{_≡_, refl, sym, ap, _∙_}
 use mathlib.Core.Bool.{Bool, true, false, cond, true≢false, false≢true}
@@ -10,11 +10,23 @@ use Rattle.cover.specs.Cover.{Covers}
 use Rattle.node.specs.declared.Verdict.{Verdict}
 use Rattle.node.specs.declared.Verdict.the-variants.{Yes, No, Mixed}
 use Rattle.node.specs.declared.Position.{Position}
-use Rattle.node.specs.Node.{isYes, LineTask, settledLines, SettledTo}
+use Rattle.node.specs.Node.{isYes, LineTask, linedOf, settledLines, SettledTo}
 
 -- what a test on a verdict found
 pub tested : (v : Verdict) (r b : Bool) → r ≡ isYes v → r ≡ b → isYes v ≡ b
 tested v r b e f = sym e ∙ f
+
+pub yes-not : {v : Verdict} → v ≡ Yes → isYes v ≡ false → ⊥
+yes-not e h = true≢false (sym (ap isYes e) ∙ h)
+
+-- the verdict that lines go by
+pub lined-free : (k : ℕ) (v : Verdict) → k ≡ 0 → v ≡ linedOf k v
+lined-free zero v e = refl
+lined-free (suc k) v e = absurd (omega arith)
+
+pub lined-other : (k : ℕ) (v : Verdict) → (k ≡ 0 → ⊥) → No ≡ linedOf k v
+lined-other zero v h = absurd (h refl)
+lined-other (suc k) v h = refl
 
 -- no line more
 pub covers-same : (f : ℕ) (table : List ℕ) (ls : List Node) → Covers f table ls → Covers f table (ls ++ [])

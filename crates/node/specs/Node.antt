@@ -1,5 +1,5 @@
 -- What the code's answers say: verdicts and the constraint that goes up, the tables of a node, step 5, and the lines of a card.
-use Prim.Native.Nat.{ℕ, suc, _+_, _-_, _≤_, _<_}
+use Prim.Native.Nat.{ℕ, zero, suc, _+_, _-_, _≤_, _<_}
 use mathlib.Core.Path.{_≡_}
 use mathlib.Core.Bool.{Bool, true, false, cond}
 use mathlib.Core.List.{List, [], _∷_, _++_}
@@ -130,6 +130,11 @@ pub record LineTask (s : Node) (ls : List Node) (statuses table : List ℕ) (p :
   pub inside : p .at < p .free
   pub covers : Covers (p .free) table ls
   pub counted : lines ≡ length ls
+
+-- the verdict of a side as far as lines go, by the quantifier's code: that of a free variable is 0
+abbrev pub linedOf : ℕ → Verdict → Verdict
+linedOf zero v = v
+linedOf (suc k) v = No
 
 abbrev pub settledLines : Verdict → Verdict → ℕ → ℕ
 settledLines a Yes n = cond (isYes a) (n - 1) (n + 1)

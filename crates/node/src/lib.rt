@@ -19,7 +19,7 @@ ghost use Rattle.tables.specs.Codes.{Quantified};
 ghost use Rattle.tables.specs.Shelves.{Shelves, StoreShown, newestOf};
 ghost use Rattle.cover.specs.Cover.{Covers};
 ghost use Rattle.search_entry.specs.Entry.{Bounded};
-ghost use Rattle.node.specs.Node.{isYes, boundsOf, entryOf, Reads, Ended, Grown, goesUpOf, onwardOf, resolventOf, Fits, NextKind, Finished, Joined, LineTask, settledLines, SettledTo};
+ghost use Rattle.node.specs.Node.{isYes, boundsOf, entryOf, Reads, Ended, Grown, goesUpOf, onwardOf, resolventOf, Fits, NextKind, Finished, Joined, LineTask, linedOf, settledLines, SettledTo};
 
 mod line; // one line more of the card
 mod side; // what the verdict and the constraint of one side say
@@ -43,14 +43,13 @@ pub struct Answer {
     pub lines: usize,
 }
 
-// Where a visit stands: the node's length, the count of the free variables, the visits and lines so far, and how many leading clauses
-// are known to be satisfied.
+// Where a visit stands: the node's length, the count of the free variables, the visits and lines so far, and the words of a row of clauses.
 pub struct Position {
     pub at: usize,
     pub free: usize,
     pub visits: u64,
     pub lines: usize,
-    pub satisfied: usize,
+    pub words: usize,
 }
 
 // The quantifier of the next place; END where none is left.
@@ -232,6 +231,16 @@ pub fn finish<'a>(
     }
 }
 
+// The verdict of a side as far as lines go: below the free variables there are none.
+pub fn lined(v: Verdict, kind: u16) -> Verdict
+    ensures { λ r. ⌜ r ≡ linedOf kind v ⌝ }
+{
+    if kind == tables::FREE {
+        return v;
+    }
+    Verdict::No
+}
+
 // A line more where the side with that value is Yes.
 pub fn line_if<'a>(
     v: Verdict,
@@ -242,7 +251,11 @@ pub fn line_if<'a>(
     statuses: &'a [u8; tables::CODES],
 ) -> usize
     requires { ⌜ (p .free ≤ paper .numbers) × (lines < 2 ^ 63) ⌝ }
-    ensures { λ r. ⌜ (length (now (table .exit)) ≡ length (now (table .entry))) × (r ≡ cond (isYes v) (lines + 1) lines) ⌝ }
+    ensures { λ r. ⌜
+        (length (now (table .exit)) ≡ length (now (table .entry)))
+        × (r ≡ cond (isYes v) (lines + 1) lines)
+        × (isYes v ≡ false → now (table .exit) ≡ now (table .entry))
+        ⌝ }
     ensures { λ _. ⌜
         ((s : Node) (b : Bool) (ls : List Node)
         → LineTask s ls (now (statuses .entry)) (now (table .entry)) p lines
@@ -270,7 +283,11 @@ pub fn settle_lines<'a>(
     statuses: &'a [u8; tables::CODES],
 ) -> usize
     requires { ⌜ (p .free ≤ paper .numbers) × (lines < 2 ^ 63) × (isYes first ≡ true → isYes second ≡ true → 1 ≤ lines) ⌝ }
-    ensures { λ r. ⌜ (length (now (table .exit)) ≡ length (now (table .entry))) × (r ≡ settledLines first second lines) ⌝ }
+    ensures { λ r. ⌜
+        (length (now (table .exit)) ≡ length (now (table .entry)))
+        × (r ≡ settledLines first second lines)
+        × (isYes second ≡ false → now (table .exit) ≡ now (table .entry))
+        ⌝ }
     ensures { λ _. ⌜
         ((s : Node) (ls : List Node)
         → LineTask s ls (now (statuses .entry)) (now (table .entry)) p lines
@@ -291,40 +308,27 @@ pub fn settle_lines<'a>(
 // The position of the off side, where this visit is counted, and of the on side.
 pub fn to_off(p: Position) -> Position
     requires { ⌜ (p .at < suc (paper .numbers)) × (p .visits < 2 ^ 62) ⌝ }
-    ensures { λ r. ⌜ r ≡ record { at = p .at + 1; free = p .free; visits = p .visits + 1; lines = p .lines; satisfied = p .satisfied } ⌝ }
+    ensures { λ r. ⌜ r ≡ record { at = p .at + 1; free = p .free; visits = p .visits + 1; lines = p .lines; words = p .words } ⌝ }
 {
     Position {
         at: p.at + 1,
         free: p.free,
         visits: p.visits + 1,
         lines: p.lines,
-        satisfied: p.satisfied,
+        words: p.words,
     }
 }
 
 pub fn to_on(p: Position, visits: u64, lines: usize) -> Position
     requires { ⌜ p .at < suc (paper .numbers) ⌝ }
-    ensures { λ r. ⌜ r ≡ record { at = p .at + 1; free = p .free; visits = visits; lines = lines; satisfied = p .satisfied } ⌝ }
+    ensures { λ r. ⌜ r ≡ record { at = p .at + 1; free = p .free; visits = visits; lines = lines; words = p .words } ⌝ }
 {
     Position {
         at: p.at + 1,
         free: p.free,
         visits: visits,
         lines: lines,
-        satisfied: p.satisfied,
-    }
-}
-
-// The position of an open node's sides: so many leading clauses are satisfied there.
-pub fn resumed(p: Position, satisfied: usize) -> Position
-    ensures { λ r. ⌜ r ≡ record { at = p .at; free = p .free; visits = p .visits; lines = p .lines; satisfied = satisfied } ⌝ }
-{
-    Position {
-        at: p.at,
-        free: p.free,
-        visits: p.visits,
-        lines: p.lines,
-        satisfied: satisfied,
+        words: p.words,
     }
 }
 

@@ -1,40 +1,57 @@
--- What a visitor asks of the lent tables and what it gives: safety without a prefix, and the learning search for every prefix, node
--- and list of lines that the tables show.
+-- What a visitor asks of the lent tables, what it leaves of them, and what its answer says: safety without a prefix, and the learning search for
+-- every prefix, clauses, store, node and list of lines that the tables show.
 use Prim.Native.Nat.{ℕ, suc, _+_, _-_, _*_, _^_, _≤_, _<_}
 use mathlib.Core.Path.{_≡_}
 use mathlib.Core.Bool.{Bool}
 use mathlib.Core.List.{List, _++_}
+use mathlib.Core.Option.{none}
 use lib.ListN.{length, take, drop}
-use Rattle.qbf.specs.Formula.{paper, Quantifier, Prefix, Clause, Node, quantifiers}
+use Rattle.qbf.specs.Formula.{paper, Quantifier, Prefix, Clause, Node, _▹_, quantifiers, quantifierAt}
 use Rattle.qbf.specs.Truth.{freeVariables}
-use Rattle.qbf.specs.Learning.{Store, LearningResult, settle, visit, below, branch}
+use Rattle.qbf.specs.Learning.{Store, LearningResult, leaf, settle, visit, below, branch, firstDead}
+use Rattle.qbf.specs.Card.{byteOf}
 use lib.Dec.{eqb}
 use Rattle.cover.specs.Cover.{Covers}
 use Rattle.tables.specs.Formed.{Formed}
-use Rattle.tables.specs.Shelves.{StoreShown, newestOf}
-use Rattle.tables.specs.Matrices.{MatrixShown}
-use Rattle.tables.specs.Marks.{Passed}
-use Rattle.inner.specs.Inner.{steps}
+use Rattle.tables.specs.Views.{quantifierCode}
+use Rattle.tables.specs.Shelves.{Shelves, StoreShown, newestOf}
+use Rattle.tables.specs.Matrices.{MatrixShown, RowLength}
+use Rattle.tables.specs.Sets.{Descended, RowsKept}
+use Rattle.inner.specs.Inner.{Entered}
 use Rattle.search_entry.specs.Entry.{Bounded}
 use Rattle.node.specs.Node.{boundsOf, entryOf, Reads, Shown, newLines}
 use Rattle.node.specs.declared.Position.{Position}
 use Rattle.node.specs.declared.Answer.{Answer}
 
+-- ---- what is asked
 -- the places that can be below a position
 abbrev pub left : Position → ℕ
 left p = paper .numbers - p .at
 
--- what a visitor asks of the counts: room for the constraints put aside, for the visits, for the lines and for the numbers of stored rows
+-- of the counts: room for the constraints put aside, for the visits, for the lines and for the numbers of stored rows
 pub record Room (saved : ℕ) (cl ql : List ℕ) (p : Position) : Type 0 where
   pub within : p .at ≤ paper .numbers
   pub free : p .free ≤ paper .numbers
+  pub words : RowLength (p .words)
   pub aside : left p * paper .numbers ≤ saved
   pub visits : p .visits + 2 ^ suc (left p) ≤ 2 ^ 62
   pub lines : p .lines ≤ p .visits + p .visits
   pub clauses : newestOf cl ≤ p .visits + paper .constraints
   pub cubes : newestOf ql ≤ p .visits + paper .constraints
 
--- what its answer's counts keep to: no more lines and rows than visits
+pub record Asked (saved : ℕ) (cs cl qs ql : List ℕ) (p : Position) : Type 0 where
+  pub shelves : Shelves cs cl qs ql
+  pub room : Room saved cl ql p
+
+-- a side is below a node that has put `aside` cells aside
+pub record AskedBelow (aside saved : ℕ) (cs cl qs ql : List ℕ) (p : Position) : Type 0 where
+  pub asked : Asked saved cs cl qs ql p
+  pub inner : 1 ≤ p .at
+  pub used : aside ≤ paper .numbers
+  pub own : suc (left p) * paper .numbers ≤ saved
+
+-- ---- what is left of the tables
+-- the answer's counts: no more lines and rows than visits
 pub record Counts (cl ql : List ℕ) (p : Position) (r : Answer) (cl′ ql′ : List ℕ) : Type 0 where
   pub bounded : Bounded (boundsOf r)
   pub more : p .visits < r .visits
@@ -44,25 +61,41 @@ pub record Counts (cl ql : List ℕ) (p : Position) (r : Answer) (cl′ ql′ : 
   pub clauses : newestOf cl′ + p .visits ≤ newestOf cl + r .visits
   pub cubes : newestOf ql′ + p .visits ≤ newestOf ql + r .visits
 
--- what it leaves of the tables
-pub record Kept (p : Position) (statuses statuses′ table table′ firsts firsts′ : List ℕ) : Type 0 where
+-- the values that were given, and the rows and marks of the places before k
+pub record Kept (k wc : ℕ) (statuses statuses′ table table′ sat sat′ marks marks′ : List ℕ) : Type 0 where
   pub statuses-restored : statuses′ ≡ statuses
   pub size : length table′ ≡ length table
-  pub firsts-kept : take (p .satisfied) firsts′ ≡ take (p .satisfied) firsts
+  pub rows : RowsKept k wc sat sat′ marks marks′
 
--- the tables show the prefix D, the clauses R, the store st, the node s of length k and the lines ls
+pub record Left (k : ℕ) (p : Position) (r : Answer) (cl ql statuses table sat marks cs′ cl′ qs′ ql′ statuses′ table′ sat′ marks′ : List ℕ) : Type 0 where
+  pub counts : Counts cl ql p r cl′ ql′
+  pub kept : Kept k (p .words) statuses statuses′ table table′ sat sat′ marks marks′
+  pub shelves : Shelves cs′ cl′ qs′ ql′
+
+-- the cells put aside
+pub record AsideKept (aside : ℕ) (saved saved′ : List ℕ) : Type 0 where
+  pub size : length saved′ ≡ length saved
+  pub first : take aside saved′ ≡ take aside saved
+
+-- ---- what the tables show
+-- the prefix D, the clauses R, the store st, the node s of length k and the lines ls
 pub record Task (D : Prefix) (s : Node) (ls : List Node) (R : List Clause) (st : Store)
-    (clauses links quantifiers statuses cs cl qs ql table firsts : List ℕ) (k : ℕ) (p : Position) : Type 0 where
+    (clauses sets quantifiers statuses cs cl qs ql table : List ℕ) (k : ℕ) (p : Position) : Type 0 where
   pub shown : Shown D s quantifiers statuses k
   pub formed : Formed D R st
-  pub matrix : MatrixShown D R clauses links
+  pub matrix : MatrixShown D R (p .words) clauses sets
   pub stored : StoreShown D st cs cl qs ql
-  pub passed : Passed D s R (p .satisfied) firsts
   pub frees : p .free ≡ freeVariables D
   pub covers : Covers (p .free) table ls
   pub counted : p .lines ≡ length ls
 
--- the answer is the result o of the learning search
+-- at the node s no clause is dead, and what is known of the clauses there
+pub record Opened (D : Prefix) (s : Node) (R : List Clause) (p : Position) (sat marks : List ℕ) : Type 0 where
+  pub alive : firstDead D s R ≡ none
+  pub known : Descended D s R (p .words) sat marks (length s)
+
+-- ---- what an answer says
+-- it is the result o of the learning search
 pub record Result (D : Prefix) (ls : List Node) (o : LearningResult) (p : Position) (r : Answer) (clauses area cs cl qs ql table : List ℕ) : Type 0 where
   pub verdict : Reads D (r .verdict) (entryOf r clauses cs qs area) (o .outcome)
   pub stored : StoreShown D (o .store) cs cl qs ql
@@ -74,8 +107,38 @@ pub record Result (D : Prefix) (ls : List Node) (o : LearningResult) (p : Positi
 abbrev pub belowOf : Prefix → List Clause → Position → Node → Store → LearningResult
 belowOf D R p s st = below paper D R (drop (p .at) (quantifiers D)) s st
 
-abbrev pub visitOf : Prefix → List Clause → Position → Node → Store → Bool → LearningResult
-visitOf D R p s st start = settle (steps D R s st start) (below paper D R (drop (p .at) (quantifiers D))) s st
+abbrev pub visitOf : Prefix → List Clause → Position → Node → Store → LearningResult
+visitOf D R p s st = settle (leaf D R eqb s st) (below paper D R (drop (p .at) (quantifiers D))) s st
 
 abbrev pub branchOf : Prefix → List Clause → Quantifier → Position → Node → Store → LearningResult
 branchOf D R κ p s st = branch paper D R κ (visit D R eqb (below paper D R (drop (p .at + 1) (quantifiers D)))) s st
+
+-- at the inner node of a position
+pub record Visited (p : Position) (r : Answer)
+    (clauses sets quantifiers statuses cs cl qs ql table sat marks area cs′ cl′ qs′ ql′ table′ : List ℕ) : Type 0 where
+  pub result : (D : Prefix) (s : Node) (ls : List Node) (R : List Clause) (st : Store) (k : ℕ)
+      → Task D s ls R st clauses sets quantifiers statuses cs cl qs ql table (p .at) p → Entered D s R (p .words) sat marks k
+      → Result D ls (visitOf D R p s st) p r clauses area cs′ cl′ qs′ ql′ table′
+
+-- at that node, where the tables show its parent, which is open, and its last place gets the value
+pub record SideVisited (value : ℕ) (p : Position) (r : Answer)
+    (clauses sets quantifiers statuses cs cl qs ql table sat marks area cs′ cl′ qs′ ql′ table′ : List ℕ) : Type 0 where
+  pub result : (D : Prefix) (s : Node) (b : Bool) (ls : List Node) (R : List Clause) (st : Store) (k : ℕ)
+      → Task D s ls R st clauses sets quantifiers statuses cs cl qs ql table k p → Opened D s R p sat marks
+      → k < length D → suc k ≡ p .at → value ≡ byteOf b
+      → Result D ls (visitOf D R p (s ▹ b) st) p r clauses area cs′ cl′ qs′ ql′ table′
+
+-- at an open node
+pub record Followed (p : Position) (r : Answer)
+    (clauses sets quantifiers statuses cs cl qs ql table sat marks area cs′ cl′ qs′ ql′ table′ : List ℕ) : Type 0 where
+  pub result : (D : Prefix) (s : Node) (ls : List Node) (R : List Clause) (st : Store)
+      → Task D s ls R st clauses sets quantifiers statuses cs cl qs ql table (p .at) p → Opened D s R p sat marks
+      → Result D ls (belowOf D R p s st) p r clauses area cs′ cl′ qs′ ql′ table′
+
+-- at an open node whose next variable has the quantifier of that code
+pub record Branched (kind : ℕ) (p : Position) (r : Answer)
+    (clauses sets quantifiers statuses cs cl qs ql table sat marks area cs′ cl′ qs′ ql′ table′ : List ℕ) : Type 0 where
+  pub result : (D : Prefix) (s : Node) (ls : List Node) (R : List Clause) (st : Store) (κ : Quantifier)
+      → Task D s ls R st clauses sets quantifiers statuses cs cl qs ql table (p .at) p → Opened D s R p sat marks
+      → p .at < length D → quantifierAt D (suc (p .at)) ≡ κ → quantifierCode κ ≡ kind
+      → Result D ls (branchOf D R κ p s st) p r clauses area cs′ cl′ qs′ ql′ table′

@@ -3,5 +3,4 @@ pub mod Formed
 pub mod Codes
 pub mod Shelves
 pub mod Matrices
-pub mod Marks
 pub mod Sets

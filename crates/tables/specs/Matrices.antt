@@ -1,6 +1,6 @@
 -- The clauses inside a search: of each the codes that universal reduction leaves, in a row with their number first, and the sets of clauses by code
 -- (Sets). Clauses are numbered from 0 in the order of adding. Cells of rows that are no clause's are free.
-use Prim.Native.Nat.{ℕ, zero, suc, _*_, _/_, _≤_, _<_}
+use Prim.Native.Nat.{ℕ, zero, suc, _*_, _/_, _%_, _≤_, _<_}
 use mathlib.Core.Path.{_≡_}
 use mathlib.Core.Bool.{false}
 use mathlib.Core.List.{List, [], _∷_, _++_}
@@ -39,6 +39,11 @@ wordsOf n = suc (n / (width * block)) * block
 
 abbrev pub rowWords : ℕ
 rowWords = wordsOf (paper .clauses)
+
+-- how long a row of words may be
+pub record RowLength (wc : ℕ) : Type 0 where
+  pub few : wc ≤ rowWords
+  pub blocks : wc % block ≡ 0
 
 -- both show the clauses R
 pub record MatrixShown (D : Prefix) (R : List Clause) (wc : ℕ) (cells sets : List ℕ) : Type 0 where

@@ -3,8 +3,8 @@
 -- are satisfied there, and a mark that says whether the place's value satisfied one more.
 use Prim.Native.Nat.{ℕ, suc, _+_, _*_, _≤_, _<_}
 use mathlib.Core.Path.{_≡_}
-use mathlib.Core.Bool.{Bool, false, not, _&&_, _||_}
-use mathlib.Core.List.{List, []}
+use mathlib.Core.Bool.{Bool, false, cond, not, _&&_, _||_}
+use mathlib.Core.List.{List, [], _∷_}
 use lib.ListN.{length, getD, take}
 use lib.Dec.{eqb, leb}
 use Rattle.qbf.specs.Formula.{Prefix, Clause, Node, all, any, satisfied}
@@ -56,3 +56,18 @@ pub record SteppedDown (D : Prefix) (t : Node) (R : List Clause) (wc : ℕ) (sat
   pub rows : Satisfied D t R wc sat (suc k)
   pub all-satisfied : every ≡ all (satisfied D t) R
   pub mark : new ≡ newly D t R k
+
+-- both, on the way down to the first k places
+pub record Descended (D : Prefix) (s : Node) (R : List Clause) (wc : ℕ) (sat marks : List ℕ) (k : ℕ) : Type 0 where
+  pub rows : Satisfied D s R wc sat k
+  pub marked : MarkedSteps D s R marks k
+
+-- the rows and the marks of the places before k are as they were
+pub record RowsKept (k wc : ℕ) (sat sat′ marks marks′ : List ℕ) : Type 0 where
+  pub rows : (f i : ℕ) → f * width + i < k * wc * width → member sat′ f i ≡ member sat f i
+  pub marked : (i : ℕ) → i < k → getD marks′ i 0 ≡ getD marks i 0
+
+-- the codes of the true literals of the marked places, from the place p on, where the node's values are those given
+abbrev pub markedFrom : ℕ → List Bool → List ℕ → List ℕ
+markedFrom p [] marks = []
+markedFrom p (b ∷ s) marks = cond (eqb (getD marks p 0) 1) (codeAt p b ∷ markedFrom (suc p) s marks) (markedFrom (suc p) s marks)

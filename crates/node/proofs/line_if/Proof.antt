@@ -4,7 +4,7 @@ use Rattle.node.proofs.line_if.Statement.{statement}
 use Rattle.node.proofs.line_if.Tie as tie
 use mathlib.Core.Path.{refl}
 use denote.Ref.{now}
-use Rattle.node.proofs.Lines.{covers-same}
+use Rattle.node.proofs.Lines.{covers-same, yes-not}
 
 enum-told : tie.Need-enum-told
 enum-told c = search needs
@@ -25,13 +25,13 @@ same-length : tie.Need-same-length
 same-length c = search needs
 
 returns : tie.Need-returns
-returns c = ((c .before .before .add-line .ensures .0, rw (c .before .before .before .before .enum-told .given .1)), λ s b ls task e. rw (c .before .before .before .before .enum-told .given .1) (c .before .before .add-line .ensures .1 s b ls task e))
+returns c = ((c .before .before .add-line .ensures .0, rw (c .before .before .before .before .enum-told .given .1), λ h. absurd (yes-not (c .before .before .before .before .enum-told .given .1) h)), λ s b ls task e. rw (c .before .before .before .before .enum-told .given .1) (c .before .before .add-line .ensures .1 s b ls task e))
 
 returns-2 : tie.Need-returns-2
-returns-2 c = ((refl, rw (c .enum-told2 .given .1)), λ s b ls task e. rw (c .enum-told2 .given .1) (covers-same (c .before .before .before .args .p .free) (now (c .before .before .before .args .table)) ls (task .covers)))
+returns-2 c = ((refl, rw (c .enum-told2 .given .1), λ h. refl), λ s b ls task e. rw (c .enum-told2 .given .1) (covers-same (c .before .before .before .args .p .free) (now (c .before .before .before .args .table)) ls (task .covers)))
 
 returns-3 : tie.Need-returns-3
-returns-3 c = ((refl, rw (c .enum-told3 .given .1)), λ s b ls task e. rw (c .enum-told3 .given .1) (covers-same (c .before .before .before .args .p .free) (now (c .before .before .before .args .table)) ls (task .covers)))
+returns-3 c = ((refl, rw (c .enum-told3 .given .1), λ h. refl), λ s b ls task e. rw (c .enum-told3 .given .1) (covers-same (c .before .before .before .args .p .free) (now (c .before .before .before .args .table)) ls (task .covers)))
 
 pub line-if-spec : {M : Type 1} → statement M
 line-if-spec =

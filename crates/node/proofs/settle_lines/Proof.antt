@@ -3,7 +3,7 @@ use borrow.Author.Needs.{needs}
 use Rattle.node.proofs.settle_lines.Statement.{statement}
 use Rattle.node.proofs.settle_lines.Tie as tie
 use mathlib.Core.Path.{refl, sym, _∙_}
-use mathlib.Core.Bool.{true, false}
+use mathlib.Core.Bool.{true, false, true≢false}
 use native.Mathlib.Omega.{arith}
 use borrow.Author.Tests.{not-true, not-false}
 use denote.Ref.{now}
@@ -16,7 +16,7 @@ returns : tie.Need-returns
 returns c =
     let t = c .before .before .before .args in
     let no = sym (c .before .is-yes .ensures) ∙ not-true _ (c .if1 .taken) in
-    ((refl, count-same (t .first) (t .second) (t .lines) no), λ s ls task. settled-same (t .first) (t .second) s ls (t .p .free) (now (t .table)) no (task .covers))
+    ((refl, count-same (t .first) (t .second) (t .lines) no, λ h. refl), λ s ls task. settled-same (t .first) (t .second) s ls (t .p .free) (now (t .table)) no (task .covers))
 
 is-yes-requires-2 : tie.Need-is-yes-requires-2
 is-yes-requires-2 c κs = search needs
@@ -35,7 +35,7 @@ returns-2 c =
     let t = c .before .before .before .before .before .before .before .before .before .args in
     let yes = sym (c .before .before .before .before .before .before .before .is-yes .ensures) ∙ not-false _ (c .before .before .before .before .before .before .if1 .left) in
     let off = tested (t .first) (c .before .before .before .before .before .is-yes2 .result) true (c .before .before .before .before .before .is-yes2 .ensures) (c .before .before .before .before .if2 .taken) in
-    ((c .before .before .pop-line .ensures .0, count-less (t .first) (t .second) (t .lines) off yes), λ s ls task. settled-less task (c .before .before .pop-line .ensures .1) (t .first) (t .second) off yes)
+    ((c .before .before .pop-line .ensures .0, count-less (t .first) (t .second) (t .lines) off yes, λ h. absurd (true≢false (sym yes ∙ h))), λ s ls task. settled-less task (c .before .before .pop-line .ensures .1) (t .first) (t .second) off yes)
 
 line-if-requires : tie.Need-line-if-requires
 line-if-requires c κs = search needs
@@ -48,7 +48,7 @@ returns-3 c =
     let t = c .before .before .before .before .before .before .before .before .before .args in
     let yes = sym (c .before .before .before .before .before .before .before .is-yes .ensures) ∙ not-false _ (c .before .before .before .before .before .before .if1 .left) in
     let off = tested (t .first) (c .before .before .before .before .before .is-yes2 .result) false (c .before .before .before .before .before .is-yes2 .ensures) (c .before .before .before .before .if2 .left) in
-    ((c .before .before .line-if .ensures .0 .0, count-more (t .first) (t .second) (t .lines) off yes (c .before .before .line-if .ensures .0 .1)), λ s ls task. settled-more (t .first) (t .second) s ls (t .p .free) _ off yes (c .before .before .line-if .ensures .1 s true ls task refl))
+    ((c .before .before .line-if .ensures .0 .0, count-more (t .first) (t .second) (t .lines) off yes (c .before .before .line-if .ensures .0 .1), λ h. absurd (true≢false (sym yes ∙ h))), λ s ls task. settled-more (t .first) (t .second) s ls (t .p .free) _ off yes (c .before .before .line-if .ensures .1 s true ls task refl))
 
 pub settle-lines-spec : {M : Type 1} → statement M
 settle-lines-spec =

@@ -2,14 +2,13 @@
 use borrow.Author.Needs.{needs}
 use Rattle.inner.proofs.cube.cube.Statement.{statement}
 use Rattle.inner.proofs.cube.cube.Tie as tie
+use Rattle.coding.proofs.list.reduced_first.Reads as reduced-first-reads
+use Rattle.inner.proofs.cube.marked_codes.Reads as marked-codes-reads
 use native.Mathlib.Omega.{arith}
 use mathlib.Core.Path.{_∙_}
 use mathlib.Core.List.{[]}
 use Rattle.qbf.specs.Learning.{implicant}
-use Rattle.inner.proofs.Gathering.{marked-cube}
-
-marks-of-requires : tie.Need-marks-of-requires
-marks-of-requires c κs = search needs
+use Rattle.inner.proofs.Stepping.{steps-cube}
 
 marked-codes-requires : tie.Need-marked-codes-requires
 marked-codes-requires c κs = search needs
@@ -22,10 +21,8 @@ returns c =
     let m = c .before .before .before .marked-codes .ensures in
     let r = c .reduced-first .ensures in (
       omega (arith, m .0, r .0),
-      λ D R s shown quantified ok long counted passed.
-          r .1 D (implicant D s R []) quantified (m .1 s shown long ∙ marked-cube D s R (c .before .before .before .before .before .before .marks-of .result) (c .before .before .before .before .before .before .marks-of .ensures D R s ok counted passed)),
+      λ D R s st shown quantified formed long marked every. r .1 D (implicant D s R []) quantified (m .1 s shown long ∙ steps-cube formed long marked every),
     )
 
 pub cube-spec : {M : Type 1} → statement M
-cube-spec =
-    tie.close (tie.spec marks-of-requires marked-codes-requires reduced-first-requires returns)
+cube-spec = tie.close (tie.spec marked-codes-requires reduced-first-requires returns)

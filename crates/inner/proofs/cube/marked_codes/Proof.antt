@@ -38,7 +38,7 @@ loop-less : tie.Need-loop-less Inv-loop μ-loop
 loop-less c = search needs
 
 loop-again : tie.Need-loop-again Inv-loop μ-loop
-loop-again c = gathered-more (c .before .before .before .before .before .loop .inv) (c .before .before .before .before .loop-test .taken) refl (c .before .before .before .true-at .ensures) (c .put-marked .ensures .0) (c .put-marked .ensures .1)
+loop-again c = gathered-more (c .before .before .before .before .before .loop .inv) (c .before .before .before .before .loop-test .taken) refl (c .before .before .before .true-at .ensures .1) (c .put-marked .ensures .0) (c .put-marked .ensures .1)
 
 returns : tie.Need-returns Inv-loop μ-loop
 returns c = (omega (arith, c .before .loop .inv .few, c .before .loop .inv .within), gathered-all (c .before .loop .inv) (c .loop-test .left))

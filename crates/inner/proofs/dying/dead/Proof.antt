@@ -1,86 +1,64 @@
--- `inner::dying::dead` meets its contract. The bounds of the clause that the scan found: the first codes of its row.
+-- `inner::dying::dead` meets its contract. The least clause that can die by the value and was not satisfied above is the first dead one.
 use borrow.Author.Needs.{needs}
 use Rattle.inner.proofs.dying.dead.Statement.{statement}
 use Rattle.inner.proofs.dying.dead.Tie as tie
+use Rattle.bitset.proofs.rows.any_outside.Reads as any-outside-reads
+use Rattle.bitset.proofs.rows.first_outside.Reads as first-outside-reads
+use Rattle.inner.proofs.dying.clause_at.Reads as clause-at-reads
 use native.Mathlib.Omega.{arith}
-use Prim.Native.Nat.{_+_, _-_, _*_}
+use borrow.Author.Tests.{not-true, not-false}
 use denote.Ref.{now}
-use mathlib.Core.Path.{refl, sym, subst}
-use mathlib.Core.Bool.{false}
-use mathlib.Core.List.{map}
-use lib.Dec.{eqb}
-use Rattle.qbf.specs.Learning.{reduce, eligibleMatch}
-use Rattle.tables.specs.Matrices.{clauseRow, reducedAt}
-use Rattle.search_entry.specs.Entry.{Bounded}
-use Rattle.search_entry.specs.declared.Bounds.{Bounds}
-use Rattle.search_entry.specs.declared.Source.the-variants.{Clauses}
-use Rattle.inner.proofs.Rows.{numbered-room, numbered-short, numbered-part}
-use Rattle.inner.proofs.Lookups.{found-row, found-nothing, found-part, number-row, number-none}
+use mathlib.Core.Path.{sym, subst}
+use Rattle.inner.specs.Inner.{FoundCoded}
+use Rattle.inner.proofs.Stepping.{sets-room, rows-next, rows-room, nothing-dies, one-dies}
 
-code-here-requires : tie.Need-code-here-requires
-code-here-requires c κs = search needs
+mul-dying : tie.Need-mul-dying
+mul-dying c = search needs
 
-first-dying-requires : tie.Need-first-dying-requires
-first-dying-requires c κs = search needs
+mul-dying-2 : tie.Need-mul-dying-2
+mul-dying-2 c = omega (arith, sets-room (c .pre))
+
+add-dying : tie.Need-add-dying
+add-dying c = omega (arith, sets-room (c .pre))
+
+sub-above : tie.Need-sub-above
+sub-above c = search needs
+
+mul-above : tie.Need-mul-above
+mul-above c = omega (arith, rows-next (c .pre), rows-room (c .pre))
+
+any-outside-requires : tie.Need-any-outside-requires
+any-outside-requires c κs = (omega (arith, sets-room (c .before .before .pre)), omega (arith, rows-next (c .before .before .pre), rows-room (c .before .before .pre)), c .before .before .pre .words .blocks)
 
 returns : tie.Need-returns
-returns c = (
-  tt,
-  λ D s R cs area shown long inner rows.
-      found-nothing false (c .before .before .code-here .ensures .1) refl (c .before .first-dying .ensures .1) D s (map (reduce D false) R) shown long inner rows
-      (number-none (now (c .before .before .before .args .clauses)) (c .before .first-dying .result) (c .if1 .taken)),
-)
+returns c = (tt, λ D R s st k marks cs area given shown formed entered. nothing-dies given shown formed entered (c .before .any-outside .ensures) (not-true _ (c .if1 .taken)))
 
-sub-from : tie.Need-sub-from
-sub-from c = search needs
+first-outside-requires : tie.Need-first-outside-requires
+first-outside-requires c κs = (omega (arith, sets-room (c .before .before .before .before .before .before .pre)), omega (arith, rows-next (c .before .before .before .before .before .before .pre), rows-room (c .before .before .before .before .before .before .pre)), omega (arith, c .before .before .before .before .before .before .pre .words .few))
 
-mul-from : tie.Need-mul-from
-mul-from c = search needs
-
-mul-size : tie.Need-mul-size
-mul-size c = search needs
-
-element-copy-out-size : tie.Need-element-copy-out-size
-element-copy-out-size c = search needs
-
-cast-size : tie.Need-cast-size
-cast-size c = omega (arith, numbered-short (c .before .before .before .before .pre .0) (c .before .before .first-dying .ensures .0) (c .before .if1 .left))
-
-add-placed : tie.Need-add-placed
-add-placed c = search needs
-
-placed-requires : tie.Need-placed-requires
-placed-requires c κs = search needs
+clause-at-requires : tie.Need-clause-at-requires
+clause-at-requires c κs = search needs
 
 returns-2 : tie.Need-returns-2
-returns-2 c =
-    let matrix = c .before .before .before .before .before .pre .0 in
-    let found = c .before .before .before .first-dying in
-    let clauses = now (c .before .before .before .before .before .args .clauses) in
-    let k = found .result - 1 in
-    let at : Bounds = record { source = Clauses; start = k * clauseRow + 2; len = reducedAt clauses k } in
-    let short = numbered-short matrix (found .ensures .0) (c .before .before .if1 .left) in
-    let room = numbered-room matrix (found .ensures .0) (c .before .before .if1 .left) in
-    let part = numbered-part matrix (found .ensures .0) (c .before .before .if1 .left) in (
-      subst Bounded (sym (c .placed .ensures)) (record { short = omega (arith, short); inside = omega (arith, short, room, matrix .room) }),
-      λ D s R cs area shown long inner rows.
-          found-part D (eligibleMatch D eqb false s (map (reduce D false) R)) clauses cs area at (c .placed .ensures) part
-          (found-row false (c .before .before .before .before .code-here .ensures .1) refl (found .ensures .1) D s (map (reduce D false) R) shown long inner rows
-          (number-row clauses (found .result) (c .before .before .if1 .left) refl)),
-    )
+returns-2 c = (
+  c .clause-at .ensures .0,
+  λ D R s st k marks cs area given shown formed entered.
+      let w = one-dies given shown formed entered (c .before .before .before .before .before .any-outside .ensures) (not-false _ (c .before .before .before .before .if1 .left)) (c .before .first-outside .ensures) in
+      subst (FoundCoded D (c .clause-at .result) (now (c .before .before .before .before .before .before .before .before .args .clauses)) cs area) (sym (w .1))
+      (c .clause-at .ensures .1 D _ cs area (omega (arith, w .0, shown .few)) (shown .short _ (w .0)) (shown .dying _ (w .0))),
+)
 
 pub dead-spec : {M : Type 1} → statement M
 dead-spec =
     tie.close
     (tie.spec
-    code-here-requires
-    first-dying-requires
+    mul-dying
+    mul-dying-2
+    add-dying
+    sub-above
+    mul-above
+    any-outside-requires
     returns
-    sub-from
-    mul-from
-    mul-size
-    element-copy-out-size
-    cast-size
-    add-placed
-    placed-requires
+    first-outside-requires
+    clause-at-requires
     returns-2)

@@ -2,12 +2,17 @@
 use borrow.Author.Needs.{needs}
 use Rattle.inner.proofs.found.lookup.Statement.{statement}
 use Rattle.inner.proofs.found.lookup.Tie as tie
+use Rattle.inner.proofs.found.last_in.Reads as last-in-reads
+use Rattle.inner.proofs.found.wanted.Reads as wanted-reads
+use Rattle.search_entry.proofs.placed.Reads as placed-reads
+use Rattle.shelf.proofs.find.find.Reads as find-reads
+use Rattle.shelf.proofs.find.row_in.Reads as row-in-reads
 use native.Mathlib.Omega.{arith}
 use Prim.Native.Nat.{suc, _+_, _*_}
 use denote.Ref.{now}
-use mathlib.Core.Path.{sym, ap, subst, _∙_}
+use mathlib.Core.Path.{sym, subst}
 use lib.Dec.{eqb}
-use lib.ListN.{length, take, drop}
+use lib.ListN.{length}
 use Rattle.qbf.specs.Formula.{paper}
 use Rattle.qbf.specs.Learning.{eligibleMatch}
 use Rattle.search_entry.specs.Entry.{Bounded}
@@ -15,8 +20,8 @@ use Rattle.search_entry.specs.declared.Bounds.{Bounds}
 use Rattle.search_entry.specs.declared.Source.the-variants.{Learned}
 use Rattle.inner.proofs.Lookups.{found-row, found-nothing, found-part, row-part, slot-row, slot-none}
 
-code-here-requires : tie.Need-code-here-requires
-code-here-requires c κs = search needs
+last-in-requires : tie.Need-last-in-requires
+last-in-requires c κs = search needs
 
 wanted-requires : tie.Need-wanted-requires
 wanted-requires c κs = search needs
@@ -41,30 +46,32 @@ placed-requires c κs = search needs
 
 returns : tie.Need-returns
 returns c =
-    let cells = now (c .before .before .before .before .before .before .before .before .before .before .args .cells) in
+    let a = c .before .before .before .before .before .before .before .before .before .before .args in
+    let cells = now (a .cells) in
     let slot = c .before .before .before .before .before .find in
     let row = c .before .row-in .ensures in
     let at : Bounds = record { source = Learned; start = slot .result * suc (paper .numbers) + 1; len = length (now (c .before .row-in .result)) } in (
       subst Bounded (sym (c .placed .ensures)) (record { short = row .1; inside = omega (arith, row .1, c .before .before .before .before .if1 .taken) }),
-      λ D s es cls area shown long inner rows.
-          found-part D (eligibleMatch D eqb (c .before .before .before .before .before .before .before .before .before .before .args .cube) s es) cls cells area at (c .placed .ensures) (row-part cells (slot .result) (now (c .before .row-in .result)) (row .0))
-          (found-row (c .before .before .before .before .before .before .before .before .before .before .args .cube) (c .before .before .before .before .before .before .before .before .before .code-here .ensures .1) (c .before .before .before .before .before .before .wanted .ensures) (slot .ensures) D s es shown long inner rows
+      λ D s n es cls area shown given inner rows.
+          found-part D (eligibleMatch D eqb (a .cube) s es) cls cells area at (c .placed .ensures) (row-part cells (slot .result) (now (c .before .row-in .result)) (row .0))
+          (found-row (a .cube) (c .before .before .before .before .before .before .before .last-in .ensures .1) (c .before .before .before .before .before .before .wanted .ensures) (slot .ensures) D s es shown given inner rows
           (slot-row (paper .numbers) (paper .constraints) cells (slot .result) (c .before .before .before .before .if1 .taken) (row .0))),
     )
 
 returns-2 : tie.Need-returns-2
-returns-2 c = (
-  tt,
-  λ D s es cls area shown long inner rows.
-      found-nothing (c .before .before .before .before .before .before .args .cube) (c .before .before .before .before .before .code-here .ensures .1) (c .before .before .wanted .ensures) (c .before .find .ensures) D s es shown long inner rows
-      (slot-none (paper .numbers) (paper .constraints) (now (c .before .before .before .before .before .before .args .cells)) (c .before .find .result) (c .if1 .left)),
-)
+returns-2 c =
+    let a = c .before .before .before .before .before .before .args in (
+      tt,
+      λ D s n es cls area shown given inner rows.
+          found-nothing (a .cube) (c .before .before .before .last-in .ensures .1) (c .before .before .wanted .ensures) (c .before .find .ensures) D s es shown given inner rows
+          (slot-none (paper .numbers) (paper .constraints) (now (a .cells)) (c .before .find .result) (c .if1 .left)),
+    )
 
 pub lookup-spec : {M : Type 1} → statement M
 lookup-spec =
     tie.close
     (tie.spec
-    code-here-requires
+    last-in-requires
     wanted-requires
     find-requires
     row-in-requires
