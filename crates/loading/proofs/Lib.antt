@@ -3,4 +3,5 @@ pub mod Loading
 pub mod Filling
 pub mod Coding
 pub mod Matrix
+pub mod Starting
 pub mod Unloading
