@@ -59,8 +59,8 @@ module _ (D : Prefix) (R : List Clause) (κ : Quantifier) (f : Node → Store �
 -- ---- a position below
 -- the result of a side at the position that the code made for it
 pub side-at : {ls : List Node} (D : Prefix) (R : List Clause) (s : Node) (st : Store) {r : Answer} {cls up cs cl qs ql table : List ℕ} {q q′ : Position} → q ≡ q′
-    → Result D ls (visitOf D R q s st false) q r cls up cs cl qs ql table → Result D ls (visitOf D R q′ s st false) q′ r cls up cs cl qs ql table
-side-at {ls} D R s st {r} {cls} {up} {cs} {cl} {qs} {ql} {table} e w = subst (λ (x : Position). Result D ls (visitOf D R x s st false) x r cls up cs cl qs ql table) e w
+    → Result D ls (visitOf D R q s st) q r cls up cs cl qs ql table → Result D ls (visitOf D R q′ s st) q′ r cls up cs cl qs ql table
+side-at {ls} D R s st {r} {cls} {up} {cs} {cl} {qs} {ql} {table} e w = subst (λ (x : Position). Result D ls (visitOf D R x s st) x r cls up cs cl qs ql table) e w
 
 -- ---- what is well formed
 abbrev formulaOf : Prefix → List Clause → Formula

@@ -7,22 +7,19 @@ use mathlib.Core.Bool.{Bool, true, cond}
 use mathlib.Core.List.{List}
 use Rattle.qbf.specs.Formula.{paper, Prefix, Node}
 use Rattle.qbf.specs.Learning.{LearningResult}
-use Rattle.tables.specs.Shelves.{newestOf}
+use Rattle.tables.specs.Shelves.{Shelves, newestOf}
 use Rattle.search_entry.specs.Entry.{Bounded}
 use Rattle.search_entry.specs.declared.Bounds.{Bounds}
 use Rattle.node.specs.Node.{boundsOf, Finished, Grown, isYes, settledLines}
 use Rattle.node.specs.declared.Verdict.the-variants.{Yes, No, Mixed}
-use Rattle.search.specs.Search.{left, Room, Counts, Result}
+use Rattle.search.specs.Search.{left, Room, Asked, AskedBelow, Counts, Result}
 use Rattle.node.specs.declared.Verdict.{Verdict}
 use Rattle.node.specs.declared.Position.{Position}
 use Rattle.node.specs.declared.Answer.{Answer}
 
--- the positions of the sides, of an open node, and an answer, as the code makes them
+-- the positions of the sides, and an answer, as the code makes them
 abbrev pub below : Position → ℕ → ℕ → Position
-below p v l = record { at = p .at + 1; free = p .free; visits = v; lines = l; satisfied = p .satisfied }
-
-abbrev pub resumedAt : Position → ℕ → Position
-resumedAt p n = record { at = p .at; free = p .free; visits = p .visits; lines = p .lines; satisfied = n }
+below p v l = record { at = p .at + 1; free = p .free; visits = v; lines = l; words = p .words }
 
 abbrev pub answered : Verdict → Bounds → ℕ → ℕ → Answer
 answered v b k l = record { verdict = v; source = b .source; start = b .start; len = b .len; visits = k; lines = l }
@@ -54,17 +51,6 @@ settle-low Yes Mixed m l n e h = omega arith
 settle-low No Mixed m l n e h = omega arith
 settle-low Mixed Mixed m l n e h = omega arith
 
--- room and counts do not depend on how many clauses are known to be satisfied
-pub room-resumed : {cl ql : List ℕ} {saved : ℕ} (p q : Position) (n : ℕ) → q ≡ resumedAt p n → Room saved cl ql p → Room saved cl ql q
-room-resumed {cl} {ql} {saved} p q n e h =
-    subst (Room saved cl ql) (sym e)
-    (record { within = h .within; free = h .free; aside = h .aside; visits = h .visits; lines = h .lines; clauses = h .clauses; cubes = h .cubes })
-
-pub counts-resumed : {cl ql cl′ ql′ : List ℕ} {r : Answer} (p q : Position) (n : ℕ) → q ≡ resumedAt p n → Counts cl ql q r cl′ ql′ → Counts cl ql p r cl′ ql′
-counts-resumed {cl} {ql} {cl′} {ql′} {r} p q n e h =
-    let g : Counts cl ql (resumedAt p n) r cl′ ql′ = subst (λ (x : Position). Counts cl ql x r cl′ ql′) e h in
-    record { bounded = g .bounded; more = g .more; fewer = g .fewer; lines-more = g .lines-more; lines-fewer = g .lines-fewer; clauses = g .clauses; cubes = g .cubes }
-
 module _ (p : Position) where
   pub counts-settled : {cl ql : List ℕ} (r : Answer) (v : Verdict) (b : Bounds) → r ≡ answered v b (p .visits + 1) (p .lines) → Bounded b → Counts cl ql p r cl ql
   counts-settled {cl} {ql} r v b e h =
@@ -77,26 +63,28 @@ module _ (p : Position) where
         let e : left p ≡ suc (paper .numbers - (p .at + 1)) = omega arith in
         ap (λ (n : ℕ). 2 ^ suc n) e ∙ two-pow-succ (suc (paper .numbers - (p .at + 1)))
 
-    -- room for a side
-    pub record SideRoom (saved : ℕ) (cl ql : List ℕ) (q : Position) : Type 0 where
-      pub room : Room saved cl ql q
-      pub after : 1 ≤ q .at
-      pub own : suc (left q) * paper .numbers ≤ saved
-
-    side-room : {cl ql cl′ ql′ : List ℕ} (saved v l : ℕ) → Room saved cl ql p → v + 2 ^ suc (paper .numbers - (p .at + 1)) ≤ 2 ^ 62 → l ≤ v + v
-        → newestOf cl′ ≤ v + paper .constraints → newestOf ql′ ≤ v + paper .constraints → SideRoom saved cl′ ql′ (below p v l)
-    side-room saved v l h hv hl hc hq =
+    -- what a side asks
+    side-asked : {cs cl qs ql cs′ cl′ qs′ ql′ : List ℕ} (saved n v l : ℕ) → Asked saved cs cl qs ql p → Shelves cs′ cl′ qs′ ql′ → n ≤ paper .numbers
+        → v + 2 ^ suc (paper .numbers - (p .at + 1)) ≤ 2 ^ 62 → l ≤ v + v → newestOf cl′ ≤ v + paper .constraints → newestOf ql′ ≤ v + paper .constraints
+        → AskedBelow n saved cs′ cl′ qs′ ql′ (below p v l)
+    side-asked saved n v l a shelves hn hv hl hc hq =
+        let h = a .room in
         let e : left p ≡ suc (paper .numbers - (p .at + 1)) = omega arith in
         record {
-          room = record { within = omega arith; free = h .free; aside = omega (arith, h .aside, e); visits = hv; lines = hl; clauses = hc; cubes = hq };
-          after = omega arith;
+          asked = record {
+            shelves = shelves;
+            room = record { within = omega arith; free = h .free; words = h .words; aside = omega (arith, h .aside, e); visits = hv; lines = hl; clauses = hc; cubes = hq };
+          };
+          inner = omega arith;
+          used = hn;
           own = omega (arith, h .aside, e);
         }
 
-    pub room-off : {cl ql : List ℕ} (saved : ℕ) (q : Position) → q ≡ below p (p .visits + 1) (p .lines) → Room saved cl ql p → SideRoom saved cl ql q
-    room-off {cl} {ql} saved q e h =
-        subst (SideRoom saved cl ql) (sym e)
-        (side-room saved (p .visits + 1) (p .lines) h (omega (arith, h .visits, twice, two (paper .numbers - (p .at + 1)))) (omega (arith, h .lines)) (omega (arith, h .clauses)) (omega (arith, h .cubes)))
+    pub off-asked : {cs cl qs ql : List ℕ} (saved : ℕ) (q : Position) → q ≡ below p (p .visits + 1) (p .lines) → Asked saved cs cl qs ql p → AskedBelow 0 saved cs cl qs ql q
+    off-asked {cs} {cl} {qs} {ql} saved q e a =
+        let h = a .room in
+        subst (AskedBelow 0 saved cs cl qs ql) (sym e)
+        (side-asked saved 0 (p .visits + 1) (p .lines) a (a .shelves) (omega arith) (omega (arith, h .visits, twice, two (paper .numbers - (p .at + 1)))) (omega (arith, h .lines)) (omega (arith, h .clauses)) (omega (arith, h .cubes)))
 
     -- room to put one constraint aside
     pub aside-room : {cl ql : List ℕ} (saved : ℕ) → Room saved cl ql p → paper .numbers ≤ saved
@@ -104,18 +92,20 @@ module _ (p : Position) where
         let e : left p ≡ suc (paper .numbers - (p .at + 1)) = omega arith in
         omega (arith, h .aside, e)
 
-    pub falls-side : (q : Position) (v l : ℕ) → q ≡ below p v l → 4 * (paper .numbers - q .at) + 4 < 4 * (paper .numbers - p .at) + 1
+    pub falls-side : (q : Position) (v l : ℕ) → q ≡ below p v l → 5 * (paper .numbers - q .at) + 4 < 5 * (paper .numbers - p .at)
     falls-side q v l e = let z : q .at ≡ p .at + 1 = ap (λ (x : Position). x .at) e in omega arith
 
     module _ {cl ql cl₁ ql₁ : List ℕ} (q : Position) (eq : q ≡ below p (p .visits + 1) (p .lines)) (off : Answer) (counts : Counts cl ql q off cl₁ ql₁) where
       c : Counts cl ql (below p (p .visits + 1) (p .lines)) off cl₁ ql₁
       c = subst (λ (x : Position). Counts cl ql x off cl₁ ql₁) eq counts
 
-      pub room-on : (saved saved′ l : ℕ) (q′ : Position) → q′ ≡ below p (off .visits) l → l ≤ off .lines + 1 → saved′ ≡ saved → Room saved cl ql p → SideRoom saved′ cl₁ ql₁ q′
-      room-on saved saved′ l q′ e hl same h =
-          subst (λ (n : ℕ). SideRoom n cl₁ ql₁ q′) (sym same)
-          (subst (SideRoom saved cl₁ ql₁) (sym e)
-          (side-room saved (off .visits) l h (omega (arith, h .visits, twice, c .fewer)) (omega (arith, h .lines, c .lines-fewer, hl)) (omega (arith, h .clauses, c .clauses)) (omega (arith, h .cubes, c .cubes))))
+      pub on-asked : {cs cs₁ qs qs₁ : List ℕ} (saved saved′ l n : ℕ) (q′ : Position) → q′ ≡ below p (off .visits) l → l ≤ off .lines + 1 → saved′ ≡ saved → n ≤ paper .numbers
+          → Asked saved cs cl qs ql p → Shelves cs₁ cl₁ qs₁ ql₁ → AskedBelow n saved′ cs₁ cl₁ qs₁ ql₁ q′
+      on-asked {cs} {cs₁} {qs} {qs₁} saved saved′ l n q′ e hl same hn a shelves =
+          let h = a .room in
+          subst (λ (k : ℕ). AskedBelow n k cs₁ cl₁ qs₁ ql₁ q′) (sym same)
+          (subst (AskedBelow n saved cs₁ cl₁ qs₁ ql₁) (sym e)
+          (side-asked saved n (off .visits) l a shelves hn (omega (arith, h .visits, twice, c .fewer)) (omega (arith, h .lines, c .lines-fewer, hl)) (omega (arith, h .clauses, c .clauses)) (omega (arith, h .cubes, c .cubes))))
 
       pub counts-up : Counts cl ql p off cl₁ ql₁
       counts-up =
@@ -154,31 +144,26 @@ module _ (p : Position) where
               cubes = omega (arith, c .cubes, d .cubes, g .cubes, hv);
             }
 
-        -- at an exists or forall variable no line is added here
-        pub counts-quantified : {cl₃ ql₃ : List ℕ} → l ≡ off .lines → (r : Answer) → Finished on r → Grown cl₂ ql₂ cl₃ ql₃ → Counts cl ql p r cl₃ ql₃
-        counts-quantified same r f g =
-            counts-both r (omega arith) (f .bounded) (f .visits) (omega (arith, c .lines-more, d .lines-more, f .lines)) (omega (arith, f .lines)) g
-
-        -- at a free variable: the off side's line, then what both sides settle to
-        module _ (lined : l ≡ cond (isYes (off .verdict)) (off .lines + 1) (off .lines)) where
-          pub on-lines-one : isYes (off .verdict) ≡ true → isYes (on .verdict) ≡ true → 1 ≤ on .lines
+        -- the off side's line, then what both sides settle to, by the verdicts that lines go by
+        module _ (v w : Verdict) (lined : l ≡ cond (isYes v) (off .lines + 1) (off .lines)) where
+          pub on-lines-one : isYes v ≡ true → isYes w ≡ true → 1 ≤ on .lines
           on-lines-one y z =
               let e : l ≡ off .lines + 1 = lined ∙ ap (λ (b : Bool). cond b (off .lines + 1) (off .lines)) y in
               omega (arith, d .lines-more)
 
           pub on-lines-small : (saved : ℕ) → Room saved cl ql p → on .lines < 2 ^ 63
           on-lines-small saved h =
-              omega (arith, h .visits, h .lines, twice, c .fewer, c .lines-fewer, d .fewer, d .lines-fewer, off-lines (off .verdict) (off .lines) l lined .1)
+              omega (arith, h .visits, h .lines, twice, c .fewer, c .lines-fewer, d .fewer, d .lines-fewer, off-lines v (off .lines) l lined .1)
 
-          pub counts-free : {cl₃ ql₃ : List ℕ} (r : Answer) → Finished on r → Grown cl₂ ql₂ cl₃ ql₃ → (n : ℕ) → n ≡ settledLines (off .verdict) (on .verdict) (on .lines)
+          pub counts-sides : {cl₃ ql₃ : List ℕ} (r : Answer) → Finished on r → Grown cl₂ ql₂ cl₃ ql₃ → (n : ℕ) → n ≡ settledLines v w (on .lines)
               → (r′ : Answer) → r′ ≡ answered (r .verdict) (boundsOf r) (r .visits) n → Counts cl ql p r′ cl₃ ql₃
-          counts-free {cl₃} {ql₃} r f g n settled r′ e =
+          counts-sides {cl₃} {ql₃} r f g n settled r′ e =
               subst (λ (x : Answer). Counts cl ql p x cl₃ ql₃) (sym e)
-              (counts-both (answered (r .verdict) (boundsOf r) (r .visits) n) (off-lines (off .verdict) (off .lines) l lined .1) (f .bounded) (f .visits)
-              (omega (arith, low, c .lines-more)) (omega (arith, settle-high (off .verdict) (on .verdict) (on .lines), settled)) g)
+              (counts-both (answered (r .verdict) (boundsOf r) (r .visits) n) (off-lines v (off .lines) l lined .1) (f .bounded) (f .visits)
+              (omega (arith, low, c .lines-more)) (omega (arith, settle-high v w (on .lines), settled)) g)
             where
               low : off .lines ≤ n
-              low = subst (λ (x : ℕ). off .lines ≤ x) (sym settled) (settle-low (off .verdict) (on .verdict) (off .lines) l (on .lines) lined (d .lines-more))
+              low = subst (λ (x : ℕ). off .lines ≤ x) (sym settled) (settle-low v w (off .lines) l (on .lines) lined (d .lines-more))
 
       pub lines-small : (saved : ℕ) → Room saved cl ql p → off .lines < 2 ^ 63
       lines-small saved h = omega (arith, h .visits, h .lines, twice, c .fewer, c .lines-fewer)
@@ -187,10 +172,13 @@ pub visits-small : {cl ql : List ℕ} (saved : ℕ) (p : Position) → Room save
 visits-small saved p h = omega (arith, h .visits, two (left p))
 
 -- the cells of `saved` that are in use are passed over
-pub part-room : {cl ql : List ℕ} (saved aside part : ℕ) (p : Position) → Room saved cl ql p → aside ≤ paper .numbers → suc (left p) * paper .numbers ≤ saved
-    → saved ≤ aside + part → Room part cl ql p
-part-room saved aside part p h n own e =
-    record { within = h .within; free = h .free; aside = omega (arith, n, own, e); visits = h .visits; lines = h .lines; clauses = h .clauses; cubes = h .cubes }
+pub part-asked : {cs cl qs ql : List ℕ} (saved aside part : ℕ) (p : Position) → AskedBelow aside saved cs cl qs ql p → saved ≤ aside + part → Asked part cs cl qs ql p
+part-asked saved aside part p a e =
+    let h = a .asked .room in
+    record {
+      shelves = a .asked .shelves;
+      room = record { within = h .within; free = h .free; words = h .words; aside = omega (arith, a .used, a .own, e); visits = h .visits; lines = h .lines; clauses = h .clauses; cubes = h .cubes };
+    }
 
 -- an answer by its fields
 pub counts-as : {cl ql cl′ ql′ : List ℕ} {p : Position} {r r′ : Answer} → r ≡ r′ → Counts cl ql p r cl′ ql′ → Counts cl ql p r′ cl′ ql′

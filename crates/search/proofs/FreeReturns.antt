@@ -4,25 +4,25 @@ use native.Mathlib.Omega.{arith}
 use mathlib.Core.Path.{_≡_, refl, sym, ap, _∙_, subst}
 use mathlib.Core.Bool.{Bool, true, false, cond}
 use mathlib.Core.List.{List, [], _∷_, _++_, append-nil, append-assoc}
-use mathlib.Core.Option.{none}
 use lib.ListN.{length, take, drop, length-append}
 use Rattle.qbf.specs.Formula.{paper, free, Prefix, Clause, Node, _▹_, quantifiers, quantifierAt}
 use Rattle.qbf.specs.Truth.{Outcome, decided, mixed, DecidedNode, decidedNodes, select}
-use Rattle.qbf.specs.Learning.{Constraint, Store, LearningResult, mentions, resolve, firstDead}
+use Rattle.qbf.specs.Learning.{Constraint, Store, LearningResult, mentions, resolve}
 use Rattle.qbf.specs.Card.{byteOf}
 use Rattle.theory.proofs.Laws.{select-append}
 use Rattle.theory.proofs.WellFormed.{free-before}
+use Rattle.tables.specs.Views.{quantifierCode}
 use Rattle.tables.specs.Codes.{Statuses}
 use Rattle.cover.specs.Cover.{Covers}
 use Rattle.node.specs.Node.{isYes, boundsOf, entryOf, Reads, onwardOf, newLines, Joined, LineTask, settledLines, SettledTo}
-use Rattle.search.specs.Search.{Kept, Task, Result, branchOf}
+use Rattle.search.specs.Search.{Kept, Task, Opened, Result, SideVisited, branchOf}
 use Rattle.node.specs.declared.Verdict.{Verdict}
 use Rattle.node.specs.declared.Verdict.the-variants.{Yes, No, Mixed}
 use Rattle.node.specs.declared.Position.{Position}
 use Rattle.node.specs.declared.Answer.{Answer}
 use Rattle.search.proofs.Counts as counts
 use Rattle.search.proofs.Branching.{facts, rest, free-at}
-use Rattle.search.proofs.Returns.{SideSays, UpSays, FinishSays, offR, onR, off-result, on-result, joined, onward-is, visits-both}
+use Rattle.search.proofs.Returns.{UpSays, FinishSays, offR, onR, off-result, on-result, joined, onward-is, visits-both}
 
 -- ---- the lines of both sides
 abbrev pub offLines : Verdict → Node → List Node
@@ -113,34 +113,34 @@ module _ (D : Prefix) (R : List Clause) (s : Node) (st : Store) (k : ℕ) where
         (same-list Mixed (mixed (p .0)) (mixed (q .0)) (mixed-lines (select true (p .0)) (select true (q .0)) ∙ ap (λ (ms : List Node). ls ++ ms) (sym (mixed-first (p .0) (mixed (q .0))))) Mixed (λ f tb x. x) (λ n. refl))
 
 -- ---- the visitor
-module _ {cls lks kd ss cs cl qs ql tb fs : List ℕ} (p q : Position) (eq : q ≡ counts.below p (p .visits + 1) (p .lines))
-    (off : Answer) {up₁ cs₁ cl₁ qs₁ ql₁ tb₁ : List ℕ} (offs : SideSays cls lks kd q 1 ss cs cl qs ql tb fs off up₁ cs₁ cl₁ qs₁ ql₁ tb₁) (t : Bool)
-    (ups : UpSays (off .verdict) 0 (entryOf off cls cs₁ qs₁ up₁) (p .at) t) {ss₁ fs₁ : List ℕ} (kept : Kept q ss ss₁ tb tb₁ fs fs₁) {tbₐ : List ℕ} (l : ℕ)
+module _ {cls sets kd ss cs cl qs ql tb sat mk : List ℕ} (kind : ℕ) (code : quantifierCode free ≡ kind) (p q : Position) (eq : q ≡ counts.below p (p .visits + 1) (p .lines))
+    (off : Answer) {up₁ cs₁ cl₁ qs₁ ql₁ tb₁ : List ℕ} (offs : SideVisited 1 q off cls sets kd ss cs cl qs ql tb sat mk up₁ cs₁ cl₁ qs₁ ql₁ tb₁) (t : Bool)
+    (ups : UpSays (off .verdict) kind (entryOf off cls cs₁ qs₁ up₁) (p .at) t) {ss₁ sat₁ mk₁ : List ℕ} (kept : Kept (q .at) (q .words) ss ss₁ tb tb₁ sat sat₁ mk mk₁) {tbₐ : List ℕ} (l : ℕ)
     (counted : l ≡ cond (isYes (off .verdict)) (off .lines + 1) (off .lines))
     (lined : (s : Node) (b : Bool) (ls : List Node) → LineTask s ls ss₁ tb₁ p (off .lines) → 1 ≡ byteOf b → Covers (p .free) tbₐ (ls ++ cond (isYes (off .verdict)) ((s ▹ b) ∷ []) []))
     (q′ : Position) (eq′ : q′ ≡ counts.below p (off .visits) l) (on : Answer) {up₂ cs₂ cl₂ qs₂ ql₂ tb₂ : List ℕ}
-    (ons : SideSays cls lks kd q′ 2 ss₁ cs₁ cl₁ qs₁ ql₁ tbₐ fs₁ on up₂ cs₂ cl₂ qs₂ ql₂ tb₂)
+    (ons : SideVisited 2 q′ on cls sets kd ss₁ cs₁ cl₁ qs₁ ql₁ tbₐ sat₁ mk₁ up₂ cs₂ cl₂ qs₂ ql₂ tb₂)
     (saved : List ℕ) (aside : take (off .len) saved ≡ entryOf off cls cs₁ qs₁ up₁) (r : Answer) {cs₃ cl₃ qs₃ ql₃ : List ℕ}
-    (fins : FinishSays kd (off .verdict) (off .len) on 0 saved cls up₂ (p .at) cs₂ cl₂ qs₂ ql₂ r cs₃ cl₃ qs₃ ql₃) (unup : t ≡ false) (visits : r .visits ≡ on .visits)
-    {ss₂ fs₂ : List ℕ} (kept₂ : Kept q′ ss₁ ss₂ tbₐ tb₂ fs₁ fs₂) (tb₃ : List ℕ) (n : ℕ) (settled : n ≡ settledLines (off .verdict) (on .verdict) (on .lines))
+    (fins : FinishSays kd (off .verdict) (off .len) on kind saved cls up₂ (p .at) cs₂ cl₂ qs₂ ql₂ r cs₃ cl₃ qs₃ ql₃) (unup : t ≡ false) (visits : r .visits ≡ on .visits)
+    {ss₂ : List ℕ} (same₂ : ss₂ ≡ ss₁) (tb₃ : List ℕ) (n : ℕ) (settled : n ≡ settledLines (off .verdict) (on .verdict) (on .lines))
     (settling : (s : Node) (ls : List Node) → LineTask s ls ss₂ tb₂ p (on .lines) → SettledTo (off .verdict) (on .verdict) s ls (p .free) tb₃) where
-  pub free-result : (D : Prefix) (s : Node) (ls : List Node) (R : List Clause) (st : Store) → Task D s ls R st cls lks kd ss cs cl qs ql tb fs (p .at) p
-      → firstDead D s R ≡ none → p .at < length D → quantifierAt D (suc (p .at)) ≡ free
+  pub free-result : (D : Prefix) (s : Node) (ls : List Node) (R : List Clause) (st : Store) → Task D s ls R st cls sets kd ss cs cl qs ql tb (p .at) p
+      → Opened D s R p sat mk → p .at < length D → quantifierAt D (suc (p .at)) ≡ free
       → Result D ls (branchOf D R free p s st) p (counts.answered (r .verdict) (boundsOf r) (r .visits) n) cls up₂ cs₃ cl₃ qs₃ ql₃ tb₃
-  free-result D s ls R st task alive inside is =
+  free-result D s ls R st task opened inside is =
       record {
         verdict = j .verdict;
         stored = j .stored;
-        visited = visits-both free 0 refl p q eq off offs t ups D s ls R st task alive inside is l kept q′ eq′ on ons ls₁ cov cnt saved aside r fins unup visits;
-        covers = subst (λ (x : LearningResult). Covers (p .free) tb₃ (ls ++ newLines (x .outcome))) (sym whole) (s₂ .covers (p .free) tb₃ (settling s ls₂ (line-task ss₂ (kept₂ .statuses-restored ∙ kept .statuses-restored) tb₂ ls₂ (on .lines) (z .covers) (z .counted))));
+        visited = visits-both free kind code p q eq off offs t ups D s ls R st task opened inside is l kept q′ eq′ on ons ls₁ cov cnt saved aside r fins unup visits;
+        covers = subst (λ (x : LearningResult). Covers (p .free) tb₃ (ls ++ newLines (x .outcome))) (sym whole) (s₂ .covers (p .free) tb₃ (settling s ls₂ (line-task ss₂ (same₂ ∙ kept .statuses-restored) tb₂ ls₂ (on .lines) (z .covers) (z .counted))));
         counted = settled ∙ ap (settledLines (off .verdict) (on .verdict)) (z .counted) ∙ s₂ .counts ∙ ap (λ (x : LearningResult). length (ls ++ newLines (x .outcome))) (sym whole);
       }
     where
-      w : Result D ls (offR free 0 refl p q eq off offs t ups D s ls R st task alive inside is) (counts.below p (p .visits + 1) (p .lines)) off cls up₁ cs₁ cl₁ qs₁ ql₁ tb₁
-      w = off-result free 0 refl p q eq off offs t ups D s ls R st task alive inside is
+      w : Result D ls (offR free kind code p q eq off offs t ups D s ls R st task opened inside is) (counts.below p (p .visits + 1) (p .lines)) off cls up₁ cs₁ cl₁ qs₁ ql₁ tb₁
+      w = off-result free kind code p q eq off offs t ups D s ls R st task opened inside is
 
       a : Outcome Constraint
-      a = offR free 0 refl p q eq off offs t ups D s ls R st task alive inside is .outcome
+      a = offR free kind code p q eq off offs t ups D s ls R st task opened inside is .outcome
 
       -- the place is a free one
       among : p .at < p .free
@@ -170,26 +170,26 @@ module _ {cls lks kd ss cs cl qs ql tb fs : List ℕ} (p q : Position) (eq : q �
           by No = omega (arith, w .counted)
           by Mixed = omega (arith, w .counted)
 
-      z : Result D ls₁ (onR free 0 refl p q eq off offs t ups D s ls R st task alive inside is l kept q′ eq′ on ons ls₁ cov cnt) (counts.below p (off .visits) l) on cls up₂ cs₂ cl₂ qs₂ ql₂ tb₂
-      z = on-result free 0 refl p q eq off offs t ups D s ls R st task alive inside is l kept q′ eq′ on ons ls₁ cov cnt
+      z : Result D ls₁ (onR free kind code p q eq off offs t ups D s ls R st task opened inside is l kept q′ eq′ on ons ls₁ cov cnt) (counts.below p (off .visits) l) on cls up₂ cs₂ cl₂ qs₂ ql₂ tb₂
+      z = on-result free kind code p q eq off offs t ups D s ls R st task opened inside is l kept q′ eq′ on ons ls₁ cov cnt
 
       o : Outcome Constraint
-      o = onR free 0 refl p q eq off offs t ups D s ls R st task alive inside is l kept q′ eq′ on ons ls₁ cov cnt .outcome
+      o = onR free kind code p q eq off offs t ups D s ls R st task opened inside is l kept q′ eq′ on ons ls₁ cov cnt .outcome
 
       j : Joined D (branchOf D R free p s st) r cls up₂ cs₃ cl₃ qs₃ ql₃
-      j = joined free 0 refl p q eq off offs t ups D s ls R st task alive inside is l kept q′ eq′ on ons ls₁ cov cnt saved aside r fins unup
+      j = joined free kind code p q eq off offs t ups D s ls R st task opened inside is l kept q′ eq′ on ons ls₁ cov cnt saved aside r fins unup
 
       ls₂ : List Node
       ls₂ = unsettled ls s (off .verdict) a o
 
       st′ : Store
-      st′ = onR free 0 refl p q eq off offs t ups D s ls R st task alive inside is l kept q′ eq′ on ons ls₁ cov cnt .store
+      st′ = onR free kind code p q eq off offs t ups D s ls R st task opened inside is l kept q′ eq′ on ons ls₁ cov cnt .store
 
       k : ℕ
-      k = suc (offR free 0 refl p q eq off offs t ups D s ls R st task alive inside is .visits + onR free 0 refl p q eq off offs t ups D s ls R st task alive inside is l kept q′ eq′ on ons ls₁ cov cnt .visits)
+      k = suc (offR free kind code p q eq off offs t ups D s ls R st task opened inside is .visits + onR free kind code p q eq off offs t ups D s ls R st task opened inside is l kept q′ eq′ on ons ls₁ cov cnt .visits)
 
       whole : branchOf D R free p s st ≡ onwardOf D R free s a o st′ k
-      whole = onward-is free 0 refl p q eq off offs t ups D s ls R st task alive inside is l kept q′ eq′ on ons ls₁ cov cnt saved aside r fins unup
+      whole = onward-is free kind code p q eq off offs t ups D s ls R st task opened inside is l kept q′ eq′ on ons ls₁ cov cnt saved aside r fins unup
 
       s₂ : Settles D R s st′ k ls (off .verdict) (on .verdict) a o
       s₂ = settles D R s st′ k ls (off .verdict) (on .verdict) (entryOf off cls cs₁ qs₁ up₁) (entryOf on cls cs₂ qs₂ up₂) a o (w .verdict) (z .verdict)

@@ -3,4 +3,5 @@ pub mod Keeping
 pub mod Branching
 pub mod Returns
 pub mod FreeReturns
+pub mod SidesReturns
 pub mod Visiting

@@ -5,13 +5,11 @@ use native.Mathlib.Numerals.{add-one}
 use mathlib.Core.Path.{_≡_, refl, sym, ap, _∙_, subst}
 use mathlib.Core.Bool.{Bool, true, false}
 use mathlib.Core.List.{List, [], _∷_, _++_}
-use mathlib.Core.Option.{none}
 use lib.ListN.{length, take, drop}
 use lib.Dec.{eqb}
 use Rattle.qbf.specs.Formula.{paper, Quantifier, Prefix, Clause, Node, _▹_, quantifiers, quantifierAt}
 use Rattle.qbf.specs.Truth.{Outcome, decided, mixed}
-use Rattle.qbf.specs.Learning.{Constraint, Store, LearningResult, visit, below, firstDead}
-use Rattle.qbf.specs.Card.{byteOf}
+use Rattle.qbf.specs.Learning.{Constraint, Store, LearningResult, visit, below}
 use Rattle.theory.proofs.Visits.{on-visits}
 use Rattle.theory.proofs.Verdict.{NoFree}
 use Rattle.theory.proofs.Search.{Below}
@@ -20,28 +18,18 @@ use Rattle.theory.proofs.WellFormed.{numbers-ok}
 use Rattle.tables.specs.Views.{quantifierCode}
 use Rattle.tables.specs.Codes.{Quantified}
 use Rattle.tables.specs.Shelves.{StoreShown}
-use Rattle.tables.specs.Marks.{Passed}
-use Rattle.inner.proofs.Below.{passed-kept}
 use Rattle.cover.specs.Cover.{Covers}
 use Rattle.tables.specs.Formed.{Formed}
-use Rattle.node.specs.Node.{entryOf, Reads, Ended, Shown, goesUpOf, onwardOf, resolventOf, Fits, newLines, Joined}
-use Rattle.search.specs.Search.{Kept, Task, Result, visitOf, branchOf}
+use Rattle.node.specs.Node.{boundsOf, entryOf, Reads, Ended, Shown, goesUpOf, onwardOf, resolventOf, Fits, newLines, Joined}
+use Rattle.search.specs.Search.{Kept, Task, Opened, Result, SideVisited, branchOf}
 use Rattle.node.specs.declared.Verdict.{Verdict}
 use Rattle.node.specs.declared.Position.{Position}
 use Rattle.node.specs.declared.Answer.{Answer}
 use Rattle.search.proofs.Counts as counts
-use Rattle.search.proofs.Keeping.{kept-up}
+use Rattle.search.proofs.Keeping.{kept-up, opened-at, opened-on}
 use Rattle.search.proofs.Branching.{goes-up, goes-on, side-at, facts, formed-on, shaped-side, unmixed-side, unmixed-here, quantified, resolvent-fits, ended}
 
 -- ---- what the callees ensure
--- a side: the tables that no visit changes, then those before and after it
-abbrev pub SideSays : List ℕ → List ℕ → List ℕ → Position → ℕ
-    → List ℕ → List ℕ → List ℕ → List ℕ → List ℕ → List ℕ → List ℕ → Answer → List ℕ → List ℕ → List ℕ → List ℕ → List ℕ → List ℕ → Type 0
-SideSays clauses links kinds q value ss cs cl qs ql tb fs r up cs′ cl′ qs′ ql′ tb′ =
-    (D : Prefix) (s : Node) (b : Bool) (ls : List Node) (R : List Clause) (st : Store) (k : ℕ)
-    → Task D s ls R st clauses links kinds ss cs cl qs ql tb fs k q → firstDead D s R ≡ none → k < length D → suc k ≡ q .at → value ≡ byteOf b
-    → Result D ls (visitOf D R q (s ▹ b) st false) q r clauses up cs′ cl′ qs′ ql′ tb′
-
 abbrev pub UpSays : Verdict → ℕ → List ℕ → ℕ → Bool → Type 0
 UpSays v kind codes at t =
     (D : Prefix) (κ : Quantifier) (o : Outcome Constraint) → quantifierCode κ ≡ kind → Reads D v codes o → Ended D (suc at) o → t ≡ goesUpOf D κ (suc at) o
@@ -61,11 +49,11 @@ pub unmixed-lines : (ks : List Quantifier) (o : Outcome Constraint) → Unmixed 
 unmixed-lines ks (decided v e) h n = refl
 unmixed-lines ks (mixed ds) h n = absurd (h n)
 
-module _ {cls lks kd ss cs cl qs ql tb fs : List ℕ} (κ : Quantifier) (kind : ℕ) (code : quantifierCode κ ≡ kind) (p : Position)
+module _ {cls sets kd ss cs cl qs ql tb sat mk : List ℕ} (κ : Quantifier) (kind : ℕ) (code : quantifierCode κ ≡ kind) (p : Position)
     (q : Position) (eq : q ≡ counts.below p (p .visits + 1) (p .lines)) (off : Answer) {up₁ cs₁ cl₁ qs₁ ql₁ tb₁ : List ℕ}
-    (offs : SideSays cls lks kd q 1 ss cs cl qs ql tb fs off up₁ cs₁ cl₁ qs₁ ql₁ tb₁) (t : Bool) (ups : UpSays (off .verdict) kind (entryOf off cls cs₁ qs₁ up₁) (p .at) t) where
-  module _ (D : Prefix) (s : Node) (ls : List Node) (R : List Clause) (st : Store) (task : Task D s ls R st cls lks kd ss cs cl qs ql tb fs (p .at) p)
-      (alive : firstDead D s R ≡ none) (inside : p .at < length D) (is : quantifierAt D (suc (p .at)) ≡ κ) where
+    (offs : SideVisited 1 q off cls sets kd ss cs cl qs ql tb sat mk up₁ cs₁ cl₁ qs₁ ql₁ tb₁) (t : Bool) (ups : UpSays (off .verdict) kind (entryOf off cls cs₁ qs₁ up₁) (p .at) t) where
+  module _ (D : Prefix) (s : Node) (ls : List Node) (R : List Clause) (st : Store) (task : Task D s ls R st cls sets kd ss cs cl qs ql tb (p .at) p)
+      (opened : Opened D s R p sat mk) (inside : p .at < length D) (is : quantifierAt D (suc (p .at)) ≡ κ) where
     abbrev side : Node → Store → LearningResult
     side = visit D R eqb (below paper D R (drop (p .at + 1) (quantifiers D)))
 
@@ -78,10 +66,10 @@ module _ {cls lks kd ss cs cl qs ql tb fs : List ℕ} (κ : Quantifier) (kind : 
     pub off-result : Result D ls offR (counts.below p (p .visits + 1) (p .lines)) off cls up₁ cs₁ cl₁ qs₁ ql₁ tb₁
     off-result =
         side-at D R (s ▹ false) st eq
-        (offs D s false ls R st (p .at)
-        (subst (Task D s ls R st cls lks kd ss cs cl qs ql tb fs (p .at)) (sym eq)
-        (record { shown = task .shown; formed = task .formed; matrix = task .matrix; stored = task .stored; passed = task .passed; frees = task .frees; covers = task .covers; counted = task .counted }))
-        alive inside (at-side q (p .visits + 1) (p .lines) eq) refl)
+        (offs .result D s false ls R st (p .at)
+        (subst (Task D s ls R st cls sets kd ss cs cl qs ql tb (p .at)) (sym eq)
+        (record { shown = task .shown; formed = task .formed; matrix = task .matrix; stored = task .stored; frees = task .frees; covers = task .covers; counted = task .counted }))
+        (opened-at p q (p .visits + 1) (p .lines) eq opened) inside (at-side q (p .visits + 1) (p .lines) eq) refl)
 
     ended-off : Ended D (suc (p .at)) (offR .outcome)
     ended-off = ended D s false (p .at) (offR .outcome) (task .shown .long) (shaped-side D R κ s (p .at) (task .shown .long) inside is false st (task .formed))
@@ -95,8 +83,8 @@ module _ {cls lks kd ss cs cl qs ql tb fs : List ℕ} (κ : Quantifier) (kind : 
         subst (λ (x : LearningResult). Result D ls x p off cls up₁ cs₁ cl₁ qs₁ ql₁ tb₁) (sym (goes-up D R κ side s st (sym tested ∙ e)))
         (record { verdict = off-result .verdict; stored = off-result .stored; visited = omega (arith, off-result .visited); covers = off-result .covers; counted = off-result .counted })
 
-    module _ {tbₐ : List ℕ} (l : ℕ) {ss₁ fs₁ : List ℕ} (kept : Kept q ss ss₁ tb tb₁ fs fs₁) (q′ : Position) (eq′ : q′ ≡ counts.below p (off .visits) l) (on : Answer)
-        {up₂ cs₂ cl₂ qs₂ ql₂ tb₂ : List ℕ} (ons : SideSays cls lks kd q′ 2 ss₁ cs₁ cl₁ qs₁ ql₁ tbₐ fs₁ on up₂ cs₂ cl₂ qs₂ ql₂ tb₂)
+    module _ {tbₐ : List ℕ} (l : ℕ) {ss₁ sat₁ mk₁ : List ℕ} (kept : Kept (q .at) (q .words) ss ss₁ tb tb₁ sat sat₁ mk mk₁) (q′ : Position) (eq′ : q′ ≡ counts.below p (off .visits) l) (on : Answer)
+        {up₂ cs₂ cl₂ qs₂ ql₂ tb₂ : List ℕ} (ons : SideVisited 2 q′ on cls sets kd ss₁ cs₁ cl₁ qs₁ ql₁ tbₐ sat₁ mk₁ up₂ cs₂ cl₂ qs₂ ql₂ tb₂)
         (ls₁ : List Node) (cov : Covers (p .free) tbₐ ls₁) (cnt : l ≡ length ls₁) where
       abbrev pub onR : LearningResult
       onR = side (s ▹ true) (offR .store)
@@ -104,8 +92,8 @@ module _ {cls lks kd ss cs cl qs ql tb fs : List ℕ} (κ : Quantifier) (kind : 
       shown-on : Shown D s kd ss₁ (p .at)
       shown-on = subst (λ (x : List ℕ). Shown D s kd x (p .at)) (sym (kept .statuses-restored)) (task .shown)
 
-      passed-on : Passed D s R (p .satisfied) fs₁
-      passed-on = passed-kept (task .passed) (kept-up p q (p .visits + 1) (p .lines) eq kept .firsts-kept)
+      open-on : Opened D s R p sat₁ mk₁
+      open-on = opened-on opened (task .shown .long) (kept-up p q (p .visits + 1) (p .lines) eq kept)
 
       formed-off : Formed D R (offR .store)
       formed-off = formed-on D R κ s (p .at) (task .shown .long) inside is st (task .formed)
@@ -113,10 +101,10 @@ module _ {cls lks kd ss cs cl qs ql tb fs : List ℕ} (κ : Quantifier) (kind : 
       pub on-result : Result D ls₁ onR (counts.below p (off .visits) l) on cls up₂ cs₂ cl₂ qs₂ ql₂ tb₂
       on-result =
           side-at D R (s ▹ true) (offR .store) eq′
-          (ons D s true ls₁ R (offR .store) (p .at)
-          (subst (Task D s ls₁ R (offR .store) cls lks kd ss₁ cs₁ cl₁ qs₁ ql₁ tbₐ fs₁ (p .at)) (sym eq′)
-          (record { shown = shown-on; formed = formed-off; matrix = task .matrix; stored = off-result .stored; passed = passed-on; frees = task .frees; covers = cov; counted = cnt }))
-          alive inside (at-side q′ (off .visits) l eq′) refl)
+          (ons .result D s true ls₁ R (offR .store) (p .at)
+          (subst (Task D s ls₁ R (offR .store) cls sets kd ss₁ cs₁ cl₁ qs₁ ql₁ tbₐ (p .at)) (sym eq′)
+          (record { shown = shown-on; formed = formed-off; matrix = task .matrix; stored = off-result .stored; frees = task .frees; covers = cov; counted = cnt }))
+          (opened-at p q′ (off .visits) l eq′ open-on) inside (at-side q′ (off .visits) l eq′) refl)
 
       module _ (saved : List ℕ) (aside : take (off .len) saved ≡ entryOf off cls cs₁ qs₁ up₁) (r : Answer) {cs₃ cl₃ qs₃ ql₃ : List ℕ}
           (fins : FinishSays kd (off .verdict) (off .len) on kind saved cls up₂ (p .at) cs₂ cl₂ qs₂ ql₂ r cs₃ cl₃ qs₃ ql₃) (unup : t ≡ false) where
@@ -146,36 +134,44 @@ module _ {cls lks kd ss cs cl qs ql tb fs : List ℕ} (κ : Quantifier) (kind : 
 
   -- at an exists or forall variable no side is Mixed, so there are no new lines
   module _ (nofree : (qs : List Quantifier) → Below κ qs → NoFree (κ ∷ qs)) (nobelow : (qs : List Quantifier) → NoFree (κ ∷ qs) → NoFree qs)
-      {ss₁ fs₁ : List ℕ} (kept : Kept q ss ss₁ tb tb₁ fs fs₁) (q′ : Position) (eq′ : q′ ≡ counts.below p (off .visits) (off .lines)) (on : Answer) {up₂ cs₂ cl₂ qs₂ ql₂ tb₂ : List ℕ}
-      (ons : SideSays cls lks kd q′ 2 ss₁ cs₁ cl₁ qs₁ ql₁ tb₁ fs₁ on up₂ cs₂ cl₂ qs₂ ql₂ tb₂)
+      {ss₁ sat₁ mk₁ : List ℕ} (kept : Kept (q .at) (q .words) ss ss₁ tb tb₁ sat sat₁ mk mk₁) {tbₐ : List ℕ} (same : tbₐ ≡ tb₁) (l : ℕ) (lines : l ≡ off .lines)
+      (q′ : Position) (eq′ : q′ ≡ counts.below p (off .visits) l) (on : Answer) {up₂ cs₂ cl₂ qs₂ ql₂ tb₂ : List ℕ}
+      (ons : SideVisited 2 q′ on cls sets kd ss₁ cs₁ cl₁ qs₁ ql₁ tbₐ sat₁ mk₁ up₂ cs₂ cl₂ qs₂ ql₂ tb₂)
       (saved : List ℕ) (aside : take (off .len) saved ≡ entryOf off cls cs₁ qs₁ up₁) (r : Answer) {cs₃ cl₃ qs₃ ql₃ : List ℕ}
       (fins : FinishSays kd (off .verdict) (off .len) on kind saved cls up₂ (p .at) cs₂ cl₂ qs₂ ql₂ r cs₃ cl₃ qs₃ ql₃) (unup : t ≡ false)
-      (visits : r .visits ≡ on .visits) (lines : r .lines ≡ on .lines) where
-    pub both-result : (D : Prefix) (s : Node) (ls : List Node) (R : List Clause) (st : Store) → Task D s ls R st cls lks kd ss cs cl qs ql tb fs (p .at) p
-        → firstDead D s R ≡ none → p .at < length D → quantifierAt D (suc (p .at)) ≡ κ → Result D ls (branchOf D R κ p s st) p r cls up₂ cs₃ cl₃ qs₃ ql₃ tb₂
-    both-result D s ls R st task alive inside is =
+      (visits : r .visits ≡ on .visits) {tb₃ : List ℕ} (same₃ : tb₃ ≡ tb₂) (n : ℕ) (lines₃ : n ≡ on .lines) where
+    pub both-result : (D : Prefix) (s : Node) (ls : List Node) (R : List Clause) (st : Store) → Task D s ls R st cls sets kd ss cs cl qs ql tb (p .at) p
+        → Opened D s R p sat mk → p .at < length D → quantifierAt D (suc (p .at)) ≡ κ
+        → Result D ls (branchOf D R κ p s st) p (counts.answered (r .verdict) (boundsOf r) (r .visits) n) cls up₂ cs₃ cl₃ qs₃ ql₃ tb₃
+    both-result D s ls R st task opened inside is =
         record {
           verdict = j .verdict;
           stored = j .stored;
-          visited = visits-both D s ls R st task alive inside is (off .lines) kept q′ eq′ on ons (ls ++ newLines a) (w .covers) (w .counted) saved aside r fins unup visits;
-          covers = subst (Covers (p .free) tb₂) lists (z .covers);
-          counted = lines ∙ z .counted ∙ ap length lists;
+          visited = visits-both D s ls R st task opened inside is l kept q′ eq′ on ons (ls ++ newLines a) cov cnt saved aside r fins unup visits;
+          covers = subst (λ (x : List ℕ). Covers (p .free) x (ls ++ newLines (branchOf D R κ p s st .outcome))) (sym same₃) (subst (Covers (p .free) tb₂) lists (z .covers));
+          counted = lines₃ ∙ z .counted ∙ ap length lists;
         }
       where
         a : Outcome Constraint
-        a = offR D s ls R st task alive inside is .outcome
+        a = offR D s ls R st task opened inside is .outcome
 
-        w : Result D ls (offR D s ls R st task alive inside is) (counts.below p (p .visits + 1) (p .lines)) off cls up₁ cs₁ cl₁ qs₁ ql₁ tb₁
-        w = off-result D s ls R st task alive inside is
+        w : Result D ls (offR D s ls R st task opened inside is) (counts.below p (p .visits + 1) (p .lines)) off cls up₁ cs₁ cl₁ qs₁ ql₁ tb₁
+        w = off-result D s ls R st task opened inside is
+
+        cov : Covers (p .free) tbₐ (ls ++ newLines a)
+        cov = subst (λ (x : List ℕ). Covers (p .free) x (ls ++ newLines a)) (sym same) (w .covers)
+
+        cnt : l ≡ length (ls ++ newLines a)
+        cnt = lines ∙ w .counted
 
         j : Joined D (branchOf D R κ p s st) r cls up₂ cs₃ cl₃ qs₃ ql₃
-        j = joined D s ls R st task alive inside is (off .lines) kept q′ eq′ on ons (ls ++ newLines a) (w .covers) (w .counted) saved aside r fins unup
+        j = joined D s ls R st task opened inside is l kept q′ eq′ on ons (ls ++ newLines a) cov cnt saved aside r fins unup
 
         onRes : LearningResult
-        onRes = onR D s ls R st task alive inside is (off .lines) kept q′ eq′ on ons (ls ++ newLines a) (w .covers) (w .counted)
+        onRes = onR D s ls R st task opened inside is l kept q′ eq′ on ons (ls ++ newLines a) cov cnt
 
-        z : Result D (ls ++ newLines a) onRes (counts.below p (off .visits) (off .lines)) on cls up₂ cs₂ cl₂ qs₂ ql₂ tb₂
-        z = on-result D s ls R st task alive inside is (off .lines) kept q′ eq′ on ons (ls ++ newLines a) (w .covers) (w .counted)
+        z : Result D (ls ++ newLines a) onRes (counts.below p (off .visits) l) on cls up₂ cs₂ cl₂ qs₂ ql₂ tb₂
+        z = on-result D s ls R st task opened inside is l kept q′ eq′ on ons (ls ++ newLines a) cov cnt
 
         ks′ : List Quantifier
         ks′ = drop (p .at + 1) (quantifiers D)
@@ -192,7 +188,7 @@ module _ {cls lks kd ss cs cl qs ql tb fs : List ℕ} (κ : Quantifier) (kind : 
         no-on : newLines o ≡ []
         no-on =
             unmixed-lines ks′ o
-            (unmixed-side D R κ s (p .at) (task .shown .long) inside is true (offR D s ls R st task alive inside is .store) (formed-on D R κ s (p .at) (task .shown .long) inside is st (task .formed))) (nobelow ks′ nothing)
+            (unmixed-side D R κ s (p .at) (task .shown .long) inside is true (offR D s ls R st task opened inside is .store) (formed-on D R κ s (p .at) (task .shown .long) inside is st (task .formed))) (nobelow ks′ nothing)
 
         no-here : newLines (branchOf D R κ p s st .outcome) ≡ []
         no-here = unmixed-lines (κ ∷ ks′) (branchOf D R κ p s st .outcome) (unmixed-here D R κ s (p .at) (task .shown .long) inside is st (task .formed)) nothing

@@ -11,51 +11,49 @@ use lib.Dec.{eqb}
 use Rattle.qbf.specs.Formula.{paper, Quantifier, free, exists, forall, Prefix, Clause, Node, _▹_, quantifiers, quantifierAt}
 use Rattle.qbf.specs.Truth.{Outcome, decided}
 use Rattle.qbf.specs.Learning.{Constraint, Store, LearningResult, below, leaf, settle, firstDead, reducedFound, concludeBy}
-use Rattle.qbf.specs.Card.{byteOf, Mem}
+use Rattle.qbf.specs.Card.{byteOf}
 use Rattle.theory.proofs.Basics.{le-or-lt, length-▹}
 use Rattle.theory.proofs.WellFormed.{numbers-ok}
 use Rattle.theory.proofs.Widths.{prefix-width}
 use Rattle.theory.proofs.ShapedSearch.{raise-nothing}
-use Rattle.theory.proofs.Dying.{dying}
-use Rattle.theory.proofs.Game.{Rising}
 use Rattle.tables.specs.Formed.{Formed}
 use Rattle.tables.specs.Views.{quantifierCode}
 use Rattle.tables.specs.Codes.{codes, given, Quantified}
 use Rattle.tables.specs.Shelves.{codeCount}
-use Rattle.tables.specs.Marks.{Passed}
+use Rattle.tables.specs.Sets.{Descended}
 use Rattle.coding.proofs.Given.{statuses-below}
-use Rattle.inner.proofs.Below.{passed-below}
-use Rattle.inner.specs.Inner.{Concluded, Entered, LeafCoded, steps}
-use Rattle.inner.specs.declared.Step.{Step}
+use Rattle.inner.specs.Inner.{Concluded, LeafCoded, NodeShown, OpenKnown}
 use Rattle.inner.specs.declared.Leaf.{Leaf}
 use Rattle.inner.specs.declared.Leaf.the-variants as found
 use Rattle.search_entry.specs.Entry.{tableOf, entryAt}
 use Rattle.search_entry.specs.declared.Bounds.{Bounds}
 use Rattle.cover.specs.Cover.{Covers}
 use Rattle.node.specs.Node.{storedBy, Reads, Shown, NextKind}
-use Rattle.search.specs.Search.{Task, Result, visitOf, belowOf, branchOf}
+use Rattle.search.specs.Search.{Task, Opened, Result, Visited, Followed, Branched, visitOf, belowOf, branchOf}
 use Rattle.node.specs.declared.Verdict.{Verdict}
 use Rattle.node.specs.declared.Verdict.the-variants.{No}
 use Rattle.node.specs.declared.Position.{Position}
 use Rattle.node.specs.declared.Answer.{Answer}
 use Rattle.search.proofs.Counts as counts
+use Rattle.search.proofs.Keeping.{entered-below}
 use Rattle.search.proofs.Branching.{facts, rising, shaped, rest, one}
 
 -- ---- the next quantifier, by the tables
-code-exists : (κ : Quantifier) → quantifierCode κ ≡ 1 → κ ≡ exists
-code-exists free e = absurd (omega (arith, e))
-code-exists exists e = refl
-code-exists forall e = absurd (omega (arith, e))
+one-code : (a b : Quantifier) → quantifierCode a ≡ quantifierCode b → a ≡ b
+one-code free free e = refl
+one-code free exists e = absurd (omega (arith, e))
+one-code free forall e = absurd (omega (arith, e))
+one-code exists free e = absurd (omega (arith, e))
+one-code exists exists e = refl
+one-code exists forall e = absurd (omega (arith, e))
+one-code forall free e = absurd (omega (arith, e))
+one-code forall exists e = absurd (omega (arith, e))
+one-code forall forall e = refl
 
-code-forall : (κ : Quantifier) → quantifierCode κ ≡ 2 → κ ≡ forall
-code-forall free e = absurd (omega (arith, e))
-code-forall exists e = absurd (omega (arith, e))
-code-forall forall e = refl
-
-code-free : (κ : Quantifier) → quantifierCode κ ≡ 0 → κ ≡ free
-code-free free e = refl
-code-free exists e = absurd (omega (arith, e))
-code-free forall e = absurd (omega (arith, e))
+code-small : (κ : Quantifier) → quantifierCode κ < 3
+code-small free = omega arith
+code-small exists = omega arith
+code-small forall = omega arith
 
 code-known : (κ : Quantifier) (k : ℕ) → k ≡ quantifierCode κ → (k ≡ 1 → ⊥) → (k ≡ 2 → ⊥) → (k ≡ 0 → ⊥) → ⊥
 code-known free k e a b c = c e
@@ -101,31 +99,46 @@ none-found D v (some r) next e = absurd (never e)
 pub open-alive : (D : Prefix) (R : List Clause) (eligible : ℕ → ℕ → Bool) (s : Node) (st : Store) → leaf D R eligible s st ≡ none → firstDead D s R ≡ none
 open-alive D R eligible s st e = none-found D false (firstDead D s R) _ e
 
--- nor where the steps were taken before
-entered-alive : (D : Prefix) (R : List Clause) (s : Node) (st : Store) (start : Bool) → Entered D s R start → steps D R s st start ≡ none → firstDead D s R ≡ none
-entered-alive D R s st true entered e = entered
-entered-alive D R s st false entered e = open-alive D R eqb s st e
-
 -- what steps 1 to 4 say, by what the code found
-module _ (D : Prefix) (R : List Clause) (s : Node) (st : Store) (start : Bool) (r : Step) (cls cs qs up : List ℕ) {fs : List ℕ} (w : Concluded D R s st start r cls cs qs up fs) where
-  pub said-no : (b : Bounds) → r .leaf ≡ found.No b → (e : Constraint) × (steps D R s st start ≡ some (decided false e)) × (entryAt b cls cs up ≡ codes D e)
-  said-no b e = subst (λ (l : Leaf). LeafCoded D l cls cs qs up (steps D R s st start)) e (w .read)
+module _ {D : Prefix} {R : List Clause} {s : Node} {st : Store} {r : Leaf} {wc : ℕ} {cls cs qs up sat mk : List ℕ} (w : Concluded D R s st r wc cls cs qs up sat mk) where
+  pub said-no : {b : Bounds} → r ≡ found.No b → (e : Constraint) × (leaf D R eqb s st ≡ some (decided false e)) × (entryAt b cls cs up ≡ codes D e)
+  said-no e = subst (λ (l : Leaf). LeafCoded D l cls cs qs up (leaf D R eqb s st)) e (w .read)
 
-  pub said-yes : (b : Bounds) → r .leaf ≡ found.Yes b → (e : Constraint) × (steps D R s st start ≡ some (decided true e)) × (entryAt b cls qs up ≡ codes D e)
-  said-yes b e = subst (λ (l : Leaf). LeafCoded D l cls cs qs up (steps D R s st start)) e (w .read)
+  pub said-yes : {b : Bounds} → r ≡ found.Yes b → (e : Constraint) × (leaf D R eqb s st ≡ some (decided true e)) × (entryAt b cls qs up ≡ codes D e)
+  said-yes e = subst (λ (l : Leaf). LeafCoded D l cls cs qs up (leaf D R eqb s st)) e (w .read)
 
-  pub said-open : r .leaf ≡ found.Open → steps D R s st start ≡ none
-  said-open e = subst (λ (l : Leaf). LeafCoded D l cls cs qs up (steps D R s st start)) e (w .read)
+  said-open : r ≡ found.Open → leaf D R eqb s st ≡ none
+  said-open e = subst (λ (l : Leaf). LeafCoded D l cls cs qs up (leaf D R eqb s st)) e (w .read)
+
+  -- then no clause is dead, and the node's row and mark are there
+  pub said-opened : (p : Position) → p .words ≡ wc → r ≡ found.Open → Opened D s R p sat mk
+  said-opened p words e = record {
+    alive = open-alive D R eqb s st (said-open e);
+    known =
+        subst (λ (n : ℕ). Descended D s R n sat mk (length s)) (sym words)
+        (subst (λ (l : Leaf). OpenKnown l D s R wc sat mk (length s)) e (w .known));
+  }
 
 -- ---- results of a visit
-module _ {D : Prefix} {s : Node} {ls : List Node} {R : List Clause} {st : Store} {cls lks kd ss cs cl qs ql tb fs : List ℕ} (p : Position)
-    (task : Task D s ls R st cls lks kd ss cs cl qs ql tb fs (p .at) p) where
-  -- steps 1 to 4 decide
-  pub leaf-result : (start : Bool) (w : Verdict) (v : Bool) (e : Constraint) (b : Bounds) (up : List ℕ) → steps D R s st start ≡ some (decided v e)
+module _ {D : Prefix} {s : Node} {ls : List Node} {R : List Clause} {st : Store} {cls sets kd ss cs cl qs ql tb : List ℕ} (p : Position)
+    (task : Task D s ls R st cls sets kd ss cs cl qs ql tb (p .at) p) where
+  -- what steps 1 to 4 ask
+  pub node-shown : NodeShown D R s st (p .at) (p .words) cls sets kd ss cs cl qs ql
+  node-shown = record {
+    quantified = task .shown .quantified;
+    statused = task .shown .statused;
+    long = task .shown .long;
+    matrix = task .matrix;
+    stored = task .stored;
+    formed = task .formed;
+  }
+
+  -- they decide
+  pub leaf-result : (w : Verdict) (v : Bool) (e : Constraint) (b : Bounds) (up : List ℕ) → leaf D R eqb s st ≡ some (decided v e)
       → Reads D w (entryAt b cls (storedBy w cs qs) up) (decided v e)
-      → (r : Answer) → r ≡ counts.answered w b (p .visits + 1) (p .lines) → Result D ls (visitOf D R p s st start) p r cls up cs cl qs ql tb
-  leaf-result start w v e b up is rd r q =
-      subst (λ (x : Answer). Result D ls (visitOf D R p s st start) p x cls up cs cl qs ql tb) (sym q)
+      → (r : Answer) → r ≡ counts.answered w b (p .visits + 1) (p .lines) → Result D ls (visitOf D R p s st) p r cls up cs cl qs ql tb
+  leaf-result w v e b up is rd r q =
+      subst (λ (x : Answer). Result D ls (visitOf D R p s st) p x cls up cs cl qs ql tb) (sym q)
       (subst (λ (x : Option (Outcome Constraint)). Result D ls (settle x (below paper D R (drop (p .at) (quantifiers D))) s st) p (counts.answered w b (p .visits + 1) (p .lines)) cls up cs cl qs ql tb) (sym is)
       (record {
         verdict = rd;
@@ -135,21 +148,12 @@ module _ {D : Prefix} {s : Node} {ls : List Node} {R : List Clause} {st : Store}
         counted = task .counted ∙ ap length (sym (append-nil ls));
       }))
 
-  -- the node is open: what follows is asked at the same position, but for what is known of the clauses
-  pub open-result : {up cs′ cl′ qs′ ql′ tb′ fs′ : List ℕ} (start : Bool) (r : Answer) (q : Position) (n : ℕ) → q ≡ counts.resumedAt p n → Passed D s R n fs′ → Entered D s R start → steps D R s st start ≡ none
-      → (Task D s ls R st cls lks kd ss cs cl qs ql tb fs′ (q .at) q → firstDead D s R ≡ none → Result D ls (belowOf D R q s st) q r cls up cs′ cl′ qs′ ql′ tb′)
-      → Result D ls (visitOf D R p s st start) p r cls up cs′ cl′ qs′ ql′ tb′
-  open-result {up} {cs′} {cl′} {qs′} {ql′} {tb′} {fs′} start r q n e passed entered is h =
-      subst (λ (x : Option (Outcome Constraint)). Result D ls (settle x (below paper D R (drop (p .at) (quantifiers D))) s st) p r cls up cs′ cl′ qs′ ql′ tb′) (sym is)
-      (record { verdict = w .verdict; stored = w .stored; visited = w .visited; covers = w .covers; counted = w .counted })
-    where
-      given-at : Task D s ls R st cls lks kd ss cs cl qs ql tb fs′ (q .at) q
-      given-at =
-          subst (λ (x : Position). Task D s ls R st cls lks kd ss cs cl qs ql tb fs′ (x .at) x) (sym e)
-          (record { shown = task .shown; formed = task .formed; matrix = task .matrix; stored = task .stored; passed = passed; frees = task .frees; covers = task .covers; counted = task .counted })
-
-      w : Result D ls (belowOf D R p s st) (counts.resumedAt p n) r cls up cs′ cl′ qs′ ql′ tb′
-      w = subst (λ (x : Position). Result D ls (belowOf D R x s st) x r cls up cs′ cl′ qs′ ql′ tb′) e (h given-at (entered-alive D R s st start entered is))
+  -- the node is open: what follows is asked at the same position
+  pub open-result : {r : Leaf} {wc : ℕ} {up up′ cs′ cl′ qs′ ql′ tb′ sat mk : List ℕ} (a : Answer) → Concluded D R s st r wc cls cs qs up sat mk → r ≡ found.Open → p .words ≡ wc
+      → Followed p a cls sets kd ss cs cl qs ql tb sat mk up′ cs′ cl′ qs′ ql′ tb′ → Result D ls (visitOf D R p s st) p a cls up′ cs′ cl′ qs′ ql′ tb′
+  open-result {up′ = up′} {cs′} {cl′} {qs′} {ql′} {tb′} a w e words h =
+      subst (λ (x : Option (Outcome Constraint)). Result D ls (settle x (below paper D R (drop (p .at) (quantifiers D))) s st) p a cls up′ cs′ cl′ qs′ ql′ tb′) (sym (said-open w e))
+      (h .result D s ls R st task (said-opened w p words e))
 
   -- it goes on to the branch
   branch-result : (κ : Quantifier) {up cs′ cl′ qs′ ql′ tb′ : List ℕ} (r : Answer) → p .at < length D → quantifierAt D (suc (p .at)) ≡ κ
@@ -169,21 +173,12 @@ module _ {D : Prefix} {s : Node} {ls : List Node} {R : List Clause} {st : Store}
     at-kind inD = kind-here D kd (task .shown .quantified) (p .at) k next inD (prefix-short D R st (task .formed))
 
     -- a kind is that of one quantifier only, so it says which branch is taken
-    kind-result : (κ : Quantifier) {up cs′ cl′ qs′ ql′ tb′ : List ℕ} → (quantifierCode (quantifierAt D (suc (p .at))) ≡ k → quantifierAt D (suc (p .at)) ≡ κ) → k < 3
-        → (p .at < length D → quantifierAt D (suc (p .at)) ≡ κ → Result D ls (branchOf D R κ p s st) p r cls up cs′ cl′ qs′ ql′ tb′) → Result D ls (belowOf D R p s st) p r cls up cs′ cl′ qs′ ql′ tb′
-    kind-result κ only low h =
-        let inD : p .at < length D = next-inside D kd (task .shown .quantified) (p .at) k next low in
-        let is : quantifierAt D (suc (p .at)) ≡ κ = only (sym (at-kind inD)) in
-        branch-result κ r inD is (h inD is)
-
-    pub exists-result : {up cs′ cl′ qs′ ql′ tb′ : List ℕ} → k ≡ 1 → (p .at < length D → quantifierAt D (suc (p .at)) ≡ exists → Result D ls (branchOf D R exists p s st) p r cls up cs′ cl′ qs′ ql′ tb′) → Result D ls (belowOf D R p s st) p r cls up cs′ cl′ qs′ ql′ tb′
-    exists-result q h = kind-result exists (λ z. code-exists (quantifierAt D (suc (p .at))) (z ∙ q)) (omega arith) h
-
-    pub forall-result : {up cs′ cl′ qs′ ql′ tb′ : List ℕ} → k ≡ 2 → (p .at < length D → quantifierAt D (suc (p .at)) ≡ forall → Result D ls (branchOf D R forall p s st) p r cls up cs′ cl′ qs′ ql′ tb′) → Result D ls (belowOf D R p s st) p r cls up cs′ cl′ qs′ ql′ tb′
-    forall-result q h = kind-result forall (λ z. code-forall (quantifierAt D (suc (p .at))) (z ∙ q)) (omega arith) h
-
-    pub free-visit-result : {up cs′ cl′ qs′ ql′ tb′ : List ℕ} → k ≡ 0 → (p .at < length D → quantifierAt D (suc (p .at)) ≡ free → Result D ls (branchOf D R free p s st) p r cls up cs′ cl′ qs′ ql′ tb′) → Result D ls (belowOf D R p s st) p r cls up cs′ cl′ qs′ ql′ tb′
-    free-visit-result q h = kind-result free (λ z. code-free (quantifierAt D (suc (p .at))) (z ∙ q)) (omega arith) h
+    pub kind-result : (κ : Quantifier) {sat mk up cs′ cl′ qs′ ql′ tb′ : List ℕ} → k ≡ quantifierCode κ → Opened D s R p sat mk
+        → Branched (quantifierCode κ) p r cls sets kd ss cs cl qs ql tb sat mk up cs′ cl′ qs′ ql′ tb′ → Result D ls (belowOf D R p s st) p r cls up cs′ cl′ qs′ ql′ tb′
+    kind-result κ e opened h =
+        let inD : p .at < length D = next-inside D kd (task .shown .quantified) (p .at) k next (subst (λ (n : ℕ). n < 3) (sym e) (code-small κ)) in
+        let is : quantifierAt D (suc (p .at)) ≡ κ = one-code (quantifierAt D (suc (p .at))) κ (sym (at-kind inD) ∙ e) in
+        branch-result κ r inD is (h .result D s ls R st κ task opened inD is refl)
 
     -- no place is left
     pub end-result : (b : Bounds) → b .len ≡ 0 → (up : List ℕ) → (k ≡ 1 → ⊥) → (k ≡ 2 → ⊥) → (k ≡ 0 → ⊥)
@@ -208,28 +203,23 @@ module _ {D : Prefix} {s : Node} {ls : List Node} {R : List Clause} {st : Store}
 
 -- ---- one value longer
 -- a side is the visit of the node one place longer
-pub side-result : (D : Prefix) (s : Node) (b : Bool) (ls : List Node) (R : List Clause) (st : Store) (k : ℕ) {cls lks kd ss cs cl qs ql tb fs : List ℕ} (p : Position)
-    → Task D s ls R st cls lks kd ss cs cl qs ql tb fs k p → firstDead D s R ≡ none → suc k ≡ p .at → p .at ≤ paper .numbers → length ss ≡ codeCount
-    → (value : ℕ) → value ≡ byteOf b → (ss′ : List ℕ) → ss′ ≡ given (p .at) value ss → {o : LearningResult} {r : Answer} {up cs″ cl″ qs″ ql″ tb′ : List ℕ}
-    → (Task D (s ▹ b) ls R st cls lks kd ss′ cs cl qs ql tb fs (p .at) p → Entered D (s ▹ b) R false → Result D ls o p r cls up cs″ cl″ qs″ ql″ tb′)
-    → Result D ls o p r cls up cs″ cl″ qs″ ql″ tb′
-side-result D s b ls R st k {cls} {lks} {kd} {ss} {cs} {cl} {qs} {ql} {tb} {fs} p task alive e within full value v ss′ changed vis =
-    vis
+pub side-result : (D : Prefix) (s : Node) (b : Bool) (ls : List Node) (R : List Clause) (st : Store) (k : ℕ) {cls sets kd ss cs cl qs ql tb sat mk : List ℕ} (p : Position)
+    → Task D s ls R st cls sets kd ss cs cl qs ql tb k p → Opened D s R p sat mk → k < length D → suc k ≡ p .at → p .at ≤ paper .numbers → length ss ≡ codeCount
+    → (value : ℕ) → value ≡ byteOf b → {ss′ : List ℕ} → ss′ ≡ given (p .at) value ss → {r : Answer} {up cs′ cl′ qs′ ql′ tb′ : List ℕ}
+    → Visited p r cls sets kd ss′ cs cl qs ql tb sat mk up cs′ cl′ qs′ ql′ tb′ → Result D ls (visitOf D R p (s ▹ b) st) p r cls up cs′ cl′ qs′ ql′ tb′
+side-result D s b ls R st k {kd = kd} {ss = ss} p task opened inside e within full value v changed vis =
+    vis .result D (s ▹ b) ls R st (length s)
     (record {
       shown = subst (λ (x : List ℕ). Shown D (s ▹ b) kd x (p .at)) (sym changed) shown-below;
       formed = task .formed;
       matrix = task .matrix;
       stored = task .stored;
-      passed = passed-below D s R (p .satisfied) fs up (task .passed) b;
       frees = task .frees;
       covers = task .covers;
       counted = task .counted;
     })
-    (record { dying = dying D R up s b alive }, omega (arith, length-▹ s b))
+    (entered-below opened (omega (arith, inside, task .shown .long)) b)
   where
-    up : (r : Clause) → Mem r R → Rising D 0 r
-    up = rising D R st (task .formed)
-
     next : suc (length s) ≡ p .at
     next = ap suc (task .shown .long) ∙ e
 
