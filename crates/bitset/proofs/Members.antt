@@ -28,6 +28,15 @@ outside-has a a₀ b b₀ i =
     ap₂ (λ (x y : Bool). x && not y) (member-has a a₀ i) (member-has b b₀ i)
     ∙ sym (has-rest (i % width) (getD a (a₀ + i / width) 0) (getD b (b₀ + i / width) 0))
 
+-- a row's number counted from the table's first word
+pub member-counted : (t : List ℕ) (f i : ℕ) → member t f i ≡ member t 0 (f * width + i)
+member-counted t f i =
+    let digit : i % width ≡ (f * width + i) % width = omega arith in
+    let word : f + i / width ≡ 0 + (f * width + i) / width = omega arith in
+    member-has t f i
+    ∙ ap₂ (λ (x y : ℕ). has x (getD t y 0)) digit word
+    ∙ sym (member-has t 0 (f * width + i))
+
 -- where the words are the same, the members are
 same-at : (t t′ : List ℕ) (f i : ℕ) → getD t′ (f + i / width) 0 ≡ getD t (f + i / width) 0 → member t′ f i ≡ member t f i
 same-at t t′ f i e = member-has t′ f i ∙ ap (has (i % width)) e ∙ sym (member-has t f i)

@@ -1,6 +1,7 @@
 pub mod Rows
 pub mod Loading
+pub mod Filling
 pub mod Coding
-pub mod Linking
 pub mod Matrix
+pub mod Starting
 pub mod Unloading

@@ -1,2 +1,3 @@
 pub mod Written
 pub mod Coded
+pub mod Started

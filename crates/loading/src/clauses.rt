@@ -1,17 +1,39 @@
-// The rows of the clauses, each with its codes and its length under universal reduction, and the links by the last code that is left.
+// The clauses of a search: of each a row with its length under universal reduction and its codes, and by code the sets of clauses.
+use bitset::rows::clear;
+use bitset::rows::insert;
 use coding::code::encode;
 use coding::list::last_code;
 use coding::list::reduced_first;
 ghost use mathlib.Core.Path.{_≡_};
-ghost use Prim.Native.Nat.{ℕ, suc, _+_, _*_, _≤_, _<_};
-ghost use lib.ListN.{length, getD, take, set};
+ghost use mathlib.Core.List.{[]};
+ghost use Prim.Native.Nat.{_+_, _*_, _≤_, _<_};
+ghost use lib.ListN.{length, getD, take};
 ghost use Rattle.qbf.specs.Formula.{paper, Prefix};
 ghost use Rattle.tables.specs.Views.{Places, row};
 ghost use Rattle.tables.specs.Formed.{Clauses, clausesOf};
-ghost use Rattle.tables.specs.Codes.{lastCode, Quantified};
+ghost use Rattle.tables.specs.Codes.{Quantified};
+ghost use Rattle.tables.specs.Sets.{ClauseSets};
 ghost use Rattle.tables.specs.Shelves.{codeCount};
-ghost use Rattle.tables.specs.Matrices.{clauseRow, reducedAt, dyingAt, Matrix, MatrixShown};
-ghost use Rattle.loading.specs.Coded.{Coded, Linked};
+ghost use Rattle.tables.specs.Matrices.{clauseRow, wordsOf, MatrixShown};
+ghost use Rattle.loading.specs.Coded.{Low, Coded, Opposite, SetsFor, Satisfying, Added, Filled};
+
+// The words of a row of so many clauses.
+pub fn words_of(count: usize) -> usize
+    ensures { λ r. ⌜ r ≡ wordsOf count ⌝ }
+{
+    (count / (bitset::rows::WIDTH * tables::BLOCK) + 1) * tables::BLOCK
+}
+
+// The code of the opposite literal.
+fn opposite(code: u16) -> u16
+    requires { ⌜ code < codeCount ⌝ }
+    ensures { λ r. ⌜ Opposite code r ⌝ }
+{
+    if code % 2 == 0 {
+        return code + 1;
+    }
+    code - 1
+}
 
 // A clause's row, from a cell on; the cells before it stay.
 fn code_row<'a>(
@@ -21,7 +43,7 @@ fn code_row<'a>(
     places: &'a [u16; tables::BY_NUMBER],
     quantifiers: &'a [u8; tables::CODES],
 )
-    requires { ⌜ (at + 2 + length (now lits) ≤ length (now rows)) × (length (now lits) ≤ paper .literals) ⌝ }
+    requires { ⌜ (at + 1 + length (now lits) ≤ length (now rows)) × (length (now lits) ≤ paper .literals) ⌝ }
     ensures { λ _. ⌜
         (length (now (rows .exit)) ≡ length (now (rows .entry)))
         × (take at (now (rows .exit)) ≡ take at (now (rows .entry)))
@@ -29,149 +51,132 @@ fn code_row<'a>(
         ⌝ }
 {
     let len = lits.len();
-    encode(&mut rows[at + 2..], lits, places);
-    let left = reduced_first(&rows[at + 2..], len, quantifiers, false);
+    encode(&mut rows[at + 1..], lits, places);
+    let left = reduced_first(&rows[at + 1..], len, quantifiers, false);
     rows[at] = left as u16;
-    rows[at + 1] = len as u16;
 }
 
-// Clause k in row k; the rows before it stay.
-fn code_clause<'a>(
+// Clause k goes into the row of each of its codes.
+fn add_satisfying<'a>(sets: &mut [u64], words: usize, row: &'a [u16], k: usize)
+    requires { ⌜ SetsFor words k (now sets) × Low (now row) ⌝ }
+    ensures { λ _. ⌜ Satisfying words (now (row .entry)) k (now (sets .entry)) (now (sets .exit)) ⌝ }
+{
+    let mut i: usize = 0;
+    while i < row.len() {
+        let code = row[i] as usize;
+        insert(sets, code * 2 * words, k);
+        i += 1;
+    }
+}
+
+// .. and into the row of the code that makes the last one left false. Where none is left that is a row of no variable's.
+fn add_clause<'a>(sets: &mut [u64], words: usize, row: &'a [u16], left: usize, k: usize)
+    requires { ⌜ SetsFor words k (now sets) × Low (now row) × (left ≤ length (now row)) ⌝ }
+    ensures { λ _. ⌜
+        Added words (now (row .entry)) (take left (now (row .entry))) k (now (sets .entry)) (now (sets .exit))
+        ⌝ }
+{
+    add_satisfying(sets, words, row, k);
+    let code = opposite(last_code(row, left)) as usize;
+    insert(sets, code * 2 * words + words, k);
+}
+
+// Clause k: its row, and its number in the sets.
+fn load_clause<'a>(
     clauses: &'a [i16; tables::CLAUSE_CELLS],
     sizes: &'a [u16; tables::CLAUSE_SIZES],
     places: &'a [u16; tables::BY_NUMBER],
     quantifiers: &'a [u8; tables::CODES],
     rows: &mut [u16],
+    sets: &mut [u64],
+    words: usize,
     k: usize,
 )
     requires { ⌜
         Clauses (now clauses) (now sizes)
         × (k < getD (now sizes) 0 0)
         × (length (now rows) ≡ paper .clauses * clauseRow)
+        × SetsFor words k (now sets)
         ⌝ }
     ensures { λ _. ⌜
-        (length (now (rows .exit)) ≡ paper .clauses * clauseRow)
-        × (take (k * clauseRow) (now (rows .exit)) ≡ take (k * clauseRow) (now (rows .entry)))
-        × Coded
+        Filled
         (row (paper .literals) (now (clauses .entry)) (now (sizes .entry)) k)
         (now (places .entry))
         (now (quantifiers .entry))
-        (k * clauseRow)
+        words
+        k
+        (now (rows .entry))
+        (now (sets .entry))
         (now (rows .exit))
+        (now (sets .exit))
         ⌝ }
 {
     let from = k * tables::LITERALS;
     let len = sizes[k + 1] as usize;
+    let at = k * tables::CLAUSE_ROW;
     let flat: &[i16] = clauses;
-    code_row(
-        rows,
-        k * tables::CLAUSE_ROW,
-        &flat[from..from + len],
-        places,
-        quantifiers,
-    );
+    code_row(rows, at, &flat[from..from + len], places, quantifiers);
+    let left = rows[at] as usize;
+    add_clause(sets, words, &rows[at + 1..at + 1 + len], left, k);
 }
 
 // The clauses one after the other.
-fn code_clauses<'a>(
+fn add_clauses<'a>(
     clauses: &'a [i16; tables::CLAUSE_CELLS],
     sizes: &'a [u16; tables::CLAUSE_SIZES],
     places: &'a [u16; tables::BY_NUMBER],
     quantifiers: &'a [u8; tables::CODES],
     rows: &mut [u16],
+    sets: &mut [u64],
+    words: usize,
 )
-    requires { ⌜ Clauses (now clauses) (now sizes) × (length (now rows) ≡ paper .clauses * clauseRow) ⌝ }
+    requires { ⌜
+        Clauses (now clauses) (now sizes)
+        × (length (now rows) ≡ paper .clauses * clauseRow)
+        × SetsFor words (getD (now sizes) 0 0) (now sets)
+        ⌝ }
     ensures { λ _. ⌜
-        (length (now (rows .exit)) ≡ paper .clauses * clauseRow)
-        × ((k : ℕ)
-        → k < getD (now (sizes .entry)) 0 0
-        → Coded
-        (row (paper .literals) (now (clauses .entry)) (now (sizes .entry)) k)
-        (now (places .entry))
-        (now (quantifiers .entry))
-        (k * clauseRow)
-        (now (rows .exit)))
+        (length (now (rows .exit)) ≡ length (now (rows .entry)))
+        × (length (now (sets .exit)) ≡ length (now (sets .entry)))
+        × ((D : Prefix)
+        → Places D (now (places .entry))
+        → Quantified D (now (quantifiers .entry))
+        → length D ≤ paper .numbers
+        → ClauseSets D [] words (now (sets .entry))
+        → MatrixShown D (clausesOf (now (clauses .entry)) (now (sizes .entry))) words (now (rows .exit)) (now (sets .exit)))
         ⌝ }
 {
     let count = sizes[0] as usize;
     let mut k: usize = 0;
     while k < count {
-        code_clause(clauses, sizes, places, quantifiers, rows, k);
+        load_clause(clauses, sizes, places, quantifiers, rows, sets, words, k);
         k += 1;
     }
 }
 
-// The last code of clause k under universal reduction; 0 where none is left.
-fn last_left<'a>(rows: &'a [u16], k: usize) -> u16
-    requires { ⌜
-        (length (now rows) ≡ paper .clauses * clauseRow)
-        × (k < paper .clauses)
-        × (reducedAt (now rows) k ≤ paper .literals)
-        ⌝ }
-    ensures { λ r. ⌜ r ≡ lastCode (dyingAt (now (rows .entry)) k) ⌝ }
-{
-    let at = k * tables::CLAUSE_ROW;
-    let left = rows[at] as usize;
-    last_code(&rows[at + 2..], left)
-}
-
-// Clause k is the first that ends in its last code; the one that was is the next.
-fn link(links: &mut [u16], code: u16, k: usize)
-    requires { ⌜ (length (now links) ≡ suc codeCount + paper .clauses) × (k < paper .clauses) × (code < codeCount) ⌝ }
-    ensures { λ _. ⌜
-        now (links .exit)
-        ≡ set (set (now (links .entry)) (suc codeCount + k) (getD (now (links .entry)) code 0)) code (suc k)
-        ⌝ }
-{
-    let next = links[code as usize];
-    let number = (k + 1) as u16;
-    links[tables::CODES + 1 + k] = next;
-    links[code as usize] = number;
-}
-
-// The clauses are linked from the last to the first, so that of each code the first is found first.
-fn link_clauses<'a>(rows: &'a [u16], count: usize, links: &mut [u16])
-    requires { ⌜
-        (length (now rows) ≡ paper .clauses * clauseRow)
-        × (count ≤ paper .clauses)
-        × ((k : ℕ) → k < count → reducedAt (now rows) k ≤ paper .literals)
-        × ((k : ℕ) → k < count → lastCode (dyingAt (now rows) k) < codeCount)
-        × (length (now links) ≡ suc codeCount + paper .clauses)
-        × ((c : ℕ) → c < codeCount → getD (now links) c 0 ≡ 0)
-        ⌝ }
-    ensures { λ _. ⌜ Linked (now (rows .entry)) count 0 (now (links .exit)) ⌝ }
-{
-    links[tables::CODES] = count as u16;
-    let mut k = count;
-    while 0 < k {
-        k -= 1;
-        let code = last_left(rows, k);
-        link(links, code, k);
-    }
-}
-
-// The rows, and the links, in which no code has a clause before.
+// The rows and the sets of the clauses, where no place is above `last`. Their content before is free: of the sets the rows of the places' codes
+// are cleared first. The result is how many words a row of clauses has.
 pub fn load_clauses<'a>(
     clauses: &'a [i16; tables::CLAUSE_CELLS],
     sizes: &'a [u16; tables::CLAUSE_SIZES],
     places: &'a [u16; tables::BY_NUMBER],
     quantifiers: &'a [u8; tables::CODES],
+    last: usize,
     rows: &mut [u16; tables::CLAUSE_ROWS],
-    links: &mut [u16; tables::CLAUSE_LINKS],
-)
-    requires { ⌜
-        Clauses (now clauses) (now sizes)
-        × ((c : ℕ) → c < codeCount → getD (now links) c 0 ≡ 0)
-        ⌝ }
-    ensures { λ _. ⌜
-        Matrix (now (rows .exit)) (now (links .exit))
+    sets: &mut [u64; tables::CLAUSE_SETS],
+) -> usize
+    requires { ⌜ Clauses (now clauses) (now sizes) × (last ≤ paper .numbers) ⌝ }
+    ensures { λ r. ⌜
+        (r ≡ wordsOf (getD (now (sizes .entry)) 0 0))
         × ((D : Prefix)
         → Places D (now (places .entry))
         → Quantified D (now (quantifiers .entry))
-        → length D ≤ paper .numbers
-        → MatrixShown D (clausesOf (now (clauses .entry)) (now (sizes .entry))) (now (rows .exit)) (now (links .exit)))
+        → length D ≤ last
+        → MatrixShown D (clausesOf (now (clauses .entry)) (now (sizes .entry))) r (now (rows .exit)) (now (sets .exit)))
         ⌝ }
 {
-    code_clauses(clauses, sizes, places, quantifiers, rows);
-    link_clauses(rows, sizes[0] as usize, links);
+    let words = words_of(sizes[0] as usize);
+    clear(sets, 0, (last + 1) * 2 * 2 * words);
+    add_clauses(clauses, sizes, places, quantifiers, rows, sets, words);
+    words
 }

@@ -1,18 +1,17 @@
--- `loading::clauses::code_row` meets its contract: the codes are put back into the part that was lent, and the two lengths stand before them.
+-- `loading::clauses::code_row` meets its contract: the codes are put back into the part that was lent, and the length stands before them.
 use borrow.Author.Needs.{needs}
 use Rattle.loading.proofs.clauses.code_row.Statement.{statement}
 use Rattle.loading.proofs.clauses.code_row.Tie as tie
 use Prim.Native.Nat.{_+_, _-_}
 use native.Mathlib.Omega.{arith}
 use denote.Ref.{now}
-use lib.ListN.{length, length-set}
+use lib.ListN.{length}
 use borrow.Rule.Slice.PartMut.{putMid, same-len-mid}
 use Rattle.loading.proofs.Coding.{row-written}
 
 add-encode : tie.Need-add-encode
 add-encode c = search needs
 
--- src/clauses.rt:32:12
 mul-encode : tie.Need-mul-encode
 mul-encode c = search needs
 
@@ -31,7 +30,6 @@ encode-requires c κs = search needs
 add-reduced-first : tie.Need-add-reduced-first
 add-reduced-first c = search needs
 
--- src/clauses.rt:33:30
 mul-reduced-first : tie.Need-mul-reduced-first
 mul-reduced-first c = search needs
 
@@ -50,31 +48,17 @@ reduced-first-requires c κs = search needs
 cast-rows : tie.Need-cast-rows
 cast-rows c = search needs
 
--- src/clauses.rt:34:5
 mul-rows : tie.Need-mul-rows
 mul-rows c = search needs
 
 slice-write-rows : tie.Need-slice-write-rows
 slice-write-rows c = search needs
 
-cast-rows-2 : tie.Need-cast-rows-2
-cast-rows-2 c = search needs
-
-add-rows : tie.Need-add-rows
-add-rows c = search needs
-
--- src/clauses.rt:35:5
-mul-rows-2 : tie.Need-mul-rows-2
-mul-rows-2 c = search needs
-
-slice-write-rows-2 : tie.Need-slice-write-rows-2
-slice-write-rows-2 c = simp length-set (omega (arith, same-len-mid (c .before .before .before .before .before .before .before .before .args .at + 2) (length (now (c .before .before .before .before .before .before .before .before .args .rows)) - (c .before .before .before .before .before .before .before .before .args .at + 2)) (now (c .before .before .before .before .before .before .before .before .args .rows)) (c .before .before .before .before .before .encode .last .0) (c .before .before .before .before .before .encode .ensures .0), c .before .before .before .before .before .before .before .before .pre .0))
-
 same-length : tie.Need-same-length
 same-length c = search needs
 
 returns : tie.Need-returns
-returns c = row-written (now (c .before .before .before .before .before .before .before .before .args .lits)) (now (c .before .before .before .before .before .before .before .before .args .places)) (now (c .before .before .before .before .before .before .before .before .args .quantifiers)) (now (c .before .before .before .before .before .before .before .before .args .rows)) (c .before .before .before .before .before .encode .last .0) (c .before .before .before .before .before .before .before .before .args .at) (c .reduced-first .result) (c .before .before .before .before .before .before .before .before .pre .0) (c .before .before .before .before .before .encode .ensures .0) (c .reduced-first .ensures .0) (c .before .before .before .before .before .encode .ensures .1 (c .reduced-first .result) (c .reduced-first .ensures .0)) (c .before .before .before .before .before .encode .ensures .2) (length (putMid (c .before .before .before .before .before .before .before .before .args .at + 2) (length (now (c .before .before .before .before .before .before .before .before .args .rows)) - (c .before .before .before .before .before .before .before .before .args .at + 2)) (now (c .before .before .before .before .before .before .before .before .args .rows)) (c .before .before .before .before .before .encode .last .0)) - (c .before .before .before .before .before .before .before .before .args .at + 2)) (omega (arith, same-len-mid (c .before .before .before .before .before .before .before .before .args .at + 2) (length (now (c .before .before .before .before .before .before .before .before .args .rows)) - (c .before .before .before .before .before .before .before .before .args .at + 2)) (now (c .before .before .before .before .before .before .before .before .args .rows)) (c .before .before .before .before .before .encode .last .0) (c .before .before .before .before .before .encode .ensures .0), c .before .before .before .before .before .before .before .before .pre .0)) (c .reduced-first .ensures .1)
+returns c = row-written (now (c .before .before .before .before .before .before .before .before .args .lits)) (now (c .before .before .before .before .before .before .before .before .args .places)) (now (c .before .before .before .before .before .before .before .before .args .quantifiers)) (now (c .before .before .before .before .before .before .before .before .args .rows)) (c .before .before .before .before .before .encode .last .0) (c .before .before .before .before .before .before .before .before .args .at) (c .reduced-first .result) (c .before .before .before .before .before .before .before .before .pre .0) (c .before .before .before .before .before .encode .ensures .0) (c .reduced-first .ensures .0) (c .before .before .before .before .before .encode .ensures .1) (c .before .before .before .before .before .encode .ensures .2) (length (putMid (c .before .before .before .before .before .before .before .before .args .at + 1) (length (now (c .before .before .before .before .before .before .before .before .args .rows)) - (c .before .before .before .before .before .before .before .before .args .at + 1)) (now (c .before .before .before .before .before .before .before .before .args .rows)) (c .before .before .before .before .before .encode .last .0)) - (c .before .before .before .before .before .before .before .before .args .at + 1)) (omega (arith, same-len-mid (c .before .before .before .before .before .before .before .before .args .at + 1) (length (now (c .before .before .before .before .before .before .before .before .args .rows)) - (c .before .before .before .before .before .before .before .before .args .at + 1)) (now (c .before .before .before .before .before .before .before .before .args .rows)) (c .before .before .before .before .before .encode .last .0) (c .before .before .before .before .before .encode .ensures .0), c .before .before .before .before .before .before .before .before .pre .0)) (c .reduced-first .ensures .1)
 
 pub code-row-spec : {M : Type 1} → statement M
 code-row-spec =
@@ -95,9 +79,5 @@ code-row-spec =
     cast-rows
     mul-rows
     slice-write-rows
-    cast-rows-2
-    add-rows
-    mul-rows-2
-    slice-write-rows-2
     same-length
     returns)
