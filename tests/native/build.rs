@@ -1,14 +1,17 @@
-//! Links the static libraries that `rt staticlib` makes of `bullacetop` and of `search_finder`.
+//! Links the static library that `rt staticlib bullacetop` makes.
 
 use std::path::Path;
 
 fn main() {
     let folder = Path::new(env!("CARGO_MANIFEST_DIR")).join("../../target/staticlib");
+    let library = folder.join("libbullacetop.a");
+    assert!(library.exists(), "{} is missing: rt staticlib bullacetop", library.display());
     println!("cargo:rustc-link-search=native={}", folder.display());
-    for name in ["bullacetop", "search_finder"] {
-        let library = folder.join(format!("lib{name}.a"));
-        assert!(library.exists(), "{} is missing: rt staticlib {name}", library.display());
-        println!("cargo:rustc-link-lib=static={name}");
-        println!("cargo:rerun-if-changed={}", library.display());
+    println!("cargo:rustc-link-lib=static=bullacetop");
+    println!("cargo:rerun-if-changed={}", library.display());
+    // What `tests/finder` links, and nothing else needs.
+    let finder = folder.join("libsearch_finder.a");
+    if finder.exists() {
+        println!("cargo:rerun-if-changed={}", finder.display());
     }
 }

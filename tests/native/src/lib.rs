@@ -2,10 +2,9 @@
 //!
 //! `library` makes a call, `in_place` lends it the tables of a state, `reading` tells what they hold,
 //! `input` draws states and lists of calls from a seed, `hold` makes the calls on both sides and
-//! compares. `finder` asks the finder of step 1 alone.
+//! compares.
 
 pub mod budget;
-pub mod finder;
 pub mod generate;
 pub mod hold;
 pub mod in_place;

@@ -1,9 +1,11 @@
 //! The finder of step 1 alone, on nodes and clauses that no search need reach.
 
-use crate::raw::{CLAUSE_WIDTH, EXISTS, FORALL, FREE};
 use compare::random::Random;
 use compare::{Formula, Literal, Quantifier, Variable};
+use native::raw::{CLAUSE_WIDTH, EXISTS, FORALL, FREE};
 
+/// Made by `rt staticlib search_finder`.
+#[link(name = "search_finder", kind = "static")]
 extern "C" {
     fn search_finder_lowest_dead(
         clauses: *const i16,

@@ -1,13 +1,15 @@
 //! The compiled finder of step 1 against the independent one, at nodes that no search need reach:
 //! "Its contract says so at every node, also one that no walk reaches."
 
+mod question;
+
 use compare::dead::dead_clause;
 use compare::rows::read_finder;
 use compare::slip::{Slip, ALL};
 use compare::Options;
-use native::finder::{answer, answer_outside, draw, Question};
 use native::raw::CLAUSE_WIDTH;
 use native::run::seed;
+use question::{answer, answer_outside, draw, Question};
 
 const QUESTIONS: u64 = 200_000;
 
