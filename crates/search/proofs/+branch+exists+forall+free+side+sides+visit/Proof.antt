@@ -122,1184 +122,534 @@ visit-at t = and 11 visit-kinds.ps (is 11 visit-kinds.ps μ-visit t) visit.Pre
 abbrev visit-below : ℕ → In 11 visit-kinds.ps
 visit-below t = and 11 visit-kinds.ps (falls 11 visit-kinds.ps _<_ μ-visit t) visit.Pre
 
-branch-next-kind-requires : (t : ℕ) → branch-lts.Need-next-kind-requires (
-  next-kind-reads.Asked,
-  next-kind-reads.Learnt,
-  exists-below t,
-  exists.Post,
-  forall-below t,
-  forall.Post,
-  free-below t,
-  free.Post,
-  placed-reads.Asked,
-  placed-reads.Learnt,
-  settled-reads.Asked,
-  settled-reads.Learnt,
-) (branch-at t) branch.Post
+-- ---- what each member knows of those that it calls
+abbrev branch-claims : ℕ → branch-lts.Claims
+branch-claims t = (next-kind-reads.Asked, next-kind-reads.Learnt, exists-below t, exists.Post, forall-below t, forall.Post, free-below t, free.Post, placed-reads.Asked, placed-reads.Learnt, settled-reads.Asked, settled-reads.Learnt)
+
+abbrev exists-claims : ℕ → exists-lts.Claims
+exists-claims t = (sides-below t, sides.Post)
+
+abbrev forall-claims : ℕ → forall-lts.Claims
+forall-claims t = (sides-below t, sides.Post)
+
+abbrev free-claims : ℕ → free-lts.Claims
+free-claims t = (sides-below t, sides.Post)
+
+abbrev side-claims : ℕ → side-lts.Claims
+side-claims t = (give-reads.Asked, give-reads.Learnt, visit-below t, visit.Post, restore-reads.Asked, restore-reads.Learnt, with-lines-reads.Asked, with-lines-reads.Learnt)
+
+abbrev sides-claims : ℕ → sides-lts.Claims
+sides-claims t = (to-off-reads.Asked, to-off-reads.Learnt, side-below t, side.Post, goes-up-reads.Asked, goes-up-reads.Learnt, with-lines-reads.Asked, with-lines-reads.Learnt, put-aside-reads.Asked, put-aside-reads.Learnt, lined-reads.Asked, lined-reads.Learnt, line-if-reads.Asked, line-if-reads.Learnt, to-on-reads.Asked, to-on-reads.Learnt, finish-reads.Asked, finish-reads.Learnt, settle-lines-reads.Asked, settle-lines-reads.Learnt)
+
+abbrev visit-claims : ℕ → visit-lts.Claims
+visit-claims t = (conclude-reads.Asked, conclude-reads.Learnt, settled-reads.Asked, settled-reads.Learnt, branch-below t, branch.Post, with-lines-reads.Asked, with-lines-reads.Learnt)
+
+-- ---- branch
+branch-next-kind-requires : (t : ℕ) → branch-lts.Need-next-kind-requires (branch-claims t) (branch-at t) branch.Post
 branch-next-kind-requires t c κs = search needs
 
-branch-exists-requires : (t : ℕ) → branch-lts.Need-exists-requires (
-  next-kind-reads.Asked,
-  next-kind-reads.Learnt,
-  exists-below t,
-  exists.Post,
-  forall-below t,
-  forall.Post,
-  free-below t,
-  free.Post,
-  placed-reads.Asked,
-  placed-reads.Learnt,
-  settled-reads.Asked,
-  settled-reads.Learnt,
-) (branch-at t) branch.Post
-branch-exists-requires t c κs = (omega (arith, c .before .before .before .before .before .before .before .before .before .before .before .before .before .before .pre .0), (c .before .before .before .before .before .before .before .before .before .before .before .before .before .before .pre .1, more-places _ (c .before .before .before .before .before .before .before .before .before .before .before .before .before .before .args .p .at) (c .before .before .before .before .before .before .before .before .before .before .before .next-kind .result) (c .before .before .before .before .before .before .before .before .before .before .before .next-kind .ensures) (omega (arith, c .before .before .before .before .before .before .before .before .before .before .if1 .taken))))
+branch-exists-requires : (t : ℕ) → branch-lts.Need-exists-requires (branch-claims t) (branch-at t) branch.Post
+branch-exists-requires t c κs =
+    let start = c .before .before .before .before .before .before .before .before .before .before .before .before .before .before in
+    let next = c .before .before .before .before .before .before .before .before .before .before .before .next-kind in
+    let first = c .before .before .before .before .before .before .before .before .before .before .if1 in
+    (omega (arith, start .pre .0), (start .pre .1, more-places _ (start .args .p .at) (next .result) (next .ensures) (omega (arith, first .taken))))
 
-branch-forall-requires : (t : ℕ) → branch-lts.Need-forall-requires (
-  next-kind-reads.Asked,
-  next-kind-reads.Learnt,
-  exists-below t,
-  exists.Post,
-  forall-below t,
-  forall.Post,
-  free-below t,
-  free.Post,
-  placed-reads.Asked,
-  placed-reads.Learnt,
-  settled-reads.Asked,
-  settled-reads.Learnt,
-) (branch-at t) branch.Post
-branch-forall-requires t c κs = (omega (arith, c .before .before .before .before .before .before .before .before .before .before .before .before .before .before .before .pre .0), (c .before .before .before .before .before .before .before .before .before .before .before .before .before .before .before .pre .1, more-places _ (c .before .before .before .before .before .before .before .before .before .before .before .before .before .before .before .args .p .at) (c .before .before .before .before .before .before .before .before .before .before .before .before .next-kind .result) (c .before .before .before .before .before .before .before .before .before .before .before .before .next-kind .ensures) (omega (arith, c .before .before .before .before .before .before .before .before .before .before .if2 .taken))))
+branch-forall-requires : (t : ℕ) → branch-lts.Need-forall-requires (branch-claims t) (branch-at t) branch.Post
+branch-forall-requires t c κs =
+    let start = c .before .before .before .before .before .before .before .before .before .before .before .before .before .before .before in
+    let next = c .before .before .before .before .before .before .before .before .before .before .before .before .next-kind in
+    let second = c .before .before .before .before .before .before .before .before .before .before .if2 in
+    (omega (arith, start .pre .0), (start .pre .1, more-places _ (start .args .p .at) (next .result) (next .ensures) (omega (arith, second .taken))))
 
-branch-free-requires : (t : ℕ) → branch-lts.Need-free-requires (
-  next-kind-reads.Asked,
-  next-kind-reads.Learnt,
-  exists-below t,
-  exists.Post,
-  forall-below t,
-  forall.Post,
-  free-below t,
-  free.Post,
-  placed-reads.Asked,
-  placed-reads.Learnt,
-  settled-reads.Asked,
-  settled-reads.Learnt,
-) (branch-at t) branch.Post
-branch-free-requires t c κs = (omega (arith, c .before .before .before .before .before .before .before .before .before .before .before .before .before .before .before .before .pre .0), (c .before .before .before .before .before .before .before .before .before .before .before .before .before .before .before .before .pre .1, more-places _ (c .before .before .before .before .before .before .before .before .before .before .before .before .before .before .before .before .args .p .at) (c .before .before .before .before .before .before .before .before .before .before .before .before .before .next-kind .result) (c .before .before .before .before .before .before .before .before .before .before .before .before .before .next-kind .ensures) (omega (arith, c .before .before .before .before .before .before .before .before .before .before .if3 .taken))))
+branch-free-requires : (t : ℕ) → branch-lts.Need-free-requires (branch-claims t) (branch-at t) branch.Post
+branch-free-requires t c κs =
+    let start = c .before .before .before .before .before .before .before .before .before .before .before .before .before .before .before .before in
+    let next = c .before .before .before .before .before .before .before .before .before .before .before .before .before .next-kind in
+    let third = c .before .before .before .before .before .before .before .before .before .before .if3 in
+    (omega (arith, start .pre .0), (start .pre .1, more-places _ (start .args .p .at) (next .result) (next .ensures) (omega (arith, third .taken))))
 
-branch-placed-requires : (t : ℕ) → branch-lts.Need-placed-requires (
-  next-kind-reads.Asked,
-  next-kind-reads.Learnt,
-  exists-below t,
-  exists.Post,
-  forall-below t,
-  forall.Post,
-  free-below t,
-  free.Post,
-  placed-reads.Asked,
-  placed-reads.Learnt,
-  settled-reads.Asked,
-  settled-reads.Learnt,
-) (branch-at t) branch.Post
+branch-placed-requires : (t : ℕ) → branch-lts.Need-placed-requires (branch-claims t) (branch-at t) branch.Post
 branch-placed-requires t c κs = search needs
 
-branch-settled-requires : (t : ℕ) → branch-lts.Need-settled-requires (
-  next-kind-reads.Asked,
-  next-kind-reads.Learnt,
-  exists-below t,
-  exists.Post,
-  forall-below t,
-  forall.Post,
-  free-below t,
-  free.Post,
-  placed-reads.Asked,
-  placed-reads.Learnt,
-  settled-reads.Asked,
-  settled-reads.Learnt,
-) (branch-at t) branch.Post
-branch-settled-requires t c κs = visits-small (length (c .before .before .before .before .before .before .before .args .saved .now)) (c .before .before .before .before .before .before .before .args .p) (c .before .before .before .before .before .before .before .pre .1 .room)
+branch-settled-requires : (t : ℕ) → branch-lts.Need-settled-requires (branch-claims t) (branch-at t) branch.Post
+branch-settled-requires t c κs =
+    let start = c .before .before .before .before .before .before .before in
+    visits-small (length (start .args .saved .now)) (start .args .p) (start .pre .1 .room)
 
-branch-same-length : (t : ℕ) → branch-lts.Need-same-length (
-  next-kind-reads.Asked,
-  next-kind-reads.Learnt,
-  exists-below t,
-  exists.Post,
-  forall-below t,
-  forall.Post,
-  free-below t,
-  free.Post,
-  placed-reads.Asked,
-  placed-reads.Learnt,
-  settled-reads.Asked,
-  settled-reads.Learnt,
-) (branch-at t) branch.Post
+branch-same-length : (t : ℕ) → branch-lts.Need-same-length (branch-claims t) (branch-at t) branch.Post
 branch-same-length t c = search needs
 
-branch-same-length-2 : (t : ℕ) → branch-lts.Need-same-length-2 (
-  next-kind-reads.Asked,
-  next-kind-reads.Learnt,
-  exists-below t,
-  exists.Post,
-  forall-below t,
-  forall.Post,
-  free-below t,
-  free.Post,
-  placed-reads.Asked,
-  placed-reads.Learnt,
-  settled-reads.Asked,
-  settled-reads.Learnt,
-) (branch-at t) branch.Post
+branch-same-length-2 : (t : ℕ) → branch-lts.Need-same-length-2 (branch-claims t) (branch-at t) branch.Post
 branch-same-length-2 t c = search needs
 
-branch-returns : (t : ℕ) → branch-lts.Need-returns (
-  next-kind-reads.Asked,
-  next-kind-reads.Learnt,
-  exists-below t,
-  exists.Post,
-  forall-below t,
-  forall.Post,
-  free-below t,
-  free.Post,
-  placed-reads.Asked,
-  placed-reads.Learnt,
-  settled-reads.Asked,
-  settled-reads.Learnt,
-) (branch-at t) branch.Post
-branch-returns t c = (c .before .before .before .before .exists .ensures .0, record { result = λ D s ls R st task opened. kind-result (c .before .before .before .before .before .before .before .before .before .before .before .before .before .before .before .before .before .before .before .args .p) task (c .before .before .before .before .exists .result) (c .before .before .before .before .before .before .before .before .before .before .before .before .before .before .before .before .next-kind .result) (c .before .before .before .before .before .before .before .before .before .before .before .before .before .before .before .before .next-kind .ensures) exists (c .before .before .before .before .before .before .before .before .before .before .before .before .before .before .before .if1 .taken) opened (c .before .before .before .before .exists .ensures .1) })
+branch-returns : (t : ℕ) → branch-lts.Need-returns (branch-claims t) (branch-at t) branch.Post
+branch-returns t c =
+    let start = c .before .before .before .before .before .before .before .before .before .before .before .before .before .before .before .before .before .before .before in
+    let next = c .before .before .before .before .before .before .before .before .before .before .before .before .before .before .before .before .next-kind in
+    let first = c .before .before .before .before .before .before .before .before .before .before .before .before .before .before .before .if1 in
+    let chosen = c .before .before .before .before .exists in
+    (chosen .ensures .0, record { result = λ D s ls R st task opened. kind-result (start .args .p) task (chosen .result) (next .result) (next .ensures) exists (first .taken) opened (chosen .ensures .1) })
 
-branch-same-length-3 : (t : ℕ) → branch-lts.Need-same-length-3 (
-  next-kind-reads.Asked,
-  next-kind-reads.Learnt,
-  exists-below t,
-  exists.Post,
-  forall-below t,
-  forall.Post,
-  free-below t,
-  free.Post,
-  placed-reads.Asked,
-  placed-reads.Learnt,
-  settled-reads.Asked,
-  settled-reads.Learnt,
-) (branch-at t) branch.Post
+branch-same-length-3 : (t : ℕ) → branch-lts.Need-same-length-3 (branch-claims t) (branch-at t) branch.Post
 branch-same-length-3 t c = search needs
 
-branch-same-length-4 : (t : ℕ) → branch-lts.Need-same-length-4 (
-  next-kind-reads.Asked,
-  next-kind-reads.Learnt,
-  exists-below t,
-  exists.Post,
-  forall-below t,
-  forall.Post,
-  free-below t,
-  free.Post,
-  placed-reads.Asked,
-  placed-reads.Learnt,
-  settled-reads.Asked,
-  settled-reads.Learnt,
-) (branch-at t) branch.Post
+branch-same-length-4 : (t : ℕ) → branch-lts.Need-same-length-4 (branch-claims t) (branch-at t) branch.Post
 branch-same-length-4 t c = search needs
 
-branch-returns-2 : (t : ℕ) → branch-lts.Need-returns-2 (
-  next-kind-reads.Asked,
-  next-kind-reads.Learnt,
-  exists-below t,
-  exists.Post,
-  forall-below t,
-  forall.Post,
-  free-below t,
-  free.Post,
-  placed-reads.Asked,
-  placed-reads.Learnt,
-  settled-reads.Asked,
-  settled-reads.Learnt,
-) (branch-at t) branch.Post
-branch-returns-2 t c = (c .before .before .before .before .forall .ensures .0, record { result = λ D s ls R st task opened. kind-result (c .before .before .before .before .before .before .before .before .before .before .before .before .before .before .before .before .before .before .before .before .args .p) task (c .before .before .before .before .forall .result) (c .before .before .before .before .before .before .before .before .before .before .before .before .before .before .before .before .before .next-kind .result) (c .before .before .before .before .before .before .before .before .before .before .before .before .before .before .before .before .before .next-kind .ensures) forall (c .before .before .before .before .before .before .before .before .before .before .before .before .before .before .before .if2 .taken) opened (c .before .before .before .before .forall .ensures .1) })
+branch-returns-2 : (t : ℕ) → branch-lts.Need-returns-2 (branch-claims t) (branch-at t) branch.Post
+branch-returns-2 t c =
+    let start = c .before .before .before .before .before .before .before .before .before .before .before .before .before .before .before .before .before .before .before .before in
+    let next = c .before .before .before .before .before .before .before .before .before .before .before .before .before .before .before .before .before .next-kind in
+    let second = c .before .before .before .before .before .before .before .before .before .before .before .before .before .before .before .if2 in
+    let chosen = c .before .before .before .before .forall in
+    (chosen .ensures .0, record { result = λ D s ls R st task opened. kind-result (start .args .p) task (chosen .result) (next .result) (next .ensures) forall (second .taken) opened (chosen .ensures .1) })
 
-branch-same-length-5 : (t : ℕ) → branch-lts.Need-same-length-5 (
-  next-kind-reads.Asked,
-  next-kind-reads.Learnt,
-  exists-below t,
-  exists.Post,
-  forall-below t,
-  forall.Post,
-  free-below t,
-  free.Post,
-  placed-reads.Asked,
-  placed-reads.Learnt,
-  settled-reads.Asked,
-  settled-reads.Learnt,
-) (branch-at t) branch.Post
+branch-same-length-5 : (t : ℕ) → branch-lts.Need-same-length-5 (branch-claims t) (branch-at t) branch.Post
 branch-same-length-5 t c = search needs
 
-branch-same-length-6 : (t : ℕ) → branch-lts.Need-same-length-6 (
-  next-kind-reads.Asked,
-  next-kind-reads.Learnt,
-  exists-below t,
-  exists.Post,
-  forall-below t,
-  forall.Post,
-  free-below t,
-  free.Post,
-  placed-reads.Asked,
-  placed-reads.Learnt,
-  settled-reads.Asked,
-  settled-reads.Learnt,
-) (branch-at t) branch.Post
+branch-same-length-6 : (t : ℕ) → branch-lts.Need-same-length-6 (branch-claims t) (branch-at t) branch.Post
 branch-same-length-6 t c = search needs
 
-branch-returns-3 : (t : ℕ) → branch-lts.Need-returns-3 (
-  next-kind-reads.Asked,
-  next-kind-reads.Learnt,
-  exists-below t,
-  exists.Post,
-  forall-below t,
-  forall.Post,
-  free-below t,
-  free.Post,
-  placed-reads.Asked,
-  placed-reads.Learnt,
-  settled-reads.Asked,
-  settled-reads.Learnt,
-) (branch-at t) branch.Post
-branch-returns-3 t c = (c .before .before .before .before .free .ensures .0, record { result = λ D s ls R st task opened. kind-result (c .before .before .before .before .before .before .before .before .before .before .before .before .before .before .before .before .before .before .before .before .before .args .p) task (c .before .before .before .before .free .result) (c .before .before .before .before .before .before .before .before .before .before .before .before .before .before .before .before .before .before .next-kind .result) (c .before .before .before .before .before .before .before .before .before .before .before .before .before .before .before .before .before .before .next-kind .ensures) free (c .before .before .before .before .before .before .before .before .before .before .before .before .before .before .before .if3 .taken) opened (c .before .before .before .before .free .ensures .1) })
+branch-returns-3 : (t : ℕ) → branch-lts.Need-returns-3 (branch-claims t) (branch-at t) branch.Post
+branch-returns-3 t c =
+    let start = c .before .before .before .before .before .before .before .before .before .before .before .before .before .before .before .before .before .before .before .before .before in
+    let next = c .before .before .before .before .before .before .before .before .before .before .before .before .before .before .before .before .before .before .next-kind in
+    let third = c .before .before .before .before .before .before .before .before .before .before .before .before .before .before .before .if3 in
+    let chosen = c .before .before .before .before .free in
+    (chosen .ensures .0, record { result = λ D s ls R st task opened. kind-result (start .args .p) task (chosen .result) (next .result) (next .ensures) free (third .taken) opened (chosen .ensures .1) })
 
-branch-returns-4 : (t : ℕ) → branch-lts.Need-returns-4 (
-  next-kind-reads.Asked,
-  next-kind-reads.Learnt,
-  exists-below t,
-  exists.Post,
-  forall-below t,
-  forall.Post,
-  free-below t,
-  free.Post,
-  placed-reads.Asked,
-  placed-reads.Learnt,
-  settled-reads.Asked,
-  settled-reads.Learnt,
-) (branch-at t) branch.Post
-branch-returns-4 t c = (
-  record {
-    counts = counts-settled (c .before .before .before .before .before .before .before .before .args .p) (c .settled .result) No (c .before .placed .result) (c .settled .ensures) (subst Bounded (sym (c .before .placed .ensures)) (record { short = zero-le; inside = zero-le }));
-    kept = record { statuses-restored = refl; size = refl; rows = rows-same _ _ _ _ };
-    shelves = c .before .before .before .before .before .before .before .before .pre .1 .shelves;
-  },
-  record {
-    result = λ D s ls R st task opened.
-        end-result (c .before .before .before .before .before .before .before .before .args .p) task (c .settled .result) (c .before .before .before .before .before .next-kind .result) (c .before .before .before .before .before .next-kind .ensures) (c .before .placed .result) (ap (λ (b : Bounds). b .len) (c .before .placed .ensures)) _ (c .before .before .before .before .if1 .left) (c .before .before .before .if2 .left) (c .before .before .if3 .left) (c .settled .ensures);
-  },
-)
+branch-returns-4 : (t : ℕ) → branch-lts.Need-returns-4 (branch-claims t) (branch-at t) branch.Post
+branch-returns-4 t c =
+    let start = c .before .before .before .before .before .before .before .before in
+    let next = c .before .before .before .before .before .next-kind in
+    let first = c .before .before .before .before .if1 in
+    let second = c .before .before .before .if2 in
+    let third = c .before .before .if3 in
+    let empty = c .before .placed in
+    let made = c .settled in (
+      record {
+        counts = counts-settled (start .args .p) (made .result) No (empty .result) (made .ensures) (subst Bounded (sym (empty .ensures)) (record { short = zero-le; inside = zero-le }));
+        kept = record { statuses-restored = refl; size = refl; rows = rows-same _ _ _ _ };
+        shelves = start .pre .1 .shelves;
+      },
+      record {
+        result = λ D s ls R st task opened.
+            end-result (start .args .p) task (made .result) (next .result) (next .ensures) (empty .result) (ap (λ (b : Bounds). b .len) (empty .ensures)) _ (first .left) (second .left) (third .left) (made .ensures);
+      },
+    )
 
+-- ---- exists
 exists-sides-requires :
-    (t : ℕ) → exists-lts.Need-sides-requires (sides-below t, sides.Post) (exists-at t) exists.Post
-exists-sides-requires t c κs = (omega (arith, c .before .before .before .before .before .before .before .before .before .before .before .before .pre .0), (c .before .before .before .before .before .before .before .before .before .before .before .before .pre .1 .0, c .before .before .before .before .before .before .before .before .before .before .before .before .pre .1 .1))
+    (t : ℕ) → exists-lts.Need-sides-requires (exists-claims t) (exists-at t) exists.Post
+exists-sides-requires t c κs =
+    let start = c .before .before .before .before .before .before .before .before .before .before .before .before in
+    (omega (arith, start .pre .0), (start .pre .1 .0, start .pre .1 .1))
 
 exists-same-length :
-    (t : ℕ) → exists-lts.Need-same-length (sides-below t, sides.Post) (exists-at t) exists.Post
+    (t : ℕ) → exists-lts.Need-same-length (exists-claims t) (exists-at t) exists.Post
 exists-same-length t c = search needs
 
 exists-same-length-2 :
-    (t : ℕ) → exists-lts.Need-same-length-2 (sides-below t, sides.Post) (exists-at t) exists.Post
+    (t : ℕ) → exists-lts.Need-same-length-2 (exists-claims t) (exists-at t) exists.Post
 exists-same-length-2 t c = search needs
 
 exists-returns :
-    (t : ℕ) → exists-lts.Need-returns (sides-below t, sides.Post) (exists-at t) exists.Post
-exists-returns t c = (c .before .before .before .before .sides .ensures .0, c .before .before .before .before .sides .ensures .1)
+    (t : ℕ) → exists-lts.Need-returns (exists-claims t) (exists-at t) exists.Post
+exists-returns t c =
+    let both = c .before .before .before .before .sides in
+    (both .ensures .0, both .ensures .1)
 
+-- ---- forall
 forall-sides-requires :
-    (t : ℕ) → forall-lts.Need-sides-requires (sides-below t, sides.Post) (forall-at t) forall.Post
-forall-sides-requires t c κs = (omega (arith, c .before .before .before .before .before .before .before .before .before .before .before .before .pre .0), (c .before .before .before .before .before .before .before .before .before .before .before .before .pre .1 .0, c .before .before .before .before .before .before .before .before .before .before .before .before .pre .1 .1))
+    (t : ℕ) → forall-lts.Need-sides-requires (forall-claims t) (forall-at t) forall.Post
+forall-sides-requires t c κs =
+    let start = c .before .before .before .before .before .before .before .before .before .before .before .before in
+    (omega (arith, start .pre .0), (start .pre .1 .0, start .pre .1 .1))
 
 forall-same-length :
-    (t : ℕ) → forall-lts.Need-same-length (sides-below t, sides.Post) (forall-at t) forall.Post
+    (t : ℕ) → forall-lts.Need-same-length (forall-claims t) (forall-at t) forall.Post
 forall-same-length t c = search needs
 
 forall-same-length-2 :
-    (t : ℕ) → forall-lts.Need-same-length-2 (sides-below t, sides.Post) (forall-at t) forall.Post
+    (t : ℕ) → forall-lts.Need-same-length-2 (forall-claims t) (forall-at t) forall.Post
 forall-same-length-2 t c = search needs
 
 forall-returns :
-    (t : ℕ) → forall-lts.Need-returns (sides-below t, sides.Post) (forall-at t) forall.Post
-forall-returns t c = (c .before .before .before .before .sides .ensures .0, c .before .before .before .before .sides .ensures .1)
+    (t : ℕ) → forall-lts.Need-returns (forall-claims t) (forall-at t) forall.Post
+forall-returns t c =
+    let both = c .before .before .before .before .sides in
+    (both .ensures .0, both .ensures .1)
 
+-- ---- free
 free-sides-requires :
-    (t : ℕ) → free-lts.Need-sides-requires (sides-below t, sides.Post) (free-at t) free.Post
-free-sides-requires t c κs = (omega (arith, c .before .before .before .before .before .before .before .before .before .before .before .before .pre .0), (c .before .before .before .before .before .before .before .before .before .before .before .before .pre .1 .0, c .before .before .before .before .before .before .before .before .before .before .before .before .pre .1 .1))
+    (t : ℕ) → free-lts.Need-sides-requires (free-claims t) (free-at t) free.Post
+free-sides-requires t c κs =
+    let start = c .before .before .before .before .before .before .before .before .before .before .before .before in
+    (omega (arith, start .pre .0), (start .pre .1 .0, start .pre .1 .1))
 
 free-same-length :
-    (t : ℕ) → free-lts.Need-same-length (sides-below t, sides.Post) (free-at t) free.Post
+    (t : ℕ) → free-lts.Need-same-length (free-claims t) (free-at t) free.Post
 free-same-length t c = search needs
 
 free-same-length-2 :
-    (t : ℕ) → free-lts.Need-same-length-2 (sides-below t, sides.Post) (free-at t) free.Post
+    (t : ℕ) → free-lts.Need-same-length-2 (free-claims t) (free-at t) free.Post
 free-same-length-2 t c = search needs
 
-free-returns : (t : ℕ) → free-lts.Need-returns (sides-below t, sides.Post) (free-at t) free.Post
-free-returns t c = (c .before .before .before .before .sides .ensures .0, c .before .before .before .before .sides .ensures .1)
+free-returns : (t : ℕ) → free-lts.Need-returns (free-claims t) (free-at t) free.Post
+free-returns t c =
+    let both = c .before .before .before .before .sides in
+    (both .ensures .0, both .ensures .1)
 
-side-give-requires : (t : ℕ) → side-lts.Need-give-requires (
-  give-reads.Asked,
-  give-reads.Learnt,
-  visit-below t,
-  visit.Post,
-  restore-reads.Asked,
-  restore-reads.Learnt,
-  with-lines-reads.Asked,
-  with-lines-reads.Learnt,
-) (side-at t) side.Post
-side-give-requires t c κs = c .before .before .before .before .before .pre .1 .asked .room .within
+-- ---- side
+side-give-requires : (t : ℕ) → side-lts.Need-give-requires (side-claims t) (side-at t) side.Post
+side-give-requires t c κs =
+    let start = c .before .before .before .before .before in
+    start .pre .1 .asked .room .within
 
-side-mul-visit : (t : ℕ) → side-lts.Need-mul-visit (
-  give-reads.Asked,
-  give-reads.Learnt,
-  visit-below t,
-  visit.Post,
-  restore-reads.Asked,
-  restore-reads.Learnt,
-  with-lines-reads.Asked,
-  with-lines-reads.Learnt,
-) (side-at t) side.Post
+side-mul-visit : (t : ℕ) → side-lts.Need-mul-visit (side-claims t) (side-at t) side.Post
 side-mul-visit t c = search needs
 
-side-sub-visit : (t : ℕ) → side-lts.Need-sub-visit (
-  give-reads.Asked,
-  give-reads.Learnt,
-  visit-below t,
-  visit.Post,
-  restore-reads.Asked,
-  restore-reads.Learnt,
-  with-lines-reads.Asked,
-  with-lines-reads.Learnt,
-) (side-at t) side.Post
+side-sub-visit : (t : ℕ) → side-lts.Need-sub-visit (side-claims t) (side-at t) side.Post
 side-sub-visit t c = search needs
 
-side-part-visit-start : (t : ℕ) → side-lts.Need-part-visit-start (
-  give-reads.Asked,
-  give-reads.Learnt,
-  visit-below t,
-  visit.Post,
-  restore-reads.Asked,
-  restore-reads.Learnt,
-  with-lines-reads.Asked,
-  with-lines-reads.Learnt,
-) (side-at t) side.Post
+side-part-visit-start : (t : ℕ) → side-lts.Need-part-visit-start (side-claims t) (side-at t) side.Post
 side-part-visit-start t c = search needs
 
-side-part-visit-end : (t : ℕ) → side-lts.Need-part-visit-end (
-  give-reads.Asked,
-  give-reads.Learnt,
-  visit-below t,
-  visit.Post,
-  restore-reads.Asked,
-  restore-reads.Learnt,
-  with-lines-reads.Asked,
-  with-lines-reads.Learnt,
-) (side-at t) side.Post
+side-part-visit-end : (t : ℕ) → side-lts.Need-part-visit-end (side-claims t) (side-at t) side.Post
 side-part-visit-end t c = search needs
 
-side-visit-requires : (t : ℕ) → side-lts.Need-visit-requires (
-  give-reads.Asked,
-  give-reads.Learnt,
-  visit-below t,
-  visit.Post,
-  restore-reads.Asked,
-  restore-reads.Learnt,
-  with-lines-reads.Asked,
-  with-lines-reads.Learnt,
-) (side-at t) side.Post
-side-visit-requires t c κs = (
-  omega (arith, c .before .before .before .before .before .before .before .before .before .before .before .before .before .before .before .before .pre .0),
-  (part-asked (length (c .before .before .before .before .before .before .before .before .before .before .before .before .before .before .before .before .args .saved .now)) (c .before .before .before .before .before .before .before .before .before .before .before .before .before .before .before .before .args .aside) _ (c .before .before .before .before .before .before .before .before .before .before .before .before .before .before .before .before .args .p) (c .before .before .before .before .before .before .before .before .before .before .before .before .before .before .before .before .pre .1) (simp (length-take, length-drop) (omega (arith, c .before .before .before .before .before .before .before .before .before .before .before .before .before .before .before .before .pre .1 .used, c .before .before .before .before .before .before .before .before .before .before .before .before .before .before .before .before .pre .1 .own))), c .before .before .before .before .before .before .before .before .before .before .before .before .before .before .before .before .pre .1 .inner),
-)
+side-visit-requires : (t : ℕ) → side-lts.Need-visit-requires (side-claims t) (side-at t) side.Post
+side-visit-requires t c κs =
+    let start = c .before .before .before .before .before .before .before .before .before .before .before .before .before .before .before .before in (
+      omega (arith, start .pre .0),
+      (part-asked (length (start .args .saved .now)) (start .args .aside) _ (start .args .p) (start .pre .1) (simp (length-take, length-drop) (omega (arith, start .pre .1 .used, start .pre .1 .own))), start .pre .1 .inner),
+    )
 
-side-restore-requires : (t : ℕ) → side-lts.Need-restore-requires (
-  give-reads.Asked,
-  give-reads.Learnt,
-  visit-below t,
-  visit.Post,
-  restore-reads.Asked,
-  restore-reads.Learnt,
-  with-lines-reads.Asked,
-  with-lines-reads.Learnt,
-) (side-at t) side.Post
-side-restore-requires t c κs = c .before .before .before .before .before .before .before .before .before .before .before .before .before .before .before .before .before .before .before .before .before .before .pre .1 .asked .room .within
+side-restore-requires : (t : ℕ) → side-lts.Need-restore-requires (side-claims t) (side-at t) side.Post
+side-restore-requires t c κs =
+    let start = c .before .before .before .before .before .before .before .before .before .before .before .before .before .before .before .before .before .before .before .before .before .before in
+    start .pre .1 .asked .room .within
 
-side-with-lines-requires : (t : ℕ) → side-lts.Need-with-lines-requires (
-  give-reads.Asked,
-  give-reads.Learnt,
-  visit-below t,
-  visit.Post,
-  restore-reads.Asked,
-  restore-reads.Learnt,
-  with-lines-reads.Asked,
-  with-lines-reads.Learnt,
-) (side-at t) side.Post
+side-with-lines-requires : (t : ℕ) → side-lts.Need-with-lines-requires (side-claims t) (side-at t) side.Post
 side-with-lines-requires t c κs = search needs
 
-side-same-length : (t : ℕ) → side-lts.Need-same-length (
-  give-reads.Asked,
-  give-reads.Learnt,
-  visit-below t,
-  visit.Post,
-  restore-reads.Asked,
-  restore-reads.Learnt,
-  with-lines-reads.Asked,
-  with-lines-reads.Learnt,
-) (side-at t) side.Post
+side-same-length : (t : ℕ) → side-lts.Need-same-length (side-claims t) (side-at t) side.Post
 side-same-length t c = search needs
 
-side-same-length-2 : (t : ℕ) → side-lts.Need-same-length-2 (
-  give-reads.Asked,
-  give-reads.Learnt,
-  visit-below t,
-  visit.Post,
-  restore-reads.Asked,
-  restore-reads.Learnt,
-  with-lines-reads.Asked,
-  with-lines-reads.Learnt,
-) (side-at t) side.Post
+side-same-length-2 : (t : ℕ) → side-lts.Need-same-length-2 (side-claims t) (side-at t) side.Post
 side-same-length-2 t c = search needs
 
-side-returns : (t : ℕ) → side-lts.Need-returns (
-  give-reads.Asked,
-  give-reads.Learnt,
-  visit-below t,
-  visit.Post,
-  restore-reads.Asked,
-  restore-reads.Learnt,
-  with-lines-reads.Asked,
-  with-lines-reads.Learnt,
-) (side-at t) side.Post
+side-returns : (t : ℕ) → side-lts.Need-returns (side-claims t) (side-at t) side.Post
 side-returns t c = (
   (
-    record {
-      counts = counts-as (sym (c .with-lines .ensures)) (c .before .before .before .before .before .before .before .visit .ensures .0 .counts);
-      kept = record {
-        statuses-restored =
-            c .before .restore .ensures
-            ∙ statuses-back (c .before .before .before .before .before .before .before .before .before .before .before .before .before .before .before .before .before .before .before .before .before .before .before .before .args .p .at) (c .before .before .before .before .before .before .before .before .before .before .before .before .before .before .before .before .before .before .before .before .before .before .before .before .args .value) _ _ (c .before .before .before .before .before .before .before .before .before .before .before .before .before .before .before .before .before .before .before .before .before .before .before .before .args .statuses .now) _ (omega (arith, c .before .before .before .before .before .before .before .before .before .before .before .before .before .before .before .before .before .before .before .before .cells2 .given, c .before .before .before .before .before .before .before .before .before .before .before .before .before .before .before .before .before .before .before .before .before .before .before .before .pre .1 .asked .room .within)) (c .before .before .before .before .before .before .before .visit .ensures .0 .kept .statuses-restored ∙ c .before .before .before .before .before .before .before .before .before .before .before .before .before .before .before .before .before .before .give .ensures .0) (c .before .before .before .before .before .before .before .before .before .before .before .before .before .before .before .before .before .before .give .ensures .1) (c .before .before .before .before .before .before .before .before .before .before .before .before .before .before .before .before .before .before .give .ensures .2);
-        size = c .before .before .before .before .before .before .before .visit .ensures .0 .kept .size;
-        rows = c .before .before .before .before .before .before .before .visit .ensures .0 .kept .rows;
-      };
-      shelves = c .before .before .before .before .before .before .before .visit .ensures .0 .shelves;
-    },
+    let start = c .before .before .before .before .before .before .before .before .before .before .before .before .before .before .before .before .before .before .before .before .before .before .before .before in
+        let cells = c .before .before .before .before .before .before .before .before .before .before .before .before .before .before .before .before .before .before .before .before .cells2 in
+        let given = c .before .before .before .before .before .before .before .before .before .before .before .before .before .before .before .before .before .before .give in
+        let visited = c .before .before .before .before .before .before .before .visit in
+        let restored = c .before .restore in
+        let made = c .with-lines in
+        record {
+          counts = counts-as (sym (made .ensures)) (visited .ensures .0 .counts);
+          kept = record {
+            statuses-restored =
+                restored .ensures
+                ∙ statuses-back (start .args .p .at) (start .args .value) _ _ (start .args .statuses .now) _ (omega (arith, cells .given, start .pre .1 .asked .room .within)) (visited .ensures .0 .kept .statuses-restored ∙ given .ensures .0) (given .ensures .1) (given .ensures .2);
+            size = visited .ensures .0 .kept .size;
+            rows = visited .ensures .0 .kept .rows;
+          };
+          shelves = visited .ensures .0 .shelves;
+        },
     record {
       size = search needs;
-      first = take-put (c .before .before .before .before .before .before .before .before .before .before .before .before .before .before .before .before .before .before .before .before .before .before .before .before .args .aside) (length (c .before .before .before .before .before .before .before .before .before .before .before .before .before .before .before .before .before .before .before .before .before .before .before .before .args .saved .now) - c .before .before .before .before .before .before .before .before .before .before .before .before .before .before .before .before .before .before .before .before .before .before .before .before .args .aside) (c .before .before .before .before .before .before .before .before .before .before .before .before .before .before .before .before .before .before .before .before .before .before .before .before .args .saved .now) (c .before .before .before .before .before .before .before .visit .last .1 .1 .1 .1 .1 .1 .1 .1 .1 .0) (omega (arith, c .before .before .before .before .before .before .before .before .before .before .before .before .before .before .before .before .before .before .before .before .before .before .before .before .pre .1 .used, c .before .before .before .before .before .before .before .before .before .before .before .before .before .before .before .before .before .before .before .before .before .before .before .before .pre .1 .own));
+      first =
+          let start = c .before .before .before .before .before .before .before .before .before .before .before .before .before .before .before .before .before .before .before .before .before .before .before .before in
+          let visited = c .before .before .before .before .before .before .before .visit in
+          take-put (start .args .aside) (length (start .args .saved .now) - start .args .aside) (start .args .saved .now) (visited .last .1 .1 .1 .1 .1 .1 .1 .1 .1 .0) (omega (arith, start .pre .1 .used, start .pre .1 .own));
     },
   ),
   record {
-    result = λ D s b ls R st k task opened inside e v.
-        result-as (sym (c .with-lines .ensures))
-        (side-result D s b ls R st k (c .before .before .before .before .before .before .before .before .before .before .before .before .before .before .before .before .before .before .before .before .before .before .before .before .args .p) task opened inside e (c .before .before .before .before .before .before .before .before .before .before .before .before .before .before .before .before .before .before .before .before .before .before .before .before .pre .1 .asked .room .within) (omega (arith, c .before .before .before .before .before .before .before .before .before .before .before .before .before .before .before .before .before .before .before .before .cells2 .given)) (c .before .before .before .before .before .before .before .before .before .before .before .before .before .before .before .before .before .before .before .before .before .before .before .before .args .value) v (c .before .before .before .before .before .before .before .before .before .before .before .before .before .before .before .before .before .before .give .ensures .0) (c .before .before .before .before .before .before .before .visit .ensures .1));
+    result =
+        let start = c .before .before .before .before .before .before .before .before .before .before .before .before .before .before .before .before .before .before .before .before .before .before .before .before in
+        let cells = c .before .before .before .before .before .before .before .before .before .before .before .before .before .before .before .before .before .before .before .before .cells2 in
+        let given = c .before .before .before .before .before .before .before .before .before .before .before .before .before .before .before .before .before .before .give in
+        let visited = c .before .before .before .before .before .before .before .visit in
+        let made = c .with-lines in
+        λ D s b ls R st k task opened inside e v.
+        result-as (sym (made .ensures))
+        (side-result D s b ls R st k (start .args .p) task opened inside e (start .pre .1 .asked .room .within) (omega (arith, cells .given)) (start .args .value) v (given .ensures .0) (visited .ensures .1));
   },
 )
 
-sides-to-off-requires : (t : ℕ) → sides-lts.Need-to-off-requires (
-  to-off-reads.Asked,
-  to-off-reads.Learnt,
-  side-below t,
-  side.Post,
-  goes-up-reads.Asked,
-  goes-up-reads.Learnt,
-  with-lines-reads.Asked,
-  with-lines-reads.Learnt,
-  put-aside-reads.Asked,
-  put-aside-reads.Learnt,
-  lined-reads.Asked,
-  lined-reads.Learnt,
-  line-if-reads.Asked,
-  line-if-reads.Learnt,
-  to-on-reads.Asked,
-  to-on-reads.Learnt,
-  finish-reads.Asked,
-  finish-reads.Learnt,
-  settle-lines-reads.Asked,
-  settle-lines-reads.Learnt,
-) (sides-at t) sides.Post
-sides-to-off-requires t c κs = (omega (arith, c .before .before .before .before .before .before .before .before .before .before .before .before .pre .1 .1), visits-small (length (c .before .before .before .before .before .before .before .before .before .before .before .before .args .saved .now)) (c .before .before .before .before .before .before .before .before .before .before .before .before .args .p) (c .before .before .before .before .before .before .before .before .before .before .before .before .pre .1 .0 .room))
+-- ---- sides
+sides-to-off-requires : (t : ℕ) → sides-lts.Need-to-off-requires (sides-claims t) (sides-at t) sides.Post
+sides-to-off-requires t c κs =
+    let start = c .before .before .before .before .before .before .before .before .before .before .before .before in
+    (omega (arith, start .pre .1 .1), visits-small (length (start .args .saved .now)) (start .args .p) (start .pre .1 .0 .room))
 
-sides-side-requires : (t : ℕ) → sides-lts.Need-side-requires (
-  to-off-reads.Asked,
-  to-off-reads.Learnt,
-  side-below t,
-  side.Post,
-  goes-up-reads.Asked,
-  goes-up-reads.Learnt,
-  with-lines-reads.Asked,
-  with-lines-reads.Learnt,
-  put-aside-reads.Asked,
-  put-aside-reads.Learnt,
-  lined-reads.Asked,
-  lined-reads.Learnt,
-  line-if-reads.Asked,
-  line-if-reads.Learnt,
-  to-on-reads.Asked,
-  to-on-reads.Learnt,
-  finish-reads.Asked,
-  finish-reads.Learnt,
-  settle-lines-reads.Asked,
-  settle-lines-reads.Learnt,
-) (sides-at t) sides.Post
-sides-side-requires t c κs = (omega (arith, c .before .before .before .before .before .before .before .before .before .before .before .before .before .pre .0, falls-side (c .before .before .before .before .before .before .before .before .before .before .before .before .before .args .p) (c .before .before .before .before .before .before .before .before .before .before .before .before .before .pre .1 .1) (c .to-off .result) _ _ (c .to-off .ensures)), off-asked (c .before .before .before .before .before .before .before .before .before .before .before .before .before .args .p) (c .before .before .before .before .before .before .before .before .before .before .before .before .before .pre .1 .1) (length (c .before .before .before .before .before .before .before .before .before .before .before .before .before .args .saved .now)) (c .to-off .result) (c .to-off .ensures) (c .before .before .before .before .before .before .before .before .before .before .before .before .before .pre .1 .0))
+sides-side-requires : (t : ℕ) → sides-lts.Need-side-requires (sides-claims t) (sides-at t) sides.Post
+sides-side-requires t c κs =
+    let start = c .before .before .before .before .before .before .before .before .before .before .before .before .before in
+    let to-off = c .to-off in
+    (omega (arith, start .pre .0, falls-side (start .args .p) (start .pre .1 .1) (to-off .result) _ _ (to-off .ensures)), off-asked (start .args .p) (start .pre .1 .1) (length (start .args .saved .now)) (to-off .result) (to-off .ensures) (start .pre .1 .0))
 
-sides-goes-up-requires : (t : ℕ) → sides-lts.Need-goes-up-requires (
-  to-off-reads.Asked,
-  to-off-reads.Learnt,
-  side-below t,
-  side.Post,
-  goes-up-reads.Asked,
-  goes-up-reads.Learnt,
-  with-lines-reads.Asked,
-  with-lines-reads.Learnt,
-  put-aside-reads.Asked,
-  put-aside-reads.Learnt,
-  lined-reads.Asked,
-  lined-reads.Learnt,
-  line-if-reads.Asked,
-  line-if-reads.Learnt,
-  to-on-reads.Asked,
-  to-on-reads.Learnt,
-  finish-reads.Asked,
-  finish-reads.Learnt,
-  settle-lines-reads.Asked,
-  settle-lines-reads.Learnt,
-) (sides-at t) sides.Post
-sides-goes-up-requires t c κs = (c .before .before .before .before .before .before .before .side .ensures .0 .0 .counts .bounded, omega (arith, c .before .before .before .before .before .before .before .before .before .before .before .before .before .before .before .before .before .before .before .before .before .pre .1 .1))
+sides-goes-up-requires : (t : ℕ) → sides-lts.Need-goes-up-requires (sides-claims t) (sides-at t) sides.Post
+sides-goes-up-requires t c κs =
+    let start = c .before .before .before .before .before .before .before .before .before .before .before .before .before .before .before .before .before .before .before .before .before in
+    let off = c .before .before .before .before .before .before .before .side in
+    (off .ensures .0 .0 .counts .bounded, omega (arith, start .pre .1 .1))
 
-sides-with-lines-requires : (t : ℕ) → sides-lts.Need-with-lines-requires (
-  to-off-reads.Asked,
-  to-off-reads.Learnt,
-  side-below t,
-  side.Post,
-  goes-up-reads.Asked,
-  goes-up-reads.Learnt,
-  with-lines-reads.Asked,
-  with-lines-reads.Learnt,
-  put-aside-reads.Asked,
-  put-aside-reads.Learnt,
-  lined-reads.Asked,
-  lined-reads.Learnt,
-  line-if-reads.Asked,
-  line-if-reads.Learnt,
-  to-on-reads.Asked,
-  to-on-reads.Learnt,
-  finish-reads.Asked,
-  finish-reads.Learnt,
-  settle-lines-reads.Asked,
-  settle-lines-reads.Learnt,
-) (sides-at t) sides.Post
+sides-with-lines-requires : (t : ℕ) → sides-lts.Need-with-lines-requires (sides-claims t) (sides-at t) sides.Post
 sides-with-lines-requires t c κs = search needs
 
-sides-same-length : (t : ℕ) → sides-lts.Need-same-length (
-  to-off-reads.Asked,
-  to-off-reads.Learnt,
-  side-below t,
-  side.Post,
-  goes-up-reads.Asked,
-  goes-up-reads.Learnt,
-  with-lines-reads.Asked,
-  with-lines-reads.Learnt,
-  put-aside-reads.Asked,
-  put-aside-reads.Learnt,
-  lined-reads.Asked,
-  lined-reads.Learnt,
-  line-if-reads.Asked,
-  line-if-reads.Learnt,
-  to-on-reads.Asked,
-  to-on-reads.Learnt,
-  finish-reads.Asked,
-  finish-reads.Learnt,
-  settle-lines-reads.Asked,
-  settle-lines-reads.Learnt,
-) (sides-at t) sides.Post
+sides-same-length : (t : ℕ) → sides-lts.Need-same-length (sides-claims t) (sides-at t) sides.Post
 sides-same-length t c = search needs
 
-sides-same-length-2 : (t : ℕ) → sides-lts.Need-same-length-2 (
-  to-off-reads.Asked,
-  to-off-reads.Learnt,
-  side-below t,
-  side.Post,
-  goes-up-reads.Asked,
-  goes-up-reads.Learnt,
-  with-lines-reads.Asked,
-  with-lines-reads.Learnt,
-  put-aside-reads.Asked,
-  put-aside-reads.Learnt,
-  lined-reads.Asked,
-  lined-reads.Learnt,
-  line-if-reads.Asked,
-  line-if-reads.Learnt,
-  to-on-reads.Asked,
-  to-on-reads.Learnt,
-  finish-reads.Asked,
-  finish-reads.Learnt,
-  settle-lines-reads.Asked,
-  settle-lines-reads.Learnt,
-) (sides-at t) sides.Post
+sides-same-length-2 : (t : ℕ) → sides-lts.Need-same-length-2 (sides-claims t) (sides-at t) sides.Post
 sides-same-length-2 t c = search needs
 
-sides-returns : (t : ℕ) → sides-lts.Need-returns (
-  to-off-reads.Asked,
-  to-off-reads.Learnt,
-  side-below t,
-  side.Post,
-  goes-up-reads.Asked,
-  goes-up-reads.Learnt,
-  with-lines-reads.Asked,
-  with-lines-reads.Learnt,
-  put-aside-reads.Asked,
-  put-aside-reads.Learnt,
-  lined-reads.Asked,
-  lined-reads.Learnt,
-  line-if-reads.Asked,
-  line-if-reads.Learnt,
-  to-on-reads.Asked,
-  to-on-reads.Learnt,
-  finish-reads.Asked,
-  finish-reads.Learnt,
-  settle-lines-reads.Asked,
-  settle-lines-reads.Learnt,
-) (sides-at t) sides.Post
-sides-returns t c = (
-  record {
-    counts = counts-as (sym (c .with-lines .ensures)) (counts-up (c .before .before .before .before .before .before .before .before .before .before .before .before .before .before .before .before .before .before .before .before .before .before .before .before .args .p) (c .before .before .before .before .before .before .before .before .before .before .before .before .before .before .before .before .before .before .before .before .before .before .before .before .pre .1 .1) (c .before .before .before .before .before .before .before .before .before .before .before .to-off .result) (c .before .before .before .before .before .before .before .before .before .before .before .to-off .ensures) (c .before .before .before .before .before .before .before .before .before .before .side .result) (c .before .before .before .before .before .before .before .before .before .before .side .ensures .0 .0 .counts));
-    kept = kept-up (c .before .before .before .before .before .before .before .before .before .before .before .before .before .before .before .before .before .before .before .before .before .before .before .before .args .p) (c .before .before .before .before .before .before .before .before .before .before .before .to-off .result) _ _ (c .before .before .before .before .before .before .before .before .before .before .before .to-off .ensures) (c .before .before .before .before .before .before .before .before .before .before .side .ensures .0 .0 .kept);
-    shelves = c .before .before .before .before .before .before .before .before .before .before .side .ensures .0 .0 .shelves;
-  },
-  record {
-    result = λ D s ls R st κ task opened inside is code.
-        result-as (sym (c .with-lines .ensures))
-        (up-result κ (c .before .before .before .before .before .before .before .before .before .before .before .before .before .before .before .before .before .before .before .before .before .before .before .before .args .kind) code (c .before .before .before .before .before .before .before .before .before .before .before .before .before .before .before .before .before .before .before .before .before .before .before .before .args .p) (c .before .before .before .before .before .before .before .before .before .before .before .to-off .result) (c .before .before .before .before .before .before .before .before .before .before .before .to-off .ensures) (c .before .before .before .before .before .before .before .before .before .before .side .result) (c .before .before .before .before .before .before .before .before .before .before .side .ensures .1) (c .before .before .goes-up .result) (c .before .before .goes-up .ensures) D s ls R st task opened inside is (c .before .if1 .taken));
-  },
-)
+sides-returns : (t : ℕ) → sides-lts.Need-returns (sides-claims t) (sides-at t) sides.Post
+sides-returns t c =
+    let start = c .before .before .before .before .before .before .before .before .before .before .before .before .before .before .before .before .before .before .before .before .before .before .before .before in
+    let to-off = c .before .before .before .before .before .before .before .before .before .before .before .to-off in
+    let off = c .before .before .before .before .before .before .before .before .before .before .side in
+    let up = c .before .before .goes-up in
+    let first = c .before .if1 in
+    let made = c .with-lines in (
+      record {
+        counts = counts-as (sym (made .ensures)) (counts-up (start .args .p) (start .pre .1 .1) (to-off .result) (to-off .ensures) (off .result) (off .ensures .0 .0 .counts));
+        kept = kept-up (start .args .p) (to-off .result) _ _ (to-off .ensures) (off .ensures .0 .0 .kept);
+        shelves = off .ensures .0 .0 .shelves;
+      },
+      record {
+        result = λ D s ls R st κ task opened inside is code.
+            result-as (sym (made .ensures))
+            (up-result κ (start .args .kind) code (start .args .p) (to-off .result) (to-off .ensures) (off .result) (off .ensures .1) (up .result) (up .ensures) D s ls R st task opened inside is (first .taken));
+      },
+    )
 
-sides-put-aside-requires : (t : ℕ) → sides-lts.Need-put-aside-requires (
-  to-off-reads.Asked,
-  to-off-reads.Learnt,
-  side-below t,
-  side.Post,
-  goes-up-reads.Asked,
-  goes-up-reads.Learnt,
-  with-lines-reads.Asked,
-  with-lines-reads.Learnt,
-  put-aside-reads.Asked,
-  put-aside-reads.Learnt,
-  lined-reads.Asked,
-  lined-reads.Learnt,
-  line-if-reads.Asked,
-  line-if-reads.Learnt,
-  to-on-reads.Asked,
-  to-on-reads.Learnt,
-  finish-reads.Asked,
-  finish-reads.Learnt,
-  settle-lines-reads.Asked,
-  settle-lines-reads.Learnt,
-) (sides-at t) sides.Post
-sides-put-aside-requires t c κs = (c .before .before .before .before .before .before .before .before .before .before .before .before .before .side .ensures .0 .0 .counts .bounded, omega (arith, c .before .before .before .before .before .before .before .before .before .before .before .before .before .side .ensures .0 .0 .counts .bounded .short, aside-room (c .before .before .before .before .before .before .before .before .before .before .before .before .before .before .before .before .before .before .before .before .before .before .before .before .before .before .before .args .p) (c .before .before .before .before .before .before .before .before .before .before .before .before .before .before .before .before .before .before .before .before .before .before .before .before .before .before .before .pre .1 .1) (length (c .before .before .before .before .before .before .before .before .before .before .before .before .before .before .before .before .before .before .before .before .before .before .before .before .before .before .before .args .saved .now)) (c .before .before .before .before .before .before .before .before .before .before .before .before .before .before .before .before .before .before .before .before .before .before .before .before .before .before .before .pre .1 .0 .room), c .before .before .before .before .before .before .before .before .before .before .before .before .before .side .ensures .0 .1 .size))
+sides-put-aside-requires : (t : ℕ) → sides-lts.Need-put-aside-requires (sides-claims t) (sides-at t) sides.Post
+sides-put-aside-requires t c κs =
+    let start = c .before .before .before .before .before .before .before .before .before .before .before .before .before .before .before .before .before .before .before .before .before .before .before .before .before .before .before in
+    let off = c .before .before .before .before .before .before .before .before .before .before .before .before .before .side in
+    (off .ensures .0 .0 .counts .bounded, omega (arith, off .ensures .0 .0 .counts .bounded .short, aside-room (start .args .p) (start .pre .1 .1) (length (start .args .saved .now)) (start .pre .1 .0 .room), off .ensures .0 .1 .size))
 
-sides-lined-requires : (t : ℕ) → sides-lts.Need-lined-requires (
-  to-off-reads.Asked,
-  to-off-reads.Learnt,
-  side-below t,
-  side.Post,
-  goes-up-reads.Asked,
-  goes-up-reads.Learnt,
-  with-lines-reads.Asked,
-  with-lines-reads.Learnt,
-  put-aside-reads.Asked,
-  put-aside-reads.Learnt,
-  lined-reads.Asked,
-  lined-reads.Learnt,
-  line-if-reads.Asked,
-  line-if-reads.Learnt,
-  to-on-reads.Asked,
-  to-on-reads.Learnt,
-  finish-reads.Asked,
-  finish-reads.Learnt,
-  settle-lines-reads.Asked,
-  settle-lines-reads.Learnt,
-) (sides-at t) sides.Post
+sides-lined-requires : (t : ℕ) → sides-lts.Need-lined-requires (sides-claims t) (sides-at t) sides.Post
 sides-lined-requires t c κs = search needs
 
-sides-line-if-requires : (t : ℕ) → sides-lts.Need-line-if-requires (
-  to-off-reads.Asked,
-  to-off-reads.Learnt,
-  side-below t,
-  side.Post,
-  goes-up-reads.Asked,
-  goes-up-reads.Learnt,
-  with-lines-reads.Asked,
-  with-lines-reads.Learnt,
-  put-aside-reads.Asked,
-  put-aside-reads.Learnt,
-  lined-reads.Asked,
-  lined-reads.Learnt,
-  line-if-reads.Asked,
-  line-if-reads.Learnt,
-  to-on-reads.Asked,
-  to-on-reads.Learnt,
-  finish-reads.Asked,
-  finish-reads.Learnt,
-  settle-lines-reads.Asked,
-  settle-lines-reads.Learnt,
-) (sides-at t) sides.Post
-sides-line-if-requires t c κs = (c .before .before .before .before .before .before .before .before .before .before .before .before .before .before .before .before .before .before .before .before .before .before .before .before .before .before .before .before .before .before .before .before .before .pre .1 .0 .room .free, lines-small (c .before .before .before .before .before .before .before .before .before .before .before .before .before .before .before .before .before .before .before .before .before .before .before .before .before .before .before .before .before .before .before .before .before .args .p) (c .before .before .before .before .before .before .before .before .before .before .before .before .before .before .before .before .before .before .before .before .before .before .before .before .before .before .before .before .before .before .before .before .before .pre .1 .1) (c .before .before .before .before .before .before .before .before .before .before .before .before .before .before .before .before .before .before .before .before .to-off .result) (c .before .before .before .before .before .before .before .before .before .before .before .before .before .before .before .before .before .before .before .before .to-off .ensures) (c .before .before .before .before .before .before .before .before .before .before .before .before .before .before .before .before .before .before .before .side .result) (c .before .before .before .before .before .before .before .before .before .before .before .before .before .before .before .before .before .before .before .side .ensures .0 .0 .counts) (length (c .before .before .before .before .before .before .before .before .before .before .before .before .before .before .before .before .before .before .before .before .before .before .before .before .before .before .before .before .before .before .before .before .before .args .saved .now)) (c .before .before .before .before .before .before .before .before .before .before .before .before .before .before .before .before .before .before .before .before .before .before .before .before .before .before .before .before .before .before .before .before .before .pre .1 .0 .room))
+sides-line-if-requires : (t : ℕ) → sides-lts.Need-line-if-requires (sides-claims t) (sides-at t) sides.Post
+sides-line-if-requires t c κs =
+    let start = c .before .before .before .before .before .before .before .before .before .before .before .before .before .before .before .before .before .before .before .before .before .before .before .before .before .before .before .before .before .before .before .before .before in
+    let to-off = c .before .before .before .before .before .before .before .before .before .before .before .before .before .before .before .before .before .before .before .before .to-off in
+    let off = c .before .before .before .before .before .before .before .before .before .before .before .before .before .before .before .before .before .before .before .side in
+    (start .pre .1 .0 .room .free, lines-small (start .args .p) (start .pre .1 .1) (to-off .result) (to-off .ensures) (off .result) (off .ensures .0 .0 .counts) (length (start .args .saved .now)) (start .pre .1 .0 .room))
 
-sides-to-on-requires : (t : ℕ) → sides-lts.Need-to-on-requires (
-  to-off-reads.Asked,
-  to-off-reads.Learnt,
-  side-below t,
-  side.Post,
-  goes-up-reads.Asked,
-  goes-up-reads.Learnt,
-  with-lines-reads.Asked,
-  with-lines-reads.Learnt,
-  put-aside-reads.Asked,
-  put-aside-reads.Learnt,
-  lined-reads.Asked,
-  lined-reads.Learnt,
-  line-if-reads.Asked,
-  line-if-reads.Learnt,
-  to-on-reads.Asked,
-  to-on-reads.Learnt,
-  finish-reads.Asked,
-  finish-reads.Learnt,
-  settle-lines-reads.Asked,
-  settle-lines-reads.Learnt,
-) (sides-at t) sides.Post
-sides-to-on-requires t c κs = omega (arith, c .before .before .before .before .before .before .before .before .before .before .before .before .before .before .before .before .before .before .before .before .before .before .before .before .before .before .before .before .before .before .before .before .before .before .before .before .before .before .before .before .before .before .before .before .before .before .pre .1 .1)
+sides-to-on-requires : (t : ℕ) → sides-lts.Need-to-on-requires (sides-claims t) (sides-at t) sides.Post
+sides-to-on-requires t c κs =
+    let start = c .before .before .before .before .before .before .before .before .before .before .before .before .before .before .before .before .before .before .before .before .before .before .before .before .before .before .before .before .before .before .before .before .before .before .before .before .before .before .before .before .before .before .before .before .before .before in
+    omega (arith, start .pre .1 .1)
 
-sides-side-requires-2 : (t : ℕ) → sides-lts.Need-side-requires-2 (
-  to-off-reads.Asked,
-  to-off-reads.Learnt,
-  side-below t,
-  side.Post,
-  goes-up-reads.Asked,
-  goes-up-reads.Learnt,
-  with-lines-reads.Asked,
-  with-lines-reads.Learnt,
-  put-aside-reads.Asked,
-  put-aside-reads.Learnt,
-  lined-reads.Asked,
-  lined-reads.Learnt,
-  line-if-reads.Asked,
-  line-if-reads.Learnt,
-  to-on-reads.Asked,
-  to-on-reads.Learnt,
-  finish-reads.Asked,
-  finish-reads.Learnt,
-  settle-lines-reads.Asked,
-  settle-lines-reads.Learnt,
-) (sides-at t) sides.Post
-sides-side-requires-2 t c κs = (
-  omega (arith, c .before .before .before .before .before .before .before .before .before .before .before .before .before .before .before .before .before .before .before .before .before .before .before .before .before .before .before .before .before .before .before .before .before .before .before .before .before .before .before .before .before .before .before .before .before .before .before .pre .0, falls-side (c .before .before .before .before .before .before .before .before .before .before .before .before .before .before .before .before .before .before .before .before .before .before .before .before .before .before .before .before .before .before .before .before .before .before .before .before .before .before .before .before .before .before .before .before .before .before .before .args .p) (c .before .before .before .before .before .before .before .before .before .before .before .before .before .before .before .before .before .before .before .before .before .before .before .before .before .before .before .before .before .before .before .before .before .before .before .before .before .before .before .before .before .before .before .before .before .before .before .pre .1 .1) (c .to-on .result) _ _ (c .to-on .ensures)),
-  on-asked (c .before .before .before .before .before .before .before .before .before .before .before .before .before .before .before .before .before .before .before .before .before .before .before .before .before .before .before .before .before .before .before .before .before .before .before .before .before .before .before .before .before .before .before .before .before .before .before .args .p) (c .before .before .before .before .before .before .before .before .before .before .before .before .before .before .before .before .before .before .before .before .before .before .before .before .before .before .before .before .before .before .before .before .before .before .before .before .before .before .before .before .before .before .before .before .before .before .before .pre .1 .1) (c .before .before .before .before .before .before .before .before .before .before .before .before .before .before .before .before .before .before .before .before .before .before .before .before .before .before .before .before .before .before .before .before .before .before .to-off .result) (c .before .before .before .before .before .before .before .before .before .before .before .before .before .before .before .before .before .before .before .before .before .before .before .before .before .before .before .before .before .before .before .before .before .before .to-off .ensures) (c .before .before .before .before .before .before .before .before .before .before .before .before .before .before .before .before .before .before .before .before .before .before .before .before .before .before .before .before .before .before .before .before .before .side .result) (c .before .before .before .before .before .before .before .before .before .before .before .before .before .before .before .before .before .before .before .before .before .before .before .before .before .before .before .before .before .before .before .before .before .side .ensures .0 .0 .counts) (length (c .before .before .before .before .before .before .before .before .before .before .before .before .before .before .before .before .before .before .before .before .before .before .before .before .before .before .before .before .before .before .before .before .before .before .before .before .before .before .before .before .before .before .before .before .before .before .before .args .saved .now)) _ (c .before .before .before .before .before .before .before .before .before .before .before .before .before .line-if .result) (c .before .before .before .before .before .before .before .before .before .before .before .before .before .before .before .before .before .before .before .before .before .before .before .before .before .before .before .before .before .before .before .before .before .side .result .len) (c .to-on .result) (c .to-on .ensures)
-      (off-lines (c .before .before .before .before .before .before .before .before .before .before .before .before .before .before .before .before .lined .result) (c .before .before .before .before .before .before .before .before .before .before .before .before .before .before .before .before .before .before .before .before .before .before .before .before .before .before .before .before .before .before .before .before .before .side .result .lines) (c .before .before .before .before .before .before .before .before .before .before .before .before .before .line-if .result) (c .before .before .before .before .before .before .before .before .before .before .before .before .before .line-if .ensures .0 .1) .1) (c .before .before .before .before .before .before .before .before .before .before .before .before .before .before .before .before .before .before .before .put-aside .ensures .0 ∙ c .before .before .before .before .before .before .before .before .before .before .before .before .before .before .before .before .before .before .before .before .before .before .before .before .before .before .before .before .before .before .before .before .before .side .ensures .0 .1 .size) (c .before .before .before .before .before .before .before .before .before .before .before .before .before .before .before .before .before .before .before .before .before .before .before .before .before .before .before .before .before .before .before .before .before .side .ensures .0 .0 .counts .bounded .short) (c .before .before .before .before .before .before .before .before .before .before .before .before .before .before .before .before .before .before .before .before .before .before .before .before .before .before .before .before .before .before .before .before .before .before .before .before .before .before .before .before .before .before .before .before .before .before .before .pre .1 .0) (c .before .before .before .before .before .before .before .before .before .before .before .before .before .before .before .before .before .before .before .before .before .before .before .before .before .before .before .before .before .before .before .before .before .side .ensures .0 .0 .shelves),
-)
+sides-side-requires-2 : (t : ℕ) → sides-lts.Need-side-requires-2 (sides-claims t) (sides-at t) sides.Post
+sides-side-requires-2 t c κs =
+    let start = c .before .before .before .before .before .before .before .before .before .before .before .before .before .before .before .before .before .before .before .before .before .before .before .before .before .before .before .before .before .before .before .before .before .before .before .before .before .before .before .before .before .before .before .before .before .before .before in
+    let to-off = c .before .before .before .before .before .before .before .before .before .before .before .before .before .before .before .before .before .before .before .before .before .before .before .before .before .before .before .before .before .before .before .before .before .before .to-off in
+    let off = c .before .before .before .before .before .before .before .before .before .before .before .before .before .before .before .before .before .before .before .before .before .before .before .before .before .before .before .before .before .before .before .before .before .side in
+    let aside = c .before .before .before .before .before .before .before .before .before .before .before .before .before .before .before .before .before .before .before .put-aside in
+    let one = c .before .before .before .before .before .before .before .before .before .before .before .before .before .before .before .before .lined in
+    let lined = c .before .before .before .before .before .before .before .before .before .before .before .before .before .line-if in
+    let to-on = c .to-on in (
+      omega (arith, start .pre .0, falls-side (start .args .p) (start .pre .1 .1) (to-on .result) _ _ (to-on .ensures)),
+      on-asked (start .args .p) (start .pre .1 .1) (to-off .result) (to-off .ensures) (off .result) (off .ensures .0 .0 .counts) (length (start .args .saved .now)) _ (lined .result) (off .result .len) (to-on .result) (to-on .ensures)
+          (off-lines (one .result) (off .result .lines) (lined .result) (lined .ensures .0 .1) .1) (aside .ensures .0 ∙ off .ensures .0 .1 .size) (off .ensures .0 .0 .counts .bounded .short) (start .pre .1 .0) (off .ensures .0 .0 .shelves),
+    )
 
-sides-finish-requires : (t : ℕ) → sides-lts.Need-finish-requires (
-  to-off-reads.Asked,
-  to-off-reads.Learnt,
-  side-below t,
-  side.Post,
-  goes-up-reads.Asked,
-  goes-up-reads.Learnt,
-  with-lines-reads.Asked,
-  with-lines-reads.Learnt,
-  put-aside-reads.Asked,
-  put-aside-reads.Learnt,
-  lined-reads.Asked,
-  lined-reads.Learnt,
-  line-if-reads.Asked,
-  line-if-reads.Learnt,
-  to-on-reads.Asked,
-  to-on-reads.Learnt,
-  finish-reads.Asked,
-  finish-reads.Learnt,
-  settle-lines-reads.Asked,
-  settle-lines-reads.Learnt,
-) (sides-at t) sides.Post
+sides-finish-requires : (t : ℕ) → sides-lts.Need-finish-requires (sides-claims t) (sides-at t) sides.Post
 sides-finish-requires t c κs =
-    let small = newest-small (c .before .before .before .before .before .before .before .before .before .before .before .before .before .before .before .before .before .before .before .before .before .before .before .before .before .before .before .before .before .before .before .before .before .before .before .before .before .before .before .before .before .before .before .before .before .before .before .before .before .before .before .before .before .before .before .before .before .before .args .p) (c .before .before .before .before .before .before .before .before .before .before .before .before .before .before .before .before .before .before .before .before .before .before .before .before .before .before .before .before .before .before .before .before .before .before .before .before .before .before .before .before .before .before .before .before .before .before .before .before .before .before .before .before .before .before .before .before .before .before .pre .1 .1) (c .before .before .before .before .before .before .before .before .before .before .before .before .before .before .before .before .before .before .before .before .before .before .before .before .before .before .before .before .before .before .before .before .before .before .before .before .before .before .before .before .before .before .before .before .before .to-off .result) (c .before .before .before .before .before .before .before .before .before .before .before .before .before .before .before .before .before .before .before .before .before .before .before .before .before .before .before .before .before .before .before .before .before .before .before .before .before .before .before .before .before .before .before .before .before .to-off .ensures) (c .before .before .before .before .before .before .before .before .before .before .before .before .before .before .before .before .before .before .before .before .before .before .before .before .before .before .before .before .before .before .before .before .before .before .before .before .before .before .before .before .before .before .before .before .side .result) (c .before .before .before .before .before .before .before .before .before .before .before .before .before .before .before .before .before .before .before .before .before .before .before .before .before .before .before .before .before .before .before .before .before .before .before .before .before .before .before .before .before .before .before .before .side .ensures .0 .0 .counts) (c .before .before .before .before .before .before .before .before .before .before .before .before .before .before .before .before .before .before .before .before .before .before .before .before .line-if .result) (c .before .before .before .before .before .before .before .before .before .before .before .to-on .result) (c .before .before .before .before .before .before .before .before .before .before .before .to-on .ensures) (c .before .before .before .before .before .before .before .before .before .before .side2 .result) (c .before .before .before .before .before .before .before .before .before .before .side2 .ensures .0 .0 .counts) (length (c .before .before .before .before .before .before .before .before .before .before .before .before .before .before .before .before .before .before .before .before .before .before .before .before .before .before .before .before .before .before .before .before .before .before .before .before .before .before .before .before .before .before .before .before .before .before .before .before .before .before .before .before .before .before .before .before .before .before .args .saved .now)) (c .before .before .before .before .before .before .before .before .before .before .before .before .before .before .before .before .before .before .before .before .before .before .before .before .before .before .before .before .before .before .before .before .before .before .before .before .before .before .before .before .before .before .before .before .before .before .before .before .before .before .before .before .before .before .before .before .before .before .pre .1 .0 .room) in (
-      c .before .before .before .before .before .before .before .before .before .before .before .before .before .before .before .before .before .before .before .before .before .before .before .before .before .before .before .before .before .before .before .before .before .before .before .before .before .before .before .before .before .before .before .before .side .ensures .0 .0 .counts .bounded .short,
-      c .before .before .before .before .before .before .before .before .before .before .side2 .ensures .0 .0 .counts .bounded,
-      omega (arith, c .before .before .before .before .before .before .before .before .before .before .before .before .before .before .before .before .before .before .before .before .before .before .before .before .before .before .before .before .before .before .before .before .before .before .before .before .before .before .before .before .before .before .before .before .side .ensures .0 .0 .counts .bounded .short, aside-room (c .before .before .before .before .before .before .before .before .before .before .before .before .before .before .before .before .before .before .before .before .before .before .before .before .before .before .before .before .before .before .before .before .before .before .before .before .before .before .before .before .before .before .before .before .before .before .before .before .before .before .before .before .before .before .before .before .before .before .args .p) (c .before .before .before .before .before .before .before .before .before .before .before .before .before .before .before .before .before .before .before .before .before .before .before .before .before .before .before .before .before .before .before .before .before .before .before .before .before .before .before .before .before .before .before .before .before .before .before .before .before .before .before .before .before .before .before .before .before .before .pre .1 .1) (length (c .before .before .before .before .before .before .before .before .before .before .before .before .before .before .before .before .before .before .before .before .before .before .before .before .before .before .before .before .before .before .before .before .before .before .before .before .before .before .before .before .before .before .before .before .before .before .before .before .before .before .before .before .before .before .before .before .before .before .args .saved .now)) (c .before .before .before .before .before .before .before .before .before .before .before .before .before .before .before .before .before .before .before .before .before .before .before .before .before .before .before .before .before .before .before .before .before .before .before .before .before .before .before .before .before .before .before .before .before .before .before .before .before .before .before .before .before .before .before .before .before .before .pre .1 .0 .room), c .before .before .before .before .before .before .before .before .before .before .side2 .ensures .0 .1 .size, c .before .before .before .before .before .before .before .before .before .before .before .before .before .before .before .before .before .before .before .before .before .before .before .before .before .before .before .before .before .before .put-aside .ensures .0, c .before .before .before .before .before .before .before .before .before .before .before .before .before .before .before .before .before .before .before .before .before .before .before .before .before .before .before .before .before .before .before .before .before .before .before .before .before .before .before .before .before .before .before .before .side .ensures .0 .1 .size),
-      omega (arith, c .before .before .before .before .before .before .before .before .before .before .before .before .before .before .before .before .before .before .before .before .before .before .before .before .before .before .before .before .before .before .before .before .before .before .before .before .before .before .before .before .before .before .before .before .before .before .before .before .before .before .before .before .before .before .before .before .before .before .pre .1 .1),
-      c .before .before .before .before .before .before .before .before .before .before .side2 .ensures .0 .0 .shelves,
+    let start = c .before .before .before .before .before .before .before .before .before .before .before .before .before .before .before .before .before .before .before .before .before .before .before .before .before .before .before .before .before .before .before .before .before .before .before .before .before .before .before .before .before .before .before .before .before .before .before .before .before .before .before .before .before .before .before .before .before .before in
+    let to-off = c .before .before .before .before .before .before .before .before .before .before .before .before .before .before .before .before .before .before .before .before .before .before .before .before .before .before .before .before .before .before .before .before .before .before .before .before .before .before .before .before .before .before .before .before .before .to-off in
+    let off = c .before .before .before .before .before .before .before .before .before .before .before .before .before .before .before .before .before .before .before .before .before .before .before .before .before .before .before .before .before .before .before .before .before .before .before .before .before .before .before .before .before .before .before .before .side in
+    let aside = c .before .before .before .before .before .before .before .before .before .before .before .before .before .before .before .before .before .before .before .before .before .before .before .before .before .before .before .before .before .before .put-aside in
+    let lined = c .before .before .before .before .before .before .before .before .before .before .before .before .before .before .before .before .before .before .before .before .before .before .before .before .line-if in
+    let to-on = c .before .before .before .before .before .before .before .before .before .before .before .to-on in
+    let on = c .before .before .before .before .before .before .before .before .before .before .side2 in
+    let small = newest-small (start .args .p) (start .pre .1 .1) (to-off .result) (to-off .ensures) (off .result) (off .ensures .0 .0 .counts) (lined .result) (to-on .result) (to-on .ensures) (on .result) (on .ensures .0 .0 .counts) (length (start .args .saved .now)) (start .pre .1 .0 .room) in (
+      off .ensures .0 .0 .counts .bounded .short,
+      on .ensures .0 .0 .counts .bounded,
+      omega (arith, off .ensures .0 .0 .counts .bounded .short, aside-room (start .args .p) (start .pre .1 .1) (length (start .args .saved .now)) (start .pre .1 .0 .room), on .ensures .0 .1 .size, aside .ensures .0, off .ensures .0 .1 .size),
+      omega (arith, start .pre .1 .1),
+      on .ensures .0 .0 .shelves,
       small .0,
       small .1,
     )
 
-sides-lined-requires-2 : (t : ℕ) → sides-lts.Need-lined-requires-2 (
-  to-off-reads.Asked,
-  to-off-reads.Learnt,
-  side-below t,
-  side.Post,
-  goes-up-reads.Asked,
-  goes-up-reads.Learnt,
-  with-lines-reads.Asked,
-  with-lines-reads.Learnt,
-  put-aside-reads.Asked,
-  put-aside-reads.Learnt,
-  lined-reads.Asked,
-  lined-reads.Learnt,
-  line-if-reads.Asked,
-  line-if-reads.Learnt,
-  to-on-reads.Asked,
-  to-on-reads.Learnt,
-  finish-reads.Asked,
-  finish-reads.Learnt,
-  settle-lines-reads.Asked,
-  settle-lines-reads.Learnt,
-) (sides-at t) sides.Post
+sides-lined-requires-2 : (t : ℕ) → sides-lts.Need-lined-requires-2 (sides-claims t) (sides-at t) sides.Post
 sides-lined-requires-2 t c κs = search needs
 
-sides-settle-lines-requires : (t : ℕ) → sides-lts.Need-settle-lines-requires (
-  to-off-reads.Asked,
-  to-off-reads.Learnt,
-  side-below t,
-  side.Post,
-  goes-up-reads.Asked,
-  goes-up-reads.Learnt,
-  with-lines-reads.Asked,
-  with-lines-reads.Learnt,
-  put-aside-reads.Asked,
-  put-aside-reads.Learnt,
-  lined-reads.Asked,
-  lined-reads.Learnt,
-  line-if-reads.Asked,
-  line-if-reads.Learnt,
-  to-on-reads.Asked,
-  to-on-reads.Learnt,
-  finish-reads.Asked,
-  finish-reads.Learnt,
-  settle-lines-reads.Asked,
-  settle-lines-reads.Learnt,
-) (sides-at t) sides.Post
-sides-settle-lines-requires t c κs = (
-  c .before .before .before .before .before .before .before .before .before .before .before .before .before .before .before .before .before .before .before .before .before .before .before .before .before .before .before .before .before .before .before .before .before .before .before .before .before .before .before .before .before .before .before .before .before .before .before .before .before .before .before .before .before .before .before .before .before .before .before .before .before .before .pre .1 .0 .room .free,
-  on-lines-small (c .before .before .before .before .before .before .before .before .before .before .before .before .before .before .before .before .before .before .before .before .before .before .before .before .before .before .before .before .before .before .before .before .before .before .before .before .before .before .before .before .before .before .before .before .before .before .before .before .before .before .before .before .before .before .before .before .before .before .before .before .before .before .args .p) (c .before .before .before .before .before .before .before .before .before .before .before .before .before .before .before .before .before .before .before .before .before .before .before .before .before .before .before .before .before .before .before .before .before .before .before .before .before .before .before .before .before .before .before .before .before .before .before .before .before .before .before .before .before .before .before .before .before .before .before .before .before .before .pre .1 .1) (c .before .before .before .before .before .before .before .before .before .before .before .before .before .before .before .before .before .before .before .before .before .before .before .before .before .before .before .before .before .before .before .before .before .before .before .before .before .before .before .before .before .before .before .before .before .before .before .before .before .to-off .result) (c .before .before .before .before .before .before .before .before .before .before .before .before .before .before .before .before .before .before .before .before .before .before .before .before .before .before .before .before .before .before .before .before .before .before .before .before .before .before .before .before .before .before .before .before .before .before .before .before .before .to-off .ensures) (c .before .before .before .before .before .before .before .before .before .before .before .before .before .before .before .before .before .before .before .before .before .before .before .before .before .before .before .before .before .before .before .before .before .before .before .before .before .before .before .before .before .before .before .before .before .before .before .before .side .result) (c .before .before .before .before .before .before .before .before .before .before .before .before .before .before .before .before .before .before .before .before .before .before .before .before .before .before .before .before .before .before .before .before .before .before .before .before .before .before .before .before .before .before .before .before .before .before .before .before .side .ensures .0 .0 .counts) (c .before .before .before .before .before .before .before .before .before .before .before .before .before .before .before .before .before .before .before .before .before .before .before .before .before .before .before .before .line-if .result) (c .before .before .before .before .before .before .before .before .before .before .before .before .before .before .before .to-on .result) (c .before .before .before .before .before .before .before .before .before .before .before .before .before .before .before .to-on .ensures) (c .before .before .before .before .before .before .before .before .before .before .before .before .before .before .side2 .result) (c .before .before .before .before .before .before .before .before .before .before .before .before .before .before .side2 .ensures .0 .0 .counts) (c .before .before .before .before .before .before .before .before .before .before .before .before .before .before .before .before .before .before .before .before .before .before .before .before .before .before .before .before .before .before .before .lined .result) (c .before .before .lined2 .result) (c .before .before .before .before .before .before .before .before .before .before .before .before .before .before .before .before .before .before .before .before .before .before .before .before .before .before .before .before .line-if .ensures .0 .1) (length (c .before .before .before .before .before .before .before .before .before .before .before .before .before .before .before .before .before .before .before .before .before .before .before .before .before .before .before .before .before .before .before .before .before .before .before .before .before .before .before .before .before .before .before .before .before .before .before .before .before .before .before .before .before .before .before .before .before .before .before .before .before .before .args .saved .now)) (c .before .before .before .before .before .before .before .before .before .before .before .before .before .before .before .before .before .before .before .before .before .before .before .before .before .before .before .before .before .before .before .before .before .before .before .before .before .before .before .before .before .before .before .before .before .before .before .before .before .before .before .before .before .before .before .before .before .before .before .before .before .before .pre .1 .0 .room),
-  on-lines-one (c .before .before .before .before .before .before .before .before .before .before .before .before .before .before .before .before .before .before .before .before .before .before .before .before .before .before .before .before .before .before .before .before .before .before .before .before .before .before .before .before .before .before .before .before .before .before .before .before .before .before .before .before .before .before .before .before .before .before .before .before .before .before .args .p) (c .before .before .before .before .before .before .before .before .before .before .before .before .before .before .before .before .before .before .before .before .before .before .before .before .before .before .before .before .before .before .before .before .before .before .before .before .before .before .before .before .before .before .before .before .before .before .before .before .before .before .before .before .before .before .before .before .before .before .before .before .before .before .pre .1 .1) (c .before .before .before .before .before .before .before .before .before .before .before .before .before .before .before .before .before .before .before .before .before .before .before .before .before .before .before .before .before .before .before .before .before .before .before .before .before .before .before .before .before .before .before .before .before .before .before .before .before .to-off .result) (c .before .before .before .before .before .before .before .before .before .before .before .before .before .before .before .before .before .before .before .before .before .before .before .before .before .before .before .before .before .before .before .before .before .before .before .before .before .before .before .before .before .before .before .before .before .before .before .before .before .to-off .ensures) (c .before .before .before .before .before .before .before .before .before .before .before .before .before .before .before .before .before .before .before .before .before .before .before .before .before .before .before .before .before .before .before .before .before .before .before .before .before .before .before .before .before .before .before .before .before .before .before .before .side .result) (c .before .before .before .before .before .before .before .before .before .before .before .before .before .before .before .before .before .before .before .before .before .before .before .before .before .before .before .before .before .before .before .before .before .before .before .before .before .before .before .before .before .before .before .before .before .before .before .before .side .ensures .0 .0 .counts) (c .before .before .before .before .before .before .before .before .before .before .before .before .before .before .before .before .before .before .before .before .before .before .before .before .before .before .before .before .line-if .result) (c .before .before .before .before .before .before .before .before .before .before .before .before .before .before .before .to-on .result) (c .before .before .before .before .before .before .before .before .before .before .before .before .before .before .before .to-on .ensures) (c .before .before .before .before .before .before .before .before .before .before .before .before .before .before .side2 .result) (c .before .before .before .before .before .before .before .before .before .before .before .before .before .before .side2 .ensures .0 .0 .counts) (c .before .before .before .before .before .before .before .before .before .before .before .before .before .before .before .before .before .before .before .before .before .before .before .before .before .before .before .before .before .before .before .lined .result) (c .before .before .lined2 .result) (c .before .before .before .before .before .before .before .before .before .before .before .before .before .before .before .before .before .before .before .before .before .before .before .before .before .before .before .before .line-if .ensures .0 .1),
-)
+sides-settle-lines-requires : (t : ℕ) → sides-lts.Need-settle-lines-requires (sides-claims t) (sides-at t) sides.Post
+sides-settle-lines-requires t c κs =
+    let start = c .before .before .before .before .before .before .before .before .before .before .before .before .before .before .before .before .before .before .before .before .before .before .before .before .before .before .before .before .before .before .before .before .before .before .before .before .before .before .before .before .before .before .before .before .before .before .before .before .before .before .before .before .before .before .before .before .before .before .before .before .before .before in
+    let to-off = c .before .before .before .before .before .before .before .before .before .before .before .before .before .before .before .before .before .before .before .before .before .before .before .before .before .before .before .before .before .before .before .before .before .before .before .before .before .before .before .before .before .before .before .before .before .before .before .before .before .to-off in
+    let off = c .before .before .before .before .before .before .before .before .before .before .before .before .before .before .before .before .before .before .before .before .before .before .before .before .before .before .before .before .before .before .before .before .before .before .before .before .before .before .before .before .before .before .before .before .before .before .before .before .side in
+    let one = c .before .before .before .before .before .before .before .before .before .before .before .before .before .before .before .before .before .before .before .before .before .before .before .before .before .before .before .before .before .before .before .lined in
+    let lined = c .before .before .before .before .before .before .before .before .before .before .before .before .before .before .before .before .before .before .before .before .before .before .before .before .before .before .before .before .line-if in
+    let to-on = c .before .before .before .before .before .before .before .before .before .before .before .before .before .before .before .to-on in
+    let on = c .before .before .before .before .before .before .before .before .before .before .before .before .before .before .side2 in
+    let two = c .before .before .lined2 in (
+      start .pre .1 .0 .room .free,
+      on-lines-small (start .args .p) (start .pre .1 .1) (to-off .result) (to-off .ensures) (off .result) (off .ensures .0 .0 .counts) (lined .result) (to-on .result) (to-on .ensures) (on .result) (on .ensures .0 .0 .counts) (one .result) (two .result) (lined .ensures .0 .1) (length (start .args .saved .now)) (start .pre .1 .0 .room),
+      on-lines-one (start .args .p) (start .pre .1 .1) (to-off .result) (to-off .ensures) (off .result) (off .ensures .0 .0 .counts) (lined .result) (to-on .result) (to-on .ensures) (on .result) (on .ensures .0 .0 .counts) (one .result) (two .result) (lined .ensures .0 .1),
+    )
 
-sides-with-lines-requires-2 : (t : ℕ) → sides-lts.Need-with-lines-requires-2 (
-  to-off-reads.Asked,
-  to-off-reads.Learnt,
-  side-below t,
-  side.Post,
-  goes-up-reads.Asked,
-  goes-up-reads.Learnt,
-  with-lines-reads.Asked,
-  with-lines-reads.Learnt,
-  put-aside-reads.Asked,
-  put-aside-reads.Learnt,
-  lined-reads.Asked,
-  lined-reads.Learnt,
-  line-if-reads.Asked,
-  line-if-reads.Learnt,
-  to-on-reads.Asked,
-  to-on-reads.Learnt,
-  finish-reads.Asked,
-  finish-reads.Learnt,
-  settle-lines-reads.Asked,
-  settle-lines-reads.Learnt,
-) (sides-at t) sides.Post
+sides-with-lines-requires-2 : (t : ℕ) → sides-lts.Need-with-lines-requires-2 (sides-claims t) (sides-at t) sides.Post
 sides-with-lines-requires-2 t c κs = search needs
 
-sides-same-length-3 : (t : ℕ) → sides-lts.Need-same-length-3 (
-  to-off-reads.Asked,
-  to-off-reads.Learnt,
-  side-below t,
-  side.Post,
-  goes-up-reads.Asked,
-  goes-up-reads.Learnt,
-  with-lines-reads.Asked,
-  with-lines-reads.Learnt,
-  put-aside-reads.Asked,
-  put-aside-reads.Learnt,
-  lined-reads.Asked,
-  lined-reads.Learnt,
-  line-if-reads.Asked,
-  line-if-reads.Learnt,
-  to-on-reads.Asked,
-  to-on-reads.Learnt,
-  finish-reads.Asked,
-  finish-reads.Learnt,
-  settle-lines-reads.Asked,
-  settle-lines-reads.Learnt,
-) (sides-at t) sides.Post
-sides-same-length-3 t c = c .before .before .before .before .before .before .before .before .before .before .before .before .before .before .before .before .before .before .side2 .ensures .0 .1 .size ∙ c .before .before .before .before .before .before .before .before .before .before .before .before .before .before .before .before .before .before .before .before .before .before .before .before .before .before .before .before .before .before .before .before .before .before .before .before .before .before .put-aside .ensures .0 ∙ c .before .before .before .before .before .before .before .before .before .before .before .before .before .before .before .before .before .before .before .before .before .before .before .before .before .before .before .before .before .before .before .before .before .before .before .before .before .before .before .before .before .before .before .before .before .before .before .before .before .before .before .before .side .ensures .0 .1 .size
+sides-same-length-3 : (t : ℕ) → sides-lts.Need-same-length-3 (sides-claims t) (sides-at t) sides.Post
+sides-same-length-3 t c =
+    let off = c .before .before .before .before .before .before .before .before .before .before .before .before .before .before .before .before .before .before .before .before .before .before .before .before .before .before .before .before .before .before .before .before .before .before .before .before .before .before .before .before .before .before .before .before .before .before .before .before .before .before .before .before .side in
+    let aside = c .before .before .before .before .before .before .before .before .before .before .before .before .before .before .before .before .before .before .before .before .before .before .before .before .before .before .before .before .before .before .before .before .before .before .before .before .before .before .put-aside in
+    let on = c .before .before .before .before .before .before .before .before .before .before .before .before .before .before .before .before .before .before .side2 in
+    on .ensures .0 .1 .size ∙ aside .ensures .0 ∙ off .ensures .0 .1 .size
 
-sides-same-length-4 : (t : ℕ) → sides-lts.Need-same-length-4 (
-  to-off-reads.Asked,
-  to-off-reads.Learnt,
-  side-below t,
-  side.Post,
-  goes-up-reads.Asked,
-  goes-up-reads.Learnt,
-  with-lines-reads.Asked,
-  with-lines-reads.Learnt,
-  put-aside-reads.Asked,
-  put-aside-reads.Learnt,
-  lined-reads.Asked,
-  lined-reads.Learnt,
-  line-if-reads.Asked,
-  line-if-reads.Learnt,
-  to-on-reads.Asked,
-  to-on-reads.Learnt,
-  finish-reads.Asked,
-  finish-reads.Learnt,
-  settle-lines-reads.Asked,
-  settle-lines-reads.Learnt,
-) (sides-at t) sides.Post
-sides-same-length-4 t c = c .before .before .before .settle-lines .ensures .0 .0 ∙ c .before .before .before .before .before .before .before .before .before .before .before .before .before .before .before .before .before .before .side2 .ensures .0 .0 .kept .size ∙ c .before .before .before .before .before .before .before .before .before .before .before .before .before .before .before .before .before .before .before .before .before .before .before .before .before .before .before .before .before .before .before .before .line-if .ensures .0 .0 ∙ c .before .before .before .before .before .before .before .before .before .before .before .before .before .before .before .before .before .before .before .before .before .before .before .before .before .before .before .before .before .before .before .before .before .before .before .before .before .before .before .before .before .before .before .before .before .before .before .before .before .before .before .before .side .ensures .0 .0 .kept .size
+sides-same-length-4 : (t : ℕ) → sides-lts.Need-same-length-4 (sides-claims t) (sides-at t) sides.Post
+sides-same-length-4 t c =
+    let off = c .before .before .before .before .before .before .before .before .before .before .before .before .before .before .before .before .before .before .before .before .before .before .before .before .before .before .before .before .before .before .before .before .before .before .before .before .before .before .before .before .before .before .before .before .before .before .before .before .before .before .before .before .side in
+    let lined = c .before .before .before .before .before .before .before .before .before .before .before .before .before .before .before .before .before .before .before .before .before .before .before .before .before .before .before .before .before .before .before .before .line-if in
+    let on = c .before .before .before .before .before .before .before .before .before .before .before .before .before .before .before .before .before .before .side2 in
+    let after = c .before .before .before .settle-lines in
+    after .ensures .0 .0 ∙ on .ensures .0 .0 .kept .size ∙ lined .ensures .0 .0 ∙ off .ensures .0 .0 .kept .size
 
-sides-returns-2 : (t : ℕ) → sides-lts.Need-returns-2 (
-  to-off-reads.Asked,
-  to-off-reads.Learnt,
-  side-below t,
-  side.Post,
-  goes-up-reads.Asked,
-  goes-up-reads.Learnt,
-  with-lines-reads.Asked,
-  with-lines-reads.Learnt,
-  put-aside-reads.Asked,
-  put-aside-reads.Learnt,
-  lined-reads.Asked,
-  lined-reads.Learnt,
-  line-if-reads.Asked,
-  line-if-reads.Learnt,
-  to-on-reads.Asked,
-  to-on-reads.Learnt,
-  finish-reads.Asked,
-  finish-reads.Learnt,
-  settle-lines-reads.Asked,
-  settle-lines-reads.Learnt,
-) (sides-at t) sides.Post
-sides-returns-2 t c = (
-  record {
-    counts =
-        counts-sides (c .before .before .before .before .before .before .before .before .before .before .before .before .before .before .before .before .before .before .before .before .before .before .before .before .before .before .before .before .before .before .before .before .before .before .before .before .before .before .before .before .before .before .before .before .before .before .before .before .before .before .before .before .before .before .before .before .before .before .before .before .before .before .before .before .before .before .args .p) (c .before .before .before .before .before .before .before .before .before .before .before .before .before .before .before .before .before .before .before .before .before .before .before .before .before .before .before .before .before .before .before .before .before .before .before .before .before .before .before .before .before .before .before .before .before .before .before .before .before .before .before .before .before .before .before .before .before .before .before .before .before .before .before .before .before .before .pre .1 .1) (c .before .before .before .before .before .before .before .before .before .before .before .before .before .before .before .before .before .before .before .before .before .before .before .before .before .before .before .before .before .before .before .before .before .before .before .before .before .before .before .before .before .before .before .before .before .before .before .before .before .before .before .before .before .to-off .result) (c .before .before .before .before .before .before .before .before .before .before .before .before .before .before .before .before .before .before .before .before .before .before .before .before .before .before .before .before .before .before .before .before .before .before .before .before .before .before .before .before .before .before .before .before .before .before .before .before .before .before .before .before .before .to-off .ensures) (c .before .before .before .before .before .before .before .before .before .before .before .before .before .before .before .before .before .before .before .before .before .before .before .before .before .before .before .before .before .before .before .before .before .before .before .before .before .before .before .before .before .before .before .before .before .before .before .before .before .before .before .before .side .result) (c .before .before .before .before .before .before .before .before .before .before .before .before .before .before .before .before .before .before .before .before .before .before .before .before .before .before .before .before .before .before .before .before .before .before .before .before .before .before .before .before .before .before .before .before .before .before .before .before .before .before .before .before .side .ensures .0 .0 .counts) (c .before .before .before .before .before .before .before .before .before .before .before .before .before .before .before .before .before .before .before .before .before .before .before .before .before .before .before .before .before .before .before .before .line-if .result) (c .before .before .before .before .before .before .before .before .before .before .before .before .before .before .before .before .before .before .before .to-on .result) (c .before .before .before .before .before .before .before .before .before .before .before .before .before .before .before .before .before .before .before .to-on .ensures) (c .before .before .before .before .before .before .before .before .before .before .before .before .before .before .before .before .before .before .side2 .result) (c .before .before .before .before .before .before .before .before .before .before .before .before .before .before .before .before .before .before .side2 .ensures .0 .0 .counts) (c .before .before .before .before .before .before .before .before .before .before .before .before .before .before .before .before .before .before .before .before .before .before .before .before .before .before .before .before .before .before .before .before .before .before .before .lined .result) (c .before .before .before .before .before .before .lined2 .result) (c .before .before .before .before .before .before .before .before .before .before .before .before .before .before .before .before .before .before .before .before .before .before .before .before .before .before .before .before .before .before .before .before .line-if .ensures .0 .1)
-        (c .before .before .before .before .before .before .before .finish .result) (c .before .before .before .before .before .before .before .finish .ensures .0 .0) (c .before .before .before .before .before .before .before .finish .ensures .0 .2) (c .before .before .before .settle-lines .result) (c .before .before .before .settle-lines .ensures .0 .1) (c .with-lines2 .result) (c .with-lines2 .ensures);
-    kept =
-        kept-both (c .before .before .before .before .before .before .before .before .before .before .before .before .before .before .before .before .before .before .before .before .before .before .before .before .before .before .before .before .before .before .before .before .before .before .before .before .before .before .before .before .before .before .before .before .before .before .before .before .before .before .before .before .before .before .before .before .before .before .before .before .before .before .before .before .before .before .args .p) (c .before .before .before .before .before .before .before .before .before .before .before .before .before .before .before .before .before .before .before .before .before .before .before .before .before .before .before .before .before .before .before .before .before .before .before .before .before .before .before .before .before .before .before .before .before .before .before .before .before .before .before .before .before .to-off .result) (c .before .before .before .before .before .before .before .before .before .before .before .before .before .before .before .before .before .before .before .to-on .result) _ _ _ _ (c .before .before .before .before .before .before .before .before .before .before .before .before .before .before .before .before .before .before .before .before .before .before .before .before .before .before .before .before .before .before .before .before .before .before .before .before .before .before .before .before .before .before .before .before .before .before .before .before .before .before .before .before .before .to-off .ensures) (c .before .before .before .before .before .before .before .before .before .before .before .before .before .before .before .before .before .before .before .to-on .ensures) (c .before .before .before .before .before .before .before .before .before .before .before .before .before .before .before .before .before .before .before .before .before .before .before .before .before .before .before .before .before .before .before .before .before .before .before .before .before .before .before .before .before .before .before .before .before .before .before .before .before .before .before .before .side .ensures .0 .0 .kept) (c .before .before .before .before .before .before .before .before .before .before .before .before .before .before .before .before .before .before .before .before .before .before .before .before .before .before .before .before .before .before .before .before .line-if .ensures .0 .0) (c .before .before .before .before .before .before .before .before .before .before .before .before .before .before .before .before .before .before .side2 .ensures .0 .0 .kept) (c .before .before .before .settle-lines .ensures .0 .0);
-    shelves = c .before .before .before .before .before .before .before .finish .ensures .0 .1;
-  },
-  record {
-    result = λ D s ls R st κ task opened inside is code.
-        result-as (sym (c .with-lines2 .ensures))
-        (sides-result (c .before .before .before .before .before .before .before .before .before .before .before .before .before .before .before .before .before .before .before .before .before .before .before .before .before .before .before .before .before .before .before .before .before .before .before .before .before .before .before .before .before .before .before .before .before .before .before .before .before .before .before .before .before .before .before .before .before .before .before .before .before .before .before .before .before .before .args .kind) (c .before .before .before .before .before .before .before .before .before .before .before .before .before .before .before .before .before .before .before .before .before .before .before .before .before .before .before .before .before .before .before .before .before .before .before .before .before .before .before .before .before .before .before .before .before .before .before .before .before .before .before .before .before .before .before .before .before .before .before .before .before .before .before .before .before .before .args .p) (c .before .before .before .before .before .before .before .before .before .before .before .before .before .before .before .before .before .before .before .before .before .before .before .before .before .before .before .before .before .before .before .before .before .before .before .before .before .before .before .before .before .before .before .before .before .before .before .before .before .before .before .before .before .to-off .result) (c .before .before .before .before .before .before .before .before .before .before .before .before .before .before .before .before .before .before .before .before .before .before .before .before .before .before .before .before .before .before .before .before .before .before .before .before .before .before .before .before .before .before .before .before .before .before .before .before .before .before .before .before .before .to-off .ensures) (c .before .before .before .before .before .before .before .before .before .before .before .before .before .before .before .before .before .before .before .before .before .before .before .before .before .before .before .before .before .before .before .before .before .before .before .before .before .before .before .before .before .before .before .before .before .before .before .before .before .before .before .before .side .result) (c .before .before .before .before .before .before .before .before .before .before .before .before .before .before .before .before .before .before .before .before .before .before .before .before .before .before .before .before .before .before .before .before .before .before .before .before .before .before .before .before .before .before .before .before .before .before .before .before .before .before .before .before .side .ensures .1) (c .before .before .before .before .before .before .before .before .before .before .before .before .before .before .before .before .before .before .before .before .before .before .before .before .before .before .before .before .before .before .before .before .before .before .before .before .before .before .before .before .before .before .before .before .goes-up .result) (c .before .before .before .before .before .before .before .before .before .before .before .before .before .before .before .before .before .before .before .before .before .before .before .before .before .before .before .before .before .before .before .before .before .before .before .before .before .before .before .before .before .before .before .before .goes-up .ensures) (c .before .before .before .before .before .before .before .before .before .before .before .before .before .before .before .before .before .before .before .before .before .before .before .before .before .before .before .before .before .before .before .before .before .before .before .before .before .before .before .before .before .before .before .before .before .before .before .before .before .before .before .before .side .ensures .0 .0 .kept)
-        (c .before .before .before .before .before .before .before .before .before .before .before .before .before .before .before .before .before .before .before .before .before .before .before .before .before .before .before .before .before .before .before .before .before .before .before .lined .result) (c .before .before .before .before .before .before .before .before .before .before .before .before .before .before .before .before .before .before .before .before .before .before .before .before .before .before .before .before .before .before .before .before .before .before .before .lined .ensures) (c .before .before .before .before .before .before .before .before .before .before .before .before .before .before .before .before .before .before .before .before .before .before .before .before .before .before .before .before .before .before .before .before .line-if .result) (c .before .before .before .before .before .before .before .before .before .before .before .before .before .before .before .before .before .before .before .before .before .before .before .before .before .before .before .before .before .before .before .before .line-if .ensures .0 .1) (c .before .before .before .before .before .before .before .before .before .before .before .before .before .before .before .before .before .before .before .before .before .before .before .before .before .before .before .before .before .before .before .before .line-if .ensures .0 .2) (c .before .before .before .before .before .before .before .before .before .before .before .before .before .before .before .before .before .before .before .before .before .before .before .before .before .before .before .before .before .before .before .before .line-if .ensures .1)
-        (c .before .before .before .before .before .before .before .before .before .before .before .before .before .before .before .before .before .before .before .to-on .result) (c .before .before .before .before .before .before .before .before .before .before .before .before .before .before .before .before .before .before .before .to-on .ensures) (c .before .before .before .before .before .before .before .before .before .before .before .before .before .before .before .before .before .before .side2 .result) (c .before .before .before .before .before .before .before .before .before .before .before .before .before .before .before .before .before .before .side2 .ensures .1) _ (c .before .before .before .before .before .before .before .before .before .before .before .before .before .before .before .before .before .before .side2 .ensures .0 .1 .first ∙ c .before .before .before .before .before .before .before .before .before .before .before .before .before .before .before .before .before .before .before .before .before .before .before .before .before .before .before .before .before .before .before .before .before .before .before .before .before .before .put-aside .ensures .1) (c .before .before .before .before .before .before .before .finish .result) (c .before .before .before .before .before .before .before .finish .ensures .1) (c .before .before .before .before .before .before .before .before .before .before .before .before .before .before .before .before .before .before .before .before .before .before .before .before .before .before .before .before .before .before .before .before .before .before .before .before .before .before .before .before .before .before .before .if1 .left) (c .before .before .before .before .before .before .before .finish .ensures .0 .0 .visits)
-        (c .before .before .before .before .before .before .before .before .before .before .before .before .before .before .before .before .before .before .side2 .ensures .0 .0 .kept .statuses-restored) (c .before .before .before .before .before .before .lined2 .result) (c .before .before .before .before .before .before .lined2 .ensures) (c .before .before .before .settle-lines .result) (c .before .before .before .settle-lines .ensures .0 .1) (c .before .before .before .settle-lines .ensures .0 .2) (c .before .before .before .settle-lines .ensures .1)
-        D s ls R st κ task opened inside is code);
-  },
-)
+sides-returns-2 : (t : ℕ) → sides-lts.Need-returns-2 (sides-claims t) (sides-at t) sides.Post
+sides-returns-2 t c =
+    let start = c .before .before .before .before .before .before .before .before .before .before .before .before .before .before .before .before .before .before .before .before .before .before .before .before .before .before .before .before .before .before .before .before .before .before .before .before .before .before .before .before .before .before .before .before .before .before .before .before .before .before .before .before .before .before .before .before .before .before .before .before .before .before .before .before .before .before in
+    let to-off = c .before .before .before .before .before .before .before .before .before .before .before .before .before .before .before .before .before .before .before .before .before .before .before .before .before .before .before .before .before .before .before .before .before .before .before .before .before .before .before .before .before .before .before .before .before .before .before .before .before .before .before .before .before .to-off in
+    let off = c .before .before .before .before .before .before .before .before .before .before .before .before .before .before .before .before .before .before .before .before .before .before .before .before .before .before .before .before .before .before .before .before .before .before .before .before .before .before .before .before .before .before .before .before .before .before .before .before .before .before .before .before .side in
+    let up = c .before .before .before .before .before .before .before .before .before .before .before .before .before .before .before .before .before .before .before .before .before .before .before .before .before .before .before .before .before .before .before .before .before .before .before .before .before .before .before .before .before .before .before .before .goes-up in
+    let first = c .before .before .before .before .before .before .before .before .before .before .before .before .before .before .before .before .before .before .before .before .before .before .before .before .before .before .before .before .before .before .before .before .before .before .before .before .before .before .before .before .before .before .before .if1 in
+    let aside = c .before .before .before .before .before .before .before .before .before .before .before .before .before .before .before .before .before .before .before .before .before .before .before .before .before .before .before .before .before .before .before .before .before .before .before .before .before .before .put-aside in
+    let one = c .before .before .before .before .before .before .before .before .before .before .before .before .before .before .before .before .before .before .before .before .before .before .before .before .before .before .before .before .before .before .before .before .before .before .before .lined in
+    let lined = c .before .before .before .before .before .before .before .before .before .before .before .before .before .before .before .before .before .before .before .before .before .before .before .before .before .before .before .before .before .before .before .before .line-if in
+    let to-on = c .before .before .before .before .before .before .before .before .before .before .before .before .before .before .before .before .before .before .before .to-on in
+    let on = c .before .before .before .before .before .before .before .before .before .before .before .before .before .before .before .before .before .before .side2 in
+    let joined = c .before .before .before .before .before .before .before .finish in
+    let two = c .before .before .before .before .before .before .lined2 in
+    let after = c .before .before .before .settle-lines in
+    let made = c .with-lines2 in (
+      record {
+        counts =
+            counts-sides (start .args .p) (start .pre .1 .1) (to-off .result) (to-off .ensures) (off .result) (off .ensures .0 .0 .counts) (lined .result) (to-on .result) (to-on .ensures) (on .result) (on .ensures .0 .0 .counts) (one .result) (two .result) (lined .ensures .0 .1)
+            (joined .result) (joined .ensures .0 .0) (joined .ensures .0 .2) (after .result) (after .ensures .0 .1) (made .result) (made .ensures);
+        kept =
+            kept-both (start .args .p) (to-off .result) (to-on .result) _ _ _ _ (to-off .ensures) (to-on .ensures) (off .ensures .0 .0 .kept) (lined .ensures .0 .0) (on .ensures .0 .0 .kept) (after .ensures .0 .0);
+        shelves = joined .ensures .0 .1;
+      },
+      record {
+        result = λ D s ls R st κ task opened inside is code.
+            result-as (sym (made .ensures))
+            (sides-result (start .args .kind) (start .args .p) (to-off .result) (to-off .ensures) (off .result) (off .ensures .1) (up .result) (up .ensures) (off .ensures .0 .0 .kept)
+            (one .result) (one .ensures) (lined .result) (lined .ensures .0 .1) (lined .ensures .0 .2) (lined .ensures .1)
+            (to-on .result) (to-on .ensures) (on .result) (on .ensures .1) _ (on .ensures .0 .1 .first ∙ aside .ensures .1) (joined .result) (joined .ensures .1) (first .left) (joined .ensures .0 .0 .visits)
+            (on .ensures .0 .0 .kept .statuses-restored) (two .result) (two .ensures) (after .result) (after .ensures .0 .1) (after .ensures .0 .2) (after .ensures .1)
+            D s ls R st κ task opened inside is code);
+      },
+    )
 
-visit-conclude-requires : (t : ℕ) → visit-lts.Need-conclude-requires (
-  conclude-reads.Asked,
-  conclude-reads.Learnt,
-  settled-reads.Asked,
-  settled-reads.Learnt,
-  branch-below t,
-  branch.Post,
-  with-lines-reads.Asked,
-  with-lines-reads.Learnt,
-) (visit-at t) visit.Post
-visit-conclude-requires t c κs = (c .before .before .before .before .before .before .before .before .before .before .pre .1 .0 .shelves, c .before .before .before .before .before .before .before .before .before .before .pre .1 .1, c .before .before .before .before .before .before .before .before .before .before .pre .1 .0 .room .within, c .before .before .before .before .before .before .before .before .before .before .pre .1 .0 .room .words)
+-- ---- visit
+visit-conclude-requires : (t : ℕ) → visit-lts.Need-conclude-requires (visit-claims t) (visit-at t) visit.Post
+visit-conclude-requires t c κs =
+    let start = c .before .before .before .before .before .before .before .before .before .before in
+    (start .pre .1 .0 .shelves, start .pre .1 .1, start .pre .1 .0 .room .within, start .pre .1 .0 .room .words)
 
-visit-enum-known-leaf : (t : ℕ) → visit-lts.Need-enum-known-leaf (
-  conclude-reads.Asked,
-  conclude-reads.Learnt,
-  settled-reads.Asked,
-  settled-reads.Learnt,
-  branch-below t,
-  branch.Post,
-  with-lines-reads.Asked,
-  with-lines-reads.Learnt,
-) (visit-at t) visit.Post
+visit-enum-known-leaf : (t : ℕ) → visit-lts.Need-enum-known-leaf (visit-claims t) (visit-at t) visit.Post
 visit-enum-known-leaf t c = search needs
 
-visit-settled-requires : (t : ℕ) → visit-lts.Need-settled-requires (
-  conclude-reads.Asked,
-  conclude-reads.Learnt,
-  settled-reads.Asked,
-  settled-reads.Learnt,
-  branch-below t,
-  branch.Post,
-  with-lines-reads.Asked,
-  with-lines-reads.Learnt,
-) (visit-at t) visit.Post
-visit-settled-requires t c κs = visits-small (length (c .before .before .before .before .before .before .before .before .before .before .before .before .before .before .args .saved .now)) (c .before .before .before .before .before .before .before .before .before .before .before .before .before .before .args .p) (c .before .before .before .before .before .before .before .before .before .before .before .before .before .before .pre .1 .0 .room)
+visit-settled-requires : (t : ℕ) → visit-lts.Need-settled-requires (visit-claims t) (visit-at t) visit.Post
+visit-settled-requires t c κs =
+    let start = c .before .before .before .before .before .before .before .before .before .before .before .before .before .before in
+    visits-small (length (start .args .saved .now)) (start .args .p) (start .pre .1 .0 .room)
 
-visit-enum-known-leaf-2 : (t : ℕ) → visit-lts.Need-enum-known-leaf-2 (
-  conclude-reads.Asked,
-  conclude-reads.Learnt,
-  settled-reads.Asked,
-  settled-reads.Learnt,
-  branch-below t,
-  branch.Post,
-  with-lines-reads.Asked,
-  with-lines-reads.Learnt,
-) (visit-at t) visit.Post
+visit-enum-known-leaf-2 : (t : ℕ) → visit-lts.Need-enum-known-leaf-2 (visit-claims t) (visit-at t) visit.Post
 visit-enum-known-leaf-2 t c = search needs
 
-visit-settled-requires-2 : (t : ℕ) → visit-lts.Need-settled-requires-2 (
-  conclude-reads.Asked,
-  conclude-reads.Learnt,
-  settled-reads.Asked,
-  settled-reads.Learnt,
-  branch-below t,
-  branch.Post,
-  with-lines-reads.Asked,
-  with-lines-reads.Learnt,
-) (visit-at t) visit.Post
-visit-settled-requires-2 t c κs = visits-small (length (c .before .before .before .before .before .before .before .before .before .before .before .before .before .before .args .saved .now)) (c .before .before .before .before .before .before .before .before .before .before .before .before .before .before .args .p) (c .before .before .before .before .before .before .before .before .before .before .before .before .before .before .pre .1 .0 .room)
+visit-settled-requires-2 : (t : ℕ) → visit-lts.Need-settled-requires-2 (visit-claims t) (visit-at t) visit.Post
+visit-settled-requires-2 t c κs =
+    let start = c .before .before .before .before .before .before .before .before .before .before .before .before .before .before in
+    visits-small (length (start .args .saved .now)) (start .args .p) (start .pre .1 .0 .room)
 
-visit-enum-told : (t : ℕ) → visit-lts.Need-enum-told (
-  conclude-reads.Asked,
-  conclude-reads.Learnt,
-  settled-reads.Asked,
-  settled-reads.Learnt,
-  branch-below t,
-  branch.Post,
-  with-lines-reads.Asked,
-  with-lines-reads.Learnt,
-) (visit-at t) visit.Post
+visit-enum-told : (t : ℕ) → visit-lts.Need-enum-told (visit-claims t) (visit-at t) visit.Post
 visit-enum-told t c = search needs
 
-visit-branch-requires : (t : ℕ) → visit-lts.Need-branch-requires (
-  conclude-reads.Asked,
-  conclude-reads.Learnt,
-  settled-reads.Asked,
-  settled-reads.Learnt,
-  branch-below t,
-  branch.Post,
-  with-lines-reads.Asked,
-  with-lines-reads.Learnt,
-) (visit-at t) visit.Post
-visit-branch-requires t c κs = (omega (arith, c .before .before .before .before .before .before .before .before .before .before .before .before .before .before .before .before .before .before .before .before .before .before .before .pre .0), c .before .before .before .before .before .before .before .before .before .before .before .before .before .before .before .before .before .before .before .before .before .before .before .pre .1 .0)
+visit-branch-requires : (t : ℕ) → visit-lts.Need-branch-requires (visit-claims t) (visit-at t) visit.Post
+visit-branch-requires t c κs =
+    let start = c .before .before .before .before .before .before .before .before .before .before .before .before .before .before .before .before .before .before .before .before .before .before .before in
+    (omega (arith, start .pre .0), start .pre .1 .0)
 
-visit-with-lines-requires : (t : ℕ) → visit-lts.Need-with-lines-requires (
-  conclude-reads.Asked,
-  conclude-reads.Learnt,
-  settled-reads.Asked,
-  settled-reads.Learnt,
-  branch-below t,
-  branch.Post,
-  with-lines-reads.Asked,
-  with-lines-reads.Learnt,
-) (visit-at t) visit.Post
+visit-with-lines-requires : (t : ℕ) → visit-lts.Need-with-lines-requires (visit-claims t) (visit-at t) visit.Post
 visit-with-lines-requires t c κs = search needs
 
-visit-returns : (t : ℕ) → visit-lts.Need-returns (
-  conclude-reads.Asked,
-  conclude-reads.Learnt,
-  settled-reads.Asked,
-  settled-reads.Learnt,
-  branch-below t,
-  branch.Post,
-  with-lines-reads.Asked,
-  with-lines-reads.Learnt,
-) (visit-at t) visit.Post
-visit-returns t c = (
-  record {
-    counts = counts-settled (c .before .before .before .before .before .before .before .before .before .before .before .before .before .before .before .args .p) (c .settled .result) No _ (c .settled .ensures) (subst LeafBounded (c .before .before .leaf .given .1) (c .before .before .before .before .conclude .ensures .0 .0));
-    kept = record { statuses-restored = refl; size = refl; rows = c .before .before .before .before .conclude .ensures .0 .1 };
-    shelves = c .before .before .before .before .before .before .before .before .before .before .before .before .before .before .before .pre .1 .0 .shelves;
-  },
-  record {
-    result = λ D s ls R st k task entered.
-        let found = said-no (c .before .before .before .before .conclude .ensures .1 D R s st k (node-shown (c .before .before .before .before .before .before .before .before .before .before .before .before .before .before .before .args .p) task) entered) (c .before .before .leaf .given .1) in
-        leaf-result (c .before .before .before .before .before .before .before .before .before .before .before .before .before .before .before .args .p) task No false (found .0) _ (c .before .before .before .before .conclude .last .1 .1 .1 .1 .1 .1 .1 .1 .0) (found .1) (found .0, refl, found .2) (c .settled .result) (c .settled .ensures);
-  },
-)
+visit-returns : (t : ℕ) → visit-lts.Need-returns (visit-claims t) (visit-at t) visit.Post
+visit-returns t c =
+    let start = c .before .before .before .before .before .before .before .before .before .before .before .before .before .before .before in
+    let steps = c .before .before .before .before .conclude in
+    let said = c .before .before .leaf in
+    let made = c .settled in (
+      record {
+        counts = counts-settled (start .args .p) (made .result) No _ (made .ensures) (subst LeafBounded (said .given .1) (steps .ensures .0 .0));
+        kept = record { statuses-restored = refl; size = refl; rows = steps .ensures .0 .1 };
+        shelves = start .pre .1 .0 .shelves;
+      },
+      record {
+        result = λ D s ls R st k task entered.
+            let found = said-no (steps .ensures .1 D R s st k (node-shown (start .args .p) task) entered) (said .given .1) in
+            leaf-result (start .args .p) task No false (found .0) _ (steps .last .1 .1 .1 .1 .1 .1 .1 .1 .0) (found .1) (found .0, refl, found .2) (made .result) (made .ensures);
+      },
+    )
 
-visit-returns-2 : (t : ℕ) → visit-lts.Need-returns-2 (
-  conclude-reads.Asked,
-  conclude-reads.Learnt,
-  settled-reads.Asked,
-  settled-reads.Learnt,
-  branch-below t,
-  branch.Post,
-  with-lines-reads.Asked,
-  with-lines-reads.Learnt,
-) (visit-at t) visit.Post
-visit-returns-2 t c = (
-  record {
-    counts = counts-settled (c .before .before .before .before .before .before .before .before .before .before .before .before .before .before .before .args .p) (c .settled2 .result) Yes _ (c .settled2 .ensures) (subst LeafBounded (c .before .before .leaf2 .given .1) (c .before .before .before .before .conclude .ensures .0 .0));
-    kept = record { statuses-restored = refl; size = refl; rows = c .before .before .before .before .conclude .ensures .0 .1 };
-    shelves = c .before .before .before .before .before .before .before .before .before .before .before .before .before .before .before .pre .1 .0 .shelves;
-  },
-  record {
-    result = λ D s ls R st k task entered.
-        let found = said-yes (c .before .before .before .before .conclude .ensures .1 D R s st k (node-shown (c .before .before .before .before .before .before .before .before .before .before .before .before .before .before .before .args .p) task) entered) (c .before .before .leaf2 .given .1) in
-        leaf-result (c .before .before .before .before .before .before .before .before .before .before .before .before .before .before .before .args .p) task Yes true (found .0) _ (c .before .before .before .before .conclude .last .1 .1 .1 .1 .1 .1 .1 .1 .0) (found .1) (found .0, refl, found .2) (c .settled2 .result) (c .settled2 .ensures);
-  },
-)
+visit-returns-2 : (t : ℕ) → visit-lts.Need-returns-2 (visit-claims t) (visit-at t) visit.Post
+visit-returns-2 t c =
+    let start = c .before .before .before .before .before .before .before .before .before .before .before .before .before .before .before in
+    let steps = c .before .before .before .before .conclude in
+    let said = c .before .before .leaf2 in
+    let made = c .settled2 in (
+      record {
+        counts = counts-settled (start .args .p) (made .result) Yes _ (made .ensures) (subst LeafBounded (said .given .1) (steps .ensures .0 .0));
+        kept = record { statuses-restored = refl; size = refl; rows = steps .ensures .0 .1 };
+        shelves = start .pre .1 .0 .shelves;
+      },
+      record {
+        result = λ D s ls R st k task entered.
+            let found = said-yes (steps .ensures .1 D R s st k (node-shown (start .args .p) task) entered) (said .given .1) in
+            leaf-result (start .args .p) task Yes true (found .0) _ (steps .last .1 .1 .1 .1 .1 .1 .1 .1 .0) (found .1) (found .0, refl, found .2) (made .result) (made .ensures);
+      },
+    )
 
-visit-same-length : (t : ℕ) → visit-lts.Need-same-length (
-  conclude-reads.Asked,
-  conclude-reads.Learnt,
-  settled-reads.Asked,
-  settled-reads.Learnt,
-  branch-below t,
-  branch.Post,
-  with-lines-reads.Asked,
-  with-lines-reads.Learnt,
-) (visit-at t) visit.Post
+visit-same-length : (t : ℕ) → visit-lts.Need-same-length (visit-claims t) (visit-at t) visit.Post
 visit-same-length t c = search needs
 
-visit-same-length-2 : (t : ℕ) → visit-lts.Need-same-length-2 (
-  conclude-reads.Asked,
-  conclude-reads.Learnt,
-  settled-reads.Asked,
-  settled-reads.Learnt,
-  branch-below t,
-  branch.Post,
-  with-lines-reads.Asked,
-  with-lines-reads.Learnt,
-) (visit-at t) visit.Post
+visit-same-length-2 : (t : ℕ) → visit-lts.Need-same-length-2 (visit-claims t) (visit-at t) visit.Post
 visit-same-length-2 t c = search needs
 
-visit-returns-3 : (t : ℕ) → visit-lts.Need-returns-3 (
-  conclude-reads.Asked,
-  conclude-reads.Learnt,
-  settled-reads.Asked,
-  settled-reads.Learnt,
-  branch-below t,
-  branch.Post,
-  with-lines-reads.Asked,
-  with-lines-reads.Learnt,
-) (visit-at t) visit.Post
-visit-returns-3 t c = (
-  record {
-    counts = counts-as (sym (c .with-lines .ensures)) (c .before .before .before .before .before .branch .ensures .0 .counts);
-    kept = kept-open (c .before .before .before .before .before .before .before .before .before .before .before .before .before .before .before .before .before .before .conclude .ensures .0 .1) (c .before .before .before .before .before .branch .ensures .0 .kept);
-    shelves = c .before .before .before .before .before .branch .ensures .0 .shelves;
-  },
-  record {
-    result = λ D s ls R st k task entered.
-        result-as (sym (c .with-lines .ensures))
-        (open-result (c .before .before .before .before .before .before .before .before .before .before .before .before .before .before .before .before .before .before .before .before .before .before .before .before .before .before .before .before .before .args .p) task (c .before .before .before .before .before .branch .result) (c .before .before .before .before .before .before .before .before .before .before .before .before .before .before .before .before .before .before .conclude .ensures .1 D R s st k (node-shown (c .before .before .before .before .before .before .before .before .before .before .before .before .before .before .before .before .before .before .before .before .before .before .before .before .before .before .before .before .before .args .p) task) entered) (c .before .before .before .before .before .before .before .before .before .before .before .before .before .before .before .before .enum-told .given .1) refl (c .before .before .before .before .before .branch .ensures .1));
-  },
-)
+visit-returns-3 : (t : ℕ) → visit-lts.Need-returns-3 (visit-claims t) (visit-at t) visit.Post
+visit-returns-3 t c =
+    let start = c .before .before .before .before .before .before .before .before .before .before .before .before .before .before .before .before .before .before .before .before .before .before .before .before .before .before .before .before .before in
+    let steps = c .before .before .before .before .before .before .before .before .before .before .before .before .before .before .before .before .before .before .conclude in
+    let said = c .before .before .before .before .before .before .before .before .before .before .before .before .before .before .before .before .enum-told in
+    let followed = c .before .before .before .before .before .branch in
+    let made = c .with-lines in (
+      record {
+        counts = counts-as (sym (made .ensures)) (followed .ensures .0 .counts);
+        kept = kept-open (steps .ensures .0 .1) (followed .ensures .0 .kept);
+        shelves = followed .ensures .0 .shelves;
+      },
+      record {
+        result = λ D s ls R st k task entered.
+            result-as (sym (made .ensures))
+            (open-result (start .args .p) task (followed .result) (steps .ensures .1 D R s st k (node-shown (start .args .p) task) entered) (said .given .1) refl (followed .ensures .1));
+      },
+    )
 
 pub +branch+exists+forall+free+side+sides+visit-spec : {M : Type 1} → statement M
 +branch+exists+forall+free+side+sides+visit-spec =
-    close μ-branch μ-exists μ-forall μ-free μ-side μ-sides μ-visit (λ t. branch-lts.spec (
-      next-kind-reads.Asked,
-      next-kind-reads.Learnt,
-      exists-below t,
-      exists.Post,
-      forall-below t,
-      forall.Post,
-      free-below t,
-      free.Post,
-      placed-reads.Asked,
-      placed-reads.Learnt,
-      settled-reads.Asked,
-      settled-reads.Learnt,
-    )
+    close μ-branch μ-exists μ-forall μ-free μ-side μ-sides μ-visit (λ t. branch-lts.spec (branch-claims t)
     (branch-at t)
     branch.Post
     (branch-next-kind-requires t)
@@ -1342,16 +692,7 @@ pub +branch+exists+forall+free+side+sides+visit-spec : {M : Type 1} → statemen
     (free-same-length t)
     (free-same-length-2 t)
     (free-returns t))
-    (λ t. side-lts.spec (
-      give-reads.Asked,
-      give-reads.Learnt,
-      visit-below t,
-      visit.Post,
-      restore-reads.Asked,
-      restore-reads.Learnt,
-      with-lines-reads.Asked,
-      with-lines-reads.Learnt,
-    )
+    (λ t. side-lts.spec (side-claims t)
     (side-at t)
     side.Post
     (side-give-requires t)
@@ -1365,28 +706,7 @@ pub +branch+exists+forall+free+side+sides+visit-spec : {M : Type 1} → statemen
     (side-same-length t)
     (side-same-length-2 t)
     (side-returns t))
-    (λ t. sides-lts.spec (
-      to-off-reads.Asked,
-      to-off-reads.Learnt,
-      side-below t,
-      side.Post,
-      goes-up-reads.Asked,
-      goes-up-reads.Learnt,
-      with-lines-reads.Asked,
-      with-lines-reads.Learnt,
-      put-aside-reads.Asked,
-      put-aside-reads.Learnt,
-      lined-reads.Asked,
-      lined-reads.Learnt,
-      line-if-reads.Asked,
-      line-if-reads.Learnt,
-      to-on-reads.Asked,
-      to-on-reads.Learnt,
-      finish-reads.Asked,
-      finish-reads.Learnt,
-      settle-lines-reads.Asked,
-      settle-lines-reads.Learnt,
-    )
+    (λ t. sides-lts.spec (sides-claims t)
     (sides-at t)
     sides.Post
     (sides-to-off-requires t)
@@ -1408,16 +728,7 @@ pub +branch+exists+forall+free+side+sides+visit-spec : {M : Type 1} → statemen
     (sides-same-length-3 t)
     (sides-same-length-4 t)
     (sides-returns-2 t))
-    λ t. visit-lts.spec (
-      conclude-reads.Asked,
-      conclude-reads.Learnt,
-      settled-reads.Asked,
-      settled-reads.Learnt,
-      branch-below t,
-      branch.Post,
-      with-lines-reads.Asked,
-      with-lines-reads.Learnt,
-    )
+    λ t. visit-lts.spec (visit-claims t)
     (visit-at t)
     visit.Post
     (visit-conclude-requires t)
