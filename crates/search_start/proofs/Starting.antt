@@ -1,10 +1,10 @@
 -- Steps 1 to 4 at the start node, by the answers of the finders.
 use Prim.Native.Nat.{ℕ, _≤_, _<_}
+use native.Mathlib.Omega.{arith}
 use mathlib.Core.Path.{_≡_, refl, sym, ap, _∙_}
 use mathlib.Core.Bool.{Bool, true, false, cond, _||_, true≢false, false≢true}
 use mathlib.Core.List.{List, [], _∷_}
 use mathlib.Core.Option.{Option, none, some}
-use borrow.Author.Tests.{lt-ltb, le-ltb}
 use lib.Dec.{leb}
 use lib.IntN.{ℤ}
 use lib.ListN.{getD}
@@ -14,8 +14,9 @@ use Rattle.qbf.specs.Learning.{Constraint, first, lowestDead, reducedFound, red
 use Rattle.theory.proofs.Basics.{→any}
 use Rattle.theory.proofs.Sets.{Found}
 use Rattle.theory.proofs.Lowest.{lowest-found}
-use Rattle.tables.specs.Views.{Places, Kinds, Values, rowsOf}
-use Rattle.search_start.specs.Dead.{clauseAt, clauseFound, FoundLowest}
+use Rattle.tables.specs.Views.{Kinds, Values, rowsOf}
+use Rattle.search_start.specs.Dead.{NextDead}
+use Rattle.search_start.proofs.Flat.{rows-some, rows-none}
 use Rattle.search_start.specs.Match.{matching}
 use Rattle.search_start.specs.Start.{isNo, isYes, Starts, Concludes}
 use Rattle.search_start.specs.declared.Start.the-variants.{No, Yes, Open}
@@ -37,23 +38,17 @@ found-any : {A : Type 0} (f : A → Bool) (xs : List A) (o : Option A) → Found
 found-any f xs none w = sym w
 found-any f xs (some x) w = sym (→any f xs x (w .0) (w .1))
 
--- ---- a dead clause, by the finder's index
-module _ {flat : List ℤ} {sizes places kinds values : List ℕ} {r : ℕ} (f : FoundLowest flat sizes places kinds values r)
-    (D : Prefix) (s : Node) (p : Places D places) (k : Kinds D kinds) (v : Values D s values) where
-  as-found : isSome (clauseFound flat sizes r) ≡ any (dead D s) (rowsOf (paper .literals) flat sizes)
-  as-found = ap isSome (f .is D s p k v) ∙ found-any (dead D s) (rowsOf (paper .literals) flat sizes) (lowestDead D s (rowsOf (paper .literals) flat sizes)) (lowest-found D s (rowsOf (paper .literals) flat sizes))
+-- ---- a dead clause, by the index of the first
+module _ {flat : List ℤ} {sizes kinds values : List ℕ} {r : ℕ} (f : NextDead flat sizes kinds values 0 r)
+    (D : Prefix) (s : Node) (k : Kinds D kinds) (v : Values D s values) (cs : List Constraint) where
+  pub no-by-clause : r < getD sizes 0 0 → true ≡ isNo D s (rowsOf (paper .literals) flat sizes) cs
+  no-by-clause h = ap (λ (b : Bool). b || any (matching D false s) cs) (sym (rows-some (dead D s) (paper .literals) flat sizes r h (f .is-dead h D s k v)))
 
-  module _ (cs : List Constraint) where
-    pub no-by-clause : r < getD sizes 0 0 → true ≡ isNo D s (rowsOf (paper .literals) flat sizes) cs
-    no-by-clause h =
-        ap (λ (b : Bool). b || any (matching D false s) cs)
-        (ap (λ (b : Bool). isSome (cond b (some (clauseAt flat sizes r)) none)) (sym (lt-ltb r (getD sizes 0 0) h)) ∙ as-found)
-
-    pub no-by-learned : getD sizes 0 0 ≤ r → {b : Bool} → b ≡ any (matching D false s) cs → b ≡ isNo D s (rowsOf (paper .literals) flat sizes) cs
-    no-by-learned h e =
-        e
-        ∙ ap (λ (b : Bool). b || any (matching D false s) cs)
-        (ap (λ (b : Bool). isSome (cond b (some (clauseAt flat sizes r)) none)) (sym (le-ltb r (getD sizes 0 0) h)) ∙ as-found)
+  pub no-by-learned : getD sizes 0 0 ≤ r → {b : Bool} → b ≡ any (matching D false s) cs → b ≡ isNo D s (rowsOf (paper .literals) flat sizes) cs
+  no-by-learned h e =
+      e
+      ∙ ap (λ (b : Bool). b || any (matching D false s) cs)
+      (sym (rows-none (dead D s) (paper .literals) flat sizes (λ j m. f .alive D s k v j (omega arith) (omega (arith, m, h)))))
 
 -- ---- the outcome, without its constraint
 abbrev outcomeOf : Option Constraint → Option Constraint → Option Constraint → Option Constraint → Option (Outcome Constraint)

@@ -5,13 +5,13 @@ ghost use lib.ListN.{length};
 ghost use Rattle.qbf.specs.Formula.{paper, Prefix, Node};
 ghost use Rattle.tables.specs.Views.{Places, Kinds, Values, Standing, rowsOf};
 ghost use Rattle.search_start.specs.Start.{isNo, isYes, Concludes};
+use dead::next_dead;
 use literal::cell_at;
-use lowest::lowest_dead;
 use matches::any_match;
 use satisfied::all_satisfied;
 
 pub mod dead; // the dead clauses
-pub mod lowest; // the one of them that step 1 takes
+pub mod lowest; // the one of them that step 1 takes, at any node
 pub mod matches; // learned constraints
 pub mod rows;
 pub mod satisfied;
@@ -23,7 +23,7 @@ pub enum Start {
     Open,
 }
 
-// Steps 1 and 2.
+// Steps 1 and 2. For the verdict it is enough that a clause is dead, whichever is taken.
 fn is_no<'a>(
     clauses: &'a [i16],
     sizes: &'a [u16],
@@ -51,8 +51,7 @@ fn is_no<'a>(
         ⌝ }
 {
     let count = cell_at(sizes, 0) as usize;
-    let dead = lowest_dead(clauses, sizes, places, kinds, values);
-    if dead < count {
+    if next_dead(clauses, sizes, kinds, values, 0) < count {
         return true;
     }
     any_match(learned, learned_sizes, width, places, values, false, at)

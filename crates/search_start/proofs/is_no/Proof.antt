@@ -19,12 +19,12 @@ cell-at-requires c κs = search needs
 cast-count : tie.Need-cast-count
 cast-count c = search needs
 
-lowest-dead-requires : tie.Need-lowest-dead-requires
-lowest-dead-requires c κs = search needs
+next-dead-requires : tie.Need-next-dead-requires
+next-dead-requires c κs = (c .before .before .before .before .before .before .pre .0, omega arith)
 
 returns : tie.Need-returns
 returns c =
-    λ D s p k v h. no-by-clause (c .before .lowest-dead .ensures) D s p k v (learned (c .before .before .before .before .before .before .before .before)) (omega (arith, c .if1 .taken, c .before .before .cell-at .ensures))
+    λ D s p k v h. no-by-clause (c .before .next-dead .ensures) D s k v (learned (c .before .before .before .before .before .before .before .before)) (omega (arith, c .if1 .taken, c .before .before .cell-at .ensures))
 
 any-match-requires : tie.Need-any-match-requires
 any-match-requires c κs = search needs
@@ -32,7 +32,7 @@ any-match-requires c κs = search needs
 returns-2 : tie.Need-returns-2
 returns-2 c =
     λ D s p k v h.
-    no-by-learned (c .before .before .lowest-dead .ensures) D s p k v (learned (c .before .before .before .before .before .before .before .before .before))
+    no-by-learned (c .before .before .next-dead .ensures) D s k v (learned (c .before .before .before .before .before .before .before .before .before))
     (omega (arith, c .before .if1 .left, c .before .before .before .cell-at .ensures)) (c .any-match .ensures D s p v h)
 
 pub is-no-spec : {M : Type 1} → statement M
@@ -41,7 +41,7 @@ is-no-spec =
     (tie.spec
     cell-at-requires
     cast-count
-    lowest-dead-requires
+    next-dead-requires
     returns
     any-match-requires
     returns-2)
