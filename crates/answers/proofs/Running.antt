@@ -1,5 +1,5 @@
 -- The search on the tables of a state: what it needs of the state, and what its result says of the next one.
-use Prim.Native.Nat.{ℕ, zero, suc, _-_, _^_, _≤_, _<_}
+use Prim.Native.Nat.{ℕ, zero, suc, _-_, _*_, _^_, _≤_, _<_}
 use native.Mathlib.Omega.{arith}
 use native.Mathlib.Nat.{pow-le-pow-right}
 use mathlib.Core.Path.{_≡_, refl, sym, ap, _∙_, subst}
@@ -25,7 +25,10 @@ use Rattle.tables.specs.Views.{Numbers, Places, Kinds, Values, valueCode, rowsO
 use Rattle.tables.specs.Formed.{Stores, Formed, storeOf}
 use Rattle.tables.specs.Codes.{codes, Statuses, Quantified}
 use Rattle.tables.specs.Shelves.{StoreShown, entriesOf, newestOf}
-use Rattle.tables.specs.Matrices.{MatrixShown}
+use Rattle.tables.specs.Matrices.{MatrixShown, RowLength, wordsOf}
+use Rattle.tables.specs.Sets.{Descended}
+use Rattle.loading.specs.Started.{StartShown}
+use Rattle.loading.proofs.Matrix.{matrix-words}
 use Rattle.coding.proofs.Placewise.{zeros}
 use Rattle.cover.specs.Cover.{Covers}
 use Rattle.node.specs.Node.{entryOf, Reads}
@@ -34,10 +37,8 @@ use Rattle.node.specs.declared.Verdict.the-variants.{Yes, No, Mixed}
 use Rattle.node.specs.declared.Position.{Position}
 use Rattle.node.specs.declared.Answer.{Answer}
 use Rattle.search_entry.specs.declared.Source.the-variants.{Area}
-use Rattle.inner.proofs.Below.{passed-none}
 use Rattle.search.proofs.Visiting.{open-alive}
-use Rattle.inner.specs.Inner.{Entered}
-use Rattle.search.specs.Search.{Room, Counts, Task, Result, visitOf}
+use Rattle.search.specs.Search.{Room, Counts, Followed, Result}
 use Rattle.state.specs.declared.State.{State}
 use Rattle.state.specs.Reading.{stateOf, rowsFit, prefixFits, readState, valid, prefixIn, formulaIn, storeIn, stateIn}
 use Rattle.state.specs.Derived.{Sized}
@@ -55,25 +56,26 @@ pub decided-few : {w : Verdict} {r : Answer} → r ≡ decidedAt w → r .lines 
 decided-few {w} {r} e = omega (arith, ap (λ (a : Answer). a .lines) e)
 
 -- where a search on a state starts
-abbrev pub startAt : ℕ → ℕ → Position
-startAt at free = record { at = at; free = free; visits = 0; lines = 0; satisfied = 0 }
+abbrev pub startAt : ℕ → ℕ → ℕ → Position
+startAt at free words = record { at = at; free = free; visits = 0; lines = 0; words = words }
 
-pub room : (cl ql : List ℕ) (at free : ℕ) → at ≤ paper .numbers → free ≤ paper .numbers → newestOf cl ≤ paper .constraints → newestOf ql ≤ paper .constraints
-    → Room 1600 cl ql (startAt at free)
-room cl ql at free within small learned cubes =
+pub room : (cl ql : List ℕ) (at free words : ℕ) → at ≤ paper .numbers → free ≤ paper .numbers → RowLength words
+    → newestOf cl ≤ paper .constraints → newestOf ql ≤ paper .constraints → Room (paper .numbers * paper .numbers) cl ql (startAt at free words)
+room cl ql at free words within small long learned cubes =
     record {
       within = within;
       free = small;
+      words = long;
       aside = omega arith;
-      visits = omega (arith, pow-le-pow-right {n = 2} (omega arith) {i = suc (40 - at)} {j = 62} (omega arith));
+      visits = omega (arith, pow-le-pow-right {n = 2} (omega arith) {i = suc (paper .numbers - at)} {j = 62} (omega arith));
       lines = omega arith;
       clauses = learned;
       cubes = cubes;
     }
 
-pub few-lines : (cl ql : List ℕ) (at free : ℕ) (r : Answer) (cl′ ql′ : List ℕ) → Counts cl ql (startAt at free) r cl′ ql′ → r .lines < 2 ^ 63
-few-lines cl ql at free r cl′ ql′ c =
-    omega (arith, c .fewer, c .lines-fewer, pow-le-pow-right {n = 2} (omega arith) {i = suc (40 - at)} {j = 41} (omega arith))
+pub few-lines : (cl ql : List ℕ) (at free words : ℕ) (r : Answer) (cl′ ql′ : List ℕ) → Counts cl ql (startAt at free words) r cl′ ql′ → r .lines < 2 ^ 63
+few-lines cl ql at free words r cl′ ql′ c =
+    omega (arith, c .fewer, c .lines-fewer, pow-le-pow-right {n = 2} (omega arith) {i = suc (paper .numbers - at)} {j = suc (paper .numbers)} (omega arith))
 
 ends : (D : Prefix) (w : Verdict) (cs : List ℕ) (o : Outcome Constraint) → Reads D w cs o → Ends w o
 ends D Yes cs o h = (h .0, h .1)
@@ -86,21 +88,22 @@ starts (NoLeaf n) up o e = (take n up, sym e)
 starts (YesLeaf n) up o e = (take n up, sym e)
 starts Open up o e = sym e
 
--- the search below an open start node, from what the visit there gives
-pub below-shown : (rows links numbers quantifiers values statuses cs cl qs ql table firsts : List ℕ) (at free : ℕ) (a : Answer) (up cs′ cl′ qs′ ql′ table′ : List ℕ)
-    → at ≤ getD numbers 0 0
+-- the search below an open start node, from what the branch there gives
+pub below-shown : (rows sets : List ℕ) (count words : ℕ) (numbers quantifiers values statuses cs cl qs ql table sat marks : List ℕ) (at free : ℕ) (a : Answer)
+    (up cs′ cl′ qs′ ql′ table′ : List ℕ)
+    → at ≤ getD numbers 0 0 → words ≡ wordsOf count
     → ((D : Prefix) (s : Node) → Numbers D numbers → Values D s values → numbersOk paper [] D ≡ true → length s ≡ at → length s ≤ length D → Statuses s statuses)
-    → ((D : Prefix) (s : Node) (ls : List Node) (R : List Clause) (st : Store)
-    → Task D s ls R st rows links quantifiers statuses cs cl qs ql table firsts at (startAt at free)
-    → Entered D s R true → Result D ls (visitOf D R (startAt at free) s st true) (startAt at free) a rows up cs′ cl′ qs′ ql′ table′)
-    → Below rows links numbers quantifiers values cs cl qs ql table at free a cs′ cl′ qs′ ql′ table′
-below-shown rows links numbers quantifiers values statuses cs cl qs ql table firsts at free a up cs′ cl′ qs′ ql′ table′ within coded visit = record { by = shown }
+    → ((D : Prefix) (R : List Clause) (s : Node) → StartShown D R s words at sets statuses → length R ≡ count → Descended D s R words sat marks (length s))
+    → Followed (startAt at free words) a rows sets quantifiers statuses cs cl qs ql table sat marks up cs′ cl′ qs′ ql′ table′
+    → Below rows sets count numbers quantifiers values cs cl qs ql table at free a cs′ cl′ qs′ ql′ table′
+below-shown rows sets count words numbers quantifiers values statuses cs cl qs ql table sat marks at free a up cs′ cl′ qs′ ql′ table′ within is coded known follow =
+    record { by = shown }
   where
     shown : (D : Prefix) (R : List Clause) (s : Node) (st : Store)
-        → Numbers D numbers → Values D s values → Quantified D quantifiers → MatrixShown D R rows links → StoreShown D st cs cl qs ql
+        → Numbers D numbers → Values D s values → Quantified D quantifiers → MatrixShown D R (wordsOf count) rows sets → length R ≡ count → StoreShown D st cs cl qs ql
         → Formed D R st → length s ≡ at → free ≡ freeVariables D → Covers free table [] → firstDead D s R ≡ none
         → BelowBy D (belowStart D R at s st) free a cs′ cl′ qs′ ql′ table′
-    shown D R s st ns vs qs-shown matrix stored form long frees cov alive =
+    shown D R s st ns vs qs-shown m counted stored form long frees cov alive =
         record {
           verdict = ends D (a .verdict) (entryOf a rows cs′ qs′ up) _ (r .verdict);
           visits = omega (arith, r .visited);
@@ -112,24 +115,31 @@ below-shown rows links numbers quantifiers values statuses cs cl qs ql table fir
         ok : numbersOk paper [] D ≡ true
         ok = numbers-ok (record { limits = paper; prefix = D; clauses = R }) (record { limits-ok = refl; prefix-ok = form .prefix-ok; clauses-ok = form .clauses-ok })
 
-        r : Result D [] (belowStart D R at s st) (startAt at free) a rows up cs′ cl′ qs′ ql′ table′
+        inside : at ≤ length D
+        inside = omega (arith, within, ns .count)
+
+        statused : Statuses s statuses
+        statused = coded D s ns vs ok long (omega (arith, inside, long))
+
+        matrix : MatrixShown D R words rows sets
+        matrix = matrix-words (sym is) m
+
+        r : Result D [] (belowStart D R at s st) (startAt at free words) a rows up cs′ cl′ qs′ ql′ table′
         r =
-            visit D s [] R st
+            follow .result D s [] R st
             (record {
-              shown =
-                  record {
-                    quantified = qs-shown;
-                    statused = coded D s ns vs ok long (omega (arith, within, long, ns .count));
-                    long = long;
-                  };
+              shown = record { quantified = qs-shown; statused = statused; long = long };
               formed = form;
               matrix = matrix;
               stored = stored;
-              passed = passed-none D s R firsts;
               frees = frees;
               covers = cov;
               counted = refl;
-            }) alive
+            })
+            (record {
+              alive = alive;
+              known = known D R s (record { clauses = matrix .by-code; values = statused; long = long; inside = inside }) counted;
+            })
 
 -- ---- the next state
 abbrev pub withStore : State → List ℤ → List ℕ → List ℤ → List ℕ → State
@@ -184,19 +194,19 @@ module _ (x : State) (v : valid x ≡ true) where
           (ap (λ (i : ℕ). drop i (quantifiers (prefixIn x))) long) (state-facts (stateIn x) (f .formed) .store-ok) .store-ok
 
   -- the search on the state, over derived tables of its clauses
-  module _ (rows links quantifiers places values : List ℕ) (at free : ℕ) (table table′ : List ℕ) (a : Answer)
+  module _ (rows sets : List ℕ) (count : ℕ) (quantifiers places values : List ℕ) (at free : ℕ) (table table′ : List ℕ) (a : Answer)
       (cs cl qs ql cs′ cl′ qs′ ql′ : List ℕ) (lc : List ℤ) (lcs : List ℕ) (lq : List ℤ) (lqs : List ℕ)
       (within : at ≤ getD (x .numbers) 0 0)
       (loaded : (D : Prefix) → Places D places → length D ≤ paper .numbers → entriesOf cs cl ≡ map (codes D) (rowsOf (paper .numbers) (x .«learned_clauses») (x .«learned_clause_sizes»)))
       (loaded-cubes : (D : Prefix) → Places D places → length D ≤ paper .numbers → entriesOf qs ql ≡ map (codes D) (rowsOf (paper .numbers) (x .«learned_cubes») (x .«learned_cube_sizes»)))
-      (run : Below rows links (x .numbers) quantifiers values cs cl qs ql table at free a cs′ cl′ qs′ ql′ table′)
+      (run : Below rows sets count (x .numbers) quantifiers values cs cl qs ql table at free a cs′ cl′ qs′ ql′ table′)
       (stores : Stores lc lcs lq lqs)
       (unloaded : (D : Prefix) (es : List Constraint) → Numbers D (x .numbers) → numbersOk paper [] D ≡ true → entriesOf cs′ cl′ ≡ map (codes D) es
       → ((e : Constraint) → Mem e es → (l : Literal) → Mem l e → 1 ≤ place D l) → rowsOf (paper .numbers) lc lcs ≡ es)
       (unloaded-cubes : (D : Prefix) (es : List Constraint) → Numbers D (x .numbers) → numbersOk paper [] D ≡ true → entriesOf qs′ ql′ ≡ map (codes D) es
       → ((e : Constraint) → Mem e es → (l : Literal) → Mem l e → 1 ≤ place D l) → rowsOf (paper .numbers) lq lqs ≡ es)
     where
-      module _ (s : Node) (matrix : MatrixShown (prefixIn x) (formulaIn x .clauses) rows links) (quantified : Quantified (prefixIn x) quantifiers) (ps : Places (prefixIn x) places) (vs : Values (prefixIn x) s values)
+      module _ (s : Node) (matrix : MatrixShown (prefixIn x) (formulaIn x .clauses) (wordsOf count) rows sets) (counted : length (formulaIn x .clauses) ≡ count) (quantified : Quantified (prefixIn x) quantifiers) (ps : Places (prefixIn x) places) (vs : Values (prefixIn x) s values)
           (long : length s ≡ at) (frees : free ≡ freeVariables (prefixIn x)) (cov : Covers free table []) (alive : firstDead (prefixIn x) s (formulaIn x .clauses) ≡ none)
         where
           abbrev o : LearningResult
@@ -204,7 +214,7 @@ module _ (x : State) (v : valid x ≡ true) where
 
           r : BelowBy (prefixIn x) o free a cs′ cl′ qs′ ql′ table′
           r =
-              run .by (prefixIn x) (formulaIn x .clauses) s (storeIn x) (valid-numbers x v) vs quantified matrix
+              run .by (prefixIn x) (formulaIn x .clauses) s (storeIn x) (valid-numbers x v) vs quantified matrix counted
               (record { clauses = loaded (prefixIn x) ps variables-small; cubes = loaded-cubes (prefixIn x) ps variables-small }) formed long frees cov alive
 
           same : storeOf lc lcs lq lqs ≡ o .store
@@ -224,7 +234,7 @@ module _ (x : State) (v : valid x ≡ true) where
                 lines = r .lines;
               }
 
-      pub over-found : Over x rows links quantifiers places values at free table a (withStore x lc lcs lq lqs) table′
+      pub over-found : Over x rows sets count quantifiers places values at free table a (withStore x lc lcs lq lqs) table′
       over-found = record { found = found-over }
 
   -- ---- the whole search

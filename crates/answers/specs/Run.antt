@@ -15,7 +15,7 @@ use Rattle.tables.specs.Views.{Numbers, Places, Kinds, Values}
 use Rattle.tables.specs.Formed.{Clauses, Stores, Formed}
 use Rattle.tables.specs.Codes.{Quantified}
 use Rattle.tables.specs.Shelves.{StoreShown}
-use Rattle.tables.specs.Matrices.{MatrixShown}
+use Rattle.tables.specs.Matrices.{MatrixShown, wordsOf}
 use Rattle.leaf.specs.declared.Leaf.{Leaf}
 use Rattle.leaf.specs.declared.Leaf.the-variants.{No as NoLeaf, Yes as YesLeaf, Open}
 use Rattle.node.specs.declared.Answer.{Answer}
@@ -70,15 +70,16 @@ pub record BelowBy (D : Prefix) (o : LearningResult) (free : ℕ) (r : Answer) (
   pub covers : Covers free table (newLines (o .outcome))
   pub lines : r .lines ≡ length (newLines (o .outcome))
 
-pub record Below (rows links numbers quantifiers values cs cl qs ql table : List ℕ) (at free : ℕ) (r : Answer) (cs′ cl′ qs′ ql′ table′ : List ℕ) : Type 0 where
+pub record Below (rows sets : List ℕ) (count : ℕ) (numbers quantifiers values cs cl qs ql table : List ℕ) (at free : ℕ) (r : Answer) (cs′ cl′ qs′ ql′ table′ : List ℕ) : Type 0 where
   pub by : (D : Prefix) (R : List Clause) (s : Node) (st : Store)
-      → Numbers D numbers → Values D s values → Quantified D quantifiers → MatrixShown D R rows links → StoreShown D st cs cl qs ql
+      → Numbers D numbers → Values D s values → Quantified D quantifiers → MatrixShown D R (wordsOf count) rows sets → length R ≡ count → StoreShown D st cs cl qs ql
       → Formed D R st → length s ≡ at → free ≡ freeVariables D → Covers free table [] → firstDead D s R ≡ none
       → BelowBy D (belowStart D R at s st) free r cs′ cl′ qs′ ql′ table′
 
 -- on a state, over derived tables of its clauses
-pub record Over (x : State) (rows links quantifiers places values : List ℕ) (at free : ℕ) (table : List ℕ) (r : Answer) (y : State) (table′ : List ℕ) : Type 0 where
-  pub found : (s : Node) → MatrixShown (prefixIn x) (formulaIn x .clauses) rows links → Quantified (prefixIn x) quantifiers
+pub record Over (x : State) (rows sets : List ℕ) (count : ℕ) (quantifiers places values : List ℕ) (at free : ℕ) (table : List ℕ) (r : Answer) (y : State) (table′ : List ℕ) : Type 0 where
+  pub found : (s : Node) → MatrixShown (prefixIn x) (formulaIn x .clauses) (wordsOf count) rows sets → length (formulaIn x .clauses) ≡ count
+      → Quantified (prefixIn x) quantifiers
       → Places (prefixIn x) places → Values (prefixIn x) s values → length s ≡ at → free ≡ freeVariables (prefixIn x) → Covers free table []
       → firstDead (prefixIn x) s (formulaIn x .clauses) ≡ none
       → FoundBy x (belowStart (prefixIn x) (formulaIn x .clauses) at s (storeIn x)) free r y table′

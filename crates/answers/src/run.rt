@@ -11,14 +11,15 @@ ghost use Rattle.qbf.specs.Formula.{paper};
 ghost use Rattle.state.specs.Reading.{stateOf, valid};
 ghost use Rattle.tables.specs.Formed.{Clauses, Stores};
 ghost use Rattle.tables.specs.Shelves.{Shelves, newestOf};
-ghost use Rattle.tables.specs.Matrices.{Matrix};
 ghost use Rattle.answers.specs.Run.{Ready, AtStart, Below, Over, Searched, Ran};
 use coding::quantifiers::quantifiers_of;
 use coding::statuses::statuses_of;
 use leaf::Leaf;
 use loading::clauses::load_clauses;
+use loading::clauses::words_of;
 use loading::entries::load;
 use loading::entries::unload;
+use loading::start::start_rows;
 use node::Answer;
 use node::Position;
 use node::Verdict;
@@ -108,10 +109,11 @@ fn decided(verdict: Verdict) -> Answer
     }
 }
 
-// The search below an open start node, with its scratch space.
+// The search below an open start node, with its scratch space and what it knows of the clauses at that node.
 fn below<'a>(
     rows: &'a [u16; tables::CLAUSE_ROWS],
-    links: &'a [u16; tables::CLAUSE_LINKS],
+    sets: &'a [u64; tables::CLAUSE_SETS],
+    count: usize,
     numbers: &'a [u16; tables::BY_NUMBER],
     quantifiers: &'a [u8; tables::CODES],
     values: &'a [u8; tables::BY_NUMBER],
@@ -124,7 +126,7 @@ fn below<'a>(
     free: usize,
 ) -> Answer
     requires { ⌜
-        Matrix (now rows) (now links)
+        (count ≤ paper .clauses)
         × Shelves (now learned) (now «learned_links») (now cubes) (now «cube_links»)
         × (getD (now numbers) 0 0 ≤ paper .numbers)
         × (at ≤ getD (now numbers) 0 0)
@@ -140,7 +142,8 @@ fn below<'a>(
     ensures { λ r. ⌜
         Below
         (now (rows .entry))
-        (now (links .entry))
+        (now (sets .entry))
+        count
         (now (numbers .entry))
         (now (quantifiers .entry))
         (now (values .entry))
@@ -159,8 +162,11 @@ fn below<'a>(
         (now (table .exit))
         ⌝ }
 {
+    let words = words_of(count);
     let mut statuses = statuses_of(numbers, values, at);
-    let mut firsts = [0u16; tables::CLAUSES];
+    let mut sat = [0u64; tables::SATISFIED];
+    let mut marks = [0u8; tables::BY_NUMBER];
+    start_rows(sets, &statuses, words, count, at, &mut sat, &mut marks);
     let mut up = [0u16; tables::AREA];
     let mut saved = [0u16; SAVED];
     let start = Position {
@@ -168,11 +174,11 @@ fn below<'a>(
         free: free,
         visits: 0,
         lines: 0,
-        satisfied: 0,
+        words: words,
     };
-    search::visit(
+    search::start(
         rows,
-        links,
+        sets,
         quantifiers,
         &mut statuses,
         learned,
@@ -182,16 +188,17 @@ fn below<'a>(
         &mut up,
         &mut saved,
         table,
-        &mut firsts,
+        &mut sat,
+        &mut marks,
         start,
-        true,
     )
 }
 
 // .. over the derived tables of the clauses: those of the learned constraints are derived here, and written back.
 fn over_clauses<'a>(
     rows: &'a [u16; tables::CLAUSE_ROWS],
-    links: &'a [u16; tables::CLAUSE_LINKS],
+    sets: &'a [u64; tables::CLAUSE_SETS],
+    count: usize,
     quantifiers: &'a [u8; tables::CODES],
     numbers: &'a [u16; tables::BY_NUMBER],
     learned_clauses: &mut [i16; tables::CONSTRAINT_CELLS],
@@ -205,7 +212,7 @@ fn over_clauses<'a>(
     table: &mut [u8],
 ) -> Answer
     requires { ⌜
-        Matrix (now rows) (now links)
+        (count ≤ paper .clauses)
         × Stores (now «learned_clauses») (now «learned_clause_sizes») (now «learned_cubes») (now «learned_cube_sizes»)
         × (getD (now numbers) 0 0 ≤ paper .numbers)
         × (at ≤ getD (now numbers) 0 0)
@@ -238,7 +245,8 @@ fn over_clauses<'a>(
         (now («learned_cubes» .entry))
         (now («learned_cube_sizes» .entry)))
         (now (rows .entry))
-        (now (links .entry))
+        (now (sets .entry))
+        count
         (now (quantifiers .entry))
         (now (places .entry))
         (now (values .entry))
@@ -279,7 +287,8 @@ fn over_clauses<'a>(
     );
     let found = below(
         rows,
-        links,
+        sets,
+        count,
         numbers,
         quantifiers,
         values,
@@ -384,18 +393,20 @@ fn searched<'a>(
 {
     let quantifiers = quantifiers_of(numbers, by_number);
     let mut rows = [0u16; tables::CLAUSE_ROWS];
-    let mut links = [0u16; tables::CLAUSE_LINKS];
+    let mut sets = [0u64; tables::CLAUSE_SETS];
     load_clauses(
         clauses,
         clause_sizes,
         places,
         &quantifiers,
+        numbers[0] as usize,
         &mut rows,
-        &mut links,
+        &mut sets,
     );
     over_clauses(
         &rows,
-        &links,
+        &sets,
+        clause_sizes[0] as usize,
         &quantifiers,
         numbers,
         learned_clauses,

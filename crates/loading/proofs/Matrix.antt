@@ -16,7 +16,7 @@ use Rattle.tables.specs.Formed.{Clauses, clausesOf}
 use Rattle.tables.specs.Codes.{codes, Quantified}
 use Rattle.tables.specs.Sets.{ClauseSets}
 use Rattle.tables.specs.Shelves.{codeCount}
-use Rattle.tables.specs.Matrices.{rowWords, wordsOf, MatrixShown}
+use Rattle.tables.specs.Matrices.{rowWords, wordsOf, MatrixShown, RowLength}
 use Rattle.tables.proofs.Laws.{rows-at, rows-length, rows-suc, rows-zero}
 use Rattle.loading.specs.Coded.{Filled}
 use Rattle.loading.proofs.Coding.{CodedBelow, coded-more, row-short}
@@ -29,6 +29,9 @@ words-room n h = omega arith
 -- .. and are not more than the longest row has
 words-few : (n : ℕ) → n ≤ paper .clauses → wordsOf n ≤ rowWords
 words-few n h = omega arith
+
+pub row-length : {n words : ℕ} → words ≡ wordsOf n → n ≤ paper .clauses → RowLength words
+row-length {n} is h = record { few = omega (arith, is, words-few n h); blocks = omega (arith, is) }
 
 -- the rows of the codes below c lie within the sets
 pub codes-within : (c n words : ℕ) → words ≡ wordsOf n → n ≤ paper .clauses → c ≤ codeCount → c * 2 * words ≤ codeCount * 2 * rowWords
@@ -77,3 +80,7 @@ module _ {f : List ℤ} {l places quantifiers : List ℕ} {wc : ℕ} {start cell
     where
       long : length (clausesOf f l) ≡ getD l 0 0
       long = rows-length (paper .literals) f l (getD l 0 0)
+
+-- .. by another name of the words
+pub matrix-words : {D : Prefix} {R : List Clause} {words wc : ℕ} {cells sets : List ℕ} → words ≡ wc → MatrixShown D R words cells sets → MatrixShown D R wc cells sets
+matrix-words {D} {R} {words} {wc} {cells} {sets} is m = subst (λ (n : ℕ). MatrixShown D R n cells sets) is m

@@ -155,7 +155,7 @@ fn add_clauses<'a>(
 }
 
 // The rows and the sets of the clauses, where no place is above `last`. Their content before is free: of the sets the rows of the places' codes
-// are cleared first. The result is how many words a row of clauses has.
+// are cleared first.
 pub fn load_clauses<'a>(
     clauses: &'a [i16; tables::CLAUSE_CELLS],
     sizes: &'a [u16; tables::CLAUSE_SIZES],
@@ -164,19 +164,22 @@ pub fn load_clauses<'a>(
     last: usize,
     rows: &mut [u16; tables::CLAUSE_ROWS],
     sets: &mut [u64; tables::CLAUSE_SETS],
-) -> usize
+)
     requires { ⌜ Clauses (now clauses) (now sizes) × (last ≤ paper .numbers) ⌝ }
-    ensures { λ r. ⌜
-        (r ≡ wordsOf (getD (now (sizes .entry)) 0 0))
-        × ((D : Prefix)
+    ensures { λ _. ⌜
+        ((D : Prefix)
         → Places D (now (places .entry))
         → Quantified D (now (quantifiers .entry))
         → length D ≤ last
-        → MatrixShown D (clausesOf (now (clauses .entry)) (now (sizes .entry))) r (now (rows .exit)) (now (sets .exit)))
+        → MatrixShown
+        D
+        (clausesOf (now (clauses .entry)) (now (sizes .entry)))
+        (wordsOf (getD (now (sizes .entry)) 0 0))
+        (now (rows .exit))
+        (now (sets .exit)))
         ⌝ }
 {
     let words = words_of(sizes[0] as usize);
     clear(sets, 0, (last + 1) * 2 * 2 * words);
     add_clauses(clauses, sizes, places, quantifiers, rows, sets, words);
-    words
 }

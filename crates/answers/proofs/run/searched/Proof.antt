@@ -2,18 +2,29 @@
 use borrow.Author.Needs.{needs}
 use Rattle.answers.proofs.run.searched.Statement.{statement}
 use Rattle.answers.proofs.run.searched.Tie as tie
-use Prim.Native.Nat.{suc, _+_}
+use native.Mathlib.Omega.{arith}
 use Rattle.qbf.specs.Formula.{paper}
-use Rattle.tables.specs.Shelves.{codeCount}
-use Rattle.coding.proofs.Placewise.{zeros}
+use Rattle.tables.proofs.Laws.{rows-length}
 use Rattle.state.proofs.Valid.{valid-numbers}
-use Rattle.answers.proofs.Running.{variables-small, variables-numbered}
+use Rattle.answers.proofs.Running.{variables-numbered}
 
 quantifiers-of-requires : tie.Need-quantifiers-of-requires
 quantifiers-of-requires c κs = search needs
 
+element-copy-out-load-clauses : tie.Need-element-copy-out-load-clauses
+element-copy-out-load-clauses c = search needs
+
+cast-load-clauses : tie.Need-cast-load-clauses
+cast-load-clauses c = search needs
+
 load-clauses-requires : tie.Need-load-clauses-requires
-load-clauses-requires c κs = (c .before .before .before .before .before .pre .clauses-in, λ i h. zeros (suc codeCount + paper .clauses) i)
+load-clauses-requires c κs = search needs
+
+element-copy-out-over-clauses : tie.Need-element-copy-out-over-clauses
+element-copy-out-over-clauses c = search needs
+
+cast-over-clauses : tie.Need-cast-over-clauses
+cast-over-clauses c = search needs
 
 over-clauses-requires : tie.Need-over-clauses-requires
 over-clauses-requires c κs = search needs
@@ -27,8 +38,8 @@ returns c = (
   λ ls ks v.
       record {
         found = λ s ps kk vs long frees cov alive.
-            let q = c .before .before .before .before .before .before .before .before .before .before .before .before .before .before .before .quantifiers-of .ensures _ (valid-numbers _ v) kk (variables-numbered _ v) in
-            c .before .before .over-clauses .ensures .1 ls ks _ _ v .found s (c .before .before .before .before .before .before .before .before .before .before .before .load-clauses .ensures .1 _ ps q (variables-small _ v)) q ps vs long frees cov alive;
+            let q = c .before .before .before .before .before .before .before .before .before .before .before .before .before .before .before .before .before .quantifiers-of .ensures _ (valid-numbers _ v) kk (variables-numbered _ v) in
+            c .before .before .over-clauses .ensures .1 ls ks _ _ v .found s (c .before .before .before .before .before .before .before .before .before .before .before .before .load-clauses .ensures _ ps q (omega (arith, valid-numbers _ v .count))) (rows-length (paper .literals) _ _ _) q ps vs long frees cov alive;
       },
 )
 
@@ -37,7 +48,11 @@ searched-spec =
     tie.close
     (tie.spec
     quantifiers-of-requires
+    element-copy-out-load-clauses
+    cast-load-clauses
     load-clauses-requires
+    element-copy-out-over-clauses
+    cast-over-clauses
     over-clauses-requires
     same-length
     returns)

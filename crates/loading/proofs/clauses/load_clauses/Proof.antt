@@ -7,7 +7,7 @@ use native.Mathlib.Omega.{arith}
 use denote.Ref.{now}
 use lib.ListN.{getD}
 use Rattle.loading.proofs.Filling.{sets-cleared}
-use Rattle.loading.proofs.Matrix.{codes-within}
+use Rattle.loading.proofs.Matrix.{codes-within, matrix-words}
 
 element-copy-out-words-of : tie.Need-element-copy-out-words-of
 element-copy-out-words-of c = search needs
@@ -37,7 +37,7 @@ add-clauses-requires : tie.Need-add-clauses-requires
 add-clauses-requires c κs = search needs
 
 returns : tie.Need-returns
-returns c = (c .before .before .before .before .before .words-of .ensures, λ D p q few. c .add-clauses .ensures .2 D p q (omega (arith, few, c .before .before .before .before .before .before .before .pre .1)) (sets-cleared D (c .before .before .before .clear .ensures) few))
+returns c = λ D p q few. matrix-words (c .before .before .before .before .before .words-of .ensures) (c .add-clauses .ensures .2 D p q (omega (arith, few, c .before .before .before .before .before .before .before .pre .1)) (sets-cleared D (c .before .before .before .clear .ensures) few))
 
 pub load-clauses-spec : {M : Type 1} → statement M
 load-clauses-spec =
