@@ -21,8 +21,8 @@ static struct bullacetop_opened opened;
 static struct bullacetop_written printed;
 static struct bullacetop_turn turn;
 static uint8_t table[65536], page[1 << 20];
-/* The same book, as text. */
-static char text[4096] = "(book 1)\n(flags)\n(exists";
+/* The same book, as text and as QDIMACS. */
+static char text[4096] = "(book 1)\n(flags)\n(exists", qdimacs[4096] = "p cnf 40 2\ne";
 
 static const int16_t literals[] = {1, -2, 3};
 
@@ -77,6 +77,11 @@ static void open(void)
     opened = bullacetop_open((const uint8_t *)text, strlen(text));
 }
 
+static void open_qdimacs(void)
+{
+    opened = bullacetop_open_qdimacs((const uint8_t *)qdimacs, strlen(qdimacs));
+}
+
 static void line(void)
 {
     static const uint8_t bytes[] = "(card)";
@@ -99,6 +104,7 @@ static const struct {
     {"card in place", card_in_place},
     {"print", print},
     {"open", open},
+    {"open_qdimacs", open_qdimacs},
     {"line", line},
 };
 
@@ -124,8 +130,10 @@ int main(void)
         book.numbers[place] = place;
         book.levels[place] = 1;
         sprintf(text + strlen(text), " %u", (unsigned)place);
+        sprintf(qdimacs + strlen(qdimacs), " %u", (unsigned)place);
     }
     strcat(text, ")\n(rule 40)\n(rule (no 39))\n(end)\n");
+    strcat(qdimacs, " 0\n40 0\n-39 0\n");
     book.kinds[1] = BULLACETOP_EXISTS;
     book.rule_sizes[0] = 2;
     book.rule_sizes[1] = 1;

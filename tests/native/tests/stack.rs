@@ -51,16 +51,19 @@ fn a_call_in_place_needs_less_than_128_kib() {
 #[cfg(feature = "text")]
 fn a_text_needs_less_than_512_kib() {
     use compare::random::Random;
-    use native::text::{open, room, Cards, Page};
+    use native::text::{open, open_qdimacs, room, Cards, Page};
     use native::texts;
 
     let text = texts::book(&deepest(), &mut Random::new(1));
+    let qdimacs = texts::qdimacs(&deepest(), &mut Random::new(1));
     let expected = "(card 1)\n(line)\n(visits 42)\n(end)\n";
     on_a_stack_of(512 << 10, move || {
         let mut page = Page::new(room());
         assert_eq!(page.print(&text), Ok(Some(expected.into())));
         let opened = open(&text).expect("lent bytes are only read");
         assert_eq!((opened.refusal, opened.line), (0, 0));
+        let same = open_qdimacs(&qdimacs).expect("lent bytes are only read");
+        assert!((same.refusal, same.line) == (0, 0) && same.state == opened.state);
         let cards = &mut Cards::none();
         let mut answer = |line: &[u8]| {
             page.line(&opened.state, line, 1, cards).expect("lent bytes are only read").text
