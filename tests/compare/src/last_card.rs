@@ -29,7 +29,10 @@ pub const ALL: &[(LastCardSlip, &str)] = &[
     (LastCardSlip::LostAfterPage, "a page takes the card away"),
     (LastCardSlip::OnPage(PageSlip::NumberByPage), "lines are counted anew on each page"),
     (LastCardSlip::OnPage(PageSlip::PagesFromZero), "the first page is page 0"),
-    (LastCardSlip::OnPage(PageSlip::EmptyPageAtEnd), "a full last page is followed by an empty one"),
+    (
+        LastCardSlip::OnPage(PageSlip::EmptyPageAtEnd),
+        "a full last page is followed by an empty one",
+    ),
 ];
 
 struct Held {

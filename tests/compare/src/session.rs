@@ -282,7 +282,8 @@ mod tests {
         let none = "(refused 36 10)\n(refused 36 11)\n(refused 36 12)\n";
         assert_eq!(on_a("(card)\n(page 0)\n(page 2)\n(page 99999)\n"), format!("{card}{none}"));
         let kept = "(query 1 1)\n(rule 5)\n(forget)\n(page 7)\n\n(page 1)\n(page 1)\n";
-        let expected = "(refused 8 10)\n(refused 5 11)\n(forgotten)\n(refused 36 13)\n(refused 1 14)\n";
+        let expected =
+            "(refused 8 10)\n(refused 5 11)\n(forgotten)\n(refused 36 13)\n(refused 1 14)\n";
         assert_eq!(on_a(&format!("(card)\n{kept}")), format!("{card}{expected}{page}{page}"));
     }
 
@@ -293,7 +294,9 @@ mod tests {
         let lost = "(accepted)\n(refused 36 11)\n";
         assert_eq!(on_a("(card)\n(rule 1)\n(page 1)\n"), format!("{card}{lost}"));
         assert!(on_a("(card)\n(card 3)\n(page 1)\n").ends_with("(refused 36 11)\n"));
-        for line in ["(page)", "(page (no 1))", "(page 1 1)", "(page 01)", "(page 100000)", "(page )"] {
+        for line in
+            ["(page)", "(page (no 1))", "(page 1 1)", "(page 01)", "(page 100000)", "(page )"]
+        {
             assert_eq!(on_a(&format!("{line}\n")), "(refused 1 9)\n", "{line}");
         }
     }

@@ -159,7 +159,8 @@ fn sessions_of_the_plain_run() {
     for case in cases::stored(Program::Session).expect("cases can be read") {
         let mut output = vec![];
         let start = |formula| PlainRun::new(formula, options.limits);
-        session::run_on(&case.input[..], &mut output, &options, None, start).expect("bytes in and out");
+        session::run_on(&case.input[..], &mut output, &options, None, start)
+            .expect("bytes in and out");
         assert_eq!(without_visits(&output), without_visits(&case.expected), "{}", case.name);
     }
 }

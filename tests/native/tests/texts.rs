@@ -338,8 +338,9 @@ fn cards_of_any_bytes() {
     let mut printed = 0;
     rounds(3_000, |_| {
         let any = [0, 1, 2, 22, 45, 3_000, 65_536, 65_537, 99_999, 100_000, usize::MAX];
-        let mut shown = || random.pick(&any);
-        let (size, lines, flags, number) = (shown(), shown(), shown().min(70), shown() % 100_000);
+        let (size, lines) = (random.pick(&any), random.pick(&any));
+        let flags = random.pick(&[0, 0, 1, 1, 2, 5, 40, 64, 65, usize::MAX]);
+        let number = random.pick(&[0, 1, 1, 1, 2, 3, 137, 4_546, 4_547, 99_999]);
         let refusal = random.pick(&[0, 0, 0, 21, 36]);
         let mut table = vec![random.pick(&[0, 1, 2]); 65_536];
         table[random.below(65_536)] = random.pick(&[0, 1, 2, 3, 255]);
