@@ -381,7 +381,7 @@ fn sides<'a>(
         return with_lines(off, off.lines); // not copied whole: see `side`
     }
     put_aside(saved, off, clauses, learned, cubes, up);
-    let one = lined(first, kind);
+    let one = lined(first, kind, p.yes);
     let lines = line_if(one, tables::OFF, table, off.lines, p, statuses);
     let on = side(
         clauses,
@@ -417,7 +417,7 @@ fn sides<'a>(
         quantifiers,
         at,
     );
-    let two = lined(second, kind);
+    let two = lined(second, kind, p.yes);
     let after = settle_lines(one, two, table, on.lines, p, statuses);
     with_lines(both, after)
 }
