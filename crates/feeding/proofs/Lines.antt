@@ -91,7 +91,7 @@ module _ {X : Type 0} (serve : Service X) where
   lineSteps h (l ∷ []) = record { text = []; held = held h l }
   lineSteps h (l ∷ m ∷ ls) = after (servedAs h l .text) (lineSteps (atLine (suc (h .number)) (servedAs h l .left)) (m ∷ ls))
 
-  line-more : (h : Serving X) (l : Bytes) (ws : List Bytes) → (w : Bytes) × (vs : List Bytes) × (ws ≡ w ∷ vs)
+  pub line-more : (h : Serving X) (l : Bytes) (ws : List Bytes) → (w : Bytes) × (vs : List Bytes) × (ws ≡ w ∷ vs)
       → lineSteps h (l ∷ ws) ≡ after (servedAs h l .text) (lineSteps (atLine (suc (h .number)) (servedAs h l .left)) ws)
   line-more h l [] r = absurd (let z : _≡_ {A = ℕ} 0 1 = cc in omega (arith, z))
   line-more h l (w ∷ ws) r = refl
@@ -115,7 +115,7 @@ module _ {X : Type 0} (serve : Service X) where
       by false go = go (longer h b) ∙ line-longer h b (split newline s) (split-some newline s)
 
   -- ---- the whole input
-  last-one : (n : ℕ) (x : X) (b : ℕ) (l : Bytes) → unended serve n x (grownBy (begun []) (b ∷ l)) ≡ serve n x none .text
+  pub last-one : (n : ℕ) (x : X) (b : ℕ) (l : Bytes) → unended serve n x (grownBy (begun []) (b ∷ l)) ≡ serve n x none .text
   last-one n x b l = by (decLt textBytes (length (b ∷ l)))
     where
       by : Dec (textBytes < length (b ∷ l)) → unended serve n x (grownBy (begun []) (b ∷ l)) ≡ serve n x none .text

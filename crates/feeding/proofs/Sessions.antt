@@ -27,7 +27,7 @@ long-request : (l : Bytes) → textBytes < length l → requestOf l ≡ none
 unfolding requestOf
 long-request l h = rw (lt-ltb textBytes (length l) h)
 
-same-request : (l : Bytes) → then (asLine l) requestOf ≡ requestOf l
+pub same-request : (l : Bytes) → then (asLine l) requestOf ≡ requestOf l
 same-request l = by (decLt textBytes (length l))
   where
     asked : Bool → Option Request
