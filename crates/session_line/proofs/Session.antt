@@ -13,19 +13,19 @@ use Rattle.session_line.specs.Line.{RequestServed, ServedLines}
 
 -- on a state that reads, what is owed is the definition's turn
 module _ (x : State) (y : Read) (e : readState x ≡ some y) (z : Option Card) (n : ℕ) (t : Bytes) (x′ : State) (z′ : Option Card) where
-  text-is : (q : Option Request) → RequestServed x z q n t x′ z′ → t ≡ turnOf y z n q .text
+  pub text-is : (q : Option Request) → RequestServed x z q n t x′ z′ → t ≡ turnOf y z n q .text
   text-is none h = h .0 .text
   text-is (some (call c)) h = h .0 .text ∙ ap (λ (o : Option Read). lineAnswer o n (some c)) e
   text-is (some (write size)) h = h .0 ∙ ap (λ (o : Option Read). writeAnswer o n size) e
   text-is (some (page k)) h = h .0
 
-  next-is : (q : Option Request) → RequestServed x z q n t x′ z′ → readState x′ ≡ some (turnOf y z n q .state)
+  pub next-is : (q : Option Request) → RequestServed x z q n t x′ z′ → readState x′ ≡ some (turnOf y z n q .state)
   next-is none h = h .0 .next ∙ e
   next-is (some (call c)) h = h .0 .next ∙ ap (λ (o : Option Read). lineNext o (some c)) e
   next-is (some (write size)) h = ap readState (h .1) ∙ e
   next-is (some (page k)) h = ap readState (h .1) ∙ e
 
-  card-is : (q : Option Request) → RequestServed x z q n t x′ z′ → z′ ≡ turnOf y z n q .shown
+  pub card-is : (q : Option Request) → RequestServed x z q n t x′ z′ → z′ ≡ turnOf y z n q .shown
   card-is none h = h .1
   card-is (some (call c)) h = h .1 ∙ ap (λ (o : Option Read). lineCard o (some c) z) e
   card-is (some (write size)) h = h .2

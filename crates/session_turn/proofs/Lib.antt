@@ -1,0 +1,7 @@
+pub mod Moving
+pub mod Books
+pub mod Served
+pub mod Turns
+pub mod Answered
+pub mod Ends
+pub mod Runs
