@@ -32,6 +32,8 @@ extern "C" {
 #define BULLACETOP_LITERALS 16
 /* Learned bars, and learned passes. */
 #define BULLACETOP_ENTRIES 64
+/* The count of the bars, the length of each, and behind them the record of each. */
+#define BULLACETOP_BAR_SIZES (BULLACETOP_ENTRIES + 1 + BULLACETOP_ENTRIES)
 
 /* Quantifiers. */
 #define BULLACETOP_FLAG 0
@@ -93,9 +95,10 @@ struct bullacetop_state {
     int16_t rules[BULLACETOP_RULES * BULLACETOP_LITERALS];
     /* The count of rules, then the length of each. */
     uint16_t rule_sizes[BULLACETOP_RULES + 1];
-    /* Learned bars, oldest first, 40 cells each; then their count and the length of each. */
+    /* Learned bars, oldest first, 40 cells each; then their count, the length of each, and from cell BULLACETOP_ENTRIES + 1 on the record
+     * of each: how many rules stood when it was stored. */
     int16_t bars[BULLACETOP_ENTRIES * BULLACETOP_NUMBERS];
-    uint16_t bar_sizes[BULLACETOP_ENTRIES + 1];
+    uint16_t bar_sizes[BULLACETOP_BAR_SIZES];
     /* Learned passes likewise. */
     int16_t passes[BULLACETOP_ENTRIES * BULLACETOP_NUMBERS];
     uint16_t pass_sizes[BULLACETOP_ENTRIES + 1];
@@ -163,7 +166,7 @@ struct bullacetop_reply bullacetop_rule_in_place(
     int16_t rules[BULLACETOP_RULES * BULLACETOP_LITERALS],
     uint16_t rule_sizes[BULLACETOP_RULES + 1],
     const int16_t bars[BULLACETOP_ENTRIES * BULLACETOP_NUMBERS],
-    const uint16_t bar_sizes[BULLACETOP_ENTRIES + 1],
+    const uint16_t bar_sizes[BULLACETOP_BAR_SIZES],
     const int16_t passes[BULLACETOP_ENTRIES * BULLACETOP_NUMBERS],
     uint16_t pass_sizes[BULLACETOP_ENTRIES + 1],
     const int16_t *literals,
@@ -176,7 +179,7 @@ struct bullacetop_reply bullacetop_forget_in_place(
     const int16_t rules[BULLACETOP_RULES * BULLACETOP_LITERALS],
     const uint16_t rule_sizes[BULLACETOP_RULES + 1],
     const int16_t bars[BULLACETOP_ENTRIES * BULLACETOP_NUMBERS],
-    uint16_t bar_sizes[BULLACETOP_ENTRIES + 1],
+    uint16_t bar_sizes[BULLACETOP_BAR_SIZES],
     const int16_t passes[BULLACETOP_ENTRIES * BULLACETOP_NUMBERS],
     uint16_t pass_sizes[BULLACETOP_ENTRIES + 1]);
 
@@ -187,7 +190,7 @@ struct bullacetop_reply bullacetop_query_in_place(
     const int16_t rules[BULLACETOP_RULES * BULLACETOP_LITERALS],
     const uint16_t rule_sizes[BULLACETOP_RULES + 1],
     int16_t bars[BULLACETOP_ENTRIES * BULLACETOP_NUMBERS],
-    uint16_t bar_sizes[BULLACETOP_ENTRIES + 1],
+    uint16_t bar_sizes[BULLACETOP_BAR_SIZES],
     int16_t passes[BULLACETOP_ENTRIES * BULLACETOP_NUMBERS],
     uint16_t pass_sizes[BULLACETOP_ENTRIES + 1],
     const int16_t *on,
@@ -200,7 +203,7 @@ struct bullacetop_reply bullacetop_card_in_place(
     const int16_t rules[BULLACETOP_RULES * BULLACETOP_LITERALS],
     const uint16_t rule_sizes[BULLACETOP_RULES + 1],
     int16_t bars[BULLACETOP_ENTRIES * BULLACETOP_NUMBERS],
-    uint16_t bar_sizes[BULLACETOP_ENTRIES + 1],
+    uint16_t bar_sizes[BULLACETOP_BAR_SIZES],
     int16_t passes[BULLACETOP_ENTRIES * BULLACETOP_NUMBERS],
     uint16_t pass_sizes[BULLACETOP_ENTRIES + 1],
     uint8_t *table,
@@ -260,7 +263,7 @@ struct bullacetop_written bullacetop_write_in_place(
     const int16_t rules[BULLACETOP_RULES * BULLACETOP_LITERALS],
     const uint16_t rule_sizes[BULLACETOP_RULES + 1],
     const int16_t bars[BULLACETOP_ENTRIES * BULLACETOP_NUMBERS],
-    const uint16_t bar_sizes[BULLACETOP_ENTRIES + 1],
+    const uint16_t bar_sizes[BULLACETOP_BAR_SIZES],
     const int16_t passes[BULLACETOP_ENTRIES * BULLACETOP_NUMBERS],
     const uint16_t pass_sizes[BULLACETOP_ENTRIES + 1],
     uint8_t *table,

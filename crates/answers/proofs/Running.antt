@@ -22,9 +22,13 @@ use Rattle.theory.proofs.Stores.{ShapedStore}
 use Rattle.theory.proofs.ShapedSearch.{shaped-below}
 use Rattle.theory.proofs.WellFormed.{state-facts, shaped-store, clauses-rising, numbers-ok}
 use Rattle.tables.specs.Views.{Numbers, Places, Kinds, Values, valueCode, rowsOf}
-use Rattle.tables.specs.Formed.{Stores, Formed, storeOf}
+use Rattle.tables.specs.Formed.{Stores, Formed}
 use Rattle.tables.specs.Codes.{codes, Statuses, Quantified}
-use Rattle.tables.specs.Shelves.{StoreShown, entriesOf, newestOf}
+use Rattle.tables.specs.Shelves.{entriesOf, newestOf}
+use Rattle.tables.specs.Records.{Ledger, StoreKept, recordsAt}
+use Rattle.tables.proofs.Records.{ledger-start}
+use Rattle.loading.specs.Written.{Recorded}
+use Rattle.answers.proofs.Records.{records-length, records-back}
 use Rattle.tables.specs.Matrices.{MatrixShown, RowLength, wordsOf}
 use Rattle.tables.specs.Sets.{Descended}
 use Rattle.loading.specs.Started.{StartShown}
@@ -40,7 +44,7 @@ use Rattle.search_entry.specs.declared.Source.the-variants.{Area}
 use Rattle.search.proofs.Visiting.{open-alive}
 use Rattle.search.specs.Search.{Room, Counts, Followed, Result}
 use Rattle.state.specs.declared.State.{State}
-use Rattle.state.specs.Reading.{stateOf, rowsFit, prefixFits, readState, valid, prefixIn, formulaIn, storeIn, stateIn}
+use Rattle.state.specs.Reading.{stateOf, rowsFit, prefixFits, readState, valid, recordsOf, storeOf, prefixIn, formulaIn, storeIn, stateIn}
 use Rattle.state.specs.Derived.{Sized}
 use Rattle.state.proofs.Valid.{ValidFacts, valid-facts, table-rows, valid-tables, valid-numbers}
 use Rattle.search_start.specs.Start.{Starts}
@@ -93,11 +97,11 @@ pub below-shown : {p : Bool} (rows sets : List ℕ) (count words : ℕ) (numbers
 below-shown {p} rows sets count words numbers quantifiers values statuses cs cl qs ql table sat marks at free a up cs′ cl′ qs′ ql′ table′ within is coded known follow =
     record { by = shown }
   where
-    shown : (D : Prefix) (R : List Clause) (s : Node) (st : Store)
-        → Numbers D numbers → Values D s values → Quantified D quantifiers → MatrixShown D R (wordsOf count) rows sets → length R ≡ count → StoreShown D st cs cl qs ql
+    shown : (D : Prefix) (R : List Clause) (s : Node) (g : Ledger) (st : Store)
+        → Numbers D numbers → Values D s values → Quantified D quantifiers → MatrixShown D R (wordsOf count) rows sets → length R ≡ count → StoreKept D g st cs cl qs ql → g .clauses ≡ length R
         → Formed D R st → length s ≡ at → free ≡ freeVariables D → Covers free table [] → firstDead D s R ≡ none
-        → BelowBy p D (belowStart D R at s st) free a cs′ cl′ qs′ ql′ table′
-    shown D R s st ns vs qs-shown m counted stored form long frees cov alive =
+        → BelowBy p D g (belowStart D R at s st) free a cs′ cl′ qs′ ql′ table′
+    shown D R s g st ns vs qs-shown m counted stored ruled form long frees cov alive =
         record {
           verdict = ends D (a .verdict) (entryOf a rows cs′ qs′ up) _ (r .verdict);
           visits = omega (arith, r .visited);
@@ -118,14 +122,15 @@ below-shown {p} rows sets count words numbers quantifiers values statuses cs cl 
         matrix : MatrixShown D R words rows sets
         matrix = matrix-words (sym is) m
 
-        r : Result D [] (belowStart D R at s st) (startAt at free words p) a rows up cs′ cl′ qs′ ql′ table′
+        r : Result D g [] (belowStart D R at s st) (startAt at free words p) a rows up cs′ cl′ qs′ ql′ table′
         r =
-            follow .result D s [] R st
+            follow .result D s [] R g st
             (record {
               shown = record { quantified = qs-shown; statused = statused; long = long };
               formed = form;
               matrix = matrix;
               stored = stored;
+              ruled = ruled;
               frees = frees;
               covers = cov;
               counted = refl;
@@ -193,10 +198,12 @@ module _ (x : State) (v : valid x ≡ true) where
       (within : at ≤ getD (x .numbers) 0 0)
       (loaded : (D : Prefix) → Places D places → length D ≤ paper .numbers → entriesOf cs cl ≡ map (codes D) (rowsOf (paper .numbers) (x .«learned_clauses») (x .«learned_clause_sizes»)))
       (loaded-cubes : (D : Prefix) → Places D places → length D ≤ paper .numbers → entriesOf qs ql ≡ map (codes D) (rowsOf (paper .numbers) (x .«learned_cubes») (x .«learned_cube_sizes»)))
+      (numbered : newestOf cl ≡ getD (x .«learned_clause_sizes») 0 0)
       (run : Below p rows sets count (x .numbers) quantifiers values cs cl qs ql table at free a cs′ cl′ qs′ ql′ table′)
       (stores : Stores lc lcs lq lqs)
       (unloaded : (D : Prefix) (es : List Constraint) → Numbers D (x .numbers) → numbersOk paper [] D ≡ true → entriesOf cs′ cl′ ≡ map (codes D) es
       → ((e : Constraint) → Mem e es → (l : Literal) → Mem l e → 1 ≤ place D l) → rowsOf (paper .numbers) lc lcs ≡ es)
+      (recorded : Recorded (x .«learned_clause_sizes») (newestOf cl′) count lcs)
       (unloaded-cubes : (D : Prefix) (es : List Constraint) → Numbers D (x .numbers) → numbersOk paper [] D ≡ true → entriesOf qs′ ql′ ≡ map (codes D) es
       → ((e : Constraint) → Mem e es → (l : Literal) → Mem l e → 1 ≤ place D l) → rowsOf (paper .numbers) lq lqs ≡ es)
     where
@@ -206,16 +213,36 @@ module _ (x : State) (v : valid x ≡ true) where
           abbrev o : LearningResult
           o = belowStart (prefixIn x) (formulaIn x .clauses) at s (storeIn x)
 
-          r : BelowBy p (prefixIn x) o free a cs′ cl′ qs′ ql′ table′
+          -- the records before the search
+          abbrev g : Ledger
+          g = record { clauses = length (formulaIn x .clauses); before = recordsOf (x .«learned_clause_sizes») }
+
+          newest : newestOf cl ≡ length (g .before)
+          newest = numbered ∙ sym (records-length (x .«learned_clause_sizes»))
+
+          r : BelowBy p (prefixIn x) g o free a cs′ cl′ qs′ ql′ table′
           r =
-              run .by (prefixIn x) (formulaIn x .clauses) s (storeIn x) (valid-numbers x v) vs quantified matrix counted
-              (record { clauses = loaded (prefixIn x) ps variables-small; cubes = loaded-cubes (prefixIn x) ps variables-small }) formed long frees cov alive
+              run .by (prefixIn x) (formulaIn x .clauses) s g (storeIn x) (valid-numbers x v) vs quantified matrix counted
+              (record {
+                shown = record { clauses = loaded (prefixIn x) ps variables-small; cubes = loaded-cubes (prefixIn x) ps variables-small };
+                since = omega (arith, newest);
+                records = sym (ap (recordsAt g) newest ∙ ledger-start g);
+              })
+              refl formed long frees cov alive
+
+          written : recordsOf lcs ≡ o .store .records
+          written =
+              records-back (x .«learned_clause_sizes») lcs (newestOf cl′) (length (formulaIn x .clauses))
+              (leb-true (getD (x .«learned_clause_sizes») 0 0) (paper .constraints) (and-left (leb (getD (x .«learned_clause_sizes») 0 0) (paper .constraints)) _ (f .learned-clauses-fit))) (omega (arith, r .stored .since, records-length (x .«learned_clause_sizes»)))
+              (subst (λ (n : ℕ). Recorded (x .«learned_clause_sizes») (newestOf cl′) n lcs) (sym counted) recorded)
+              ∙ sym (r .stored .records)
 
           same : storeOf lc lcs lq lqs ≡ o .store
           same i =
               record {
-                clauses = unloaded (prefixIn x) (o .store .clauses) (valid-numbers x v) variables-numbered (r .stored .clauses) (learned-declared at s long within false) i;
-                cubes = unloaded-cubes (prefixIn x) (o .store .cubes) (valid-numbers x v) variables-numbered (r .stored .cubes) (learned-declared at s long within true) i;
+                clauses = unloaded (prefixIn x) (o .store .clauses) (valid-numbers x v) variables-numbered (r .stored .shown .clauses) (learned-declared at s long within false) i;
+                records = written i;
+                cubes = unloaded-cubes (prefixIn x) (o .store .cubes) (valid-numbers x v) variables-numbered (r .stored .shown .cubes) (learned-declared at s long within true) i;
               }
 
           found-over : FoundBy p x o free a (withStore x lc lcs lq lqs) table′

@@ -14,7 +14,7 @@ use lib.Dec.{leb}
 use Rattle.tables.specs.Views.{Numbers, Places, Kinds, Values}
 use Rattle.tables.specs.Formed.{Clauses, Stores, Formed}
 use Rattle.tables.specs.Codes.{Quantified}
-use Rattle.tables.specs.Shelves.{StoreShown}
+use Rattle.tables.specs.Records.{Ledger, StoreKept}
 use Rattle.tables.specs.Matrices.{MatrixShown, wordsOf}
 use Rattle.search_start.specs.declared.Start.{Start}
 use Rattle.search_start.specs.Start.{Starts}
@@ -58,18 +58,18 @@ abbrev pub belowStart : Prefix → List Clause → ℕ → Node → Store → Le
 belowStart D R at s st = below paper D R (drop at (quantifiers D)) s st
 
 -- over the derived tables, for every prefix, clauses, store and node that they show
-pub record BelowBy (p : Bool) (D : Prefix) (o : LearningResult) (free : ℕ) (r : Answer) (cs cl qs ql table : List ℕ) : Type 0 where
+pub record BelowBy (p : Bool) (D : Prefix) (g : Ledger) (o : LearningResult) (free : ℕ) (r : Answer) (cs cl qs ql table : List ℕ) : Type 0 where
   pub verdict : Ends (r .verdict) (o .outcome)
   pub visits : r .visits ≡ o .visits
-  pub stored : StoreShown D (o .store) cs cl qs ql
+  pub stored : StoreKept D g (o .store) cs cl qs ql
   pub covers : Covers free table (newLines p (o .outcome))
   pub lines : r .lines ≡ length (newLines p (o .outcome))
 
 pub record Below (p : Bool) (rows sets : List ℕ) (count : ℕ) (numbers quantifiers values cs cl qs ql table : List ℕ) (at free : ℕ) (r : Answer) (cs′ cl′ qs′ ql′ table′ : List ℕ) : Type 0 where
-  pub by : (D : Prefix) (R : List Clause) (s : Node) (st : Store)
-      → Numbers D numbers → Values D s values → Quantified D quantifiers → MatrixShown D R (wordsOf count) rows sets → length R ≡ count → StoreShown D st cs cl qs ql
+  pub by : (D : Prefix) (R : List Clause) (s : Node) (g : Ledger) (st : Store)
+      → Numbers D numbers → Values D s values → Quantified D quantifiers → MatrixShown D R (wordsOf count) rows sets → length R ≡ count → StoreKept D g st cs cl qs ql → g .clauses ≡ length R
       → Formed D R st → length s ≡ at → free ≡ freeVariables D → Covers free table [] → firstDead D s R ≡ none
-      → BelowBy p D (belowStart D R at s st) free r cs′ cl′ qs′ ql′ table′
+      → BelowBy p D g (belowStart D R at s st) free r cs′ cl′ qs′ ql′ table′
 
 -- on a state, over derived tables of its clauses
 pub record Over (p : Bool) (x : State) (rows sets : List ℕ) (count : ℕ) (quantifiers places values : List ℕ) (at free : ℕ) (table : List ℕ) (r : Answer) (y : State) (table′ : List ℕ) : Type 0 where

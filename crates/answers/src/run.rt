@@ -18,6 +18,7 @@ use loading::clauses::load_clauses;
 use loading::clauses::words_of;
 use loading::entries::load;
 use loading::entries::unload;
+use loading::entries::unload_clauses;
 use loading::start::start_rows;
 use node::Answer;
 use node::Position;
@@ -33,7 +34,7 @@ fn at_start<'a>(
     clauses: &'a [i16; tables::CLAUSE_CELLS],
     clause_sizes: &'a [u16; tables::CLAUSE_SIZES],
     learned_clauses: &'a [i16; tables::CONSTRAINT_CELLS],
-    learned_clause_sizes: &'a [u16; tables::CONSTRAINT_SIZES],
+    learned_clause_sizes: &'a [u16; tables::LEARNED_CLAUSE_SIZES],
     learned_cubes: &'a [i16; tables::CONSTRAINT_CELLS],
     learned_cube_sizes: &'a [u16; tables::CONSTRAINT_SIZES],
     places: &'a [u16; tables::BY_NUMBER],
@@ -202,7 +203,7 @@ fn over_clauses<'a>(
     quantifiers: &'a [u8; tables::CODES],
     numbers: &'a [u16; tables::BY_NUMBER],
     learned_clauses: &mut [i16; tables::CONSTRAINT_CELLS],
-    learned_clause_sizes: &mut [u16; tables::CONSTRAINT_SIZES],
+    learned_clause_sizes: &mut [u16; tables::LEARNED_CLAUSE_SIZES],
     learned_cubes: &mut [i16; tables::CONSTRAINT_CELLS],
     learned_cube_sizes: &mut [u16; tables::CONSTRAINT_SIZES],
     places: &'a [u16; tables::BY_NUMBER],
@@ -303,12 +304,13 @@ fn over_clauses<'a>(
         free,
         yes,
     );
-    unload(
+    unload_clauses(
         &learned,
         &learned_links,
         numbers,
         learned_clauses,
         learned_clause_sizes,
+        count as u16,
     );
     unload(
         &cubes,
@@ -326,7 +328,7 @@ fn searched<'a>(
     clauses: &'a [i16; tables::CLAUSE_CELLS],
     clause_sizes: &'a [u16; tables::CLAUSE_SIZES],
     learned_clauses: &mut [i16; tables::CONSTRAINT_CELLS],
-    learned_clause_sizes: &mut [u16; tables::CONSTRAINT_SIZES],
+    learned_clause_sizes: &mut [u16; tables::LEARNED_CLAUSE_SIZES],
     learned_cubes: &mut [i16; tables::CONSTRAINT_CELLS],
     learned_cube_sizes: &mut [u16; tables::CONSTRAINT_SIZES],
     places: &'a [u16; tables::BY_NUMBER],
@@ -432,7 +434,7 @@ pub fn run<'a>(
     clauses: &'a [i16; tables::CLAUSE_CELLS],
     clause_sizes: &'a [u16; tables::CLAUSE_SIZES],
     learned_clauses: &mut [i16; tables::CONSTRAINT_CELLS],
-    learned_clause_sizes: &mut [u16; tables::CONSTRAINT_SIZES],
+    learned_clause_sizes: &mut [u16; tables::LEARNED_CLAUSE_SIZES],
     learned_cubes: &mut [i16; tables::CONSTRAINT_CELLS],
     learned_cube_sizes: &mut [u16; tables::CONSTRAINT_SIZES],
     places: &'a [u16; tables::BY_NUMBER],

@@ -11,13 +11,13 @@ use lib.Seq.{take-at}
 use lib.Dec.{leb}
 use Rattle.qbf.specs.Formula.{paper, Formula}
 use Rattle.qbf.specs.Card.{zeroTable}
-use Rattle.qbf.specs.Calls.{formulaOk, storeOk, State as Read}
+use Rattle.qbf.specs.Calls.{formulaOk, State as Read}
 use Rattle.qbf.specs.Runs.{fresh}
 use Rattle.theory.proofs.Basics.{and-left}
 use Rattle.theory.proofs.AcceptedRule.{some-none}
 use Rattle.theory.proofs.WellFormed.{formula-facts}
 use Rattle.state.specs.declared.State.{State}
-use Rattle.state.specs.Reading.{formulaIn, storeIn, readState, wellFormedRead, valid}
+use Rattle.state.specs.Reading.{formulaIn, readState, wellFormedRead, valid}
 use Rattle.state.proofs.Valid.{valid-facts}
 use Rattle.layout.specs.Words.{Bytes}
 use Rattle.layout.specs.Opening.{opened, openText}
@@ -54,7 +54,7 @@ text-written {x} {size} {count} {table} w = by (valid x) refl
     by false v = refused (w .said ∙ ap told (malformed-is x size v))
 
 formula-ok : (x : State) → valid x ≡ true → formulaOk (formulaIn x) ≡ true
-formula-ok x v = and-left (formulaOk (formulaIn x)) (storeOk paper (formulaIn x .prefix) (storeIn x)) (valid-facts x v .formed)
+formula-ok x v = and-left (formulaOk (formulaIn x)) _ (valid-facts x v .formed)
 
 -- the text lies within its table
 pub count-within : {x : State} {size count : ℕ} {table : Bytes} → Writes x size 0 count table → count ≤ length table

@@ -71,3 +71,6 @@ acceptedText = ascii "(accepted)\n"
 
 abbrev pub forgottenText : Bytes
 forgottenText = ascii "(forgotten)\n"
+
+abbrev pub withdrawnText : Bytes
+withdrawnText = ascii "(withdrawn)\n"

@@ -7,10 +7,10 @@ use mathlib.Core.Option.{Option, none, some}
 use lib.ListN.{length}
 use lib.Dec.{leb, ltb, eqb}
 use Rattle.qbf.specs.Formula.{Prefix, Literal, numberOf}
-use Rattle.qbf.specs.Calls.{Call, rule, query, card, forget, Reply, done, refused, swap, keep, lines, cardRefused, Answer}
+use Rattle.qbf.specs.Calls.{Call, rule, query, card, forget, withdraw, Reply, done, refused, swap, keep, lines, cardRefused, Answer}
 use Rattle.layout.specs.Words.{Bytes, ascii, newline, space, split, same, inside}
 use Rattle.layout.specs.Forms.{then, items, ruleWord}
-use Rattle.layout.specs.Output.{cardText, refusalText, overflowText, queryText, acceptedText, forgottenText}
+use Rattle.layout.specs.Output.{cardText, refusalText, overflowText, queryText, acceptedText, forgottenText, withdrawnText}
 use Rattle.layout.specs.Program.{tableBytes}
 use Rattle.layout.specs.Opening as opening
 
@@ -59,10 +59,11 @@ unfoldable pub callOf : Bytes → Option Call
 callOf l = cond (ltb opening.textBytes (length l)) none (then (inside l) (λ s. callFrom (split space s)))
 
 -- ---- the answer of a call
--- an accepted rule, a store emptied; the other calls are not answered so
+-- an accepted rule, a store emptied, a rule withdrawn; the other calls are not answered so
 abbrev pub doneText : Call → Bytes
 doneText (rule ls) = acceptedText
 doneText forget = forgottenText
+doneText withdraw = withdrawnText
 doneText (query ls) = []
 doneText (card size) = []
 

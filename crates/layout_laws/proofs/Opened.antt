@@ -1,7 +1,7 @@
 -- What a text opens is well formed.
 use Prim.Native.Nat.{ℕ, suc, _≤_, _<_, zero-le}
 use mathlib.Core.Path.{_≡_, refl, sym, _∙_, subst}
-use mathlib.Core.Bool.{Bool, true, false, cond, not}
+use mathlib.Core.Bool.{Bool, true, false, cond, not, _&&_}
 use mathlib.Core.List.{List, [], _∷_, _++_, map}
 use mathlib.Core.Option.{Option, none, some}
 use native.Mathlib.Omega.{arith}
@@ -10,7 +10,7 @@ use lib.ListN.{length}
 use lib.Dec.{eqb, leb, ltb}
 use Rattle.qbf.specs.Formula.{Limits, Quantifier, free, exists, forall, Prefix, quantifiers, Clause, Formula}
 use Rattle.qbf.specs.Learning.{emptyStore}
-use Rattle.qbf.specs.Calls.{limitsOk, clausesOk, formulaOk, storeOk, wellFormed}
+use Rattle.qbf.specs.Calls.{limitsOk, clausesOk, formulaOk, storeOk, recordsOk, wellFormed}
 use Rattle.qbf.specs.Runs.{fresh}
 use Rattle.theory.proofs.Basics.{and-both, not-false}
 use Rattle.theory.proofs.WellFormed.{FormulaFacts, facts-formula}
@@ -70,7 +70,9 @@ reached-none L room = record { facts = record { limits-ok = room; prefix-ok = re
 
 -- a well-formed formula with an empty store is a well-formed state
 pub fresh-formed : (b : Formula) → FormulaFacts b → wellFormed (fresh b) ≡ true
-fresh-formed b h = and-both (formulaOk b) (storeOk (b .limits) (b .prefix) emptyStore) (facts-formula b h) none-stored
+fresh-formed b h =
+    and-both (formulaOk b) (storeOk (b .limits) (b .prefix) emptyStore && recordsOk (length (b .clauses)) emptyStore) (facts-formula b h)
+    (and-both (storeOk (b .limits) (b .prefix) emptyStore) (recordsOk (length (b .clauses)) emptyStore) none-stored refl)
   where
     none-stored : storeOk (b .limits) (b .prefix) emptyStore ≡ true
     none-stored = rw (le-leb 0 (b .limits .constraints) zero-le)

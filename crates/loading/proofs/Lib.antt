@@ -5,3 +5,4 @@ pub mod Coding
 pub mod Matrix
 pub mod Starting
 pub mod Unloading
+pub mod Recording

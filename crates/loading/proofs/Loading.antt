@@ -56,7 +56,7 @@ load-more {f} {l} {places} {k} {cells} {links} inv low cells′ links′ s e h =
 -- all rows
 pub load-end : {f : List ℤ} {l places : List ℕ} {k : ℕ} {cells links : List ℕ} → Loaded f l places k cells links
     → Constraints f l → k ≡ getD l 0 0
-    → Entries cells links × (newestOf links ≤ paper .constraints)
+    → Entries cells links × (newestOf links ≡ getD l 0 0)
     × ((D : Prefix) → Places D places → length D ≤ paper .numbers → entriesOf cells links ≡ map (codes D) (rowsOf (paper .numbers) f l))
 load-end {f} {l} {places} {k} {cells} {links} inv t e =
-    (inv .shelf, omega (arith, inv .newest, t .few), λ D p few. inv .is D p few ∙ ap (λ (n : ℕ). map (codes D) (rows (paper .numbers) f l n)) e)
+    (inv .shelf, inv .newest ∙ e, λ D p few. inv .is D p few ∙ ap (λ (n : ℕ). map (codes D) (rows (paper .numbers) f l n)) e)

@@ -10,7 +10,7 @@ use mathlib.Core.Bool.{true}
 use mathlib.Core.List.{List, [], _∷_, _++_, map}
 use lib.IntN.{ℤ, pos}
 use lib.ListN.{length, getD, take, drop, set, length-drop, length-set, length-map}
-use lib.Seq.{take-all, take-suc, take-suc-set, take-set-le, drop-set-add, getD-set-same, getD-set-other}
+use lib.Seq.{take-all, take-suc, take-suc-set, take-set-le, drop-set-add, drop-set-lt, getD-set-same, getD-set-other}
 use Rattle.qbf.specs.Formula.{paper, Prefix, Literal, place}
 use Rattle.qbf.specs.Learning.{Constraint}
 use Rattle.qbf.specs.Card.{Mem}
@@ -85,7 +85,7 @@ decode-end {numbers} {r} {at} {f₀} {i} {f} inv z = (
 -- ---- one row of a shelf, found in its slot
 pub unload-row : (numbers cells links : List ℕ) (k slot : ℕ) (f f′ : List ℤ) (l r : List ℕ)
     → slot ≡ (baseOf (paper .constraints) links + k) % paper .constraints → r ≡ rowAt (paper .numbers) cells slot → length r ≤ paper .numbers
-    → k < paper .constraints → length l ≡ suc (paper .constraints) → length f′ ≡ length f → take (k * paper .numbers) f′ ≡ take (k * paper .numbers) f
+    → k < paper .constraints → suc (paper .constraints) ≤ length l → length f′ ≡ length f → take (k * paper .numbers) f′ ≡ take (k * paper .numbers) f
     → ((D : Prefix) (e : Constraint) → Numbers D numbers → numbersOk paper [] D ≡ true → r ≡ codes D e
     → ((x : Literal) → Mem x e → 1 ≤ place D x) → take (length r) (drop (k * paper .numbers) f′) ≡ e)
     → Unloaded numbers (entryAt cells links k) k f l f′ (set l (k + 1) (length r))
@@ -103,19 +103,23 @@ unload-row numbers cells links k slot f f′ l r z y small low counted room kept
     }
 
 -- ---- the rows of a shelf: the first k are written
-pub record Unloading (numbers cells links : List ℕ) (k : ℕ) (f : List ℤ) (l : List ℕ) : Type 0 where
+pub record Unloading (numbers cells links l₀ : List ℕ) (k : ℕ) (f : List ℤ) (l : List ℕ) : Type 0 where
   pub room : length f ≡ paper .constraints * paper .numbers
-  pub counted : length l ≡ suc (paper .constraints)
+  pub counted : suc (paper .constraints) ≤ length l
+  pub size : length l ≡ length l₀
+  pub behind : drop (suc (paper .constraints)) l ≡ drop (suc (paper .constraints)) l₀
   pub short : (j : ℕ) → j < k → getD l (suc j) 0 ≤ paper .numbers
   pub is : (D : Prefix) (es : List Constraint) → Numbers D numbers → numbersOk paper [] D ≡ true → entriesOf cells links ≡ map (codes D) es
       → ((e : Constraint) → Mem e es → (x : Literal) → Mem x e → 1 ≤ place D x) → rows (paper .numbers) f l k ≡ take k es
 
 -- none yet
-pub unload-none : (numbers cells links : List ℕ) (f : List ℤ) (l : List ℕ) → length f ≡ paper .constraints * paper .numbers → length l ≡ suc (paper .constraints)
-    → Unloading numbers cells links 0 f l
+pub unload-none : (numbers cells links : List ℕ) (f : List ℤ) (l : List ℕ) → length f ≡ paper .constraints * paper .numbers → suc (paper .constraints) ≤ length l
+    → Unloading numbers cells links l 0 f l
 unload-none numbers cells links f l r c = record {
   room = r;
   counted = c;
+  size = refl;
+  behind = refl;
   short = λ j h. absurd (not-suc-le-zero h);
   is = λ D es n o p q. rows-zero (paper .numbers) f l;
 }
@@ -138,10 +142,10 @@ module _ (cells links : List ℕ) where
       ∙ sym (map-at (codes D) es k [] [] (omega (arith, as-many D es p)))
 
   -- row k too
-  pub unload-more : {numbers : List ℕ} {k : ℕ} {f : List ℤ} {l : List ℕ} → Unloading numbers cells links k f l → k < stand
+  pub unload-more : {numbers l₀ : List ℕ} {k : ℕ} {f : List ℤ} {l : List ℕ} → Unloading numbers cells links l₀ k f l → k < stand
       → (f′ : List ℤ) (l′ : List ℕ) → Unloaded numbers (entryAt cells links k) k f l f′ l′
-      → Unloading numbers cells links (k + 1) f′ l′
-  unload-more {numbers} {k} {f} {l} inv low f′ l′ u =
+      → Unloading numbers cells links l₀ (k + 1) f′ l′
+  unload-more {numbers} {l₀} {k} {f} {l} inv low f′ l′ u =
       let few : k < paper .constraints = omega arith in
       let other : (j : ℕ) → j < k → getD l′ (suc j) 0 ≡ getD l (suc j) 0 =
       λ j m. ap (λ (xs : List ℕ). getD xs (suc j) 0) (u .sizes) ∙ getD-set-other l (suc k) (suc j) (length (entryAt cells links k)) 0 (omega arith)
@@ -151,7 +155,9 @@ module _ (cells links : List ℕ) where
       in
       record {
         room = u .room ∙ inv .room;
-        counted = ap length (u .sizes) ∙ length-set l (suc k) (length (entryAt cells links k)) ∙ inv .counted;
+        counted = omega (arith, ap length (u .sizes), length-set l (suc k) (length (entryAt cells links k)), inv .counted);
+        size = ap length (u .sizes) ∙ length-set l (suc k) (length (entryAt cells links k)) ∙ inv .size;
+        behind = ap (drop (suc (paper .constraints))) (u .sizes) ∙ drop-set-lt (suc (paper .constraints)) l (suc k) (length (entryAt cells links k)) (omega (arith, few)) ∙ inv .behind;
         short = below-more (λ (j : ℕ). getD l′ (suc j) 0 ≤ paper .numbers) k (λ j m. rw (other j m) (inv .short j m)) (rw same (u .short));
         is = λ D es n o p q.
             let lt : k < length es = omega (arith, as-many D es p) in
@@ -166,16 +172,18 @@ module _ (cells links : List ℕ) where
       }
 
   -- every row that stands, and their number in the first cell
-  ended : {numbers : List ℕ} {k : ℕ} {f : List ℤ} {l : List ℕ} → Unloading numbers cells links k f l → k ≡ stand
+  ended : {numbers l₀ : List ℕ} {k : ℕ} {f : List ℤ} {l : List ℕ} → Unloading numbers cells links l₀ k f l → k ≡ stand
       → Constraints f (set l 0 k)
       × ((D : Prefix) (es : List Constraint) → Numbers D numbers → numbersOk paper [] D ≡ true → entriesOf cells links ≡ map (codes D) es
       → ((e : Constraint) → Mem e es → (x : Literal) → Mem x e → 1 ≤ place D x) → rowsOf (paper .numbers) f (set l 0 k) ≡ es)
-  ended {numbers} {k} {f} {l} inv z =
+      × (getD (set l 0 k) 0 0 ≡ stand)
+      × (drop (suc (paper .constraints)) (set l 0 k) ≡ drop (suc (paper .constraints)) l₀)
+  ended {numbers} {l₀} {k} {f} {l} inv z =
       let count : getD (set l 0 k) 0 0 ≡ k = getD-set-same l 0 k 0 (omega (arith, inv .counted)) in
       let other : (j : ℕ) → j < k → getD (set l 0 k) (suc j) 0 ≡ getD l (suc j) 0 = λ j m. getD-set-other l 0 (suc j) k 0 (omega arith) in (
         record {
           room = inv .room;
-          counted = length-set l 0 k ∙ inv .counted;
+          counted = omega (arith, length-set l 0 k, inv .counted);
           few = rw count (omega arith);
           short = rw count (λ j m. rw (other j m) (inv .short j m));
         },
@@ -184,11 +192,15 @@ module _ (cells links : List ℕ) where
             ∙ rows-kept (paper .numbers) k f f l (set l 0 k) refl other (inv .short)
             ∙ inv .is D es n o p q
             ∙ take-all k es (omega (arith, as-many D es p)),
+        count ∙ z,
+        drop-set-lt (suc (paper .constraints)) l 0 k (omega arith) ∙ inv .behind,
       )
 
   -- .. where the code has the number by another name
-  pub unload-end : {numbers : List ℕ} {k : ℕ} {f : List ℤ} {l : List ℕ} → Unloading numbers cells links k f l → (n : ℕ) → k ≡ n → n ≡ stand
+  pub unload-end : {numbers l₀ : List ℕ} {k : ℕ} {f : List ℤ} {l : List ℕ} → Unloading numbers cells links l₀ k f l → (n : ℕ) → k ≡ n → n ≡ stand
       → Constraints f (set l 0 n)
       × ((D : Prefix) (es : List Constraint) → Numbers D numbers → numbersOk paper [] D ≡ true → entriesOf cells links ≡ map (codes D) es
       → ((e : Constraint) → Mem e es → (x : Literal) → Mem x e → 1 ≤ place D x) → rowsOf (paper .numbers) f (set l 0 n) ≡ es)
-  unload-end {numbers} {k} {f} {l} inv n e z = ended (subst (λ (j : ℕ). Unloading numbers cells links j f l) e inv) z
+      × (getD (set l 0 n) 0 0 ≡ stand)
+      × (drop (suc (paper .constraints)) (set l 0 n) ≡ drop (suc (paper .constraints)) l₀)
+  unload-end {numbers} {l₀} {k} {f} {l} inv n e z = ended (subst (λ (j : ℕ). Unloading numbers cells links l₀ j f l) e inv) z

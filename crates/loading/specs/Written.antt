@@ -1,10 +1,11 @@
 -- One row of a shelf written back into the state's table.
-use Prim.Native.Nat.{ℕ, suc, _+_, _*_, _%_, _≤_}
+use Prim.Native.Nat.{ℕ, suc, _+_, _-_, _*_, _%_, _≤_, _<_}
 use mathlib.Core.Path.{_≡_}
-use mathlib.Core.Bool.{true}
+use mathlib.Core.Bool.{true, cond}
 use mathlib.Core.List.{List, []}
 use lib.IntN.{ℤ}
-use lib.ListN.{length, take, set}
+use lib.ListN.{length, getD, take, set}
+use lib.Dec.{ltb}
 use Rattle.qbf.specs.Formula.{paper, Prefix, Literal, place}
 use Rattle.qbf.specs.Learning.{Constraint}
 use Rattle.qbf.specs.Card.{Mem}
@@ -29,3 +30,18 @@ pub record Unloaded (numbers r : List ℕ) (k : ℕ) (f : List ℤ) (l : List �
       → r ≡ codes D e
       → ((l : Literal) → Mem l e → 1 ≤ place D l)
       → row (paper .numbers) f′ l′ k ≡ e
+
+-- ---- the records of the learned clauses, behind their sizes
+-- of the row that stands at index k, from the oldest, whose number follows `base`; `before` rows were loaded
+abbrev pub recordFrom : List ℕ → ℕ → ℕ → ℕ → ℕ → ℕ
+recordFrom sizes base before clauses k = cond (ltb (base + k) before) (getD sizes (suc (paper .constraints) + (base + k)) 0) clauses
+
+-- .. of every row that stands
+pub record RecordsFrom (sizes : List ℕ) (newest before clauses : ℕ) (sizes′ : List ℕ) : Type 0 where
+  pub at : (k : ℕ) → k < newest - (newest - paper .constraints)
+      → getD sizes′ (suc (paper .constraints) + k) 0 ≡ recordFrom sizes (newest - paper .constraints) before clauses k
+
+-- .. with their count
+pub record Recorded (sizes : List ℕ) (newest clauses : ℕ) (sizes′ : List ℕ) : Type 0 where
+  pub count : getD sizes′ 0 0 ≡ newest - (newest - paper .constraints)
+  pub records : RecordsFrom sizes newest (getD sizes 0 0) clauses sizes′

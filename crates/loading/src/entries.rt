@@ -16,12 +16,12 @@ ghost use Rattle.tables.specs.Views.{Places, Numbers, row, rowsOf};
 ghost use Rattle.tables.specs.Formed.{Constraints};
 ghost use Rattle.tables.specs.Codes.{codes};
 ghost use Rattle.tables.specs.Shelves.{Entries, entriesOf, newestOf, baseOf};
-ghost use Rattle.loading.specs.Written.{entryAt, Unloaded};
+ghost use Rattle.loading.specs.Written.{entryAt, Unloaded, recordFrom, RecordsFrom, Recorded};
 
 // Row k of the table goes onto the shelf.
 fn load_row<'a>(
     store: &'a [i16; tables::CONSTRAINT_CELLS],
-    sizes: &'a [u16; tables::CONSTRAINT_SIZES],
+    sizes: &'a [u16],
     places: &'a [u16; tables::BY_NUMBER],
     cells: &mut [u16; tables::CONSTRAINT_CODES],
     links: &mut [u64; tables::CONSTRAINT_LINKS],
@@ -63,7 +63,7 @@ fn load_row<'a>(
 // Every row of the table goes onto an empty shelf.
 pub fn load<'a>(
     store: &'a [i16; tables::CONSTRAINT_CELLS],
-    sizes: &'a [u16; tables::CONSTRAINT_SIZES],
+    sizes: &'a [u16],
     places: &'a [u16; tables::BY_NUMBER],
     cells: &mut [u16; tables::CONSTRAINT_CODES],
     links: &mut [u64; tables::CONSTRAINT_LINKS],
@@ -71,7 +71,7 @@ pub fn load<'a>(
     requires { ⌜ Constraints (now store) (now sizes) × Entries (now cells) (now links) × (newestOf (now links) ≡ 0) ⌝ }
     ensures { λ _. ⌜
         Entries (now (cells .exit)) (now (links .exit))
-        × (newestOf (now (links .exit)) ≤ paper .constraints)
+        × (newestOf (now (links .exit)) ≡ getD (now (sizes .entry)) 0 0)
         × ((D : Prefix)
         → Places D (now (places .entry))
         → length D ≤ paper .numbers
@@ -149,7 +149,7 @@ fn unload_row<'a>(
         Entries (now cells) (now links)
         × (k < newestOf (now links) - baseOf (paper .constraints) (now links))
         × (length (now store) ≡ paper .constraints * paper .numbers)
-        × (length (now sizes) ≡ suc (paper .constraints))
+        × (suc (paper .constraints) ≤ length (now sizes))
         ⌝ }
     ensures { λ _. ⌜
         Unloaded
@@ -168,7 +168,7 @@ fn unload_row<'a>(
     sizes[k + 1] = row.len() as u16;
 }
 
-// The rows one after the other, from the oldest.
+// The rows one after the other, from the oldest; what stands behind the sizes stays.
 fn unload_rows<'a>(
     cells: &'a [u16; tables::CONSTRAINT_CODES],
     links: &'a [u64; tables::CONSTRAINT_LINKS],
@@ -179,7 +179,7 @@ fn unload_rows<'a>(
     requires { ⌜
         Entries (now cells) (now links)
         × (length (now store) ≡ paper .constraints * paper .numbers)
-        × (length (now sizes) ≡ suc (paper .constraints))
+        × (suc (paper .constraints) ≤ length (now sizes))
         ⌝ }
     ensures { λ _. ⌜
         Constraints (now (store .exit)) (now (sizes .exit))
@@ -189,6 +189,8 @@ fn unload_rows<'a>(
         → entriesOf (now (cells .entry)) (now (links .entry)) ≡ map (codes D) es
         → ((e : Constraint) → Mem e es → (l : Literal) → Mem l e → 1 ≤ place D l)
         → rowsOf (paper .numbers) (now (store .exit)) (now (sizes .exit)) ≡ es)
+        × (getD (now (sizes .exit)) 0 0 ≡ newestOf (now (links .entry)) - baseOf (paper .constraints) (now (links .entry)))
+        × (drop (suc (paper .constraints)) (now (sizes .exit)) ≡ drop (suc (paper .constraints)) (now (sizes .entry)))
         ⌝ }
 {
     let count = standing(links);
@@ -219,5 +221,85 @@ pub fn unload<'a>(
         → rowsOf (paper .numbers) (now (store .exit)) (now (sizes .exit)) ≡ es)
         ⌝ }
 {
+    unload_rows(cells, links, numbers, store, sizes);
+}
+
+// The number before that of the oldest row that stands.
+fn base_of<'a>(links: &'a [u64; tables::CONSTRAINT_LINKS]) -> u64
+    ensures { λ r. ⌜ r ≡ baseOf (paper .constraints) (now (links .entry)) ⌝ }
+{
+    let newest = links[tables::CODES];
+    let slots = tables::CONSTRAINTS as u64;
+    if newest < slots {
+        return 0;
+    }
+    newest - slots
+}
+
+// The record of the row that stands at index k: a row that was loaded has its own, a younger one the count of clauses.
+fn record_of<'a>(sizes: &'a [u16], base: u64, before: usize, clauses: u16, k: usize) -> u16
+    requires { ⌜
+        (suc (paper .constraints) + paper .constraints ≤ length (now sizes))
+        × (k < paper .constraints)
+        × (before ≤ paper .constraints)
+        ⌝ }
+    ensures { λ r. ⌜ r ≡ recordFrom (now (sizes .entry)) base before clauses k ⌝ }
+{
+    if base < before as u64 {
+        let i = base as usize + k;
+        if i < before {
+            return sizes[tables::CONSTRAINT_SIZES + i];
+        }
+    }
+    clauses
+}
+
+// The records of the rows that stand, from the oldest. A row's own record stands no earlier than where it goes.
+fn write_records<'a>(
+    sizes: &mut [u16],
+    links: &'a [u64; tables::CONSTRAINT_LINKS],
+    before: usize,
+    clauses: u16,
+)
+    requires { ⌜
+        (suc (paper .constraints) + paper .constraints ≤ length (now sizes)) × (before ≤ paper .constraints)
+        ⌝ }
+    ensures { λ _. ⌜
+        (length (now (sizes .exit)) ≡ length (now (sizes .entry)))
+        × RecordsFrom (now (sizes .entry)) (newestOf (now (links .entry))) before clauses (now (sizes .exit))
+        ⌝ }
+{
+    let base = base_of(links);
+    let count = standing(links);
+    let mut k: usize = 0;
+    while k < count {
+        sizes[tables::CONSTRAINT_SIZES + k] = record_of(sizes, base, before, clauses, k);
+        k += 1;
+    }
+}
+
+// .. of the learned clauses, with their records behind the sizes.
+pub fn unload_clauses<'a>(
+    cells: &'a [u16; tables::CONSTRAINT_CODES],
+    links: &'a [u64; tables::CONSTRAINT_LINKS],
+    numbers: &'a [u16; tables::BY_NUMBER],
+    store: &mut [i16; tables::CONSTRAINT_CELLS],
+    sizes: &mut [u16],
+    clauses: u16,
+)
+    requires { ⌜ Entries (now cells) (now links) × (suc (paper .constraints) + paper .constraints ≤ length (now sizes)) × (getD (now sizes) 0 0 ≤ paper .constraints) ⌝ }
+    ensures { λ _. ⌜
+        Constraints (now (store .exit)) (now (sizes .exit))
+        × ((D : Prefix) (es : List Constraint)
+        → Numbers D (now (numbers .entry))
+        → numbersOk paper [] D ≡ true
+        → entriesOf (now (cells .entry)) (now (links .entry)) ≡ map (codes D) es
+        → ((e : Constraint) → Mem e es → (l : Literal) → Mem l e → 1 ≤ place D l)
+        → rowsOf (paper .numbers) (now (store .exit)) (now (sizes .exit)) ≡ es)
+        × Recorded (now (sizes .entry)) (newestOf (now (links .entry))) clauses (now (sizes .exit))
+        ⌝ }
+{
+    let before = sizes[0] as usize;
+    write_records(sizes, links, before, clauses);
     unload_rows(cells, links, numbers, store, sizes);
 }

@@ -1,7 +1,7 @@
 -- Joining the constraints of two sides: the resolvent, and what is stored.
 use Prim.Native.Nat.{ℕ, suc, _≤_, _<_}
 use native.Mathlib.Omega.{arith}
-use mathlib.Core.Path.{_≡_, sym, ap, subst, _∙_}
+use mathlib.Core.Path.{_≡_, refl, sym, ap, subst, _∙_}
 use mathlib.Core.Bool.{Bool, true, false}
 use mathlib.Core.List.{List, map}
 use lib.ListN.{length, take, drop, length-map}
@@ -28,8 +28,8 @@ module _ (D : Prefix) (at : ℕ) (v : Polarity) (e f : Constraint) (ordered : in
   is-named = mentions-last D (suc at) f (rising→ D 0 f ordered) ends (omega arith) ∙ sym named
 
   -- it does not: it goes up, and nothing is stored
-  pub joined-lacking : b ≡ false → (es : List Constraint) {cs : List ℕ} {rows : List (List ℕ)} → cs ≡ codes D f → rows ≡ map (codes D) es → JoinedSides D (suc at) v e f es cs rows
-  joined-lacking h es k s = record { up = rw (is-named, h) k; stored = rw (is-named, h) s }
+  pub joined-lacking : b ≡ false → (es : List Constraint) {cs : List ℕ} {rows : List (List ℕ)} {n : ℕ} → cs ≡ codes D f → rows ≡ map (codes D) es → JoinedSides D (suc at) v e f es cs rows n n
+  joined-lacking h es k s = record { up = rw (is-named, h) k; stored = rw (is-named, h) s; numbered = rw (is-named, h) refl }
 
   -- it does: the resolvent, the first m codes of an area, is stored, and its row goes up
   module _ (h : b ≡ true) (es : List Constraint) (up : List ℕ) (m : ℕ) (within : m ≤ length up) (made : take m up ≡ codes D (resolvent D (suc at) v e f)) (fits : Fits D (resolvent D (suc at) v e f)) where
@@ -40,12 +40,13 @@ module _ (D : Prefix) (at : ℕ) (v : Polarity) (e f : Constraint) (ordered : in
     made-low : lastCode (take m up) < codeCount
     made-low = subst (λ (cs : List ℕ). lastCode cs < codeCount) (sym made) (fits .1)
 
-    pub joined-named : (r : Bounds) (cls cells area : List ℕ) {old new : List (List ℕ)} → old ≡ map (codes D) es
-        → (m ≤ paper .numbers → lastCode (take m up) < codeCount → Stored r (take m up) cells × (new ≡ push (paper .constraints) (take m up) old))
-        → JoinedSides D (suc at) v e f es (entryAt r cls cells area) new
+    pub joined-named : (r : Bounds) (cls cells area : List ℕ) {old new : List (List ℕ)} {n n′ : ℕ} → old ≡ map (codes D) es
+        → (m ≤ paper .numbers → lastCode (take m up) < codeCount → Stored r (take m up) cells × (new ≡ push (paper .constraints) (take m up) old) × (n′ ≡ suc n))
+        → JoinedSides D (suc at) v e f es (entryAt r cls cells area) new n n′
     joined-named r cls cells area {old = old} k s =
         let g = s made-short made-low in
         record {
           up = rw (is-named, h) (ap (λ (x : Source). take (r .len) (drop (r .start) (tableOf x cls cells area))) (g .0 .source) ∙ g .0 .part ∙ made);
           stored = rw (is-named, h) (g .1 ∙ ap (λ (x : List ℕ). push (paper .constraints) x old) made ∙ ap (push (paper .constraints) (codes D (resolvent D (suc at) v e f))) k ∙ sym (map-push (codes D) (paper .constraints) (resolvent D (suc at) v e f) es));
+          numbered = rw (is-named, h) (g .2);
         }

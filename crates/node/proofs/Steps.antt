@@ -10,7 +10,9 @@ use Rattle.qbf.specs.Truth.{Outcome, DecidedNode, decided, mixed}
 use Rattle.qbf.specs.Learning.{Polarity, Constraint, Store, constraints, push, mentions, resolvent, resolve, lastPlace, LearningResult}
 use Rattle.qbf.specs.Calls.{inOrder}
 use Rattle.tables.specs.Codes.{codes}
-use Rattle.tables.specs.Shelves.{StoreShown, entriesOf}
+use Rattle.tables.specs.Shelves.{entriesOf, newestOf}
+use Rattle.tables.specs.Records.{Ledger, StoreKept}
+use Rattle.tables.proofs.Records.{ledger-joined}
 use Rattle.node.specs.declared.Verdict.{Verdict}
 use Rattle.node.specs.declared.Verdict.the-variants.{Yes, No, Mixed}
 use Rattle.node.specs.declared.Answer.{Answer}
@@ -53,10 +55,14 @@ pub stored-by : (c : Polarity) {w : Verdict} → w ≡ sideOf c → (cs qs : Lis
 stored-by true e cs qs = ap (λ (v : Verdict). storedBy v cs qs) e
 stored-by false e cs qs = ap (λ (v : Verdict). storedBy v cs qs) e
 
--- the store with other constraints of one polarity
-abbrev pub put : Polarity → List Constraint → Store → Store
-put true es st = record { clauses = st .clauses; cubes = es }
-put false es st = record { clauses = es; cubes = st .cubes }
+-- the store with other constraints of one polarity, the clauses with their records
+abbrev pub put : Polarity → List Constraint → List ℕ → Store → Store
+put true es ks st = record { clauses = st .clauses; records = st .records; cubes = es }
+put false es ks st = record { clauses = es; records = ks; cubes = st .cubes }
+
+-- a clause that is stored has the count of clauses as its record
+abbrev recordedOf : Prefix → List Clause → ℕ → Constraint → Store → List ℕ
+recordedOf D R p e st = cond (mentions D p e) (push (paper .constraints) (length R) (st .records)) (st .records)
 
 -- both sides of the polarity c, where the on side is not enough
 module _ (D : Prefix) (R : List Clause) (s : Node) (st : Store) (k : ℕ) (e₀ e₁ : Constraint) (c : Polarity) where
@@ -74,12 +80,12 @@ module _ (D : Prefix) (R : List Clause) (s : Node) (st : Store) (k : ℕ) (e₀ 
       by false = refl
 
 same-store : (D : Prefix) (R : List Clause) (s : Node) (st : Store) (k : ℕ) (e₀ e₁ : Constraint) (c : Polarity)
-    → same D R s st k e₀ e₁ c .store ≡ put c (storedOf D (suc (length s)) c e₀ e₁ (constraints c st)) st
+    → same D R s st k e₀ e₁ c .store ≡ put c (storedOf D (suc (length s)) c e₀ e₁ (constraints c st)) (recordedOf D R (suc (length s)) e₁ st) st
 same-store D R s st k e₀ e₁ c = by c (mentions D (suc (length s)) e₁)
   where
     by : (v : Polarity) (m : Bool)
         → (cond m (resolve paper D R s v e₀ e₁ st k) (lone D R s st k e₀ e₁ v)) .store
-        ≡ put v (cond m (push (paper .constraints) (resolvent D (suc (length s)) v e₀ e₁) (constraints v st)) (constraints v st)) st
+        ≡ put v (cond m (push (paper .constraints) (resolvent D (suc (length s)) v e₀ e₁) (constraints v st)) (constraints v st)) (cond m (push (paper .constraints) (length R) (st .records)) (st .records)) st
     by true true = refl
     by true false = refl
     by false true = refl
@@ -155,13 +161,13 @@ module _ (D : Prefix) (R : List Clause) (κ : Quantifier) (s : Node) (st : Store
   clauses-step Mixed w h e p q = absurd (mixed-clauses e)
 
   -- ---- the answer, where the store stays
-  module _ (v : Verdict) (on : Answer) {x : Bool} (enough : x ≡ alone (on .verdict) κ) (p : Reads D v cs₀ a) (q : Reads D (on .verdict) cs₁ o) {cs cl qs ql : List ℕ} (shown : StoreShown D st cs cl qs ql) where
-    pub joined-mixed : stepOf v (on .verdict) x ≡ step.Mixed → (cls up : List ℕ) → Joined D result (mixedOf on) cls up cs cl qs ql
+  module _ (v : Verdict) (on : Answer) {x : Bool} (enough : x ≡ alone (on .verdict) κ) (p : Reads D v cs₀ a) (q : Reads D (on .verdict) cs₁ o) {g : Ledger} {cs cl qs ql : List ℕ} (shown : StoreKept D g st cs cl qs ql) where
+    pub joined-mixed : stepOf v (on .verdict) x ≡ step.Mixed → (cls up : List ℕ) → Joined D g result (mixedOf on) cls up cs cl qs ql
     joined-mixed e cls up =
         let m = mixed-step v (on .verdict) enough e p q in
         record { verdict = (m .0, ap (λ (r : LearningResult). r .outcome) (m .1)); stored = rw (m .1) shown }
 
-    pub joined-on : stepOf v (on .verdict) x ≡ step.On → (cls up : List ℕ) → cs₁ ≡ entryOf on cls cs qs up → Joined D result on cls up cs cl qs ql
+    pub joined-on : stepOf v (on .verdict) x ≡ step.On → (cls up : List ℕ) → cs₁ ≡ entryOf on cls cs qs up → Joined D g result on cls up cs cl qs ql
     joined-on e cls up z =
         let m = on-step v (on .verdict) enough e p q in
         record { verdict = rw (← z) (m .0); stored = rw (← m .1) shown }
@@ -179,36 +185,38 @@ module _ (D : Prefix) (R : List Clause) (κ : Quantifier) (s : Node) (st : Store
     on-ended h = rw (both .on) at h
 
     -- the outcome and the store
-    same-verdict : (w : Verdict) (up : List ℕ) {rows : List (List ℕ)} → w ≡ on .verdict
-        → JoinedSides D (suc at) c (both .first) (both .second) (constraints c st) up rows
+    same-verdict : (w : Verdict) (up : List ℕ) {rows : List (List ℕ)} {n m : ℕ} → w ≡ on .verdict
+        → JoinedSides D (suc at) c (both .first) (both .second) (constraints c st) up rows n m
         → Reads D w up (result .outcome)
     same-verdict w up v j = rw (v, both .side) (reads D c up (joinedOf D (suc at) c (both .first) (both .second)) (result .outcome) (ap (λ (x : LearningResult). x .outcome) (both .gives) ∙ same-outcome D R s st k (both .first) (both .second) c ∙ rw long) (j .up))
 
-    same-stored : result .store ≡ put c (storedOf D (suc at) c (both .first) (both .second) (constraints c st)) st
+    same-stored : result .store ≡ put c (storedOf D (suc at) c (both .first) (both .second) (constraints c st)) (recordedOf D R (suc at) (both .second) st) st
     same-stored = ap (λ (x : LearningResult). x .store) (both .gives) ∙ same-store D R s st k (both .first) (both .second) c ∙ rw long
 
   -- the constraints are stored among the clauses, or among the cubes
-  module _ (on r : Answer) (at : ℕ) (long : length s ≡ at) (cls up : List ℕ) {cs cl qs ql : List ℕ} (shown : StoreShown D st cs cl qs ql) (verdict : r .verdict ≡ on .verdict) where
+  module _ (on r : Answer) (at : ℕ) (long : length s ≡ at) (cls up : List ℕ) {g : Ledger} {cs cl qs ql : List ℕ} (ruled : g .clauses ≡ length R) (shown : StoreKept D g st cs cl qs ql) (verdict : r .verdict ≡ on .verdict) where
     pub joined-clauses : (both : Same false (on .verdict)) (cs′ cl′ : List ℕ)
-        → JoinedSides D (suc at) false (both .first) (both .second) (st .clauses) (entryAt (boundsOf r) cls cs′ up) (entriesOf cs′ cl′)
-        → Joined D result r cls up cs′ cl′ qs ql
+        → JoinedSides D (suc at) false (both .first) (both .second) (st .clauses) (entryAt (boundsOf r) cls cs′ up) (entriesOf cs′ cl′) (newestOf cl) (newestOf cl′)
+        → Joined D g result r cls up cs′ cl′ qs ql
     joined-clauses both cs′ cl′ j = record {
       verdict =
           subst (λ (x : List ℕ). Reads D (r .verdict) (entryAt (boundsOf r) cls x up) (result .outcome))
           (sym (stored-by false (verdict ∙ both .side) cs′ qs))
           (same-verdict false on both at long (r .verdict) (entryAt (boundsOf r) cls cs′ up) verdict j);
-      stored = rw (same-stored false on both at long) (record { clauses = j .stored; cubes = shown .cubes });
+      stored =
+          let w = ledger-joined g (newestOf cl) (mentions D (suc at) (both .second)) ruled (shown .since) (shown .records) (j .numbered) in
+          rw (same-stored false on both at long) (record { shown = record { clauses = j .stored; cubes = shown .shown .cubes }; since = w .0; records = w .1 });
     }
 
     pub joined-cubes : (both : Same true (on .verdict)) (qs′ ql′ : List ℕ)
-        → JoinedSides D (suc at) true (both .first) (both .second) (st .cubes) (entryAt (boundsOf r) cls qs′ up) (entriesOf qs′ ql′)
-        → Joined D result r cls up cs cl qs′ ql′
+        → JoinedSides D (suc at) true (both .first) (both .second) (st .cubes) (entryAt (boundsOf r) cls qs′ up) (entriesOf qs′ ql′) (newestOf ql) (newestOf ql′)
+        → Joined D g result r cls up cs cl qs′ ql′
     joined-cubes both qs′ ql′ j = record {
       verdict =
           subst (λ (x : List ℕ). Reads D (r .verdict) (entryAt (boundsOf r) cls x up) (result .outcome))
           (sym (stored-by true (verdict ∙ both .side) cs qs′))
           (same-verdict true on both at long (r .verdict) (entryAt (boundsOf r) cls qs′ up) verdict j);
-      stored = rw (same-stored true on both at long) (record { clauses = shown .clauses; cubes = j .stored });
+      stored = rw (same-stored true on both at long) (record { shown = record { clauses = shown .shown .clauses; cubes = j .stored }; since = shown .since; records = shown .records });
     }
 
 -- the counts are the on side's

@@ -10,7 +10,8 @@ use Rattle.qbf.specs.Truth.{Outcome, DecidedNode, decided, mixed, decidedNodes,
 use Rattle.qbf.specs.Learning.{Constraint, Store, goesUp, afterBoth, resolvent, lastPlace, LearningResult}
 use Rattle.qbf.specs.Calls.{inOrder}
 use Rattle.tables.specs.Codes.{codeAt, codes, lastCode, Statuses, Quantified}
-use Rattle.tables.specs.Shelves.{codeCount, StoreShown, newestOf}
+use Rattle.tables.specs.Shelves.{codeCount, newestOf}
+use Rattle.tables.specs.Records.{Ledger, StoreKept}
 use Rattle.cover.specs.Cover.{Covers}
 use Rattle.search_entry.specs.Entry.{entryAt, Bounded}
 use Rattle.search_entry.specs.declared.Source.the-variants.{Area}
@@ -110,9 +111,9 @@ pub record Finished (on r : Answer) : Type 0 where
   pub visits : r .visits ≡ on .visits
   pub lines : r .lines ≡ on .lines
 
-pub record Joined (D : Prefix) (o : LearningResult) (r : Answer) (clauses area cs cl qs ql : List ℕ) : Type 0 where
+pub record Joined (D : Prefix) (g : Ledger) (o : LearningResult) (r : Answer) (clauses area cs cl qs ql : List ℕ) : Type 0 where
   pub verdict : Reads D (r .verdict) (entryOf r clauses cs qs area) (o .outcome)
-  pub stored : StoreShown D (o .store) cs cl qs ql
+  pub stored : StoreKept D g (o .store) cs cl qs ql
 
 -- at most one row more on each shelf
 pub record Grown (cl ql cl′ ql′ : List ℕ) : Type 0 where

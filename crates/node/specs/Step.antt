@@ -1,5 +1,5 @@
 -- Step 5 in parts: what the verdicts of the two sides ask for, and what joining the constraints of two sides of one verdict gives.
-use Prim.Native.Nat.{ℕ}
+use Prim.Native.Nat.{ℕ, suc}
 use mathlib.Core.Path.{_≡_}
 use mathlib.Core.Bool.{Bool, true, false, cond}
 use mathlib.Core.List.{List, map}
@@ -47,10 +47,11 @@ pub record Stored (b : Bounds) (row cells : List ℕ) : Type 0 where
   pub source : b .source ≡ Learned
   pub part : take (b .len) (drop (b .start) cells) ≡ row
 
--- the codes of the constraint that goes up, and of the constraints of that polarity after
-pub record JoinedSides (D : Prefix) (p : ℕ) (v : Polarity) (e₀ e₁ : Constraint) (es : List Constraint) (cs : List ℕ) (rows : List (List ℕ)) : Type 0 where
+-- the codes of the constraint that goes up, and of the constraints of that polarity after; the number n of the newest becomes m
+pub record JoinedSides (D : Prefix) (p : ℕ) (v : Polarity) (e₀ e₁ : Constraint) (es : List Constraint) (cs : List ℕ) (rows : List (List ℕ)) (n m : ℕ) : Type 0 where
   pub up : cs ≡ codes D (joinedOf D p v e₀ e₁)
   pub stored : rows ≡ map (codes D) (storedOf D p v e₀ e₁ es)
+  pub numbered : m ≡ cond (mentions D p e₁) (suc n) n
 
 -- the answer has the on side's verdict and counts
 pub record OfSide (on r : Answer) : Type 0 where

@@ -96,7 +96,8 @@ fn store_first<'a>(
         → lastCode (take n (now (row .entry))) < codeCount
         → Stored r (take n (now (row .entry))) (now (cells .exit))
         × (entriesOf (now (cells .exit)) (now (links .exit))
-        ≡ push (paper .constraints) (take n (now (row .entry))) (entriesOf (now (cells .entry)) (now (links .entry)))))
+        ≡ push (paper .constraints) (take n (now (row .entry))) (entriesOf (now (cells .entry)) (now (links .entry))))
+        × (newestOf (now (links .exit)) ≡ suc (newestOf (now (links .entry)))))
         ⌝ }
 {
     if tables::NUMBERS < n {
@@ -175,7 +176,9 @@ pub fn join<'a>(
         f
         es
         (entryAt (boundsOf r) (now (clauses .entry)) (now (cells .exit)) (now (area .entry)))
-        (entriesOf (now (cells .exit)) (now (links .exit))))
+        (entriesOf (now (cells .exit)) (now (links .exit)))
+        (newestOf (now (links .entry)))
+        (newestOf (now (links .exit))))
         ⌝ }
 {
     let b = bounds_of(on);

@@ -16,7 +16,8 @@ ghost use Rattle.qbf.specs.Learning.{Constraint, Store};
 ghost use Rattle.qbf.specs.Card.{byteOf};
 ghost use Rattle.tables.specs.Views.{quantifierCode};
 ghost use Rattle.tables.specs.Codes.{Quantified};
-ghost use Rattle.tables.specs.Shelves.{Shelves, StoreShown, newestOf};
+ghost use Rattle.tables.specs.Shelves.{Shelves, newestOf};
+ghost use Rattle.tables.specs.Records.{Ledger, StoreKept};
 ghost use Rattle.cover.specs.Cover.{Covers};
 ghost use Rattle.search_entry.specs.Entry.{Bounded};
 ghost use Rattle.node.specs.Node.{boundsOf, entryOf, Reads, Ended, Grown, goesUpOf, onwardOf, resolventOf, Fits, NextKind, Finished, Joined, LineTask, linedOf, settledLines, SettledTo};
@@ -174,7 +175,7 @@ pub fn finish<'a>(
         × Grown (now («learned_links» .entry)) (now («cube_links» .entry)) (now («learned_links» .exit)) (now («cube_links» .exit))
         ⌝ }
     ensures { λ r. ⌜
-        ((D : Prefix) (R : List Clause) (s : Node) (κ : Quantifier) (a o : Outcome Constraint) (st : Store) (k : ℕ)
+        ((D : Prefix) (R : List Clause) (s : Node) (κ : Quantifier) (a o : Outcome Constraint) (g : Ledger) (st : Store) (k : ℕ)
         → Quantified D (now (quantifiers .entry))
         → length s ≡ at
         → quantifierCode κ ≡ kind
@@ -187,9 +188,11 @@ pub fn finish<'a>(
         → Ended D (suc at) a
         → Ended D (suc at) o
         → Fits D (resolventOf D (suc at) a o)
-        → StoreShown D st (now (learned .entry)) (now («learned_links» .entry)) (now (cubes .entry)) (now («cube_links» .entry))
+        → g .clauses ≡ length R
+        → StoreKept D g st (now (learned .entry)) (now («learned_links» .entry)) (now (cubes .entry)) (now («cube_links» .entry))
         → Joined
         D
+        g
         (onwardOf D R κ s a o st k)
         r
         (now (clauses .entry))

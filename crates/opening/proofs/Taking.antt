@@ -4,18 +4,19 @@ use mathlib.Core.Path.{_≡_, refl, sym, ap, subst, _∙_}
 use mathlib.Core.Bool.{Bool, true, false, cond, not}
 use mathlib.Core.List.{List, [], _++_, map}
 use mathlib.Core.Option.{Option, none, some}
+use lib.ListN.{getD}
 use native.Mathlib.Omega.{arith}
 use borrow.Author.Tests.{ne-eqb, not-false}
 use lib.Dec.{eqb}
 use lib.IntN.{ℤ}
 use Rattle.qbf.specs.Formula.{paper, Prefix, quantifiers, Literal, all, isFree}
 use Rattle.qbf.specs.Learning.{Store, emptyStore}
-use Rattle.qbf.specs.Calls.{rule, answer, ruleReply, given, ruleFault, withRule, storeAfterRule, clauseOk, constraintOk, formulaOk, storeOk, wellFormed, guarded, State as Read}
+use Rattle.qbf.specs.Calls.{rule, answer, ruleReply, given, ruleFault, withRule, storeAfterRule, clauseOk, constraintOk, formulaOk, wellFormed, guarded, State as Read}
 use Rattle.qbf.specs.Runs.{fresh}
 use Rattle.theory.proofs.Basics.{and-left, and-both}
 use Rattle.theory.proofs.WellFormed.{formula-facts}
 use Rattle.state.specs.declared.State.{State}
-use Rattle.state.specs.Reading.{quantifierOf, rowsFit, prefixOf, prefixIn, formulaIn, storeIn, stateIn, fits, readState, wellFormedRead, valid}
+use Rattle.state.specs.Reading.{atMost, quantifierOf, rowsFit, prefixOf, prefixIn, formulaIn, storeIn, stateIn, fits, readState, wellFormedRead, valid}
 use Rattle.state.proofs.Valid.{valid-facts}
 use Rattle.state.specs.Declare.{Sound}
 use Rattle.state.proofs.SoundPrefix.{valid-sound, sound-valid}
@@ -93,6 +94,7 @@ module _ {stage : ℕ} {x : State} (s : Standing stage x) (no-clauses : formulaI
       (and-both (rowsFit (paper .literals) (paper .clauses) (x .«clause_sizes»)) (all (clauseOk paper E) (formulaIn x .clauses)) (f .clauses-fit) (ap (all (clauseOk paper E)) no-clauses))
       (and-both (rowsFit (paper .numbers) (paper .constraints) (x .«learned_clause_sizes»)) (all (constraintOk E false) (storeIn x .clauses)) (f .learned-clauses-fit) (ap (λ (st : Store). all (constraintOk E false) (st .clauses)) (nothing-stored s)))
       (and-both (rowsFit (paper .numbers) (paper .constraints) (x .«learned_cube_sizes»)) (all (constraintOk E true) (storeIn x .cubes)) (f .learned-cubes-fit) (ap (λ (st : Store). all (constraintOk E true) (st .cubes)) (nothing-stored s)))
+      (ap (λ (st : Store). atMost (getD (x .«clause_sizes») 0 0) (st .records)) (nothing-stored s))
 
   grown-read : readState (grownState x ns ls ks) ≡ some (fresh (formulaIn (grownState x ns ls ks)))
   grown-read = fresh-read (grownState x ns ls ks) grown-valid (nothing-stored s)
@@ -103,7 +105,7 @@ module _ {stage : ℕ} {x : State} (s : Standing stage x) (no-clauses : formulaI
   grown-standing =
       record {
         read = grown-read;
-        reached = record { facts = formula-facts (formulaIn y) (and-left (formulaOk (formulaIn y)) (storeOk paper (prefixIn y) emptyStore) formed); no-variables = λ h. absurd (omega (arith, h)); no-clauses = λ h. absurd (omega (arith, h)) };
+        reached = record { facts = formula-facts (formulaIn y) (and-left (formulaOk (formulaIn y)) _ formed); no-variables = λ h. absurd (omega (arith, h)); no-clauses = λ h. absurd (omega (arith, h)) };
       }
     where
       y : State

@@ -7,27 +7,7 @@ use lib.ListN.{replicate}
 use Rattle.qbf.specs.Formula.{paper, exists, forall, free, Literal, Formula, placeOf}
 use Rattle.qbf.specs.Calls.{card, cardRefused, done, forget, keep, lines, query, refused, rule, swap}
 use Rattle.qbf.proofs.Rows.{y, n, dec, under, opened, Row, row, ran, expected}
-
-A-rules : List (List Literal)
-A-rules = (y 3 ∷ y 4 ∷ n 1 ∷ []) ∷ (n 3 ∷ n 4 ∷ y 2 ∷ []) ∷ (y 1 ∷ y 2 ∷ []) ∷ []
-
-A : Formula
-A = opened (dec free (1 ∷ 2 ∷ []) ++ dec exists (3 ∷ []) ++ dec forall (4 ∷ [])) A-rules
-
-A′ : Formula
-A′ = opened (dec free (2 ∷ 1 ∷ []) ++ dec exists (3 ∷ []) ++ dec forall (4 ∷ [])) A-rules
-
-B : Formula
-B = opened (dec free (1 ∷ []) ++ dec exists (2 ∷ [])) ((y 2 ∷ []) ∷ (n 2 ∷ []) ∷ [])
-
-C : Formula
-C = opened (dec free (1 ∷ 2 ∷ []) ++ dec exists (3 ∷ []) ++ dec forall (4 ∷ [])) ((y 3 ∷ y 4 ∷ y 1 ∷ []) ∷ (n 3 ∷ n 4 ∷ y 2 ∷ []) ∷ [])
-
-D-rules : List (List Literal)
-D-rules = (y 1 ∷ y 2 ∷ []) ∷ (n 1 ∷ n 2 ∷ []) ∷ []
-
-D : Formula
-D = opened (dec forall (1 ∷ []) ++ dec exists (2 ∷ [])) D-rules
+use Rattle.qbf.proofs.Books.{A, A′, A-rules, B, C, D, D-rules}
 
 table : List Row
 table =

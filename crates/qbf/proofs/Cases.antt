@@ -2,15 +2,15 @@
 use mathlib.Core.Path.{_≡_, refl}
 use mathlib.Core.Bool.{true, false}
 use mathlib.Core.List.{List, [], _∷_, _++_, map}
-use lib.ListN.{replicate}
+use lib.ListN.{length, replicate}
 use Rattle.qbf.specs.Formula.{paper, exists, forall, free, Formula, placeOf, levels}
 use Rattle.qbf.specs.Learning.{Constraint, Store, constraints, learn}
 use Rattle.qbf.specs.Calls.{card, cardRefused, done, forget, keep, lines, query, refused, rule, swap}
 use Rattle.qbf.proofs.Rows.{y, n, dec, under, held, opened, Row, row, ran, expected, Given, given, gave, wanted}
 
--- a learned clause and a cube for each list
+-- a learned clause for each list, stored when no rule stood, and a cube for each
 store : List Constraint → List Constraint → Store
-store cs qs = record { clauses = cs; cubes = qs }
+store cs qs = record { clauses = cs; records = replicate (length cs) 0; cubes = qs }
 
 -- a state that is refused as malformed
 broken : Formula → Store → Given
@@ -229,11 +229,11 @@ unfolding placeOf gave wanted malformed broken given store held dec y n
 cases-malformed = refl
 
 -- 64 of each polarity stand, and a 65th displaces the first
-sixty-four : constraints false (learn paper false (y 1 ∷ []) (store (replicate 63 []) [])) ≡ replicate 63 [] ++ ((y 1 ∷ []) ∷ [])
+sixty-four : constraints false (learn paper 0 false (y 1 ∷ []) (store (replicate 63 []) [])) ≡ replicate 63 [] ++ ((y 1 ∷ []) ∷ [])
 unfolding store
 sixty-four = refl
 
-sixty-fifth : constraints true (learn paper true (y 1 ∷ []) (store [] ((y 2 ∷ []) ∷ replicate 63 []))) ≡ replicate 63 [] ++ ((y 1 ∷ []) ∷ [])
+sixty-fifth : constraints true (learn paper 0 true (y 1 ∷ []) (store [] ((y 2 ∷ []) ∷ replicate 63 []))) ≡ replicate 63 [] ++ ((y 1 ∷ []) ∷ [])
 unfolding store
 sixty-fifth = refl
 

@@ -1,4 +1,6 @@
 pub mod Rows
+pub mod Books
 pub mod Bench
 pub mod Cases
 pub mod Finder
+pub mod Withdrawals

@@ -1,9 +1,10 @@
--- The calls rule, query, card and forget on a state, with every refusal. Paper 01, "Calls and card" and both lists of refusals.
-use Prim.Native.Nat.{ℕ, _*_}
+-- The calls rule, query, card, forget and withdraw on a state, with every refusal. Paper 01, "Calls and card" and both lists of
+-- refusals; paper 02, wish 4.
+use Prim.Native.Nat.{ℕ, _*_, _-_}
 use mathlib.Core.Bool.{Bool, true, false, cond, not, _&&_, _||_}
 use mathlib.Core.List.{List, [], _∷_, _++_}
 use mathlib.Core.Option.{Option, none, some}
-use lib.ListN.{length}
+use lib.ListN.{length, take}
 use lib.Dec.{leb, ltb, eqb}
 use Rattle.qbf.specs.Formula.{Limits, Quantifier, free, exists, forall, isFree, Prefix, quantifiers, Literal, numberOf, positive, Clause, Node, Formula, any, all, placeOf, place, quantifierAt}
 use Rattle.qbf.specs.Truth.{Verdict, Outcome, decided, mixed, outline, decidedNodes, select, bound, freeVariables}
@@ -16,9 +17,10 @@ pub data Call : Type 0 where
   query : List Literal → Call
   card : ℕ → Call
   forget : Call
+  withdraw : Call
 
--- What a call answers but for its visits; `done` is an accepted rule, or a store emptied. A card has its lines and the bytes of its
--- table, and a refused card the bytes too.
+-- What a call answers but for its visits; `done` is an accepted rule, a rule withdrawn, or a store emptied. A card has its lines and the
+-- bytes of its table, and a refused card the bytes too.
 pub data Reply : Type 0 where
   done : Reply
   refused : ℕ → Reply
@@ -78,12 +80,33 @@ withRule (some n) b ls = b
 
 -- "if accepted, all passes go and bars remain"
 abbrev pub storeAfterRule : Option ℕ → Store → Store
-storeAfterRule none st = record { clauses = st .clauses; cubes = [] }
+storeAfterRule none st = record { clauses = st .clauses; records = st .records; cubes = [] }
 storeAfterRule (some n) st = st
 
 abbrev pub ruleReply : Option ℕ → Reply
 ruleReply none = done
 ruleReply (some n) = refused n
+
+-- ---- withdraw
+-- "Withdrawing from a book without rules is 32"
+abbrev pub withdrawFault : Formula → Option ℕ
+withdrawFault b = given (eqb (length (b .clauses)) 0) 32
+
+-- "Add a call that withdraws the rule added last."
+abbrev pub withoutLast : Option ℕ → Formula → Formula
+withoutLast none b = record { limits = b .limits; prefix = b .prefix; clauses = take (length (b .clauses) - 1) (b .clauses) }
+withoutLast (some n) b = b
+
+-- of a list with a record for each element, those whose record is at most n
+abbrev pub standing : {A : Type 0} → ℕ → List ℕ → List A → List A
+standing n [] xs = []
+standing n (k ∷ ks) [] = []
+standing n (k ∷ ks) (x ∷ xs) = cond (leb k n) (x ∷ standing n ks xs) (standing n ks xs)
+
+-- "Passes remain valid and are kept. .. Bars with a larger record than the rules that remain are dropped": n remain
+abbrev pub storeAfterWithdraw : Option ℕ → ℕ → Store → Store
+storeAfterWithdraw none n st = record { clauses = standing n (st .records) (st .clauses); records = standing n (st .records) (st .records); cubes = st .cubes }
+storeAfterWithdraw (some k) n st = st
 
 -- ---- query
 -- "Query takes the numbers of the flags that are on; a flag not named is off." The node of all its flags.
@@ -131,12 +154,15 @@ learningCall b st (rule ls) = record { store = storeAfterRule (ruleFault b ls) s
 learningCall b st (query ls) = learningQuery (queryFault b [] ls) b st ls
 learningCall b st (card size) = learningCard true b st size
 learningCall b st forget = record { store = emptyStore; out = answer done 0 }
+learningCall b st withdraw =
+    record { store = storeAfterWithdraw (withdrawFault b) (length (b .clauses) - 1) st; out = answer (ruleReply (withdrawFault b)) 0 }
 
 abbrev pub nextFormula : Formula → Call → Formula
 nextFormula b (rule ls) = withRule (ruleFault b ls) b ls
 nextFormula b (query ls) = b
 nextFormula b (card size) = b
 nextFormula b forget = b
+nextFormula b withdraw = withoutLast (withdrawFault b) b
 
 -- ---- the state, and when it is malformed
 pub record State : Type 0 where
@@ -190,9 +216,15 @@ storeOk L D st =
     && all (constraintOk D false) (constraints false st)
     && all (constraintOk D true) (constraints true st)
 
+-- "The state check refuses a bar whose record exceeds the rules standing": n stand, and each learned clause has a record
+abbrev pub recordsOk : ℕ → Store → Bool
+recordsOk n st = eqb (length (st .records)) (length (st .clauses)) && all (λ k. leb k n) (st .records)
+
 -- "22 the state is malformed": it is not well formed
 abbrev pub wellFormed : State → Bool
-wellFormed x = formulaOk (x .formula) && storeOk (x .formula .limits) (x .formula .prefix) (x .store)
+wellFormed x =
+    formulaOk (x .formula)
+    && (storeOk (x .formula .limits) (x .formula .prefix) (x .store) && recordsOk (length (x .formula .clauses)) (x .store))
 
 -- ---- one call
 pub record Stepped : Type 0 where
@@ -205,6 +237,7 @@ refusal n (rule ls) = refused n
 refusal n (query ls) = refused n
 refusal n (card size) = cardRefused n (zeroTable size)
 refusal n forget = refused n
+refusal n withdraw = refused n
 
 -- "Order: 22, ..": a malformed state is refused first, and stays as it is
 abbrev pub guarded : Bool → State → Call → Stepped

@@ -19,12 +19,14 @@ abbrev pub Constraint : Type 0
 Constraint = List Literal
 
 -- ---- the store: the learned constraints of each polarity, the oldest first
+-- "each bar now records how many rules stood when it was stored": `records` has a number for each learned clause, in their order.
 pub record Store : Type 0 where
   pub clauses : List Constraint
+  pub records : List ℕ
   pub cubes : List Constraint
 
 abbrev pub emptyStore : Store
-emptyStore = record { clauses = []; cubes = [] }
+emptyStore = record { clauses = []; records = []; cubes = [] }
 
 abbrev pub constraints : Polarity → Store → List Constraint
 constraints true st = st .cubes
@@ -34,10 +36,10 @@ constraints false st = st .clauses
 abbrev pub push : {A : Type 0} → ℕ → A → List A → List A
 push n e es = drop (suc (length es) - n) es ++ (e ∷ [])
 
--- "An equal entry is stored again."
-abbrev pub learn : Limits → Polarity → Constraint → Store → Store
-learn L true e st = record { clauses = st .clauses; cubes = push (L .constraints) e (st .cubes) }
-learn L false e st = record { clauses = push (L .constraints) e (st .clauses); cubes = st .cubes }
+-- "An equal entry is stored again." A learned clause is stored with its record: n clauses stand.
+abbrev pub learn : Limits → ℕ → Polarity → Constraint → Store → Store
+learn L n true e st = record { clauses = st .clauses; records = st .records; cubes = push (L .constraints) e (st .cubes) }
+learn L n false e st = record { clauses = push (L .constraints) e (st .clauses); records = push (L .constraints) n (st .records); cubes = st .cubes }
 
 -- ---- constraints
 -- what reduction drops: universal reduction of a clause, existential reduction of a cube; "A flag is never dropped."
@@ -188,7 +190,7 @@ module _ (L : Limits) (D : Prefix) (R : List Clause) where
   resolve s b e₀ e₁ st n =
       record {
         outcome = decided b (resolvent D (suc (length s)) b e₀ e₁);
-        store = learn L b (resolvent D (suc (length s)) b e₀ e₁) st;
+        store = learn L (length R) b (resolvent D (suc (length s)) b e₀ e₁) st;
         visits = n;
       }
 

@@ -7,7 +7,7 @@ use Rattle.qbf.specs.Formula.{quantifiers, Literal, Formula}
 use Rattle.qbf.specs.Truth.{Verdict, Outcome, bound}
 use Rattle.qbf.specs.Plain.{PlainResult, plainSearch}
 use Rattle.qbf.specs.Learning.{emptyStore}
-use Rattle.qbf.specs.Calls.{Call, rule, query, card, forget, Reply, done, refused, Answer, answer, ruleFault, queryFault, ruleReply, startNode, queryReply, cardReplyOf, nextFormula, State, step}
+use Rattle.qbf.specs.Calls.{Call, rule, query, card, forget, withdraw, Reply, done, refused, Answer, answer, ruleFault, withdrawFault, queryFault, ruleReply, startNode, queryReply, cardReplyOf, nextFormula, State, step}
 
 -- ---- the plain run
 abbrev pub plainAnswer : (Outcome (Unit {0}) → Reply) → PlainResult → Answer
@@ -27,8 +27,10 @@ plainCall b (rule ls) = answer (ruleReply (ruleFault b ls)) 0
 plainCall b (query ls) = plainQuery (queryFault b [] ls) b ls
 plainCall b (card size) = plainCard true b size
 plainCall b forget = answer done 0
+plainCall b withdraw = answer (ruleReply (withdrawFault b)) 0
 
--- "It carries the declarations and the rules in order, at first the opened book's. It has no store."
+-- "It carries the declarations and the rules in order, at first the opened book's. It has no store." "the plain run, too, takes away the
+-- last of the rules that it carries, one of the opened book's included, and its walk reads those left."
 abbrev pub plainRun : Formula → List Call → List Answer
 plainRun b [] = []
 plainRun b (c ∷ cs) = plainCall b c ∷ plainRun (nextFormula b c) cs

@@ -118,7 +118,8 @@ module _ (x : State) (ls : List Literal) where
         reads = λ i. record {
           formula = record { limits = paper; prefix = prefixIn x; clauses = a .rows (prefixIn x) (checked .placed v) i };
           store = record {
-            clauses = rowsOf (paper .numbers) (x .«learned_clauses») (x .«learned_clause_sizes»);
+            clauses = storeIn x .clauses;
+            records = storeIn x .records;
             cubes = none-stand 40 64 cubes none-left-of (x .«learned_cubes») i;
           };
         }

@@ -16,7 +16,7 @@ use Rattle.theory.proofs.Basics.{and-both}
 use Rattle.tables.specs.Views.{rowsOf}
 use Rattle.rules.proofs.Rows.{none-rows}
 use Rattle.state.specs.declared.State.{State}
-use Rattle.state.specs.Reading.{atMost, listing, entryAt, rowsFit, prefixFits, stateOf, formulaIn, valid}
+use Rattle.state.specs.Reading.{atMost, listing, entryAt, recordAt, recordsOf, rowsFit, prefixFits, stateOf, formulaIn, valid}
 use Rattle.state.specs.Derived.{Sized}
 use Rattle.state.proofs.Valid.{valid-facts}
 use Rattle.serving.specs.Serves.{said, Serves}
@@ -33,6 +33,9 @@ module _ (w cap : ℕ) (s : List ℕ) (empty : getD s 0 0 ≡ 0) where
   pub none-stand : (f : List ℤ) → rowsOf w f s ≡ []
   none-stand f = none-rows w f s empty
 
+pub none-recorded : (s : List ℕ) → getD s 0 0 ≡ 0 → recordsOf s ≡ []
+none-recorded s empty = ap (listing (recordAt s) 0) empty
+
 -- ---- "Forget empties the store."
 module _ (x : State) (v : valid x ≡ true) (z : Sized x) where
   pub forgotten : {s t : List ℕ} → s ≡ set (x .«learned_clause_sizes») 0 0 → t ≡ set (x .«learned_cube_sizes») 0 0
@@ -43,7 +46,7 @@ module _ (x : State) (v : valid x ≡ true) (z : Sized x) where
       let cubes : getD t 0 0 ≡ 0 = none-left (x .«learned_cube_sizes») (omega (arith, z .learned-cube-sizes-room)) h in
       served x forget v _
       (and-both (p && a && rowsFit 40 64 s) (rowsFit 40 64 t) (and-both (p && a) (rowsFit 40 64 s) (and-both p a (valid-facts x v .prefix-fits) (valid-facts x v .clauses-fit)) (none-fit 40 64 s clauses)) (none-fit 40 64 t cubes))
-      (λ i. record { formula = formulaIn x; store = record { clauses = none-stand 40 64 s clauses (x .«learned_clauses») i; cubes = none-stand 40 64 t cubes (x .«learned_cubes») i } })
+      (λ i. record { formula = formulaIn x; store = record { clauses = none-stand 40 64 s clauses (x .«learned_clauses») i; records = none-recorded s clauses i; cubes = none-stand 40 64 t cubes (x .«learned_cubes») i } })
       refl
     where
       p : Bool

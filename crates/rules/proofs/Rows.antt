@@ -63,8 +63,8 @@ module _ (w cap : ℕ) (f : List ℤ) (l : List ℕ) (e : List ℤ) (t : Table w
   ends : n * w + w ≤ length f
   ends = rw (t .room) (before w n cap low)
 
-  long : length (set l (n + 1) (length e)) ≡ suc cap
-  long = length-set l (n + 1) (length e) ∙ t .counted
+  long : suc cap ≤ length (set l (n + 1) (length e))
+  long = omega (arith, length-set l (n + 1) (length e), t .counted)
 
   count : getD l′ 0 0 ≡ n + 1
   count = getD-set-same (set l (n + 1) (length e)) 0 (n + 1) 0 (omega (arith, long))
@@ -98,7 +98,7 @@ module _ (w cap : ℕ) (f : List ℤ) (l : List ℕ) (e : List ℤ) (t : Table w
   pub appended-table : Table w cap f′ l′
   appended-table = record {
     room = length-paste f (n * w) e (length e) (omega (arith, ends)) (omega arith) ∙ t .room;
-    counted = length-set (set l (n + 1) (length e)) 0 (n + 1) ∙ long;
+    counted = omega (arith, length-set (set l (n + 1) (length e)) 0 (n + 1), long);
     few = rw count (omega arith);
     short = rw count (below-more (λ (k : ℕ). getD l′ (suc k) 0 ≤ w) n (λ k h. rw (old-size k h) (t .short k h)) (rw new-size fits));
   }

@@ -16,7 +16,8 @@ pub fn write(cells: &mut [i16], at: usize, lits: &[i16])
 }
 
 // The cells are left as they are.
-pub fn clear(sizes: &mut [u16; tables::CONSTRAINT_SIZES])
+pub fn clear(sizes: &mut [u16])
+    requires { ⌜ 1 ≤ length (now sizes) ⌝ }
     ensures { λ _. ⌜ now (sizes .exit) ≡ set (now (sizes .entry)) 0 0 ⌝ }
 {
     sizes[0] = 0;

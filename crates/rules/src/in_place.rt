@@ -18,7 +18,7 @@ pub fn forget<'a>(
     clauses: &'a [i16; tables::CLAUSE_CELLS],
     clause_sizes: &'a [u16; tables::CLAUSE_SIZES],
     learned_clauses: &'a [i16; tables::CONSTRAINT_CELLS],
-    learned_clause_sizes: &mut [u16; tables::CONSTRAINT_SIZES],
+    learned_clause_sizes: &mut [u16; tables::LEARNED_CLAUSE_SIZES],
     learned_cubes: &'a [i16; tables::CONSTRAINT_CELLS],
     learned_cube_sizes: &mut [u16; tables::CONSTRAINT_SIZES],
 ) -> Change
@@ -76,7 +76,7 @@ pub fn rule<'a>(
     clauses: &mut [i16; tables::CLAUSE_CELLS],
     clause_sizes: &mut [u16; tables::CLAUSE_SIZES],
     learned_clauses: &'a [i16; tables::CONSTRAINT_CELLS],
-    learned_clause_sizes: &'a [u16; tables::CONSTRAINT_SIZES],
+    learned_clause_sizes: &'a [u16; tables::LEARNED_CLAUSE_SIZES],
     learned_cubes: &'a [i16; tables::CONSTRAINT_CELLS],
     learned_cube_sizes: &mut [u16; tables::CONSTRAINT_SIZES],
     lits: &'a [i16],

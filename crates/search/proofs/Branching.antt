@@ -29,6 +29,7 @@ use Rattle.theory.proofs.Widths.{prefix-width, constraint-width}
 use Rattle.tables.specs.Formed.{Formed}
 use Rattle.tables.specs.Codes.{codeAt, codeOf, codes, lastFrom}
 use Rattle.tables.specs.Shelves.{codeCount}
+use Rattle.tables.specs.Records.{Ledger}
 use Rattle.node.specs.Node.{Ended, goesUpOf, onwardOf, resolventOf, Fits}
 use Rattle.search.specs.Search.{Result, visitOf}
 use Rattle.node.specs.declared.Position.{Position}
@@ -58,9 +59,9 @@ module _ (D : Prefix) (R : List Clause) (κ : Quantifier) (f : Node → Store �
 
 -- ---- a position below
 -- the result of a side at the position that the code made for it
-pub side-at : {ls : List Node} (D : Prefix) (R : List Clause) (s : Node) (st : Store) {r : Answer} {cls up cs cl qs ql table : List ℕ} {q q′ : Position} → q ≡ q′
-    → Result D ls (visitOf D R q s st) q r cls up cs cl qs ql table → Result D ls (visitOf D R q′ s st) q′ r cls up cs cl qs ql table
-side-at {ls} D R s st {r} {cls} {up} {cs} {cl} {qs} {ql} {table} e w = subst (λ (x : Position). Result D ls (visitOf D R x s st) x r cls up cs cl qs ql table) e w
+pub side-at : {g : Ledger} {ls : List Node} (D : Prefix) (R : List Clause) (s : Node) (st : Store) {r : Answer} {cls up cs cl qs ql table : List ℕ} {q q′ : Position} → q ≡ q′
+    → Result D g ls (visitOf D R q s st) q r cls up cs cl qs ql table → Result D g ls (visitOf D R q′ s st) q′ r cls up cs cl qs ql table
+side-at {g} {ls} D R s st {r} {cls} {up} {cs} {cl} {qs} {ql} {table} e w = subst (λ (x : Position). Result D g ls (visitOf D R x s st) x r cls up cs cl qs ql table) e w
 
 -- ---- what is well formed
 abbrev formulaOf : Prefix → List Clause → Formula

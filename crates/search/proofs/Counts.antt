@@ -8,6 +8,7 @@ use mathlib.Core.List.{List}
 use Rattle.qbf.specs.Formula.{paper, Prefix, Node}
 use Rattle.qbf.specs.Learning.{LearningResult}
 use Rattle.tables.specs.Shelves.{Shelves, newestOf}
+use Rattle.tables.specs.Records.{Ledger}
 use Rattle.search_entry.specs.Entry.{Bounded}
 use Rattle.search_entry.specs.declared.Bounds.{Bounds}
 use Rattle.node.specs.Node.{boundsOf, Finished, Grown, settledLines}
@@ -175,6 +176,6 @@ part-asked saved aside part p a e =
 pub counts-as : {cl ql cl′ ql′ : List ℕ} {p : Position} {r r′ : Answer} → r ≡ r′ → Counts cl ql p r cl′ ql′ → Counts cl ql p r′ cl′ ql′
 counts-as {cl} {ql} {cl′} {ql′} {p} {r} {r′} e w = subst (λ (x : Answer). Counts cl ql p x cl′ ql′) e w
 
-pub result-as : {D : Prefix} {ls : List Node} {o : LearningResult} {p : Position} {r r′ : Answer} {cls up cs cl qs ql tb : List ℕ} → r ≡ r′
-    → Result D ls o p r cls up cs cl qs ql tb → Result D ls o p r′ cls up cs cl qs ql tb
-result-as {D} {ls} {o} {p} {r} {r′} {cls} {up} {cs} {cl} {qs} {ql} {tb} e w = subst (λ (x : Answer). Result D ls o p x cls up cs cl qs ql tb) e w
+pub result-as : {D : Prefix} {g : Ledger} {ls : List Node} {o : LearningResult} {p : Position} {r r′ : Answer} {cls up cs cl qs ql tb : List ℕ} → r ≡ r′
+    → Result D g ls o p r cls up cs cl qs ql tb → Result D g ls o p r′ cls up cs cl qs ql tb
+result-as {D} {g} {ls} {o} {p} {r} {r′} {cls} {up} {cs} {cl} {qs} {ql} {tb} e w = subst (λ (x : Answer). Result D g ls o p x cls up cs cl qs ql tb) e w

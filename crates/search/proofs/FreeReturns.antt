@@ -13,6 +13,7 @@ use Rattle.theory.proofs.Laws.{select-append}
 use Rattle.theory.proofs.WellFormed.{free-before}
 use Rattle.tables.specs.Views.{quantifierCode}
 use Rattle.tables.specs.Codes.{Statuses}
+use Rattle.tables.specs.Records.{Ledger}
 use Rattle.cover.specs.Cover.{Covers}
 use Rattle.node.specs.Node.{isOf, boundsOf, entryOf, Reads, onwardOf, newLines, Joined, LineTask, settledLines, SettledTo}
 use Rattle.search.specs.Search.{Kept, Task, Opened, Result, SideVisited, branchOf}
@@ -159,7 +160,7 @@ module _ (D : Prefix) (R : List Clause) (s : Node) (st : Store) (k : ℕ) where
 -- ---- the visitor
 module _ {cls sets kd ss cs cl qs ql tb sat mk : List ℕ} (kind : ℕ) (code : quantifierCode free ≡ kind) (p q : Position) (eq : q ≡ counts.below p (p .visits + 1) (p .lines))
     (off : Answer) {up₁ cs₁ cl₁ qs₁ ql₁ tb₁ : List ℕ} (offs : SideVisited 1 q off cls sets kd ss cs cl qs ql tb sat mk up₁ cs₁ cl₁ qs₁ ql₁ tb₁) (t : Bool)
-    (ups : UpSays (off .verdict) kind (entryOf off cls cs₁ qs₁ up₁) (p .at) t) {ss₁ sat₁ mk₁ : List ℕ} (kept : Kept (q .at) (q .words) ss ss₁ tb tb₁ sat sat₁ mk mk₁)
+    (ups : UpSays (off .verdict) kind (entryOf off cls cs₁ qs₁ up₁) (p .at) t) {ss₁ sat₁ mk₁ : List ℕ} (kept : Kept (q .at) (q .words) ss ss₁ tb tb₁ sat sat₁ mk mk₁) 
     (one : Bool) (one-is : one ≡ isOf (p .yes) (off .verdict)) {tbₐ : List ℕ} (l : ℕ) (counted : l ≡ cond one (off .lines + 1) (off .lines))
     (lined : (s : Node) (b : Bool) (ls : List Node) → LineTask s ls ss₁ tb₁ p (off .lines) → 1 ≡ byteOf b → Covers (p .free) tbₐ (ls ++ cond one ((s ▹ b) ∷ []) []))
     (q′ : Position) (eq′ : q′ ≡ counts.below p (off .visits) l) (on : Answer) {up₂ cs₂ cl₂ qs₂ ql₂ tb₂ : List ℕ}
@@ -168,23 +169,23 @@ module _ {cls sets kd ss cs cl qs ql tb sat mk : List ℕ} (kind : ℕ) (code : 
     (fins : FinishSays kd (off .verdict) (off .len) on kind saved cls up₂ (p .at) cs₂ cl₂ qs₂ ql₂ r cs₃ cl₃ qs₃ ql₃) (unup : t ≡ false) (visits : r .visits ≡ on .visits)
     {ss₂ : List ℕ} (same₂ : ss₂ ≡ ss₁) (two : Bool) (two-is : two ≡ isOf (p .yes) (on .verdict)) (tb₃ : List ℕ) (n : ℕ) (settled : n ≡ settledLines one two (on .lines))
     (settling : (s : Node) (ls : List Node) → LineTask s ls ss₂ tb₂ p (on .lines) → SettledTo one two s ls (p .free) tb₃) where
-  pub free-result : (D : Prefix) (s : Node) (ls : List Node) (R : List Clause) (st : Store) → Task D s ls R st cls sets kd ss cs cl qs ql tb (p .at) p
+  pub free-result : (D : Prefix) (s : Node) (ls : List Node) (R : List Clause) (g : Ledger) (st : Store) → Task D s ls R g st cls sets kd ss cs cl qs ql tb (p .at) p
       → Opened D s R p sat mk → p .at < length D → quantifierAt D (suc (p .at)) ≡ free
-      → Result D ls (branchOf D R free p s st) p (counts.answered (r .verdict) (boundsOf r) (r .visits) n) cls up₂ cs₃ cl₃ qs₃ ql₃ tb₃
-  free-result D s ls R st task opened inside is =
+      → Result D g ls (branchOf D R free p s st) p (counts.answered (r .verdict) (boundsOf r) (r .visits) n) cls up₂ cs₃ cl₃ qs₃ ql₃ tb₃
+  free-result D s ls R g st task opened inside is =
       record {
         verdict = j .verdict;
         stored = j .stored;
-        visited = visits-both free kind code p q eq off offs t ups D s ls R st task opened inside is l kept q′ eq′ on ons ls₁ cov cnt saved aside r fins unup visits;
+        visited = visits-both free kind code p q eq off offs t ups D s ls R g st task opened inside is l kept q′ eq′ on ons ls₁ cov cnt saved aside r fins unup visits;
         covers = subst (λ (x : LearningResult). Covers (p .free) tb₃ (ls ++ newLines (p .yes) (x .outcome))) (sym whole) (s₂ .covers (p .free) tb₃ (settling s ls₂ (line-task ss₂ (same₂ ∙ kept .statuses-restored) tb₂ ls₂ (on .lines) (z .covers) (z .counted))));
         counted = settled ∙ ap (settledLines one two) (z .counted) ∙ s₂ .counts ∙ ap (λ (x : LearningResult). length (ls ++ newLines (p .yes) (x .outcome))) (sym whole);
       }
     where
-      w : Result D ls (offR free kind code p q eq off offs t ups D s ls R st task opened inside is) (counts.below p (p .visits + 1) (p .lines)) off cls up₁ cs₁ cl₁ qs₁ ql₁ tb₁
-      w = off-result free kind code p q eq off offs t ups D s ls R st task opened inside is
+      w : Result D g ls (offR free kind code p q eq off offs t ups D s ls R g st task opened inside is) (counts.below p (p .visits + 1) (p .lines)) off cls up₁ cs₁ cl₁ qs₁ ql₁ tb₁
+      w = off-result free kind code p q eq off offs t ups D s ls R g st task opened inside is
 
       a : Outcome Constraint
-      a = offR free kind code p q eq off offs t ups D s ls R st task opened inside is .outcome
+      a = offR free kind code p q eq off offs t ups D s ls R g st task opened inside is .outcome
 
       -- the place is a free one
       among : p .at < p .free
@@ -213,26 +214,26 @@ module _ {cls sets kd ss cs cl qs ql tb sat mk : List ℕ} (kind : ℕ) (code : 
           by true = omega (arith, w .counted)
           by false = omega (arith, w .counted)
 
-      z : Result D ls₁ (onR free kind code p q eq off offs t ups D s ls R st task opened inside is l kept q′ eq′ on ons ls₁ cov cnt) (counts.below p (off .visits) l) on cls up₂ cs₂ cl₂ qs₂ ql₂ tb₂
-      z = on-result free kind code p q eq off offs t ups D s ls R st task opened inside is l kept q′ eq′ on ons ls₁ cov cnt
+      z : Result D g ls₁ (onR free kind code p q eq off offs t ups D s ls R g st task opened inside is l kept q′ eq′ on ons ls₁ cov cnt) (counts.below p (off .visits) l) on cls up₂ cs₂ cl₂ qs₂ ql₂ tb₂
+      z = on-result free kind code p q eq off offs t ups D s ls R g st task opened inside is l kept q′ eq′ on ons ls₁ cov cnt
 
       o : Outcome Constraint
-      o = onR free kind code p q eq off offs t ups D s ls R st task opened inside is l kept q′ eq′ on ons ls₁ cov cnt .outcome
+      o = onR free kind code p q eq off offs t ups D s ls R g st task opened inside is l kept q′ eq′ on ons ls₁ cov cnt .outcome
 
-      j : Joined D (branchOf D R free p s st) r cls up₂ cs₃ cl₃ qs₃ ql₃
-      j = joined free kind code p q eq off offs t ups D s ls R st task opened inside is l kept q′ eq′ on ons ls₁ cov cnt saved aside r fins unup
+      j : Joined D g (branchOf D R free p s st) r cls up₂ cs₃ cl₃ qs₃ ql₃
+      j = joined free kind code p q eq off offs t ups D s ls R g st task opened inside is l kept q′ eq′ on ons ls₁ cov cnt saved aside r fins unup
 
       st′ : Store
-      st′ = onR free kind code p q eq off offs t ups D s ls R st task opened inside is l kept q′ eq′ on ons ls₁ cov cnt .store
+      st′ = onR free kind code p q eq off offs t ups D s ls R g st task opened inside is l kept q′ eq′ on ons ls₁ cov cnt .store
 
       k : ℕ
-      k = suc (offR free kind code p q eq off offs t ups D s ls R st task opened inside is .visits + onR free kind code p q eq off offs t ups D s ls R st task opened inside is l kept q′ eq′ on ons ls₁ cov cnt .visits)
+      k = suc (offR free kind code p q eq off offs t ups D s ls R g st task opened inside is .visits + onR free kind code p q eq off offs t ups D s ls R g st task opened inside is l kept q′ eq′ on ons ls₁ cov cnt .visits)
 
       ls₂ : List Node
       ls₂ = unsettled D R s st′ k (p .yes) ls a o one
 
       whole : branchOf D R free p s st ≡ onwardOf D R free s a o st′ k
-      whole = onward-is free kind code p q eq off offs t ups D s ls R st task opened inside is l kept q′ eq′ on ons ls₁ cov cnt saved aside r fins unup
+      whole = onward-is free kind code p q eq off offs t ups D s ls R g st task opened inside is l kept q′ eq′ on ons ls₁ cov cnt saved aside r fins unup
 
       s₂ : Settles D R s st′ k (p .yes) ls a o one two
       s₂ =

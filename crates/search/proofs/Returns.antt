@@ -17,7 +17,7 @@ use Rattle.theory.proofs.Unmixed.{Unmixed}
 use Rattle.theory.proofs.WellFormed.{numbers-ok}
 use Rattle.tables.specs.Views.{quantifierCode}
 use Rattle.tables.specs.Codes.{Quantified}
-use Rattle.tables.specs.Shelves.{StoreShown}
+use Rattle.tables.specs.Records.{Ledger, StoreKept}
 use Rattle.cover.specs.Cover.{Covers}
 use Rattle.tables.specs.Formed.{Formed}
 use Rattle.node.specs.Node.{boundsOf, entryOf, Reads, Ended, Shown, goesUpOf, onwardOf, resolventOf, Fits, newLines, Joined}
@@ -37,9 +37,9 @@ UpSays v kind codes at t =
 abbrev pub FinishSays : List ℕ → Verdict → ℕ → Answer → ℕ → List ℕ → List ℕ → List ℕ → ℕ → List ℕ → List ℕ → List ℕ → List ℕ
     → Answer → List ℕ → List ℕ → List ℕ → List ℕ → Type 0
 FinishSays kinds v n on kind saved clauses up at cs cl qs ql r cs′ cl′ qs′ ql′ =
-    (D : Prefix) (R : List Clause) (s : Node) (κ : Quantifier) (a o : Outcome Constraint) (st : Store) (k : ℕ) → Quantified D kinds → length s ≡ at → quantifierCode κ ≡ kind
+    (D : Prefix) (R : List Clause) (s : Node) (κ : Quantifier) (a o : Outcome Constraint) (g : Ledger) (st : Store) (k : ℕ) → Quantified D kinds → length s ≡ at → quantifierCode κ ≡ kind
     → Reads D v (take n saved) a → Reads D (on .verdict) (entryOf on clauses cs qs up) o → Ended D (suc at) a → Ended D (suc at) o → Fits D (resolventOf D (suc at) a o)
-    → StoreShown D st cs cl qs ql → Joined D (onwardOf D R κ s a o st k) r clauses up cs′ cl′ qs′ ql′
+    → g .clauses ≡ length R → StoreKept D g st cs cl qs ql → Joined D g (onwardOf D R κ s a o st k) r clauses up cs′ cl′ qs′ ql′
 
 onward-visits : (D : Prefix) (R : List Clause) (κ : Quantifier) (s : Node) (a o : Outcome Constraint) (st : Store) (k : ℕ) → onwardOf D R κ s a o st k .visits ≡ k
 onward-visits D R κ s (decided b e) o st k = on-visits paper D R κ s b e o st k
@@ -52,7 +52,7 @@ unmixed-lines y ks (mixed ds) h n = absurd (h n)
 module _ {cls sets kd ss cs cl qs ql tb sat mk : List ℕ} (κ : Quantifier) (kind : ℕ) (code : quantifierCode κ ≡ kind) (p : Position)
     (q : Position) (eq : q ≡ counts.below p (p .visits + 1) (p .lines)) (off : Answer) {up₁ cs₁ cl₁ qs₁ ql₁ tb₁ : List ℕ}
     (offs : SideVisited 1 q off cls sets kd ss cs cl qs ql tb sat mk up₁ cs₁ cl₁ qs₁ ql₁ tb₁) (t : Bool) (ups : UpSays (off .verdict) kind (entryOf off cls cs₁ qs₁ up₁) (p .at) t) where
-  module _ (D : Prefix) (s : Node) (ls : List Node) (R : List Clause) (st : Store) (task : Task D s ls R st cls sets kd ss cs cl qs ql tb (p .at) p)
+  module _ (D : Prefix) (s : Node) (ls : List Node) (R : List Clause) (g : Ledger) (st : Store) (task : Task D s ls R g st cls sets kd ss cs cl qs ql tb (p .at) p)
       (opened : Opened D s R p sat mk) (inside : p .at < length D) (is : quantifierAt D (suc (p .at)) ≡ κ) where
     abbrev side : Node → Store → LearningResult
     side = visit D R eqb (below paper D R (drop (p .at + 1) (quantifiers D)))
@@ -63,12 +63,12 @@ module _ {cls sets kd ss cs cl qs ql tb sat mk : List ℕ} (κ : Quantifier) (ki
     at-side : (x : Position) (v l : ℕ) → x ≡ counts.below p v l → suc (p .at) ≡ x .at
     at-side x v l e = sym (add-one (p .at)) ∙ sym (ap (λ (y : Position). y .at) e)
 
-    pub off-result : Result D ls offR (counts.below p (p .visits + 1) (p .lines)) off cls up₁ cs₁ cl₁ qs₁ ql₁ tb₁
+    pub off-result : Result D g ls offR (counts.below p (p .visits + 1) (p .lines)) off cls up₁ cs₁ cl₁ qs₁ ql₁ tb₁
     off-result =
         side-at D R (s ▹ false) st eq
-        (offs .result D s false ls R st (p .at)
-        (subst (Task D s ls R st cls sets kd ss cs cl qs ql tb (p .at)) (sym eq)
-        (record { shown = task .shown; formed = task .formed; matrix = task .matrix; stored = task .stored; frees = task .frees; covers = task .covers; counted = task .counted }))
+        (offs .result D s false ls R g st (p .at)
+        (subst (Task D s ls R g st cls sets kd ss cs cl qs ql tb (p .at)) (sym eq)
+        (record { shown = task .shown; formed = task .formed; matrix = task .matrix; stored = task .stored; ruled = task .ruled; frees = task .frees; covers = task .covers; counted = task .counted }))
         (opened-at p q (p .visits + 1) (p .lines) eq opened) inside (at-side q (p .visits + 1) (p .lines) eq) refl)
 
     ended-off : Ended D (suc (p .at)) (offR .outcome)
@@ -78,9 +78,9 @@ module _ {cls sets kd ss cs cl qs ql tb sat mk : List ℕ} (κ : Quantifier) (ki
     tested = ups D κ (offR .outcome) code (off-result .verdict) ended-off ∙ ap (λ (i : ℕ). goesUpOf D κ (suc i) (offR .outcome)) (sym (task .shown .long))
 
     -- the off side's result goes up
-    pub up-result : t ≡ true → Result D ls (branchOf D R κ p s st) p off cls up₁ cs₁ cl₁ qs₁ ql₁ tb₁
+    pub up-result : t ≡ true → Result D g ls (branchOf D R κ p s st) p off cls up₁ cs₁ cl₁ qs₁ ql₁ tb₁
     up-result e =
-        subst (λ (x : LearningResult). Result D ls x p off cls up₁ cs₁ cl₁ qs₁ ql₁ tb₁) (sym (goes-up D R κ side s st (sym tested ∙ e)))
+        subst (λ (x : LearningResult). Result D g ls x p off cls up₁ cs₁ cl₁ qs₁ ql₁ tb₁) (sym (goes-up D R κ side s st (sym tested ∙ e)))
         (record { verdict = off-result .verdict; stored = off-result .stored; visited = omega (arith, off-result .visited); covers = off-result .covers; counted = off-result .counted })
 
     module _ {tbₐ : List ℕ} (l : ℕ) {ss₁ sat₁ mk₁ : List ℕ} (kept : Kept (q .at) (q .words) ss ss₁ tb tb₁ sat sat₁ mk mk₁) (q′ : Position) (eq′ : q′ ≡ counts.below p (off .visits) l) (on : Answer)
@@ -98,12 +98,12 @@ module _ {cls sets kd ss cs cl qs ql tb sat mk : List ℕ} (κ : Quantifier) (ki
       formed-off : Formed D R (offR .store)
       formed-off = formed-on D R κ s (p .at) (task .shown .long) inside is st (task .formed)
 
-      pub on-result : Result D ls₁ onR (counts.below p (off .visits) l) on cls up₂ cs₂ cl₂ qs₂ ql₂ tb₂
+      pub on-result : Result D g ls₁ onR (counts.below p (off .visits) l) on cls up₂ cs₂ cl₂ qs₂ ql₂ tb₂
       on-result =
           side-at D R (s ▹ true) (offR .store) eq′
-          (ons .result D s true ls₁ R (offR .store) (p .at)
-          (subst (Task D s ls₁ R (offR .store) cls sets kd ss₁ cs₁ cl₁ qs₁ ql₁ tbₐ (p .at)) (sym eq′)
-          (record { shown = shown-on; formed = formed-off; matrix = task .matrix; stored = off-result .stored; frees = task .frees; covers = cov; counted = cnt }))
+          (ons .result D s true ls₁ R g (offR .store) (p .at)
+          (subst (Task D s ls₁ R g (offR .store) cls sets kd ss₁ cs₁ cl₁ qs₁ ql₁ tbₐ (p .at)) (sym eq′)
+          (record { shown = shown-on; formed = formed-off; matrix = task .matrix; stored = off-result .stored; ruled = task .ruled; frees = task .frees; covers = cov; counted = cnt }))
           (opened-at p q′ (off .visits) l eq′ open-on) inside (at-side q′ (off .visits) l eq′) refl)
 
       module _ (saved : List ℕ) (aside : take (off .len) saved ≡ entryOf off cls cs₁ qs₁ up₁) (r : Answer) {cs₃ cl₃ qs₃ ql₃ : List ℕ}
@@ -118,14 +118,14 @@ module _ {cls sets kd ss cs cl qs ql tb sat mk : List ℕ} (κ : Quantifier) (ki
         shaped-on b =
             ended D s b (p .at) (side (s ▹ b) (offR .store) .outcome) (task .shown .long) (shaped-side D R κ s (p .at) (task .shown .long) inside is b (offR .store) formed-off)
 
-        pub joined : Joined D (branchOf D R κ p s st) r cls up₂ cs₃ cl₃ qs₃ ql₃
+        pub joined : Joined D g (branchOf D R κ p s st) r cls up₂ cs₃ cl₃ qs₃ ql₃
         joined =
-            subst (λ (x : LearningResult). Joined D x r cls up₂ cs₃ cl₃ qs₃ ql₃) (sym onward-is)
-            (fins D R s κ (offR .outcome) (onR .outcome) (onR .store) k (task .shown .quantified) (task .shown .long) code
+            subst (λ (x : LearningResult). Joined D g x r cls up₂ cs₃ cl₃ qs₃ ql₃) (sym onward-is)
+            (fins D R s κ (offR .outcome) (onR .outcome) g (onR .store) k (task .shown .quantified) (task .shown .long) code
             (subst (λ (x : List ℕ). Reads D (off .verdict) x (offR .outcome)) (sym aside) (off-result .verdict)) (on-result .verdict) ended-off (shaped-on true)
             (resolvent-fits D (suc (p .at)) (s ▹ false) (s ▹ true) (offR .outcome) (onR .outcome) (numbers-ok _ (facts D R st (task .formed)))
             (shaped-side D R κ s (p .at) (task .shown .long) inside is false st (task .formed)) (shaped-side D R κ s (p .at) (task .shown .long) inside is true (offR .store) formed-off))
-            (on-result .stored))
+            (task .ruled) (on-result .stored))
 
         pub visits-both : r .visits ≡ on .visits → r .visits ≡ p .visits + branchOf D R κ p s st .visits
         visits-both e =
@@ -140,23 +140,23 @@ module _ {cls sets kd ss cs cl qs ql tb sat mk : List ℕ} (κ : Quantifier) (ki
       (saved : List ℕ) (aside : take (off .len) saved ≡ entryOf off cls cs₁ qs₁ up₁) (r : Answer) {cs₃ cl₃ qs₃ ql₃ : List ℕ}
       (fins : FinishSays kd (off .verdict) (off .len) on kind saved cls up₂ (p .at) cs₂ cl₂ qs₂ ql₂ r cs₃ cl₃ qs₃ ql₃) (unup : t ≡ false)
       (visits : r .visits ≡ on .visits) {tb₃ : List ℕ} (same₃ : tb₃ ≡ tb₂) (n : ℕ) (lines₃ : n ≡ on .lines) where
-    pub both-result : (D : Prefix) (s : Node) (ls : List Node) (R : List Clause) (st : Store) → Task D s ls R st cls sets kd ss cs cl qs ql tb (p .at) p
+    pub both-result : (D : Prefix) (s : Node) (ls : List Node) (R : List Clause) (g : Ledger) (st : Store) → Task D s ls R g st cls sets kd ss cs cl qs ql tb (p .at) p
         → Opened D s R p sat mk → p .at < length D → quantifierAt D (suc (p .at)) ≡ κ
-        → Result D ls (branchOf D R κ p s st) p (counts.answered (r .verdict) (boundsOf r) (r .visits) n) cls up₂ cs₃ cl₃ qs₃ ql₃ tb₃
-    both-result D s ls R st task opened inside is =
+        → Result D g ls (branchOf D R κ p s st) p (counts.answered (r .verdict) (boundsOf r) (r .visits) n) cls up₂ cs₃ cl₃ qs₃ ql₃ tb₃
+    both-result D s ls R g st task opened inside is =
         record {
           verdict = j .verdict;
           stored = j .stored;
-          visited = visits-both D s ls R st task opened inside is l kept q′ eq′ on ons (ls ++ newLines (p .yes) a) cov cnt saved aside r fins unup visits;
+          visited = visits-both D s ls R g st task opened inside is l kept q′ eq′ on ons (ls ++ newLines (p .yes) a) cov cnt saved aside r fins unup visits;
           covers = subst (λ (x : List ℕ). Covers (p .free) x (ls ++ newLines (p .yes) (branchOf D R κ p s st .outcome))) (sym same₃) (subst (Covers (p .free) tb₂) lists (z .covers));
           counted = lines₃ ∙ z .counted ∙ ap length lists;
         }
       where
         a : Outcome Constraint
-        a = offR D s ls R st task opened inside is .outcome
+        a = offR D s ls R g st task opened inside is .outcome
 
-        w : Result D ls (offR D s ls R st task opened inside is) (counts.below p (p .visits + 1) (p .lines)) off cls up₁ cs₁ cl₁ qs₁ ql₁ tb₁
-        w = off-result D s ls R st task opened inside is
+        w : Result D g ls (offR D s ls R g st task opened inside is) (counts.below p (p .visits + 1) (p .lines)) off cls up₁ cs₁ cl₁ qs₁ ql₁ tb₁
+        w = off-result D s ls R g st task opened inside is
 
         cov : Covers (p .free) tbₐ (ls ++ newLines (p .yes) a)
         cov = subst (λ (x : List ℕ). Covers (p .free) x (ls ++ newLines (p .yes) a)) (sym same) (w .covers)
@@ -164,14 +164,14 @@ module _ {cls sets kd ss cs cl qs ql tb sat mk : List ℕ} (κ : Quantifier) (ki
         cnt : l ≡ length (ls ++ newLines (p .yes) a)
         cnt = lines ∙ w .counted
 
-        j : Joined D (branchOf D R κ p s st) r cls up₂ cs₃ cl₃ qs₃ ql₃
-        j = joined D s ls R st task opened inside is l kept q′ eq′ on ons (ls ++ newLines (p .yes) a) cov cnt saved aside r fins unup
+        j : Joined D g (branchOf D R κ p s st) r cls up₂ cs₃ cl₃ qs₃ ql₃
+        j = joined D s ls R g st task opened inside is l kept q′ eq′ on ons (ls ++ newLines (p .yes) a) cov cnt saved aside r fins unup
 
         onRes : LearningResult
-        onRes = onR D s ls R st task opened inside is l kept q′ eq′ on ons (ls ++ newLines (p .yes) a) cov cnt
+        onRes = onR D s ls R g st task opened inside is l kept q′ eq′ on ons (ls ++ newLines (p .yes) a) cov cnt
 
-        z : Result D (ls ++ newLines (p .yes) a) onRes (counts.below p (off .visits) l) on cls up₂ cs₂ cl₂ qs₂ ql₂ tb₂
-        z = on-result D s ls R st task opened inside is l kept q′ eq′ on ons (ls ++ newLines (p .yes) a) cov cnt
+        z : Result D g (ls ++ newLines (p .yes) a) onRes (counts.below p (off .visits) l) on cls up₂ cs₂ cl₂ qs₂ ql₂ tb₂
+        z = on-result D s ls R g st task opened inside is l kept q′ eq′ on ons (ls ++ newLines (p .yes) a) cov cnt
 
         ks′ : List Quantifier
         ks′ = drop (p .at + 1) (quantifiers D)
@@ -188,7 +188,7 @@ module _ {cls sets kd ss cs cl qs ql tb sat mk : List ℕ} (κ : Quantifier) (ki
         no-on : newLines (p .yes) o ≡ []
         no-on =
             unmixed-lines (p .yes) ks′ o
-            (unmixed-side D R κ s (p .at) (task .shown .long) inside is true (offR D s ls R st task opened inside is .store) (formed-on D R κ s (p .at) (task .shown .long) inside is st (task .formed))) (nobelow ks′ nothing)
+            (unmixed-side D R κ s (p .at) (task .shown .long) inside is true (offR D s ls R g st task opened inside is .store) (formed-on D R κ s (p .at) (task .shown .long) inside is st (task .formed))) (nobelow ks′ nothing)
 
         no-here : newLines (p .yes) (branchOf D R κ p s st .outcome) ≡ []
         no-here = unmixed-lines (p .yes) (κ ∷ ks′) (branchOf D R κ p s st .outcome) (unmixed-here D R κ s (p .at) (task .shown .long) inside is st (task .formed)) nothing

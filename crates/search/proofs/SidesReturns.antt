@@ -10,6 +10,7 @@ use Rattle.qbf.specs.Card.{byteOf}
 use Rattle.theory.proofs.Verdict.{NoFree}
 use Rattle.theory.proofs.Search.{Below}
 use Rattle.tables.specs.Views.{quantifierCode}
+use Rattle.tables.specs.Records.{Ledger}
 use Rattle.cover.specs.Cover.{Covers}
 use Rattle.node.specs.Node.{boundsOf, entryOf, LineTask, linedOf, settledLines, SettledTo}
 use Rattle.node.specs.declared.Verdict.{Verdict}
@@ -39,27 +40,27 @@ module _ {cls sets kd ss cs cl qs ql tb sat mk : List ℕ} (kind : ℕ) (p q : P
   -- no line is added or taken back
   module _ (κ : Quantifier) (code : quantifierCode κ ≡ kind) (one-no : one ≡ false) (two-no : two ≡ false)
       (nofree : (qs : List Quantifier) → Below κ qs → NoFree (κ ∷ qs)) (nobelow : (qs : List Quantifier) → NoFree (κ ∷ qs) → NoFree qs) where
-    quantified-result : (D : Prefix) (s : Node) (ls : List Node) (R : List Clause) (st : Store) → Task D s ls R st cls sets kd ss cs cl qs ql tb (p .at) p
+    quantified-result : (D : Prefix) (s : Node) (ls : List Node) (R : List Clause) (g : Ledger) (st : Store) → Task D s ls R g st cls sets kd ss cs cl qs ql tb (p .at) p
         → Opened D s R p sat mk → p .at < length D → quantifierAt D (suc (p .at)) ≡ κ
-        → Result D ls (branchOf D R κ p s st) p (counts.answered (r .verdict) (boundsOf r) (r .visits) n) cls up₂ cs₃ cl₃ qs₃ ql₃ tb₃
+        → Result D g ls (branchOf D R κ p s st) p (counts.answered (r .verdict) (boundsOf r) (r .visits) n) cls up₂ cs₃ cl₃ qs₃ ql₃ tb₃
     quantified-result =
         both-result κ kind code p q eq off offs t ups nofree nobelow kept (same one-no) l (counted ∙ ap (λ (b : Bool). cond b (off .lines + 1) (off .lines)) one-no)
         q′ eq′ on ons saved aside r fins unup visits (same₃ two-no) n (settled ∙ (λ i. settledLines (one-no i) (two-no i) (on .lines)))
 
   -- lines at a free variable
   module _ (code : quantifierCode free ≡ kind) where
-    free-lines : (D : Prefix) (s : Node) (ls : List Node) (R : List Clause) (st : Store) → Task D s ls R st cls sets kd ss cs cl qs ql tb (p .at) p
+    free-lines : (D : Prefix) (s : Node) (ls : List Node) (R : List Clause) (g : Ledger) (st : Store) → Task D s ls R g st cls sets kd ss cs cl qs ql tb (p .at) p
         → Opened D s R p sat mk → p .at < length D → quantifierAt D (suc (p .at)) ≡ free
-        → Result D ls (branchOf D R free p s st) p (counts.answered (r .verdict) (boundsOf r) (r .visits) n) cls up₂ cs₃ cl₃ qs₃ ql₃ tb₃
+        → Result D g ls (branchOf D R free p s st) p (counts.answered (r .verdict) (boundsOf r) (r .visits) n) cls up₂ cs₃ cl₃ qs₃ ql₃ tb₃
     free-lines =
         free-result kind code p q eq off offs t ups kept one (lines-by free code one (off .verdict) one-is) l counted lined
         q′ eq′ on ons saved aside r fins unup visits same₂ two (lines-by free code two (on .verdict) two-is) tb₃ n settled settling
 
-  pub sides-result : (D : Prefix) (s : Node) (ls : List Node) (R : List Clause) (st : Store) (κ : Quantifier) → Task D s ls R st cls sets kd ss cs cl qs ql tb (p .at) p
+  pub sides-result : (D : Prefix) (s : Node) (ls : List Node) (R : List Clause) (g : Ledger) (st : Store) (κ : Quantifier) → Task D s ls R g st cls sets kd ss cs cl qs ql tb (p .at) p
       → Opened D s R p sat mk → p .at < length D → quantifierAt D (suc (p .at)) ≡ κ → quantifierCode κ ≡ kind
-      → Result D ls (branchOf D R κ p s st) p (counts.answered (r .verdict) (boundsOf r) (r .visits) n) cls up₂ cs₃ cl₃ qs₃ ql₃ tb₃
-  sides-result D s ls R st free task opened inside is code = free-lines code D s ls R st task opened inside is
-  sides-result D s ls R st exists task opened inside is code =
-      quantified-result exists code (lines-by exists code one (off .verdict) one-is) (lines-by exists code two (on .verdict) two-is) (λ qs h. h) (λ qs h. h) D s ls R st task opened inside is
-  sides-result D s ls R st forall task opened inside is code =
-      quantified-result forall code (lines-by forall code one (off .verdict) one-is) (lines-by forall code two (on .verdict) two-is) (λ qs h. h) (λ qs h. h) D s ls R st task opened inside is
+      → Result D g ls (branchOf D R κ p s st) p (counts.answered (r .verdict) (boundsOf r) (r .visits) n) cls up₂ cs₃ cl₃ qs₃ ql₃ tb₃
+  sides-result D s ls R g st free task opened inside is code = free-lines code D s ls R g st task opened inside is
+  sides-result D s ls R g st exists task opened inside is code =
+      quantified-result exists code (lines-by exists code one (off .verdict) one-is) (lines-by exists code two (on .verdict) two-is) (λ qs h. h) (λ qs h. h) D s ls R g st task opened inside is
+  sides-result D s ls R g st forall task opened inside is code =
+      quantified-result forall code (lines-by forall code one (off .verdict) one-is) (lines-by forall code two (on .verdict) two-is) (λ qs h. h) (λ qs h. h) D s ls R g st task opened inside is

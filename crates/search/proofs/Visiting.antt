@@ -22,6 +22,7 @@ use Rattle.tables.specs.Views.{quantifierCode}
 use Rattle.tables.specs.Codes.{codes, given, Quantified}
 use Rattle.tables.specs.Shelves.{codeCount}
 use Rattle.tables.specs.Sets.{Descended}
+use Rattle.tables.specs.Records.{Ledger}
 use Rattle.coding.proofs.Given.{statuses-below}
 use Rattle.inner.specs.Inner.{Concluded, LeafCoded, NodeShown, OpenKnown}
 use Rattle.inner.specs.declared.Leaf.{Leaf}
@@ -121,8 +122,8 @@ module _ {D : Prefix} {R : List Clause} {s : Node} {st : Store} {r : Leaf} {wc :
   }
 
 -- ---- results of a visit
-module _ {D : Prefix} {s : Node} {ls : List Node} {R : List Clause} {st : Store} {cls sets kd ss cs cl qs ql tb : List ℕ} (p : Position)
-    (task : Task D s ls R st cls sets kd ss cs cl qs ql tb (p .at) p) where
+module _ {D : Prefix} {s : Node} {ls : List Node} {R : List Clause} {g : Ledger} {st : Store} {cls sets kd ss cs cl qs ql tb : List ℕ} (p : Position)
+    (task : Task D s ls R g st cls sets kd ss cs cl qs ql tb (p .at) p) where
   -- what steps 1 to 4 ask
   pub node-shown : NodeShown D R s st (p .at) (p .words) cls sets kd ss cs cl qs ql
   node-shown = record {
@@ -130,17 +131,17 @@ module _ {D : Prefix} {s : Node} {ls : List Node} {R : List Clause} {st : Store}
     statused = task .shown .statused;
     long = task .shown .long;
     matrix = task .matrix;
-    stored = task .stored;
+    stored = task .stored .shown;
     formed = task .formed;
   }
 
   -- they decide
   pub leaf-result : (w : Verdict) (v : Bool) (e : Constraint) (b : Bounds) (up : List ℕ) → leaf D R eqb s st ≡ some (decided v e)
       → Reads D w (entryAt b cls (storedBy w cs qs) up) (decided v e)
-      → (r : Answer) → r ≡ counts.answered w b (p .visits + 1) (p .lines) → Result D ls (visitOf D R p s st) p r cls up cs cl qs ql tb
+      → (r : Answer) → r ≡ counts.answered w b (p .visits + 1) (p .lines) → Result D g ls (visitOf D R p s st) p r cls up cs cl qs ql tb
   leaf-result w v e b up is rd r q =
-      subst (λ (x : Answer). Result D ls (visitOf D R p s st) p x cls up cs cl qs ql tb) (sym q)
-      (subst (λ (x : Option (Outcome Constraint)). Result D ls (settle x (below paper D R (drop (p .at) (quantifiers D))) s st) p (counts.answered w b (p .visits + 1) (p .lines)) cls up cs cl qs ql tb) (sym is)
+      subst (λ (x : Answer). Result D g ls (visitOf D R p s st) p x cls up cs cl qs ql tb) (sym q)
+      (subst (λ (x : Option (Outcome Constraint)). Result D g ls (settle x (below paper D R (drop (p .at) (quantifiers D))) s st) p (counts.answered w b (p .visits + 1) (p .lines)) cls up cs cl qs ql tb) (sym is)
       (record {
         verdict = rd;
         stored = task .stored;
@@ -151,15 +152,15 @@ module _ {D : Prefix} {s : Node} {ls : List Node} {R : List Clause} {st : Store}
 
   -- the node is open: what follows is asked at the same position
   pub open-result : {r : Leaf} {wc : ℕ} {up up′ cs′ cl′ qs′ ql′ tb′ sat mk : List ℕ} (a : Answer) → Concluded D R s st r wc cls cs qs up sat mk → r ≡ found.Open → p .words ≡ wc
-      → Followed p a cls sets kd ss cs cl qs ql tb sat mk up′ cs′ cl′ qs′ ql′ tb′ → Result D ls (visitOf D R p s st) p a cls up′ cs′ cl′ qs′ ql′ tb′
+      → Followed p a cls sets kd ss cs cl qs ql tb sat mk up′ cs′ cl′ qs′ ql′ tb′ → Result D g ls (visitOf D R p s st) p a cls up′ cs′ cl′ qs′ ql′ tb′
   open-result {up′ = up′} {cs′} {cl′} {qs′} {ql′} {tb′} a w e words h =
-      subst (λ (x : Option (Outcome Constraint)). Result D ls (settle x (below paper D R (drop (p .at) (quantifiers D))) s st) p a cls up′ cs′ cl′ qs′ ql′ tb′) (sym (said-open w e))
-      (h .result D s ls R st task (said-opened w p words e))
+      subst (λ (x : Option (Outcome Constraint)). Result D g ls (settle x (below paper D R (drop (p .at) (quantifiers D))) s st) p a cls up′ cs′ cl′ qs′ ql′ tb′) (sym (said-open w e))
+      (h .result D s ls R g st task (said-opened w p words e))
 
   -- it goes on to the branch
   branch-result : (κ : Quantifier) {up cs′ cl′ qs′ ql′ tb′ : List ℕ} (r : Answer) → p .at < length D → quantifierAt D (suc (p .at)) ≡ κ
-      → Result D ls (branchOf D R κ p s st) p r cls up cs′ cl′ qs′ ql′ tb′ → Result D ls (belowOf D R p s st) p r cls up cs′ cl′ qs′ ql′ tb′
-  branch-result κ {up} {cs′} {cl′} {qs′} {ql′} {tb′} r inD is h = subst (λ (x : LearningResult). Result D ls x p r cls up cs′ cl′ qs′ ql′ tb′) (sym whole) h
+      → Result D g ls (branchOf D R κ p s st) p r cls up cs′ cl′ qs′ ql′ tb′ → Result D g ls (belowOf D R p s st) p r cls up cs′ cl′ qs′ ql′ tb′
+  branch-result κ {up} {cs′} {cl′} {qs′} {ql′} {tb′} r inD is h = subst (λ (x : LearningResult). Result D g ls x p r cls up cs′ cl′ qs′ ql′ tb′) (sym whole) h
     where
       here : drop (p .at) (quantifiers D) ≡ κ ∷ drop (p .at + 1) (quantifiers D)
       here = ap (λ (i : ℕ). drop i (quantifiers D)) (sym (task .shown .long)) ∙ rest D R κ s (p .at) (task .shown .long) inD is
@@ -175,30 +176,30 @@ module _ {D : Prefix} {s : Node} {ls : List Node} {R : List Clause} {st : Store}
 
     -- the kind of the next place says which branch is taken
     pub next-result : {sat mk up cs′ cl′ qs′ ql′ tb′ : List ℕ} → k < 3 → Opened D s R p sat mk
-        → Branched k p r cls sets kd ss cs cl qs ql tb sat mk up cs′ cl′ qs′ ql′ tb′ → Result D ls (belowOf D R p s st) p r cls up cs′ cl′ qs′ ql′ tb′
+        → Branched k p r cls sets kd ss cs cl qs ql tb sat mk up cs′ cl′ qs′ ql′ tb′ → Result D g ls (belowOf D R p s st) p r cls up cs′ cl′ qs′ ql′ tb′
     next-result low opened h =
         let κ : Quantifier = quantifierAt D (suc (p .at)) in
         let inD : p .at < length D = next-inside D kd (task .shown .quantified) (p .at) k next low in
-        branch-result κ r inD refl (h .result D s ls R st κ task opened inD refl (sym (at-kind inD)))
+        branch-result κ r inD refl (h .result D s ls R g st κ task opened inD refl (sym (at-kind inD)))
 
     -- a kind is that of one quantifier only
     pub kind-result : (κ : Quantifier) {sat mk up cs′ cl′ qs′ ql′ tb′ : List ℕ} → k ≡ quantifierCode κ → Opened D s R p sat mk
-        → Branched (quantifierCode κ) p r cls sets kd ss cs cl qs ql tb sat mk up cs′ cl′ qs′ ql′ tb′ → Result D ls (belowOf D R p s st) p r cls up cs′ cl′ qs′ ql′ tb′
+        → Branched (quantifierCode κ) p r cls sets kd ss cs cl qs ql tb sat mk up cs′ cl′ qs′ ql′ tb′ → Result D g ls (belowOf D R p s st) p r cls up cs′ cl′ qs′ ql′ tb′
     kind-result κ e opened h =
         let inD : p .at < length D = next-inside D kd (task .shown .quantified) (p .at) k next (subst (λ (n : ℕ). n < 3) (sym e) (code-small κ)) in
         let is : quantifierAt D (suc (p .at)) ≡ κ = one-code (quantifierAt D (suc (p .at))) κ (sym (at-kind inD) ∙ e) in
-        branch-result κ r inD is (h .result D s ls R st κ task opened inD is refl)
+        branch-result κ r inD is (h .result D s ls R g st κ task opened inD is refl)
 
     -- no place is left
     pub end-result : (b : Bounds) → b .len ≡ 0 → (up : List ℕ) → (k ≡ 1 → ⊥) → (k ≡ 2 → ⊥) → (k ≡ 0 → ⊥)
-        → r ≡ counts.answered No b (p .visits + 1) (p .lines) → Result D ls (belowOf D R p s st) p r cls up cs cl qs ql tb
+        → r ≡ counts.answered No b (p .visits + 1) (p .lines) → Result D g ls (belowOf D R p s st) p r cls up cs cl qs ql tb
     end-result b empty up x y z q = by (le-or-lt (length D) (p .at))
       where
-        by : (length D ≤ p .at) ⊎ (p .at < length D) → Result D ls (belowOf D R p s st) p r cls up cs cl qs ql tb
+        by : (length D ≤ p .at) ⊎ (p .at < length D) → Result D g ls (belowOf D R p s st) p r cls up cs cl qs ql tb
         by (inr inD) = absurd (code-known (quantifierAt D (suc (p .at))) k (at-kind inD) x y z)
         by (inl le) =
-            subst (λ (x : Answer). Result D ls (belowOf D R p s st) p x cls up cs cl qs ql tb) (sym q)
-            (subst (λ (x : LearningResult). Result D ls x p (counts.answered No b (p .visits + 1) (p .lines)) cls up cs cl qs ql tb) (sym whole)
+            subst (λ (x : Answer). Result D g ls (belowOf D R p s st) p x cls up cs cl qs ql tb) (sym q)
+            (subst (λ (x : LearningResult). Result D g ls x p (counts.answered No b (p .visits + 1) (p .lines)) cls up cs cl qs ql tb) (sym whole)
             (record {
               verdict = ([], refl, ap (λ (n : ℕ). take n (drop (b .start) (tableOf (b .source) cls cs up))) empty);
               stored = task .stored;
@@ -212,17 +213,18 @@ module _ {D : Prefix} {s : Node} {ls : List Node} {R : List Clause} {st : Store}
 
 -- ---- one value longer
 -- a side is the visit of the node one place longer
-pub side-result : (D : Prefix) (s : Node) (b : Bool) (ls : List Node) (R : List Clause) (st : Store) (k : ℕ) {cls sets kd ss cs cl qs ql tb sat mk : List ℕ} (p : Position)
-    → Task D s ls R st cls sets kd ss cs cl qs ql tb k p → Opened D s R p sat mk → k < length D → suc k ≡ p .at → p .at ≤ paper .numbers → length ss ≡ codeCount
+pub side-result : (D : Prefix) (s : Node) (b : Bool) (ls : List Node) (R : List Clause) (g : Ledger) (st : Store) (k : ℕ) {cls sets kd ss cs cl qs ql tb sat mk : List ℕ} (p : Position)
+    → Task D s ls R g st cls sets kd ss cs cl qs ql tb k p → Opened D s R p sat mk → k < length D → suc k ≡ p .at → p .at ≤ paper .numbers → length ss ≡ codeCount
     → (value : ℕ) → value ≡ byteOf b → {ss′ : List ℕ} → ss′ ≡ given (p .at) value ss → {r : Answer} {up cs′ cl′ qs′ ql′ tb′ : List ℕ}
-    → Visited p r cls sets kd ss′ cs cl qs ql tb sat mk up cs′ cl′ qs′ ql′ tb′ → Result D ls (visitOf D R p (s ▹ b) st) p r cls up cs′ cl′ qs′ ql′ tb′
-side-result D s b ls R st k {kd = kd} {ss = ss} p task opened inside e within full value v changed vis =
-    vis .result D (s ▹ b) ls R st (length s)
+    → Visited p r cls sets kd ss′ cs cl qs ql tb sat mk up cs′ cl′ qs′ ql′ tb′ → Result D g ls (visitOf D R p (s ▹ b) st) p r cls up cs′ cl′ qs′ ql′ tb′
+side-result D s b ls R g st k {kd = kd} {ss = ss} p task opened inside e within full value v changed vis =
+    vis .result D (s ▹ b) ls R g st (length s)
     (record {
       shown = subst (λ (x : List ℕ). Shown D (s ▹ b) kd x (p .at)) (sym changed) shown-below;
       formed = task .formed;
       matrix = task .matrix;
       stored = task .stored;
+      ruled = task .ruled;
       frees = task .frees;
       covers = task .covers;
       counted = task .counted;

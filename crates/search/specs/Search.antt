@@ -14,7 +14,8 @@ use lib.Dec.{eqb}
 use Rattle.cover.specs.Cover.{Covers}
 use Rattle.tables.specs.Formed.{Formed}
 use Rattle.tables.specs.Views.{quantifierCode}
-use Rattle.tables.specs.Shelves.{Shelves, StoreShown, newestOf}
+use Rattle.tables.specs.Shelves.{Shelves, newestOf}
+use Rattle.tables.specs.Records.{Ledger, StoreKept}
 use Rattle.tables.specs.Matrices.{MatrixShown, RowLength}
 use Rattle.tables.specs.Sets.{Descended, RowsKept}
 use Rattle.inner.specs.Inner.{Entered}
@@ -78,13 +79,14 @@ pub record AsideKept (aside : ℕ) (saved saved′ : List ℕ) : Type 0 where
   pub first : take aside saved′ ≡ take aside saved
 
 -- ---- what the tables show
--- the prefix D, the clauses R, the store st, the node s of length k and the lines ls
-pub record Task (D : Prefix) (s : Node) (ls : List Node) (R : List Clause) (st : Store)
+-- the prefix D, the clauses R, the store st with the ledger g of its records, the node s of length k and the lines ls
+pub record Task (D : Prefix) (s : Node) (ls : List Node) (R : List Clause) (g : Ledger) (st : Store)
     (clauses sets quantifiers statuses cs cl qs ql table : List ℕ) (k : ℕ) (p : Position) : Type 0 where
   pub shown : Shown D s quantifiers statuses k
   pub formed : Formed D R st
   pub matrix : MatrixShown D R (p .words) clauses sets
-  pub stored : StoreShown D st cs cl qs ql
+  pub stored : StoreKept D g st cs cl qs ql
+  pub ruled : g .clauses ≡ length R
   pub frees : p .free ≡ freeVariables D
   pub covers : Covers (p .free) table ls
   pub counted : p .lines ≡ length ls
@@ -96,9 +98,9 @@ pub record Opened (D : Prefix) (s : Node) (R : List Clause) (p : Position) (sat 
 
 -- ---- what an answer says
 -- it is the result o of the learning search
-pub record Result (D : Prefix) (ls : List Node) (o : LearningResult) (p : Position) (r : Answer) (clauses area cs cl qs ql table : List ℕ) : Type 0 where
+pub record Result (D : Prefix) (g : Ledger) (ls : List Node) (o : LearningResult) (p : Position) (r : Answer) (clauses area cs cl qs ql table : List ℕ) : Type 0 where
   pub verdict : Reads D (r .verdict) (entryOf r clauses cs qs area) (o .outcome)
-  pub stored : StoreShown D (o .store) cs cl qs ql
+  pub stored : StoreKept D g (o .store) cs cl qs ql
   pub visited : r .visits ≡ p .visits + o .visits
   pub covers : Covers (p .free) table (ls ++ newLines (p .yes) (o .outcome))
   pub counted : r .lines ≡ length (ls ++ newLines (p .yes) (o .outcome))
@@ -116,29 +118,29 @@ branchOf D R κ p s st = branch paper D R κ (visit D R eqb (below paper D R (dr
 -- at the inner node of a position
 pub record Visited (p : Position) (r : Answer)
     (clauses sets quantifiers statuses cs cl qs ql table sat marks area cs′ cl′ qs′ ql′ table′ : List ℕ) : Type 0 where
-  pub result : (D : Prefix) (s : Node) (ls : List Node) (R : List Clause) (st : Store) (k : ℕ)
-      → Task D s ls R st clauses sets quantifiers statuses cs cl qs ql table (p .at) p → Entered D s R (p .words) sat marks k
-      → Result D ls (visitOf D R p s st) p r clauses area cs′ cl′ qs′ ql′ table′
+  pub result : (D : Prefix) (s : Node) (ls : List Node) (R : List Clause) (g : Ledger) (st : Store) (k : ℕ)
+      → Task D s ls R g st clauses sets quantifiers statuses cs cl qs ql table (p .at) p → Entered D s R (p .words) sat marks k
+      → Result D g ls (visitOf D R p s st) p r clauses area cs′ cl′ qs′ ql′ table′
 
 -- at that node, where the tables show its parent, which is open, and its last place gets the value
 pub record SideVisited (value : ℕ) (p : Position) (r : Answer)
     (clauses sets quantifiers statuses cs cl qs ql table sat marks area cs′ cl′ qs′ ql′ table′ : List ℕ) : Type 0 where
-  pub result : (D : Prefix) (s : Node) (b : Bool) (ls : List Node) (R : List Clause) (st : Store) (k : ℕ)
-      → Task D s ls R st clauses sets quantifiers statuses cs cl qs ql table k p → Opened D s R p sat marks
+  pub result : (D : Prefix) (s : Node) (b : Bool) (ls : List Node) (R : List Clause) (g : Ledger) (st : Store) (k : ℕ)
+      → Task D s ls R g st clauses sets quantifiers statuses cs cl qs ql table k p → Opened D s R p sat marks
       → k < length D → suc k ≡ p .at → value ≡ byteOf b
-      → Result D ls (visitOf D R p (s ▹ b) st) p r clauses area cs′ cl′ qs′ ql′ table′
+      → Result D g ls (visitOf D R p (s ▹ b) st) p r clauses area cs′ cl′ qs′ ql′ table′
 
 -- at an open node
 pub record Followed (p : Position) (r : Answer)
     (clauses sets quantifiers statuses cs cl qs ql table sat marks area cs′ cl′ qs′ ql′ table′ : List ℕ) : Type 0 where
-  pub result : (D : Prefix) (s : Node) (ls : List Node) (R : List Clause) (st : Store)
-      → Task D s ls R st clauses sets quantifiers statuses cs cl qs ql table (p .at) p → Opened D s R p sat marks
-      → Result D ls (belowOf D R p s st) p r clauses area cs′ cl′ qs′ ql′ table′
+  pub result : (D : Prefix) (s : Node) (ls : List Node) (R : List Clause) (g : Ledger) (st : Store)
+      → Task D s ls R g st clauses sets quantifiers statuses cs cl qs ql table (p .at) p → Opened D s R p sat marks
+      → Result D g ls (belowOf D R p s st) p r clauses area cs′ cl′ qs′ ql′ table′
 
 -- at an open node whose next variable has the quantifier of that code
 pub record Branched (kind : ℕ) (p : Position) (r : Answer)
     (clauses sets quantifiers statuses cs cl qs ql table sat marks area cs′ cl′ qs′ ql′ table′ : List ℕ) : Type 0 where
-  pub result : (D : Prefix) (s : Node) (ls : List Node) (R : List Clause) (st : Store) (κ : Quantifier)
-      → Task D s ls R st clauses sets quantifiers statuses cs cl qs ql table (p .at) p → Opened D s R p sat marks
+  pub result : (D : Prefix) (s : Node) (ls : List Node) (R : List Clause) (g : Ledger) (st : Store) (κ : Quantifier)
+      → Task D s ls R g st clauses sets quantifiers statuses cs cl qs ql table (p .at) p → Opened D s R p sat marks
       → p .at < length D → quantifierAt D (suc (p .at)) ≡ κ → quantifierCode κ ≡ kind
-      → Result D ls (branchOf D R κ p s st) p r clauses area cs′ cl′ qs′ ql′ table′
+      → Result D g ls (branchOf D R κ p s st) p r clauses area cs′ cl′ qs′ ql′ table′

@@ -1,7 +1,7 @@
 -- What decides the start node, as `leaf` of qbf has it, without its constraint.
 use mathlib.Core.Path.{_≡_}
 use mathlib.Core.Bool.{Bool, true, false, _||_}
-use mathlib.Core.List.{List}
+use mathlib.Core.List.{List, []}
 use mathlib.Core.Option.{Option, none, some}
 use lib.Dec.{leb}
 use Rattle.qbf.specs.Formula.{Prefix, Clause, Node, any, all, dead, satisfied}
@@ -25,4 +25,4 @@ Starts Yes o = (e : Constraint) × (o ≡ some (decided true e))
 Starts Open o = o ≡ none
 
 abbrev pub Concludes : Prefix → Node → List Clause → List Constraint → List Constraint → Start → Type 0
-Concludes D s R cs qs r = Starts r (leaf D R leb s (record { clauses = cs; cubes = qs }))
+Concludes D s R cs qs r = Starts r (leaf D R leb s (record { clauses = cs; records = []; cubes = qs }))

@@ -10,7 +10,7 @@ use lib.IntN.{ℤ, pos}
 use lib.ListN.{length, take}
 use lib.Dec.{leb, ltb}
 use Rattle.qbf.specs.Formula.{paper, Literal, numberOf}
-use Rattle.qbf.specs.Calls.{Call, rule, query, card, forget}
+use Rattle.qbf.specs.Calls.{Call, rule, query, card, forget, withdraw}
 use Rattle.layout.specs.Words.{Bytes, space, split, same, inside}
 use Rattle.layout.specs.Forms.{then, items, ruleWord}
 use Rattle.layout.specs.Output.{refusalText}
@@ -36,6 +36,7 @@ Fits (some (rule ls)) = Unit {0}
 Fits (some (query ls)) = Unit {0}
 Fits (some (card size)) = size ≤ tableBytes
 Fits (some forget) = Unit {0}
+Fits (some withdraw) = Unit {0}
 
 fits-then : {A : Type 0} (o : Option A) (f : A → Option Call) → ((a : A) → Fits (f a)) → Fits (then o f)
 fits-then none f h = tt

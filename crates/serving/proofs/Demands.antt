@@ -5,7 +5,7 @@ use mathlib.Core.Bool.{true}
 use mathlib.Core.List.{List, [], _∷_, map}
 use mathlib.Core.Option.{Option, some}
 use Rattle.qbf.specs.Formula.{Formula}
-use Rattle.qbf.specs.Calls.{Call, rule, query, card, forget, Reply, done, refused, swap, keep, lines, cardRefused, Answer, nextFormula, State as Read, formulaOk, step}
+use Rattle.qbf.specs.Calls.{Call, rule, query, card, forget, withdraw, Reply, done, refused, swap, keep, lines, cardRefused, Answer, nextFormula, State as Read, formulaOk, step}
 use Rattle.qbf.specs.Runs.{fresh, learningRun, plainRun}
 use Rattle.qbf.specs.Demands.{Agree, AllAgree, CardOwed}
 use Rattle.theory.proofs.Runs.{Reached, fresh-reached, step-ok}
@@ -62,6 +62,7 @@ cards-right (c ∷ cs) y h b e =
     right (query ls) = tt
     right (card size) = card-by (y .formula) size (step y (card size) .out .reply) (step y (card size) .out .visits) (card-owed y h size)
     right forget = tt
+    right withdraw = tt
 
 -- ---- the plain run
 -- an answer in numbers but for its visits does not depend on them

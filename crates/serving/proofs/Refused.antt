@@ -11,7 +11,7 @@ use Rattle.qbf.specs.Formula.{Formula, Node, Literal, quantifiers}
 use Rattle.qbf.specs.Truth.{Outcome, decided, mixed, outline, bound, select, decidedNodes, freeVariables}
 use Rattle.qbf.specs.Learning.{learningSearch}
 use Rattle.qbf.specs.Card.{Mem, tableOf, zeroTable}
-use Rattle.qbf.specs.Calls.{Call, rule, query, card, forget, Reply, done, refused, swap, keep, lines, cardRefused, Answer, answer, refusal, ruleFault, ruleReply, queryFault, queryReply, learningQuery, startNode, guarded, wellFormed, State as Read, step}
+use Rattle.qbf.specs.Calls.{Call, rule, query, card, forget, withdraw, Reply, done, refused, swap, keep, lines, cardRefused, Answer, answer, refusal, ruleFault, ruleReply, withdrawFault, queryFault, queryReply, learningQuery, startNode, guarded, wellFormed, State as Read, step}
 use Rattle.qbf.specs.Demands.{refusalOf}
 use Rattle.theory.proofs.AcceptedRule.{some-none}
 use Rattle.theory.proofs.Refusals.{refusals}
@@ -34,6 +34,7 @@ refusal-number (rule ls) k = refl
 refusal-number (query ls) k = refl
 refusal-number (card size) k = refl
 refusal-number forget k = refl
+refusal-number withdraw k = refl
 
 module _ (n : ℕ) where
   -- the reply to c is the refusal with n, if it is refused with n
@@ -46,6 +47,10 @@ module _ (n : ℕ) where
   as-rule : (ls : List Literal) (o : Option ℕ) → AsRefused (rule ls) (ruleReply o)
   as-rule ls none e = absurd (some-none (sym e))
   as-rule ls (some k) e = refused-as (rule ls) (same-number e)
+
+  as-withdraw : (o : Option ℕ) → AsRefused withdraw (ruleReply o)
+  as-withdraw none e = absurd (some-none (sym e))
+  as-withdraw (some k) e = refused-as withdraw (same-number e)
 
   module _ (y : Read) where
     abbrev b : Formula
@@ -77,6 +82,7 @@ module _ (n : ℕ) where
     as-guarded true (query ls) e = as-query ls (queryFault b [] ls) e
     as-guarded true (card size) e = as-card size e
     as-guarded true forget e = absurd (some-none (sym e))
+    as-guarded true withdraw e = as-withdraw (withdrawFault b) e
 
   as-refused : (o : Option Read) (c : Call) → AsRefused c (outOf o c .reply)
   as-refused none c e = as-malformed c e
@@ -88,6 +94,7 @@ refusal-said (rule ls) n k = refl
 refusal-said (query ls) n k = refl
 refusal-said (card size) n k = refl
 refusal-said forget n k = refl
+refusal-said withdraw n k = refl
 
 known : (n : ℕ) (o : Option Read) (c : Call) → refusalOf (outOf o c .reply) ≡ some n → Mem n (refusals c)
 known n none c e = subst (λ (k : ℕ). Mem k (refusals c)) (same-number (sym (refusal-number c 22) ∙ e)) (first c)
@@ -97,6 +104,7 @@ known n none c e = subst (λ (k : ℕ). Mem k (refusals c)) (same-number (sym (r
     first (query ls) = inl refl
     first (card size) = inl refl
     first forget = inl refl
+    first withdraw = inl refl
 known n (some y) c e = refusal-known y c n e
 
 no-visits : (n : ℕ) (o : Option Read) (c : Call) → refusalOf (outOf o c .reply) ≡ some n → (n ≡ 21 → ⊥) → outOf o c .visits ≡ 0

@@ -8,7 +8,7 @@ use lib.ListN.{length}
 use Rattle.qbf.specs.Formula.{Formula, Node}
 use Rattle.qbf.specs.Truth.{freeVariables}
 use Rattle.qbf.specs.Card.{Mem, tableOf, zeroTable}
-use Rattle.qbf.specs.Calls.{Call, rule, query, card, forget, Answer, nextFormula, State as Read}
+use Rattle.qbf.specs.Calls.{Call, rule, query, card, forget, withdraw, Answer, nextFormula, State as Read}
 use Rattle.qbf.specs.Runs.{fresh, learningRun, plainRun}
 use Rattle.qbf.specs.Demands.{CardRight}
 use Rattle.theory.proofs.Refusals.{refusals}
@@ -29,6 +29,7 @@ zeroed (rule ls) = []
 zeroed (query ls) = []
 zeroed (card size) = zeroTable size
 zeroed forget = []
+zeroed withdraw = []
 
 -- the call c on the state x was refused with n: a is its answer, x′ the state that it left
 pub record Refused (x : State) (c : Call) (n : ℕ) (a : Said) (x′ : State) : Type 0 where
@@ -78,8 +79,9 @@ RightIfCard b (rule ls) a = Unit {0}
 RightIfCard b (query ls) a = Unit {0}
 RightIfCard b (card size) a = CardBy b size a (a .refusal)
 RightIfCard b forget a = Unit {0}
+RightIfCard b withdraw a = Unit {0}
 
--- each card of a list, by the rules that stand there: those of the opened book, and the accepted ones behind them
+-- each card of a list, by the rules that stand there: those of the opened book and the accepted ones behind them, without those that were withdrawn
 abbrev pub CardsRight : Formula → List Call → List Said → Type 0
 CardsRight b [] [] = Unit {0}
 CardsRight b [] (a ∷ qs) = ⊥

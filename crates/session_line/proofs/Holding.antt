@@ -5,7 +5,7 @@ use mathlib.Core.Bool.{true}
 use mathlib.Core.List.{List, [], _∷_}
 use mathlib.Core.Option.{Option, none, some}
 use Rattle.qbf.specs.Formula.{Formula, Literal}
-use Rattle.qbf.specs.Calls.{Call, rule, query, card, forget, Reply, done, refused, swap, keep, lines, cardRefused, State, Stepped, step, guarded, formulaOk, ruleFault, ruleReply, withRule}
+use Rattle.qbf.specs.Calls.{Call, rule, query, card, forget, withdraw, Reply, done, refused, swap, keep, lines, cardRefused, State, Stepped, step, guarded, formulaOk, ruleFault, ruleReply, withRule, withdrawFault, withoutLast}
 use Rattle.qbf.specs.Runs.{fresh}
 use Rattle.qbf.specs.Demands.{CardOwed}
 use Rattle.theory.proofs.Runs.{Reached, fresh-reached, reached-formed, call-ok}
@@ -19,6 +19,11 @@ use Rattle.session_line.specs.Holds.{Holds, after}
 rule-holds : (b : Formula) (ls : List Literal) (z : Option Card) → Holds b z → (o : Option ℕ) → Holds (withRule o b ls) (cardAfterRule (ruleReply o) z)
 rule-holds b ls z h none = tt
 rule-holds b ls z h (some n) = h
+
+-- and so does a withdrawal
+withdraw-holds : (b : Formula) (z : Option Card) → Holds b z → (o : Option ℕ) → Holds (withoutLast o b) (cardAfterRule (ruleReply o) z)
+withdraw-holds b z h none = tt
+withdraw-holds b z h (some n) = h
 
 card-holds : (b : Formula) (size : ℕ) (r : Reply) → CardOwed true (b .prefix) (b .clauses) size r → Holds b (cardOf (b .prefix) r)
 card-holds b size (lines ls tb) h = record { size = size; them = ls; shown = h; lines = refl; free = refl }
@@ -45,6 +50,7 @@ module _ (x : State) (reached : Reached x) (z : Option Card) (h : Holds (x .form
       as-step (card size)
       (call-ok x reached (card size) .next, card-holds (x .formula) size (guarded true x (card size) .out .reply) (subst (λ (f : Call → Stepped). CardOwed true (x .formula .prefix) (x .formula .clauses) size (f (card size) .out .reply)) stepped (card-owed x reached size)))
   call-holds forget = as-step forget (call-ok x reached forget .next, h)
+  call-holds withdraw = as-step withdraw (call-ok x reached withdraw .next, withdraw-holds (x .formula) z h (withdrawFault (x .formula)))
 
   -- ---- a line
   turn-holds : (n : ℕ) (q : Option Request) → Reached (turnOf x z n q .state) × Holds (turnOf x z n q .state .formula) (turnOf x z n q .shown)

@@ -7,7 +7,7 @@ use lib.ListN.{length, take}
 use lib.Dec.{ltb}
 use Rattle.qbf.specs.Formula.{Limits, Prefix, Literal, numberOf}
 use Rattle.qbf.specs.Truth.{freeVariables}
-use Rattle.qbf.specs.Calls.{Call, rule, query, card, forget, Reply, done, refused, swap, keep, lines, cardRefused, State, step}
+use Rattle.qbf.specs.Calls.{Call, rule, query, card, forget, withdraw, Reply, done, refused, swap, keep, lines, cardRefused, State, step}
 use Rattle.qbf.specs.Runs.{fresh}
 use Rattle.layout.specs.Words.{Bytes, ascii, newline, space, split, same, inside, joined}
 use Rattle.layout.specs.Forms.{then, items}
@@ -81,7 +81,7 @@ cardOf D (refused n) = none
 cardOf D swap = none
 cardOf D keep = none
 
--- "a page never shows lines that no longer hold": an accepted rule leaves no card, a refused one leaves what there was
+-- "a page never shows lines that no longer hold": a rule that is accepted or withdrawn leaves no card, a call that is refused leaves what there was
 abbrev pub cardAfterRule : Reply → Option Card → Option Card
 cardAfterRule done z = none
 cardAfterRule (refused n) z = z
@@ -90,12 +90,13 @@ cardAfterRule (lines ls tb) z = z
 cardAfterRule swap z = z
 cardAfterRule keep z = z
 
--- the card answered last, after a call: "36 also where no card has been answered yet, the last one was refused, or a rule .. was accepted"
+-- the card answered last, after a call: "36 also where no card has been answered yet, the last one was refused, or a rule .. was accepted or a rule withdrawn since"
 abbrev pub cardAfter : Prefix → Call → Reply → Option Card → Option Card
 cardAfter D (rule ls) r z = cardAfterRule r z
 cardAfter D (query ls) r z = z
 cardAfter D (card size) r z = cardOf D r
 cardAfter D forget r z = z
+cardAfter D withdraw r z = cardAfterRule r z
 
 -- its page, 24 rows, or 36
 abbrev pub pageAnswer : Option Card → ℕ → ℕ → Bytes

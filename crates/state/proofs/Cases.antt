@@ -2,7 +2,8 @@
 use Prim.Native.Nat.{ℕ}
 use mathlib.Core.Path.{_≡_, refl}
 use mathlib.Core.Bool.{true, not, _&&_}
-use mathlib.Core.List.{List, [], _∷_}
+use mathlib.Core.List.{List, [], _∷_, _++_}
+use lib.ListN.{replicate}
 use lib.IntN.{ℤ, pos, negsuc}
 use Rattle.qbf.specs.Formula.{all, levels, placeOf}
 use Rattle.tables.specs.Views.{rows}
@@ -56,6 +57,10 @@ learned-clause ls size = holding [] [] ls size [] []
 learned-cube : List ℤ → List ℕ → State
 learned-cube ls size = holding [] [] [] [] ls size
 
+-- a clause stands, and the empty learned clause with that record
+recorded : ℕ → State
+recorded k = holding (pos 5 ∷ []) (1 ∷ 1 ∷ []) [] ((1 ∷ 0 ∷ replicate 63 0) ++ (k ∷ [])) [] []
+
 -- the literals off of 5, 2, 7 and 4
 abbrev -5 : ℤ
 -5 = negsuc 4
@@ -82,6 +87,9 @@ accepted =
     ∷ learned-clause [] (1 ∷ 0 ∷ [])
     ∷ learned-cube (-2 ∷ pos 7 ∷ []) (1 ∷ 2 ∷ [])
     ∷ learned-cube (-5 ∷ []) (1 ∷ 1 ∷ [])
+    -- as many clauses as stood
+    ∷ recorded 0
+    ∷ recorded 1
     ∷ []
 
 pub refused : List State
@@ -115,8 +123,10 @@ refused =
     -- unreduced
     ∷ learned-clause (pos 5 ∷ -7 ∷ []) (1 ∷ 2 ∷ [])
     ∷ learned-cube (pos 5 ∷ -2 ∷ []) (1 ∷ 2 ∷ [])
+    -- a record above the clauses that stand
+    ∷ recorded 2
     ∷ []
 
 pub cases : (all valid accepted && all (λ x. not (valid x)) refused) ≡ true
-unfolding valid readState rows levels placeOf prefixed holding clause learned-clause learned-cube accepted refused
+unfolding valid readState rows levels placeOf prefixed holding clause learned-clause learned-cube recorded accepted refused
 cases = refl

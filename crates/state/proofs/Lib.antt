@@ -4,6 +4,7 @@ pub mod Steps
 pub mod Order
 pub mod Scan
 pub mod Codes
+pub mod Recording
 pub mod Valid
 pub mod Behind
 pub mod Growth

@@ -6,9 +6,11 @@ use mathlib.Core.Path.{_≡_, refl, sym, ap, _∙_}
 use mathlib.Core.Bool.{Bool, true}
 use mathlib.Core.List.{List, [], _∷_, _++_, map}
 use lib.ListN.{length, getD}
+use lib.Dec.{leb}
+use borrow.Author.Tests.{le-leb}
 use Rattle.qbf.specs.Formula.{all}
-use Rattle.theory.proofs.Basics.{and-left, and-right}
-use Rattle.state.specs.Reading.{listing}
+use Rattle.theory.proofs.Basics.{and-left, and-right, and-both}
+use Rattle.state.specs.Reading.{listing, atMost}
 
 module _ {A : Type 0} (f : ℕ → A) where
   pub listing-length : (i k : ℕ) → length (listing f i k) ≡ k
@@ -53,3 +55,10 @@ listing-all t f i (suc k) e zero h =
 listing-all t f i (suc k) e (suc j) h =
     let q : i + suc j ≡ suc i + j = omega arith in
     ap (λ n. t (f n)) q ∙ listing-all t f (suc i) k (and-right (t (f i)) (all t (listing f (suc i) k)) e) j (le-of-suc-le-suc h)
+
+-- elements of at most n
+pub listing-most : (n : ℕ) (f : ℕ → ℕ) (i k : ℕ) → ((j : ℕ) → i ≤ j → j < i + k → f j ≤ n) → atMost n (listing f i k) ≡ true
+listing-most n f i zero h = refl
+listing-most n f i (suc k) h =
+    and-both (leb (f i) n) (atMost n (listing f (suc i) k)) (le-leb (f i) n (h i (omega arith) (omega arith)))
+    (listing-most n f (suc i) k (λ j a b. h j (omega arith) (omega arith)))

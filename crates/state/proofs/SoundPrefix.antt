@@ -15,7 +15,7 @@ use Rattle.state.specs.Derived.{numbered, Quantified}
 use Rattle.state.specs.Declare.{Sound}
 use Rattle.state.proofs.Fresh.{numbers-numbered}
 use Rattle.state.proofs.Steps.{steps-ok, stepsFrom}
-use Rattle.state.proofs.Valid.{prefix-quantified, clausesPart, learnedClausesPart, learnedCubesPart, parts-valid, valid-parts}
+use Rattle.state.proofs.Valid.{prefix-quantified, clausesPart, learnedClausesPart, learnedCubesPart, recordsPart, parts-valid, valid-parts}
 
 -- ---- tables
 module _ (ns ls ks : List ℕ) where
@@ -48,8 +48,8 @@ valid-sound x v =
     let p = valid-parts x v in
     record { numbers-ok = and-right (leb (length (prefixIn x)) 40) (numbersOk paper [] (prefixIn x)) (p .numbers-ok); levels-ok = p .levels-ok }
 
-pub sound-valid : (x : State) → Sound (x .numbers) (x .levels) (x .kinds) → clausesPart x ≡ true → learnedClausesPart x ≡ true → learnedCubesPart x ≡ true → valid x ≡ true
-sound-valid x s c l p =
+pub sound-valid : (x : State) → Sound (x .numbers) (x .levels) (x .kinds) → clausesPart x ≡ true → learnedClausesPart x ≡ true → learnedCubesPart x ≡ true → recordsPart x ≡ true → valid x ≡ true
+sound-valid x s c l p r =
     parts-valid x
     (record {
       numbers-ok = sound-numbered (x .numbers) (x .levels) (x .kinds) s;
@@ -57,4 +57,5 @@ sound-valid x s c l p =
       clauses-ok = c;
       learned-clauses-ok = l;
       learned-cubes-ok = p;
+      records-ok = r;
     })

@@ -6,19 +6,19 @@ use mathlib.Core.Bool.{Bool, true, false, cond, _&&_, false≢true}
 use mathlib.Core.List.{List, []}
 use mathlib.Core.Option.{none, some}
 use lib.ListN.{length, getD}
-use lib.Dec.{leb}
+use lib.Dec.{leb, eqb}
 use lib.IntN.{ℤ}
 use borrow.Author.Tests.{le-leb, leb-true}
 use Rattle.qbf.specs.Formula.{paper, free, Prefix, Clause, quantifiers, quantifierAt, all}
 use Rattle.qbf.specs.Learning.{Constraint}
-use Rattle.qbf.specs.Calls.{wellFormed, formulaOk, prefixOk, numbersOk, freeFirst, clauseOk, clausesOk, constraintOk, storeOk}
-use Rattle.theory.proofs.Basics.{and-left, and-right, and-both}
+use Rattle.qbf.specs.Calls.{wellFormed, formulaOk, prefixOk, numbersOk, freeFirst, clauseOk, clausesOk, constraintOk, storeOk, recordsOk}
+use Rattle.theory.proofs.Basics.{and-left, and-right, and-both, true-eqb}
 use Rattle.tables.specs.Views.{quantifierCode, Numbers, Places, Kinds, Table, rowsOf}
 use Rattle.tables.proofs.Laws.{rows-length}
 use Rattle.state.specs.declared.State.{State}
-use Rattle.state.specs.Reading.{listing, atMost, quantifierOf, entryAt, entries, codeAt, variableAt, prefixOf, levelsFit, prefixFits, rowsFit, fits, prefixIn, stateIn, readState, wellFormedRead, valid}
-use Rattle.state.specs.Derived.{numbered, Placing, Quantified, levelsOk, Shown, clausesFine, constraintsFine, Sized, Checked}
-use Rattle.state.proofs.Listing.{listing-length, listing-at, listing-map, listing-all}
+use Rattle.state.specs.Reading.{listing, atMost, quantifierOf, entryAt, entries, codeAt, variableAt, prefixOf, levelsFit, prefixFits, rowsFit, fits, recordAt, recordsOf, prefixIn, storeIn, stateIn, readState, wellFormedRead, valid}
+use Rattle.state.specs.Derived.{numbered, Placing, Quantified, levelsOk, Shown, clausesFine, constraintsFine, recordsFine, Sized, Checked}
+use Rattle.state.proofs.Listing.{listing-length, listing-at, listing-map, listing-all, listing-most}
 
 -- ---- the prefix of three tables
 module _ (ns ls ks : List ℕ) where
@@ -81,7 +81,7 @@ module _ (ns ls ks : List ℕ) where
         }
 
 -- ---- a flat table
-pub rows-table : (stride capacity : ℕ) (flat : List ℤ) (sizes : List ℕ) → rowsFit stride capacity sizes ≡ true → length flat ≡ capacity * stride → length sizes ≡ suc capacity
+pub rows-table : (stride capacity : ℕ) (flat : List ℤ) (sizes : List ℕ) → rowsFit stride capacity sizes ≡ true → length flat ≡ capacity * stride → suc capacity ≤ length sizes
     → Table stride capacity flat sizes
 rows-table w most flat sizes e room counted =
     record {
@@ -95,12 +95,6 @@ rows-table w most flat sizes e room counted =
     }
 
 -- and back: rows that lie within their table fit it
-listing-most : (n : ℕ) (f : ℕ → ℕ) (i k : ℕ) → ((j : ℕ) → i ≤ j → j < i + k → f j ≤ n) → atMost n (listing f i k) ≡ true
-listing-most n f i zero h = refl
-listing-most n f i (suc k) h =
-    and-both (leb (f i) n) (atMost n (listing f (suc i) k)) (le-leb (f i) n (h i (omega arith) (omega arith)))
-    (listing-most n f (suc i) k (λ j a b. h j (omega arith) (omega arith)))
-
 pub table-rows : (stride capacity : ℕ) (flat : List ℤ) (sizes : List ℕ) → Table stride capacity flat sizes → rowsFit stride capacity sizes ≡ true
 table-rows w most flat sizes t =
     and-both (leb (getD sizes 0 0) most) (atMost w (entries sizes)) (le-leb (getD sizes 0 0) most (t .few))
@@ -185,18 +179,34 @@ module _ (x : State) where
   abbrev pub learnedCubesPart : Bool
   learnedCubesPart = constraintsFine D true (x .«learned_cubes») (x .«learned_cube_sizes»)
 
+  abbrev pub recordsPart : Bool
+  recordsPart = recordsFine (x .«clause_sizes») (x .«learned_clause_sizes»)
+
+  -- each learned clause has a record
+  recorded : recordsOk (length R) (storeIn x) ≡ recordsPart
+  recorded =
+      ap (λ (q : Bool). q && atMost (length R) (recordsOf (x .«learned_clause_sizes»))) (true-eqb (length (recordsOf (x .«learned_clause_sizes»))) (length C₀) same)
+      ∙ ap (λ (n : ℕ). atMost n (recordsOf (x .«learned_clause_sizes»))) (rows-length (paper .literals) (x .clauses) (x .«clause_sizes») (getD (x .«clause_sizes») 0 0))
+    where
+      same : length (recordsOf (x .«learned_clause_sizes»)) ≡ length C₀
+      same =
+          listing-length (recordAt (x .«learned_clause_sizes»)) 0 (getD (x .«learned_clause_sizes») 0 0)
+          ∙ sym (rows-length (paper .numbers) (x .«learned_clauses») (x .«learned_clause_sizes») (getD (x .«learned_clause_sizes») 0 0))
+
   pub record Parts : Type 0 where
     pub numbers-ok : numbersPart ≡ true
     pub levels-ok : levelsPart ≡ true
     pub clauses-ok : clausesPart ≡ true
     pub learned-clauses-ok : learnedClausesPart ≡ true
     pub learned-cubes-ok : learnedCubesPart ≡ true
+    pub records-ok : recordsPart ≡ true
 
   counted : (w most : ℕ) (flat : List ℤ) (sizes : List ℕ) → rowsFit w most sizes ≡ true → leb (length (rowsOf w flat sizes)) most ≡ true
   counted w most flat sizes e = ap (λ (n : ℕ). leb n most) (rows-length w flat sizes (getD sizes 0 0)) ∙ and-left (leb (getD sizes 0 0) most) (atMost w (entries sizes)) e
 
   pub parts-valid : Parts → valid x ≡ true
-  parts-valid q = facts-valid h i j k (and-both (formulaOk (stateIn x .formula)) (storeOk paper D (stateIn x .store)) formula store)
+  parts-valid q = facts-valid h i j k (and-both (formulaOk (stateIn x .formula)) (storeOk paper D (storeIn x) && recordsOk (length R) (storeIn x)) formula
+      (and-both (storeOk paper D (storeIn x)) (recordsOk (length R) (storeIn x)) store (recorded ∙ q .records-ok)))
     where
       h : p ≡ true
       h = and-left p (freeFirst (quantifiers D)) (q .levels-ok)
@@ -241,19 +251,23 @@ module _ (x : State) where
         clauses-ok = and-both a (all (clauseOk paper D) R) (f .clauses-fit) (and-right (leb (length R) 255) (all (clauseOk paper D) R) (and-right (prefixOk paper D) (clausesOk paper D R) formula));
         learned-clauses-ok = and-both b (all (constraintOk D false) C₀) (f .learned-clauses-fit) (and-right (leb (length C₀) 64 && leb (length C₁) 64) (all (constraintOk D false) C₀) (and-left (leb (length C₀) 64 && leb (length C₁) 64 && all (constraintOk D false) C₀) (all (constraintOk D true) C₁) store));
         learned-cubes-ok = and-both c (all (constraintOk D true) C₁) (f .learned-cubes-fit) (and-right (leb (length C₀) 64 && leb (length C₁) 64 && all (constraintOk D false) C₀) (all (constraintOk D true) C₁) store);
+        records-ok = sym recorded ∙ and-right (storeOk paper D (storeIn x)) (recordsOk (length R) (storeIn x)) kept;
       }
     where
       f : ValidFacts x
       f = valid-facts e
 
       formula : formulaOk (stateIn x .formula) ≡ true
-      formula = and-left (formulaOk (stateIn x .formula)) (storeOk paper D (stateIn x .store)) (f .formed)
+      formula = and-left (formulaOk (stateIn x .formula)) (storeOk paper D (storeIn x) && recordsOk (length R) (storeIn x)) (f .formed)
+
+      kept : (storeOk paper D (storeIn x) && recordsOk (length R) (storeIn x)) ≡ true
+      kept = and-right (formulaOk (stateIn x .formula)) (storeOk paper D (storeIn x) && recordsOk (length R) (storeIn x)) (f .formed)
 
       prefix : prefixOk paper D ≡ true
       prefix = and-left (prefixOk paper D) (clausesOk paper D R) formula
 
       store : storeOk paper D (stateIn x .store) ≡ true
-      store = and-right (formulaOk (stateIn x .formula)) (storeOk paper D (stateIn x .store)) (f .formed)
+      store = and-left (storeOk paper D (storeIn x)) (recordsOk (length R) (storeIn x)) kept
 
       few : leb (length D) 40 ≡ true
       few =
@@ -267,22 +281,28 @@ module _ (x : State) where
   alike false false f g = refl
 
   abbrev rowsPart : Bool
-  rowsPart = clausesPart && learnedClausesPart && learnedCubesPart
+  rowsPart = clausesPart && learnedClausesPart && learnedCubesPart && recordsPart
 
   -- the answer is the rows' where the prefix is well formed
   rows-valid : (numbersPart && levelsPart) ≡ true → {r : Bool} → r ≡ rowsPart → r ≡ valid x
   rows-valid h {r} s =
       alike r (valid x)
-      (λ v. s ∙ and-both (clausesPart && learnedClausesPart) learnedCubesPart (and-both clausesPart learnedClausesPart (valid-parts v .clauses-ok) (valid-parts v .learned-clauses-ok)) (valid-parts v .learned-cubes-ok))
+      (λ v.
+      s
+      ∙ and-both (clausesPart && learnedClausesPart && learnedCubesPart) recordsPart
+      (and-both (clausesPart && learnedClausesPart) learnedCubesPart (and-both clausesPart learnedClausesPart (valid-parts v .clauses-ok) (valid-parts v .learned-clauses-ok)) (valid-parts v .learned-cubes-ok))
+      (valid-parts v .records-ok))
       (λ e.
-      let g : (clausesPart && learnedClausesPart) ≡ true = and-left (clausesPart && learnedClausesPart) learnedCubesPart (sym s ∙ e) in
+      let w : (clausesPart && learnedClausesPart && learnedCubesPart) ≡ true = and-left (clausesPart && learnedClausesPart && learnedCubesPart) recordsPart (sym s ∙ e) in
+      let g : (clausesPart && learnedClausesPart) ≡ true = and-left (clausesPart && learnedClausesPart) learnedCubesPart w in
       parts-valid
       (record {
         numbers-ok = and-left numbersPart levelsPart h;
         levels-ok = and-right numbersPart levelsPart h;
         clauses-ok = and-left clausesPart learnedClausesPart g;
         learned-clauses-ok = and-right clausesPart learnedClausesPart g;
-        learned-cubes-ok = and-right (clausesPart && learnedClausesPart) learnedCubesPart (sym s ∙ e);
+        learned-cubes-ok = and-right (clausesPart && learnedClausesPart) learnedCubesPart w;
+        records-ok = and-right (clausesPart && learnedClausesPart && learnedCubesPart) recordsPart (sym s ∙ e);
       }))
 
   -- from the prefix that was read: the check stops there, or goes on to the rows
@@ -298,7 +318,7 @@ module _ (x : State) where
     checked-bad e = checked (alike ok (valid x) valid-read (λ t. absurd (false≢true (sym e ∙ t))))
 
     pub checked-rows : ok ≡ true → {r : Bool} → ((D : Prefix) → Places D places → Kinds D kinds
-        → r ≡ (clausesFine D (x .clauses) (x .«clause_sizes») && constraintsFine D false (x .«learned_clauses») (x .«learned_clause_sizes») && constraintsFine D true (x .«learned_cubes») (x .«learned_cube_sizes»)))
+        → r ≡ (clausesFine D (x .clauses) (x .«clause_sizes») && constraintsFine D false (x .«learned_clauses») (x .«learned_clause_sizes») && constraintsFine D true (x .«learned_cubes») (x .«learned_cube_sizes») && recordsFine (x .«clause_sizes») (x .«learned_clause_sizes»)))
         → Checked x r places kinds
     checked-rows e f = checked (rows-valid (sym (shown .said) ∙ e) (f D (shown .places-shown e) (shown .kinds-shown e)))
 
@@ -313,9 +333,9 @@ module _ (x : State) (v : valid x ≡ true) where
   valid-tables s =
       let f = valid-facts x v in
       record {
-        clauses = rows-table (paper .literals) (paper .clauses) (x .clauses) (x .«clause_sizes») (f .clauses-fit) (s .clauses-room) (s .clause-sizes-room);
-        learned-clauses = rows-table (paper .numbers) (paper .constraints) (x .«learned_clauses») (x .«learned_clause_sizes») (f .learned-clauses-fit) (s .learned-clauses-room) (s .learned-clause-sizes-room);
-        learned-cubes = rows-table (paper .numbers) (paper .constraints) (x .«learned_cubes») (x .«learned_cube_sizes») (f .learned-cubes-fit) (s .learned-cubes-room) (s .learned-cube-sizes-room);
+        clauses = rows-table (paper .literals) (paper .clauses) (x .clauses) (x .«clause_sizes») (f .clauses-fit) (s .clauses-room) (omega (arith, s .clause-sizes-room));
+        learned-clauses = rows-table (paper .numbers) (paper .constraints) (x .«learned_clauses») (x .«learned_clause_sizes») (f .learned-clauses-fit) (s .learned-clauses-room) (omega (arith, s .learned-clause-sizes-room));
+        learned-cubes = rows-table (paper .numbers) (paper .constraints) (x .«learned_cubes») (x .«learned_cube_sizes») (f .learned-cubes-fit) (s .learned-cubes-room) (omega (arith, s .learned-cube-sizes-room));
       }
 
   pub valid-numbered : numbered (prefixIn x) ≡ true

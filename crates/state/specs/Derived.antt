@@ -1,5 +1,5 @@
 -- What the tables of a state say of its prefix, and what is ensured of the tables that are derived from them.
-use Prim.Native.Nat.{ℕ, zero, suc, _*_, _<_}
+use Prim.Native.Nat.{ℕ, zero, suc, _+_, _*_, _<_}
 use mathlib.Core.Path.{_≡_}
 use mathlib.Core.Bool.{Bool, true, not, _&&_}
 use mathlib.Core.List.{List, []}
@@ -10,7 +10,7 @@ use Rattle.qbf.specs.Formula.{paper, Quantifier, free, exists, forall, isFree, 
 use Rattle.qbf.specs.Calls.{numbersOk, freeFirst, clauseOk, constraintOk}
 use Rattle.tables.specs.Views.{quantifierCode, Numbers, Places, Kinds, rowsOf}
 use Rattle.state.specs.declared.State.{State}
-use Rattle.state.specs.Reading.{quantifierOf, codeAt, prefixOf, prefixFits, rowsFit, prefixIn, valid}
+use Rattle.state.specs.Reading.{atMost, quantifierOf, codeAt, prefixOf, prefixFits, rowsFit, recordsOf, prefixIn, valid}
 
 -- no more variables than there are numbers, each of its own number
 abbrev pub numbered : Prefix → Bool
@@ -60,6 +60,10 @@ clausesFine D flat sizes = rowsFit (paper .literals) (paper .clauses) sizes && a
 abbrev pub constraintsFine : Prefix → Bool → List ℤ → List ℕ → Bool
 constraintsFine D cube flat sizes = rowsFit (paper .numbers) (paper .constraints) sizes && all (constraintOk D cube) (rowsOf (paper .numbers) flat sizes)
 
+-- no record is above the count of clauses
+abbrev pub recordsFine : List ℕ → List ℕ → Bool
+recordsFine css sizes = atMost (getD css 0 0) (recordsOf sizes)
+
 -- the length of each table: what the type of a state by value says
 pub record Sized (x : State) : Type 0 where
   pub numbers-room : length (x .numbers) ≡ suc (paper .numbers)
@@ -68,7 +72,7 @@ pub record Sized (x : State) : Type 0 where
   pub clauses-room : length (x .clauses) ≡ paper .clauses * paper .literals
   pub clause-sizes-room : length (x .«clause_sizes») ≡ suc (paper .clauses)
   pub learned-clauses-room : length (x .«learned_clauses») ≡ paper .constraints * paper .numbers
-  pub learned-clause-sizes-room : length (x .«learned_clause_sizes») ≡ suc (paper .constraints)
+  pub learned-clause-sizes-room : length (x .«learned_clause_sizes») ≡ suc (paper .constraints) + paper .constraints
   pub learned-cubes-room : length (x .«learned_cubes») ≡ paper .constraints * paper .numbers
   pub learned-cube-sizes-room : length (x .«learned_cube_sizes») ≡ suc (paper .constraints)
 

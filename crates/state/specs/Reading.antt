@@ -1,6 +1,6 @@
 -- A state by value, as anyone may hand it in, read as the definitions' state; and when it is valid. Paper 01, refusal 22.
 -- Cells past the counts are not read.
-use Prim.Native.Nat.{ℕ, zero, suc}
+use Prim.Native.Nat.{ℕ, zero, suc, _+_}
 use mathlib.Core.Bool.{Bool, true, false, cond, _&&_}
 use mathlib.Core.List.{List, [], _∷_}
 use mathlib.Core.Option.{Option, none, some}
@@ -94,9 +94,19 @@ prefixIn x = prefixOf (x .numbers) (x .levels) (x .kinds)
 abbrev pub formulaIn : State → Formula
 formulaIn x = record { limits = paper; prefix = prefixIn x; clauses = rowsOf (paper .literals) (x .clauses) (x .«clause_sizes») }
 
+-- the record of each learned clause stands behind their sizes, for which there is room for as many as may stand
+abbrev pub recordAt : List ℕ → ℕ → ℕ
+recordAt sizes i = getD sizes (suc (paper .constraints) + i) 0
+
+abbrev pub recordsOf : List ℕ → List ℕ
+recordsOf sizes = listing (recordAt sizes) 0 (getD sizes 0 0)
+
+-- from the tables of the learned clauses and of the cubes
+abbrev pub storeOf : List ℤ → List ℕ → List ℤ → List ℕ → Store
+storeOf cs css qs qss = record { clauses = rowsOf (paper .numbers) cs css; records = recordsOf css; cubes = rowsOf (paper .numbers) qs qss }
+
 abbrev pub storeIn : State → Store
-storeIn x =
-    record { clauses = rowsOf (paper .numbers) (x .«learned_clauses») (x .«learned_clause_sizes»); cubes = rowsOf (paper .numbers) (x .«learned_cubes») (x .«learned_cube_sizes») }
+storeIn x = storeOf (x .«learned_clauses») (x .«learned_clause_sizes») (x .«learned_cubes») (x .«learned_cube_sizes»)
 
 abbrev pub stateIn : State → Read
 stateIn x = record { formula = formulaIn x; store = storeIn x }

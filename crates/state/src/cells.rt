@@ -1,7 +1,7 @@
 // Cells of a table, 0 past its end.
 ghost use mathlib.Core.Path.{_≡_};
 ghost use lib.ListN.{getD};
-ghost use Rattle.state.specs.Reading.{entryAt};
+ghost use Rattle.state.specs.Reading.{entryAt, recordAt};
 
 pub fn cell<'a>(table: &'a [u16], i: usize) -> u16
     ensures { λ r. ⌜ r ≡ getD (now (table .entry)) i 0 ⌝ }
@@ -21,6 +21,17 @@ pub fn entry<'a>(table: &'a [u16], i: usize) -> usize
 {
     if i < table.len() {
         cell(table, i + 1) as usize
+    } else {
+        0
+    }
+}
+
+// The record of learned clause i, which stands behind the sizes.
+pub fn record<'a>(table: &'a [u16], i: usize) -> usize
+    ensures { λ r. ⌜ r ≡ recordAt (now (table .entry)) i ⌝ }
+{
+    if i < table.len() {
+        cell(table, tables::CONSTRAINT_SIZES + i) as usize
     } else {
         0
     }

@@ -25,7 +25,7 @@ pub struct State {
     pub clauses: [i16; tables::CLAUSE_CELLS],
     pub clause_sizes: [u16; tables::CLAUSE_SIZES],
     pub learned_clauses: [i16; tables::CONSTRAINT_CELLS],
-    pub learned_clause_sizes: [u16; tables::CONSTRAINT_SIZES],
+    pub learned_clause_sizes: [u16; tables::LEARNED_CLAUSE_SIZES],
     pub learned_cubes: [i16; tables::CONSTRAINT_CELLS],
     pub learned_cube_sizes: [u16; tables::CONSTRAINT_SIZES],
 }
@@ -40,7 +40,7 @@ pub fn empty() -> State
     let clauses = [0i16; tables::CLAUSE_CELLS];
     let clause_sizes = [0u16; tables::CLAUSE_SIZES];
     let learned_clauses = [0i16; tables::CONSTRAINT_CELLS];
-    let learned_clause_sizes = [0u16; tables::CONSTRAINT_SIZES];
+    let learned_clause_sizes = [0u16; tables::LEARNED_CLAUSE_SIZES];
     let learned_cubes = [0i16; tables::CONSTRAINT_CELLS];
     let learned_cube_sizes = [0u16; tables::CONSTRAINT_SIZES];
     State {
@@ -78,7 +78,7 @@ pub fn check_tables<'a>(
     clauses: &'a [i16; tables::CLAUSE_CELLS],
     clause_sizes: &'a [u16; tables::CLAUSE_SIZES],
     learned_clauses: &'a [i16; tables::CONSTRAINT_CELLS],
-    learned_clause_sizes: &'a [u16; tables::CONSTRAINT_SIZES],
+    learned_clause_sizes: &'a [u16; tables::LEARNED_CLAUSE_SIZES],
     learned_cubes: &'a [i16; tables::CONSTRAINT_CELLS],
     learned_cube_sizes: &'a [u16; tables::CONSTRAINT_SIZES],
 ) -> prefix::Tables

@@ -7,7 +7,8 @@ ghost use Rattle.qbf.specs.Formula.{Prefix, paper, exists, forall, quantifierAt
 ghost use Rattle.qbf.specs.Learning.{dropped, lastPlace};
 ghost use Rattle.qbf.specs.Calls.{inOrder, clauseOk, constraintOk};
 ghost use Rattle.tables.specs.Views.{quantifierCode, Places, Kinds};
-ghost use Rattle.state.specs.Derived.{clausesFine, constraintsFine};
+ghost use Rattle.state.specs.Derived.{clausesFine, constraintsFine, recordsFine};
+ghost use Rattle.state.specs.Reading.{atMost, recordsOf};
 
 // Each place is greater than the one before: so each variable is declared, and none stands twice.
 pub fn in_order<'a>(places: &'a [u16; tables::BY_NUMBER], lits: &'a [i16]) -> bool
@@ -124,7 +125,7 @@ pub fn constraints_ok<'a>(
     places: &'a [u16; tables::BY_NUMBER],
     kinds: &'a [u16; tables::BY_NUMBER],
     flat: &'a [i16; tables::CONSTRAINT_CELLS],
-    sizes: &'a [u16; tables::CONSTRAINT_SIZES],
+    sizes: &'a [u16],
     cube: bool,
 ) -> bool
     ensures { λ r. ⌜
@@ -153,14 +154,29 @@ pub fn constraints_ok<'a>(
     true
 }
 
-// Clauses, learned clauses and learned cubes.
+// "The state check refuses a bar whose record exceeds the rules standing."
+fn records_ok<'a>(sizes: &'a [u16], clauses: usize) -> bool
+    ensures { λ r. ⌜ r ≡ atMost clauses (recordsOf (now (sizes .entry))) ⌝ }
+{
+    let count = crate::cells::count(sizes);
+    let mut k: usize = 0;
+    while k < count {
+        if crate::cells::record(sizes, k) > clauses {
+            return false;
+        }
+        k += 1;
+    }
+    true
+}
+
+// Clauses, learned clauses, learned cubes, and the records of the learned clauses.
 pub fn all_ok<'a>(
     places: &'a [u16; tables::BY_NUMBER],
     kinds: &'a [u16; tables::BY_NUMBER],
     clauses: &'a [i16; tables::CLAUSE_CELLS],
     clause_sizes: &'a [u16; tables::CLAUSE_SIZES],
     learned_clauses: &'a [i16; tables::CONSTRAINT_CELLS],
-    learned_clause_sizes: &'a [u16; tables::CONSTRAINT_SIZES],
+    learned_clause_sizes: &'a [u16; tables::LEARNED_CLAUSE_SIZES],
     learned_cubes: &'a [i16; tables::CONSTRAINT_CELLS],
     learned_cube_sizes: &'a [u16; tables::CONSTRAINT_SIZES],
 ) -> bool
@@ -171,7 +187,8 @@ pub fn all_ok<'a>(
         r
         ≡ (clausesFine D (now (clauses .entry)) (now («clause_sizes» .entry))
         && constraintsFine D false (now («learned_clauses» .entry)) (now («learned_clause_sizes» .entry))
-        && constraintsFine D true (now («learned_cubes» .entry)) (now («learned_cube_sizes» .entry))))
+        && constraintsFine D true (now («learned_cubes» .entry)) (now («learned_cube_sizes» .entry))
+        && recordsFine (now («clause_sizes» .entry)) (now («learned_clause_sizes» .entry))))
         ⌝ }
 {
     if !clauses_ok(places, clauses, clause_sizes) {
@@ -180,5 +197,8 @@ pub fn all_ok<'a>(
     if !constraints_ok(places, kinds, learned_clauses, learned_clause_sizes, false) {
         return false;
     }
-    constraints_ok(places, kinds, learned_cubes, learned_cube_sizes, true)
+    if !constraints_ok(places, kinds, learned_cubes, learned_cube_sizes, true) {
+        return false;
+    }
+    records_ok(learned_clause_sizes, crate::cells::count(clause_sizes))
 }

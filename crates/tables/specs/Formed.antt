@@ -12,10 +12,6 @@ use Rattle.tables.specs.Views.{Table, rowsOf}
 abbrev pub clausesOf : List ℤ → List ℕ → List Clause
 clausesOf cells sizes = rowsOf (paper .literals) cells sizes
 
--- from the tables of the learned clauses and of the cubes
-abbrev pub storeOf : List ℤ → List ℕ → List ℤ → List ℕ → Store
-storeOf cs css qs qss = record { clauses = rowsOf (paper .numbers) cs css; cubes = rowsOf (paper .numbers) qs qss }
-
 -- the clauses lie within their table
 abbrev pub Clauses : List ℤ → List ℕ → Type 0
 Clauses cells sizes = Table (paper .literals) (paper .clauses) cells sizes

@@ -69,7 +69,7 @@ rowsOf stride flat sizes = rows stride flat sizes (getD sizes 0 0)
 -- the rows that stand lie within the table
 pub record Table {A : Type 0} (stride capacity : ℕ) (flat : List A) (sizes : List ℕ) : Type 0 where
   pub room : length flat ≡ capacity * stride
-  pub counted : length sizes ≡ suc capacity
+  pub counted : suc capacity ≤ length sizes
   pub few : getD sizes 0 0 ≤ capacity
   pub short : (k : ℕ) → k < getD sizes 0 0 → getD sizes (suc k) 0 ≤ stride
 

@@ -22,6 +22,9 @@ pub const CONSTRAINT_CELLS: usize = CONSTRAINTS * NUMBERS;
 
 pub const CONSTRAINT_SIZES: usize = CONSTRAINTS + 1;
 
+// Behind the sizes of the learned clauses stands the record of each: how many clauses stood when it was stored.
+pub const LEARNED_CLAUSE_SIZES: usize = CONSTRAINT_SIZES + CONSTRAINTS;
+
 // Room for two constraints, so that one can be put into the other.
 pub const AREA: usize = NUMBERS * 2;
 

@@ -13,11 +13,12 @@ use borrow.Author.Tests.{le-leb}
 use Rattle.qbf.specs.Formula.{Clause, Formula, Limits, Literal, Prefix, all, any, numberOf, place}
 use Rattle.qbf.specs.Learning.{Constraint, insert, union}
 use Rattle.qbf.specs.Card.{Mem}
-use Rattle.qbf.specs.Calls.{Call, _orElse_, card, clauseOf, clauseOk, forget, given, inOrder, literalFault, nextFormula, query, rule, ruleFault, withRule}
+use Rattle.qbf.specs.Calls.{Call, _orElse_, card, clauseOf, clauseOk, forget, given, inOrder, literalFault, nextFormula, query, rule, ruleFault, withRule, withdraw, withdrawFault}
 use Rattle.theory.proofs.Basics.{≡→T, false-eqb, and-both, or-false-right, all→, →all}
 use Rattle.theory.proofs.Sets.{union-rising}
 use Rattle.theory.proofs.Stores.{mem-append}
 use Rattle.theory.proofs.WellFormed.{FormulaFacts, each-clause, →rising}
+use Rattle.theory.proofs.Withdrawn.{withdraw-formula}
 
 -- ---- a rule without a fault
 pub some-none : {n : ℕ} → _≡_ {A = Option ℕ} (some n) none → ⊥
@@ -123,3 +124,4 @@ next-formula b h (rule ls) = rule-formula b ls h (ruleFault b ls) refl
 next-formula b h (query ls) = h
 next-formula b h (card size) = h
 next-formula b h forget = h
+next-formula b h withdraw = withdraw-formula b h (withdrawFault b)

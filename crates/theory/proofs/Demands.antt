@@ -14,7 +14,8 @@ use Rattle.qbf.specs.Card.{Mem}
 use Rattle.qbf.specs.Calls.{Call, State, card, formulaOk, query, startNode, step, wellFormed}
 use Rattle.qbf.specs.Runs.{after, fresh, learningRun, plainRun}
 use Rattle.qbf.specs.Demands.{AllAgree, CardOwed, Leaves, QueryOwed, refusalOf}
-use Rattle.theory.proofs.Leaves.{Valid}
+use Rattle.theory.proofs.Leaves.{ByFirst, Valid}
+use Rattle.theory.proofs.Stores.{RecordedStore}
 use Rattle.theory.proofs.Starting.{Starts, learning, plainly, searched}
 use Rattle.theory.proofs.Refusals.{refusals, refused-leaves, refused-known}
 use Rattle.theory.proofs.Runs.{Reached, fresh-reached, reached-formed, run-agrees}
@@ -56,7 +57,11 @@ module _ (b : Formula) (e : formulaOk b ≡ true) (cs : List Call) where
 
   -- every stored constraint is valid: where it ends, a node at which all its literals have their value has its verdict
   pub stored-valid : (v : Bool) (E : Constraint) → Mem E (constraints v (state .store)) → Valid (state .formula .prefix) (state .formula .clauses) v E
-  stored-valid v E m = reached .sound .each v E m
+  stored-valid v E m = reached .sound .stored .each v E m
+
+  -- each learned clause is valid by the clauses that stood when it was stored
+  pub stored-by-first : RecordedStore (ByFirst (state .formula .prefix) (state .formula .clauses)) (state .store)
+  stored-by-first = reached .sound .recorded
 
   -- from a start node both searches give the verdict that truth defines, the learning one in no more visits
   module _ (ks : List Quantifier) (s : Node) (start : Starts (state .formula) ks s) where

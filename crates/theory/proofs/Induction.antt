@@ -88,7 +88,7 @@ module _ (L : Limits) (D : Prefix) (R : List Clause) (κ : Quantifier) (s : Node
     pub up : (c b : Bool) (E : Constraint) → (dropped b κ ≡ true) ⊎ (mentions D (suc (length s)) E ≡ false) → A c (decided b E) → H (decided b E)
     pub joined : (b : Bool) (E F : Constraint) → dropped b κ ≡ false → mentions D (suc (length s)) E ≡ true → mentions D (suc (length s)) F ≡ true
         → A false (decided b E) → A true (decided b F) → H (decided b (resolvent D (suc (length s)) b E F))
-    pub learned : (b : Bool) (E : Constraint) (st : Store) → H (decided b E) → S st → S (learn L b E st)
+    pub learned : (b : Bool) (E : Constraint) (st : Store) → H (decided b E) → S st → S (learn L (length R) b E st)
     pub mixing : (o q : Outcome Constraint) → Mixes κ o q → A false o → A true q → H (mixed (decidedNodes (s ▹ false) o ++ decidedNodes (s ▹ true) q))
 
   module _ (S : Store → Type 0) (A : Bool → Outcome Constraint → Type 0) (H : Outcome Constraint → Type 0) (cases : BranchCases S A H) where

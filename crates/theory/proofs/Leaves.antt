@@ -1,20 +1,22 @@
 -- A visit that is decided without branching hands back a shaped constraint, and a good one if the store is sound.
 use Prim.Native.Nat.{ℕ, zero, suc, _≤_, _<_, suc-le-suc, zero-le}
+use native.Mathlib.Nat.{le-refl}
 use native.Mathlib.Omega.{arith}
 use mathlib.Core.Path.{_≡_, refl, sym, ap, _∙_, subst}
 use mathlib.Core.Logic.{_⊎_, inl, inr}
 use mathlib.Core.Bool.{Bool, true, false, _&&_, Bool·beq, true≢false, false≢true}
 use mathlib.Core.List.{List, [], _∷_}
 use mathlib.Core.Option.{Option, none, some}
-use lib.ListN.{length, drop}
+use lib.ListN.{length, take, drop}
+use lib.Seq.{take-length}
 use lib.Dec.{eqb}
 use Rattle.qbf.specs.Formula.{Clause, Limits, Literal, Node, Prefix, all, dead, equals, has, place, positive, quantifierAt, quantifiers, satisfied, valueAt}
-use Rattle.qbf.specs.Learning.{Constraint, Store, dropped, first, implicant, insert, insertFound, lastPlace, reduce}
+use Rattle.qbf.specs.Learning.{Constraint, Store, dropped, emptyStore, first, implicant, insert, insertFound, lastPlace, learn, reduce}
 use Rattle.qbf.specs.Card.{Mem}
 use Rattle.theory.proofs.Basics.{all→, →all, →any, and-left, and-right, has-le, eqb-true}
 use Rattle.theory.proofs.Game.{Rising, win-satisfied, Dead, dead→Dead, win-dead}
 use Rattle.theory.proofs.Shape.{Formed, Holds, Shaped, shaped-reduced}
-use Rattle.theory.proofs.Stores.{ShapedStore, Stored}
+use Rattle.theory.proofs.Stores.{RecordedStore, ShapedStore, Stored, recorded-empty, recorded-learn, stored-empty, stored-learn}
 use Rattle.theory.proofs.Induction.{LeafCases, hits}
 use Rattle.theory.proofs.Claim.{Wins, Claim, Good, good}
 use Rattle.theory.proofs.Sets.{Covers, covers-more, insert-rising, insert-sub, insert-old, insert-new, twins, Found, found}
@@ -100,8 +102,25 @@ pub record Valid (D : Prefix) (R : List Clause) (v : Bool) (E : Constraint) : Ty
   pub formed : Formed D v E
   pub exact : (t : Node) → length t ≡ lastPlace D E → Holds D v E t → Wins D R v t
 
-abbrev pub SoundStore : Limits → Prefix → List Clause → Store → Type 0
-SoundStore L D R st = Stored (Valid D R) L st
+-- what is asked of a learned clause with its record k: the first k clauses stand, and it is valid by them
+pub record ByFirst (D : Prefix) (R : List Clause) (k : ℕ) (E : Constraint) : Type 0 where
+  pub within : k ≤ length R
+  pub valid : Valid D (take k R) false E
+
+pub record SoundStore (L : Limits) (D : Prefix) (R : List Clause) (st : Store) : Type 0 where
+  pub stored : Stored (Valid D R) L st
+  pub recorded : RecordedStore (ByFirst D R) st
+
+-- what is learned rests on all clauses that stand
+pub sound-learn : (L : Limits) → 1 ≤ L .constraints → (D : Prefix) (R : List Clause) (v : Bool) (E : Constraint) (st : Store) → Valid D R v E → SoundStore L D R st → SoundStore L D R (learn L (length R) v E st)
+sound-learn L one D R v E st w h =
+    record {
+      stored = stored-learn (Valid D R) L one (length R) v E st w (h .stored);
+      recorded = recorded-learn (ByFirst D R) L (length R) v E st (λ e. record { within = le-refl (length R); valid = subst (λ (Q : List Clause). Valid D Q false E) (sym (take-length R)) (subst (λ (x : Bool). Valid D R x E) e w) }) (h .recorded);
+    }
+
+pub sound-empty : (L : Limits) (D : Prefix) (R : List Clause) → SoundStore L D R emptyStore
+sound-empty L D R = record { stored = stored-empty (Valid D R) L; recorded = recorded-empty (ByFirst D R) }
 
 -- eligible constraints that are valid and hold are good
 abbrev pub Fair : Prefix → List Clause → (ℕ → ℕ → Bool) → Node → Type 0
@@ -138,7 +157,7 @@ module _ (D : Prefix) (R : List Clause) (ok : (r : Clause) → Mem r R → Risin
                 →any (has D true u) r (w .0) (w .1) (twins D true s u (w .0) (c .0) (sym (c .2)) (w .2) t (h (c .0) (c .1) (has-le D true s (c .0) t)))
 
     pub good-leaves : (L : Limits) (st : Store) → SoundStore L D R st → (eligible : ℕ → ℕ → Bool) → Fair D R eligible s → LeafCases D R s eligible st (λ v E. Good D R v E s)
-    good-leaves L st h eligible fair = record { dead-clause = good-dead; all-satisfied = good-satisfied; matched = λ v E m e. by v E (h .each v E m) e }
+    good-leaves L st h eligible fair = record { dead-clause = good-dead; all-satisfied = good-satisfied; matched = λ v E m e. by v E (h .stored .each v E m) e }
       where
         by : (v : Bool) (E : Constraint) → Valid D R v E → hits D R s eligible v E ≡ true → Good D R v E s
         by v E w e = record { shaped = shaped-learned D s eligible v E (w .formed) e; claim = fair v E w (and-left (eligible (lastPlace D E) (length s)) (all (has D v s) E) e) }

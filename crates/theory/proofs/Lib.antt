@@ -25,7 +25,9 @@ pub mod Start
 pub mod PlainSearch
 pub mod Visits
 pub mod WellFormed
+pub mod Withdrawn
 pub mod AcceptedRule
+pub mod Validity
 pub mod Starting
 pub mod Preserved
 pub mod Refusals

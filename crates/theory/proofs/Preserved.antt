@@ -1,38 +1,98 @@
 -- A call leaves a well-formed state well formed, whether calls have reached that state or not.
-use Prim.Native.Nat.{ℕ}
+use Prim.Native.Nat.{ℕ, _-_, _≤_}
+use native.Mathlib.Nat.{le-refl}
+use native.Mathlib.Omega.{arith}
 use mathlib.Core.Path.{_≡_, refl, sym, subst}
 use mathlib.Core.Bool.{Bool, true}
-use mathlib.Core.List.{List, []}
+use mathlib.Core.List.{List, [], _∷_, _++_}
 use mathlib.Core.Option.{Option, none, some}
-use Rattle.qbf.specs.Formula.{Formula, Literal, Node, Quantifier, quantifiers}
+use lib.ListN.{length, take, length-append}
+use lib.Dec.{leb}
+use Rattle.qbf.specs.Formula.{Clause, Formula, Limits, Literal, Node, Prefix, Quantifier, _▹_, quantifiers}
 use Rattle.qbf.specs.Truth.{bound}
-use Rattle.qbf.specs.Learning.{Store, learningSearch}
-use Rattle.qbf.specs.Calls.{Call, State, card, forget, guarded, learningQuery, nextFormula, query, queryFault, rule, ruleFault, startNode, step, storeAfterRule, wellFormed, withRule}
+use Rattle.qbf.specs.Learning.{Store, below, emptyStore, learningSearch}
+use Rattle.qbf.specs.Card.{Mem}
+use Rattle.qbf.specs.Calls.{Call, State, card, clauseOf, forget, guarded, learningQuery, nextFormula, query, queryFault, rule, ruleFault, startNode, step, storeAfterRule, storeAfterWithdraw, wellFormed, withRule, withdraw, withdrawFault, withoutLast}
 use Rattle.theory.proofs.Rest.{Rest}
+use Rattle.theory.proofs.Game.{Rising}
 use Rattle.theory.proofs.Shape.{Formed}
-use Rattle.theory.proofs.Stores.{ShapedStore, stored-empty, stored-rule}
-use Rattle.theory.proofs.ShapedSearch.{shaped-found}
+use Rattle.theory.proofs.Stores.{ShapedStore, recorded-empty, recorded-learn, recorded-weaker, recorded-withdraw, stored-empty, stored-rule, stored-withdraw}
+use Rattle.theory.proofs.Induction.{BranchCases, SearchCases, below-by, visit-by}
+use Rattle.theory.proofs.Leaves.{shaped-leaves}
+use Rattle.theory.proofs.ShapedSearch.{ShapedOutcome, shaped-branches, shaped-search}
 use Rattle.theory.proofs.AcceptedRule.{next-formula}
-use Rattle.theory.proofs.WellFormed.{FormulaFacts, StateFacts, capacity, clauses-rising, facts-state, state-facts}
+use Rattle.theory.proofs.Withdrawn.{take-short}
+use Rattle.theory.proofs.WellFormed.{FitStore, Fits, FormulaFacts, StateFacts, capacity, clauses-rising, facts-state, state-facts}
 use Rattle.theory.proofs.Starting.{start-rest}
 
-abbrev ShapedFor : Formula → Store → Type 0
-ShapedFor b st = ShapedStore (b .limits) (b .prefix) st
+-- the store is shaped, and its records fit the clauses that stand
+pub record ShapedFor (b : Formula) (st : Store) : Type 0 where
+  pub shaped : ShapedStore (b .limits) (b .prefix) st
+  pub fit : FitStore (length (b .clauses)) st
 
+-- ---- a search
+module _ (L : Limits) (one : 1 ≤ L .constraints) (D : Prefix) (R : List Clause) (ok : (r : Clause) → Mem r R → Rising D 0 r) where
+  abbrev Kept : Store → Type 0
+  Kept st = ShapedStore L D st × FitStore (length R) st
+
+  fit-branches : (κ : Quantifier) (ks : List Quantifier) (s : Node) → Rest D s (κ ∷ ks) → BranchCases L D R κ s Kept (λ c o. ShapedOutcome D (s ▹ c) o) (ShapedOutcome D s)
+  fit-branches κ ks s rest =
+      let c = shaped-branches L one D R ok κ ks s rest in
+      record {
+        up = c .up;
+        joined = c .joined;
+        learned = λ b E st g h. (c .learned b E st g (h .0), recorded-learn (Fits (length R)) L (length R) b E st (λ _. le-refl (length R)) (h .1));
+        mixing = c .mixing;
+      }
+
+  fit-cases : SearchCases L D R (λ ks s. Rest D s ks) Kept (λ ks s o. ShapedOutcome D s o)
+  fit-cases =
+      let c = shaped-search L one D R ok in
+      record { side = c .side; leaves = λ ks s st rest h. c .leaves ks s st rest (h .0); branches = fit-branches; ends = c .ends; raised = c .raised }
+
+  fit-found : (ks : List Quantifier) (s : Node) (st : Store) → Rest D s ks → Kept st → Kept (learningSearch L D R ks s st .store)
+  fit-found ks s st rest h =
+      visit-by D R s Kept (ShapedOutcome D s) leb (below L D R ks) st (shaped-leaves D R ok L s st (h .0) leb) h
+      (λ nd ns. below-by L D R (λ qs t. Rest D t qs) Kept (λ qs t o. ShapedOutcome D t o) fit-cases ks s st rest h nd ns) .store-ok
+
+-- ---- the calls
 module _ (b : Formula) (f : FormulaFacts b) (st : Store) (h : ShapedFor b st) where
   rule-store : (o : Option ℕ) (ls : List Literal) → ShapedFor (withRule o b ls) (storeAfterRule o st)
-  rule-store none ls = stored-rule (Formed (b .prefix)) (b .limits) (Formed (b .prefix)) (λ E w. w) st h
+  rule-store none ls =
+      record {
+        shaped = stored-rule (Formed (b .prefix)) (b .limits) (Formed (b .prefix)) (λ E w. w) st (h .shaped);
+        fit = recorded-weaker (Fits (length (b .clauses))) (Fits (length R′)) (λ k E w. omega (arith, w, length-append (b .clauses) (clauseOf (b .prefix) ls ∷ []))) (st .records) (st .clauses) (h .fit);
+      }
+    where
+      R′ : List Clause
+      R′ = b .clauses ++ (clauseOf (b .prefix) ls ∷ [])
   rule-store (some n) ls = h
 
+  withdraw-store : (o : Option ℕ) → ShapedFor (withoutLast o b) (storeAfterWithdraw o (length (b .clauses) - 1) st)
+  withdraw-store none =
+      record {
+        shaped = stored-withdraw (Formed (b .prefix)) (b .limits) (Formed (b .prefix)) n (λ v E w. w) st (h .shaped);
+        fit = recorded-withdraw (Fits (length (b .clauses))) (Fits (length (take n (b .clauses)))) n (λ k E w le. omega (arith, le, take-short n (b .clauses) (omega arith))) st (h .fit);
+      }
+    where
+      n : ℕ
+      n = length (b .clauses) - 1
+  withdraw-store (some k) = h
+
   search-store : (ks : List Quantifier) (s : Node) → Rest (b .prefix) s ks → ShapedFor b (learningSearch (b .limits) (b .prefix) (b .clauses) ks s st .store)
-  search-store ks s rest = shaped-found (b .limits) (capacity b f) (b .prefix) (b .clauses) (clauses-rising b f) ks s st rest h .store-ok
+  search-store ks s rest =
+      let w = fit-found (b .limits) (capacity b f) (b .prefix) (b .clauses) (clauses-rising b f) ks s st rest (h .shaped, h .fit) in
+      record { shaped = w .0; fit = w .1 }
 
   query-store : (o : Option ℕ) (ls : List Literal) → ShapedFor b (learningQuery o b st ls .store)
   query-store none ls = search-store (bound (quantifiers (b .prefix))) (startNode ls (b .prefix)) (start-rest ls (b .prefix))
   query-store (some n) ls = h
 
+empty-store : (b : Formula) → ShapedFor b emptyStore
+empty-store b = record { shaped = stored-empty (Formed (b .prefix)) (b .limits); fit = recorded-empty (Fits (length (b .clauses))) }
+
 pub call-facts : (x : State) → StateFacts x → (c : Call) → StateFacts (guarded true x c .state)
-call-facts x h c = record { formula-ok = next-formula b f c; store-ok = by c }
+call-facts x h c = let w = by c in record { formula-ok = next-formula b f c; store-ok = w .shaped; records-ok = w .fit }
   where
     b : Formula
     b = x .formula
@@ -40,11 +100,15 @@ call-facts x h c = record { formula-ok = next-formula b f c; store-ok = by c }
     f : FormulaFacts b
     f = h .formula-ok
 
+    g : ShapedFor b (x .store)
+    g = record { shaped = h .store-ok; fit = h .records-ok }
+
     by : (c : Call) → ShapedFor (nextFormula b c) (guarded true x c .state .store)
-    by (rule ls) = rule-store b f (x .store) (h .store-ok) (ruleFault b ls) ls
-    by (query ls) = query-store b f (x .store) (h .store-ok) (queryFault b [] ls) ls
-    by (card size) = search-store b f (x .store) (h .store-ok) (quantifiers (b .prefix)) [] refl
-    by forget = stored-empty (Formed (b .prefix)) (b .limits)
+    by (rule ls) = rule-store b f (x .store) g (ruleFault b ls) ls
+    by (query ls) = query-store b f (x .store) g (queryFault b [] ls) ls
+    by (card size) = search-store b f (x .store) g (quantifiers (b .prefix)) [] refl
+    by forget = empty-store b
+    by withdraw = withdraw-store b f (x .store) g (withdrawFault b)
 
 -- THE THEOREM: a well-formed state stays well formed
 pub step-formed : (x : State) → wellFormed x ≡ true → (c : Call) → wellFormed (step x c .state) ≡ true

@@ -1,5 +1,5 @@
 -- Demand 1, of the definitions: a refused call leaves the state as the paper says, and its number is one of the paper's for that call.
-use Prim.Native.Nat.{ℕ, _*_}
+use Prim.Native.Nat.{ℕ, _*_, _-_}
 use native.Mathlib.Omega.{arith}
 use mathlib.Core.Path.{_≡_, refl, sym, ap, subst}
 use mathlib.Core.Logic.{_⊎_, inl, inr}
@@ -11,7 +11,7 @@ use lib.Dec.{eqb, leb, ltb}
 use Rattle.qbf.specs.Formula.{Formula, Limits, Literal, Node, Prefix, any, numberOf, place, placeOf, positive, quantifiers}
 use Rattle.qbf.specs.Truth.{Outcome, bound, decided, decidedNodes, freeVariables, mixed, outline, select}
 use Rattle.qbf.specs.Card.{Mem, tableOf, zeroTable}
-use Rattle.qbf.specs.Calls.{Call, Reply, State, Stepped, _orElse_, answer, card, cardRefused, forget, given, guarded, learningQuery, lines, literalFault, query, queryFault, queryReply, rule, ruleFault, ruleReply, startNode, step, storeAfterRule, wellFormed, withRule}
+use Rattle.qbf.specs.Calls.{Call, Reply, State, Stepped, _orElse_, answer, card, cardRefused, forget, given, guarded, learningQuery, lines, literalFault, query, queryFault, queryReply, rule, ruleFault, ruleReply, startNode, step, storeAfterRule, storeAfterWithdraw, wellFormed, withRule, withdraw, withoutLast}
 use Rattle.qbf.specs.Demands.{Leaves, refusalOf}
 use Rattle.theory.proofs.Basics.{dichotomy}
 use Rattle.theory.proofs.Starting.{learning}
@@ -23,6 +23,7 @@ refusals (rule ls) = 22 ∷ 20 ∷ 7 ∷ 3 ∷ 5 ∷ 6 ∷ []
 refusals (query ls) = 22 ∷ 8 ∷ []
 refusals (card size) = 22 ∷ 21 ∷ []
 refusals forget = 22 ∷ []
+refusals withdraw = 22 ∷ 32 ∷ []
 
 -- a fault, where there is one, is among the numbers
 abbrev pub Among : List ℕ → Option ℕ → Type 0
@@ -105,6 +106,7 @@ malformed x (rule ls) = unchanged x (rule ls) (guarded false x (rule ls)) 22 (in
 malformed x (query ls) = unchanged x (query ls) (guarded false x (query ls)) 22 (inl refl) refl refl refl
 malformed x (card size) = unchanged x (card size) (guarded false x (card size)) 22 (inl refl) refl refl refl
 malformed x forget = unchanged x forget (guarded false x forget) 22 (inl refl) refl refl refl
+malformed x withdraw = unchanged x withdraw (guarded false x withdraw) 22 (inl refl) refl refl refl
 
 module _ (x : State) where
   rule-refuses : (ls : List Literal) → Refusing x (rule ls) (guarded true x (rule ls))
@@ -148,12 +150,23 @@ module _ (x : State) where
       by (inl e) = accepted x (card size) r (ap (λ (b : Bool). refusalOf (replies b)) e)
       by (inr e) = overfull x (card size) r (inr (inl refl)) (ap (λ (b : Bool). refusalOf (replies b)) e) refl
 
+  withdraw-refuses : Refusing x withdraw (guarded true x withdraw)
+  withdraw-refuses = by (eqb (length (x .formula .clauses)) 0)
+    where
+      after : Option ℕ → Stepped
+      after o = record { state = record { formula = withoutLast o (x .formula); store = storeAfterWithdraw o (length (x .formula .clauses) - 1) (x .store) }; out = answer (ruleReply o) 0 }
+
+      by : (b : Bool) → Refusing x withdraw (after (given b 32))
+      by true = unchanged x withdraw (after (some 32)) 32 (inr (inl refl)) refl refl refl
+      by false = accepted x withdraw (after none) refl
+
   refuses : (g : Bool) (c : Call) → Refusing x c (guarded g x c)
   refuses false c = malformed x c
   refuses true (rule ls) = rule-refuses ls
   refuses true (query ls) = query-refuses ls
   refuses true (card size) = card-refuses size
   refuses true forget = accepted x forget (guarded true x forget) refl
+  refuses true withdraw = withdraw-refuses
 
 -- DEMAND 1, of any state and call
 pub refused-leaves : (x : State) (c : Call) (n : ℕ) → refusalOf (step x c .out .reply) ≡ some n → Leaves n x (step x c)

@@ -15,10 +15,9 @@ use Rattle.theory.proofs.Basics.{→all, any-false→, value-some}
 use Rattle.theory.proofs.Rest.{drop-all, rest-up, rest-small}
 use Rattle.theory.proofs.Game.{Rising, rising-above, Win}
 use Rattle.theory.proofs.Shape.{last-held, goes-up-same}
-use Rattle.theory.proofs.Stores.{stored-learn}
 use Rattle.theory.proofs.Induction.{Gives, Mixes, BranchCases, SearchCases, visit-by, raise-by, below-by}
 use Rattle.theory.proofs.Claim.{Good}
-use Rattle.theory.proofs.Leaves.{Valid, SoundStore, Fair, fair-inner, good-leaves}
+use Rattle.theory.proofs.Leaves.{SoundStore, Fair, fair-inner, good-leaves, sound-learn}
 use Rattle.theory.proofs.Verdict.{every, some-one, NoFree, Says, says-win, says-mixed, mixed-free}
 use Rattle.theory.proofs.Branch.{good-valid, lift, resolvent-good}
 
@@ -130,7 +129,7 @@ module _ (L : Limits) (one : 1 ≤ L .constraints) (D : Prefix) (R : List Clause
         record {
           up = λ c b E o g. lift D R ok κ ks s rest b E c o g;
           joined = λ b E F. resolvent-good D R ok κ ks s rest b E F;
-          learned = λ b E st g h. stored-learn (Valid D R) L one b E st (good-valid D R ok b E s g) h;
+          learned = λ b E st g h. sound-learn L one D R b E st (good-valid D R ok b E s g) h;
           mixing = mixing;
         }
 

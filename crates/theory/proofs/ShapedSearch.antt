@@ -3,6 +3,7 @@ use Prim.Native.Nat.{ℕ, _≤_}
 use mathlib.Core.Path.{_≡_, refl}
 use mathlib.Core.Bool.{Bool, true, false}
 use mathlib.Core.List.{List, [], _∷_}
+use lib.ListN.{length}
 use lib.Dec.{eqb, leb}
 use Rattle.qbf.specs.Formula.{Clause, Limits, Node, Prefix, Quantifier, _▹_}
 use Rattle.qbf.specs.Truth.{Outcome, decided, mixed}
@@ -38,7 +39,7 @@ module _ (L : Limits) (one : 1 ≤ L .constraints) (D : Prefix) (R : List Clause
       record {
         up = λ c b E o g. shaped-up D b s E c g (ends-above D b s κ (rest-kind D s κ ks rest) E c g o);
         joined = λ b E F d m n a g. shaped-resolvent D b s E F a g;
-        learned = λ b E st g h. stored-learn (Formed D) L one b E st (g .formed) h;
+        learned = λ b E st g h. stored-learn (Formed D) L one (length R) b E st (g .formed) h;
         mixing = λ o q w a g. tt;
       }
 

@@ -1,7 +1,9 @@
 -- Well-formed formulas, stores and states: the tests, and what they say.
 use Prim.Native.Nat.{ℕ, suc, _+_, _≤_, zero-le}
+use native.Mathlib.Nat.{suc-inj}
 use native.Mathlib.Omega.{arith}
-use mathlib.Core.Path.{_≡_, refl, ap}
+use mathlib.Core.Path.{_≡_, refl, sym, ap, subst}
+use mathlib.Core.Logic.{inl, inr}
 use mathlib.Core.Bool.{Bool, true, false, cond, not, _&&_, false≢true}
 use mathlib.Core.List.{List, [], _∷_}
 use lib.ListN.{length}
@@ -10,11 +12,11 @@ use borrow.Author.Tests.{le-leb, leb-true}
 use Rattle.qbf.specs.Formula.{Clause, Formula, Limits, Literal, Prefix, Quantifier, all, exists, forall, free, numberOf, place, placeFrom, placeOf, quantifierAt, quantifiers}
 use Rattle.qbf.specs.Learning.{Constraint, Store, constraints, dropped, lastPlace}
 use Rattle.qbf.specs.Card.{Mem}
-use Rattle.qbf.specs.Calls.{State, clauseOk, clausesOk, constraintOk, formulaOk, freeFirst, inOrder, limitsOk, noFree, numbersOk, prefixOk, storeOk, wellFormed}
-use Rattle.theory.proofs.Basics.{T→≡, ≡→T, and-left, and-right, and-both, all→, →all, not-true}
+use Rattle.qbf.specs.Calls.{State, clauseOk, clausesOk, constraintOk, formulaOk, freeFirst, inOrder, limitsOk, noFree, numbersOk, prefixOk, recordsOk, storeOk, wellFormed}
+use Rattle.theory.proofs.Basics.{T→≡, ≡→T, and-left, and-right, and-both, all→, →all, eqb-true, not-true, true-eqb}
 use Rattle.theory.proofs.Game.{Rising}
 use Rattle.theory.proofs.Verdict.{NoFree}
-use Rattle.theory.proofs.Stores.{ShapedStore}
+use Rattle.theory.proofs.Stores.{Recorded, RecordedStore, ShapedStore, recorded-length}
 use Rattle.theory.proofs.Shape.{Formed}
 use Rattle.theory.proofs.Search.{FreeFirst}
 
@@ -156,10 +158,45 @@ module _ (L : Limits) (D : Prefix) (st : Store) where
       each-formed : (v : Bool) → each-ok v ≡ true
       each-formed v = →all (constraintOk D v) (constraints v st) (λ E m. formed-constraint D v E (h .each v E m))
 
+-- ---- records
+-- each learned clause has a record, of at most n
+abbrev pub Fits : ℕ → ℕ → Constraint → Type 0
+Fits n k E = k ≤ n
+
+abbrev pub FitStore : ℕ → Store → Type 0
+FitStore n st = RecordedStore (Fits n) st
+
+module _ (n : ℕ) where
+  fits-lists : (ks : List ℕ) (es : List Constraint) → length ks ≡ length es → ((k : ℕ) → Mem k ks → k ≤ n) → Recorded (Fits n) ks es
+  fits-lists [] [] e h = tt
+  fits-lists [] (E ∷ es) e h = omega (arith, e)
+  fits-lists (k ∷ ks) [] e h = omega (arith, e)
+  fits-lists (k ∷ ks) (E ∷ es) e h = (h k (inl refl), fits-lists ks es (suc-inj e) (λ j m. h j (inr m)))
+
+  lists-fit : (ks : List ℕ) (es : List Constraint) → Recorded (Fits n) ks es → (k : ℕ) → Mem k ks → k ≤ n
+  lists-fit [] es h k m = absurd m
+  lists-fit (j ∷ ks) [] h k m = absurd h
+  lists-fit (j ∷ ks) (E ∷ es) h k (inl p) = subst (λ (i : ℕ). i ≤ n) (sym p) (h .0)
+  lists-fit (j ∷ ks) (E ∷ es) h k (inr m) = lists-fit ks es (h .1) k m
+
+  pub records-fit : (st : Store) → recordsOk n st ≡ true → FitStore n st
+  records-fit st e =
+      let same = eqb (length (st .records)) (length (st .clauses)) in
+      let low = all (λ k. leb k n) (st .records) in
+      fits-lists (st .records) (st .clauses) (eqb-true (length (st .records)) (length (st .clauses)) (and-left same low e))
+      (λ k m. leb-true k n (all→ (λ k. leb k n) (st .records) (and-right same low e) k m))
+
+  pub fit-records : (st : Store) → FitStore n st → recordsOk n st ≡ true
+  fit-records st h =
+      and-both (eqb (length (st .records)) (length (st .clauses))) (all (λ k. leb k n) (st .records))
+      (true-eqb (length (st .records)) (length (st .clauses)) (recorded-length (Fits n) (st .records) (st .clauses) h))
+      (→all (λ k. leb k n) (st .records) (λ k m. le-leb k n (lists-fit (st .records) (st .clauses) h k m)))
+
 -- ---- states
 pub record StateFacts (x : State) : Type 0 where
   pub formula-ok : FormulaFacts (x .formula)
   pub store-ok : ShapedStore (x .formula .limits) (x .formula .prefix) (x .store)
+  pub records-ok : FitStore (length (x .formula .clauses)) (x .store)
 
 module _ (x : State) where
   abbrev book : Bool
@@ -168,8 +205,18 @@ module _ (x : State) where
   abbrev kept : Bool
   kept = storeOk (x .formula .limits) (x .formula .prefix) (x .store)
 
+  abbrev fit : Bool
+  fit = recordsOk (length (x .formula .clauses)) (x .store)
+
   pub state-facts : wellFormed x ≡ true → StateFacts x
-  state-facts e = record { formula-ok = formula-facts (x .formula) (and-left book kept e); store-ok = store-shaped (x .formula .limits) (x .formula .prefix) (x .store) (and-right book kept e) }
+  state-facts e =
+      record {
+        formula-ok = formula-facts (x .formula) (and-left book (kept && fit) e);
+        store-ok = store-shaped (x .formula .limits) (x .formula .prefix) (x .store) (and-left kept fit (and-right book (kept && fit) e));
+        records-ok = records-fit (length (x .formula .clauses)) (x .store) (and-right kept fit (and-right book (kept && fit) e));
+      }
 
   pub facts-state : StateFacts x → wellFormed x ≡ true
-  facts-state h = and-both book kept (facts-formula (x .formula) (h .formula-ok)) (shaped-store (x .formula .limits) (x .formula .prefix) (x .store) (h .store-ok))
+  facts-state h =
+      and-both book (kept && fit) (facts-formula (x .formula) (h .formula-ok))
+      (and-both kept fit (shaped-store (x .formula .limits) (x .formula .prefix) (x .store) (h .store-ok)) (fit-records (length (x .formula .clauses)) (x .store) (h .records-ok)))

@@ -55,7 +55,7 @@ returns c =
     let t = c .before .before .before .before .before .before in
     let a = t .args in (
       (rw (c .mixed .ensures) (finished-mixed (a .on)), t .pre .4, grown-none (now (a .learned-links)) (now (a .cube-links))),
-      λ D R s κ o₀ o₁ st k qu l e p q ea eo sh ss.
+      λ D R s κ o₀ o₁ g st k qu l e p q ea eo sh gr ss.
           rw (c .mixed .ensures)
           (joined-mixed D R κ s st k (off-side t) (on-side t) o₀ o₁ (a .first) (a .on) (c .before .before .before .before .is-enough .ensures κ e) p q ss
           (sym (c .before .before .before .step-of .ensures) ∙ c .before .enum-told .given .1) (now (a .clauses)) (now (a .area))),
@@ -70,7 +70,7 @@ returns-2 c =
         t .pre .4,
         grown-none (now (a .learned-links)) (now (a .cube-links)),
       ),
-      λ D R s κ o₀ o₁ st k qu l e p q ea eo sh ss.
+      λ D R s κ o₀ o₁ g st k qu l e p q ea eo sh gr ss.
           rw (c .with-lines .ensures)
           (joined-on D R κ s st k (off-side t) (on-side t) o₀ o₁ (a .first) (a .on) (c .before .before .before .before .is-enough .ensures κ e) p q ss
           (sym (c .before .before .before .step-of .ensures) ∙ c .before .enum-told2 .given .1) (now (a .clauses)) (now (a .area)) refl),
@@ -81,7 +81,7 @@ returns-3 c =
     let t = c .before .before .before .before .before .before .before .before in
     let a = t .args in (
       (c .join .ensures .0 .counts, record { clauses = c .join .ensures .1; cubes = t .pre .4 .cubes }, record { clauses = c .join .ensures .2; cubes = omega arith }),
-      λ D R s κ o₀ o₁ st k qu l e p q ea eo sh ss.
+      λ D R s κ o₀ o₁ g st k qu l e p q ea eo sh gr ss.
           let both =
           clauses-step D R κ s st k (off-side t) (on-side t) o₀ o₁ (a .first) (a .on .verdict) (c .before .before .before .before .before .before .is-enough .ensures κ e)
           (sym (c .before .before .before .before .before .step-of .ensures) ∙ c .before .before .before .enum-told3 .given .1) p q in
@@ -90,9 +90,9 @@ returns-3 c =
           let codes-are =
           sym (ap (λ (x : List ℕ). entryAt (boundsOf (a .on)) (now (a .clauses)) x (now (a .area))) (stored-by false (both .side) (now (a .learned)) (now (a .cubes))))
           ∙ both .on-codes in
-          joined-clauses D R κ s st k (off-side t) (on-side t) o₀ o₁ (a .on) (c .join .result) (a .at) l (now (a .clauses)) (now (a .area)) ss (c .join .ensures .0 .verdict) both _ _
+          joined-clauses D R κ s st k (off-side t) (on-side t) o₀ o₁ (a .on) (c .join .result) (a .at) l (now (a .clauses)) (now (a .area)) gr ss (c .join .ensures .0 .verdict) both _ _
           (c .join .ensures .3 D (both .first) (both .second) (st .clauses) qu (both .off-codes) codes-are (fst .0) (snd .0) (fst .1) (snd .1)
-          (same-short D R κ s st k (off-side t) (on-side t) o₀ o₁ false (a .on) both (a .at) l sh) (ss .clauses)),
+          (same-short D R κ s st k (off-side t) (on-side t) o₀ o₁ false (a .on) both (a .at) l sh) (ss .shown .clauses)),
     )
 
 returns-4 : tie.Need-returns-4
@@ -100,7 +100,7 @@ returns-4 c =
     let t = c .before .before .before .before .before .before .before .before in
     let a = t .args in (
       (c .join2 .ensures .0 .counts, record { clauses = t .pre .4 .clauses; cubes = c .join2 .ensures .1 }, record { clauses = omega arith; cubes = c .join2 .ensures .2 }),
-      λ D R s κ o₀ o₁ st k qu l e p q ea eo sh ss.
+      λ D R s κ o₀ o₁ g st k qu l e p q ea eo sh gr ss.
           let both =
           cubes-step D R κ s st k (off-side t) (on-side t) o₀ o₁ (a .first) (a .on .verdict) (c .before .before .before .before .before .before .is-enough .ensures κ e)
           (sym (c .before .before .before .before .before .step-of .ensures) ∙ c .before .before .before .enum-told4 .given .1) p q in
@@ -109,9 +109,9 @@ returns-4 c =
           let codes-are =
           sym (ap (λ (x : List ℕ). entryAt (boundsOf (a .on)) (now (a .clauses)) x (now (a .area))) (stored-by true (both .side) (now (a .learned)) (now (a .cubes))))
           ∙ both .on-codes in
-          joined-cubes D R κ s st k (off-side t) (on-side t) o₀ o₁ (a .on) (c .join2 .result) (a .at) l (now (a .clauses)) (now (a .area)) ss (c .join2 .ensures .0 .verdict) both _ _
+          joined-cubes D R κ s st k (off-side t) (on-side t) o₀ o₁ (a .on) (c .join2 .result) (a .at) l (now (a .clauses)) (now (a .area)) gr ss (c .join2 .ensures .0 .verdict) both _ _
           (c .join2 .ensures .3 D (both .first) (both .second) (st .cubes) qu (both .off-codes) codes-are (fst .0) (snd .0) (fst .1) (snd .1)
-          (same-short D R κ s st k (off-side t) (on-side t) o₀ o₁ true (a .on) both (a .at) l sh) (ss .cubes)),
+          (same-short D R κ s st k (off-side t) (on-side t) o₀ o₁ true (a .on) both (a .at) l sh) (ss .shown .cubes)),
     )
 
 pub finish-spec : {M : Type 1} → statement M

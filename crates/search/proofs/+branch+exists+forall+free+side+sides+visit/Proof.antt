@@ -189,7 +189,7 @@ branch-returns t c =
     let next = c .before .before .before .before .before .before .before .before .before .before .before .before .before .before .before .before .next-kind in
     let first = c .before .before .before .before .before .before .before .before .before .before .before .before .before .before .before .if1 in
     let chosen = c .before .before .before .before .exists in
-    (chosen .ensures .0, record { result = λ D s ls R st task opened. kind-result (start .args .p) task (chosen .result) (next .result) (next .ensures) exists (first .taken) opened (chosen .ensures .1) })
+    (chosen .ensures .0, record { result = λ D s ls R g st task opened. kind-result (start .args .p) task (chosen .result) (next .result) (next .ensures) exists (first .taken) opened (chosen .ensures .1) })
 
 branch-same-length-3 : (t : ℕ) → branch-lts.Need-same-length-3 (branch-claims t) (branch-at t) branch.Post
 branch-same-length-3 t c = search needs
@@ -203,7 +203,7 @@ branch-returns-2 t c =
     let next = c .before .before .before .before .before .before .before .before .before .before .before .before .before .before .before .before .before .next-kind in
     let second = c .before .before .before .before .before .before .before .before .before .before .before .before .before .before .before .if2 in
     let chosen = c .before .before .before .before .forall in
-    (chosen .ensures .0, record { result = λ D s ls R st task opened. kind-result (start .args .p) task (chosen .result) (next .result) (next .ensures) forall (second .taken) opened (chosen .ensures .1) })
+    (chosen .ensures .0, record { result = λ D s ls R g st task opened. kind-result (start .args .p) task (chosen .result) (next .result) (next .ensures) forall (second .taken) opened (chosen .ensures .1) })
 
 branch-same-length-5 : (t : ℕ) → branch-lts.Need-same-length-5 (branch-claims t) (branch-at t) branch.Post
 branch-same-length-5 t c = search needs
@@ -217,7 +217,7 @@ branch-returns-3 t c =
     let next = c .before .before .before .before .before .before .before .before .before .before .before .before .before .before .before .before .before .before .next-kind in
     let third = c .before .before .before .before .before .before .before .before .before .before .before .before .before .before .before .if3 in
     let chosen = c .before .before .before .before .free in
-    (chosen .ensures .0, record { result = λ D s ls R st task opened. kind-result (start .args .p) task (chosen .result) (next .result) (next .ensures) free (third .taken) opened (chosen .ensures .1) })
+    (chosen .ensures .0, record { result = λ D s ls R g st task opened. kind-result (start .args .p) task (chosen .result) (next .result) (next .ensures) free (third .taken) opened (chosen .ensures .1) })
 
 branch-returns-4 : (t : ℕ) → branch-lts.Need-returns-4 (branch-claims t) (branch-at t) branch.Post
 branch-returns-4 t c =
@@ -234,7 +234,7 @@ branch-returns-4 t c =
         shelves = start .pre .1 .shelves;
       },
       record {
-        result = λ D s ls R st task opened.
+        result = λ D s ls R g st task opened.
             end-result (start .args .p) task (made .result) (next .result) (next .ensures) (empty .result) (ap (λ (b : Bounds). b .len) (empty .ensures)) _ (first .left) (second .left) (third .left) (made .ensures);
       },
     )
@@ -375,9 +375,9 @@ side-returns t c = (
         let given = c .before .before .before .before .before .before .before .before .before .before .before .before .before .before .before .before .before .before .give in
         let visited = c .before .before .before .before .before .before .before .visit in
         let made = c .with-lines in
-        λ D s b ls R st k task opened inside e v.
+        λ D s b ls R g st k task opened inside e v.
         result-as (sym (made .ensures))
-        (side-result D s b ls R st k (start .args .p) task opened inside e (start .pre .1 .asked .room .within) (omega (arith, cells .given)) (start .args .value) v (given .ensures .0) (visited .ensures .1));
+        (side-result D s b ls R g st k (start .args .p) task opened inside e (start .pre .1 .asked .room .within) (omega (arith, cells .given)) (start .args .value) v (given .ensures .0) (visited .ensures .1));
   },
 )
 
@@ -422,9 +422,9 @@ sides-returns t c =
         shelves = off .ensures .0 .0 .shelves;
       },
       record {
-        result = λ D s ls R st κ task opened inside is code.
+        result = λ D s ls R g st κ task opened inside is code.
             result-as (sym (made .ensures))
-            (up-result κ (start .args .kind) code (start .args .p) (to-off .result) (to-off .ensures) (off .result) (off .ensures .1) (up .result) (up .ensures) D s ls R st task opened inside is (first .taken));
+            (up-result κ (start .args .kind) code (start .args .p) (to-off .result) (to-off .ensures) (off .result) (off .ensures .1) (up .result) (up .ensures) D s ls R g st task opened inside is (first .taken));
       },
     )
 
@@ -543,13 +543,13 @@ sides-returns-2 t c =
         shelves = joined .ensures .0 .1;
       },
       record {
-        result = λ D s ls R st κ task opened inside is code.
+        result = λ D s ls R g st κ task opened inside is code.
             result-as (sym (made .ensures))
             (sides-result (start .args .kind) (start .args .p) (to-off .result) (to-off .ensures) (off .result) (off .ensures .1) (up .result) (up .ensures) (off .ensures .0 .0 .kept)
             (one .result) (one .ensures) (lined .result) (lined .ensures .0 .1) (lined .ensures .0 .2) (lined .ensures .1)
             (to-on .result) (to-on .ensures) (on .result) (on .ensures .1) _ (on .ensures .0 .1 .first ∙ aside .ensures .1) (joined .result) (joined .ensures .1) (first .left) (joined .ensures .0 .0 .visits)
             (on .ensures .0 .0 .kept .statuses-restored) (two .result) (two .ensures) (after .result) (after .ensures .0 .1) (after .ensures .0 .2) (after .ensures .1)
-            D s ls R st κ task opened inside is code);
+            D s ls R g st κ task opened inside is code);
       },
     )
 
@@ -598,7 +598,7 @@ visit-returns t c =
         shelves = start .pre .1 .0 .shelves;
       },
       record {
-        result = λ D s ls R st k task entered.
+        result = λ D s ls R g st k task entered.
             let found = said-no (steps .ensures .1 D R s st k (node-shown (start .args .p) task) entered) (said .given .1) in
             leaf-result (start .args .p) task No false (found .0) _ (steps .last .1 .1 .1 .1 .1 .1 .1 .1 .0) (found .1) (found .0, refl, found .2) (made .result) (made .ensures);
       },
@@ -616,7 +616,7 @@ visit-returns-2 t c =
         shelves = start .pre .1 .0 .shelves;
       },
       record {
-        result = λ D s ls R st k task entered.
+        result = λ D s ls R g st k task entered.
             let found = said-yes (steps .ensures .1 D R s st k (node-shown (start .args .p) task) entered) (said .given .1) in
             leaf-result (start .args .p) task Yes true (found .0) _ (steps .last .1 .1 .1 .1 .1 .1 .1 .1 .0) (found .1) (found .0, refl, found .2) (made .result) (made .ensures);
       },
@@ -641,7 +641,7 @@ visit-returns-3 t c =
         shelves = followed .ensures .0 .shelves;
       },
       record {
-        result = λ D s ls R st k task entered.
+        result = λ D s ls R g st k task entered.
             result-as (sym (made .ensures))
             (open-result (start .args .p) task (followed .result) (steps .ensures .1 D R s st k (node-shown (start .args .p) task) entered) (said .given .1) refl (followed .ensures .1));
       },

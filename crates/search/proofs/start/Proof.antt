@@ -43,7 +43,7 @@ returns c =
         shelves = entry .pre .shelves;
       },
       record {
-        result = λ D s ls R st task opened.
+        result = λ D s ls R g st task opened.
             end-result (entry .args .p) task (made .result) (next .result) (next .ensures) (empty .result) (ap (λ (b : Bounds). b .len) (empty .ensures)) _
             (λ e. omega (arith, e, past .taken)) (λ e. omega (arith, e, past .taken)) (λ e. omega (arith, e, past .taken)) (made .ensures);
       },
@@ -66,7 +66,7 @@ returns-2 c =
     let entry = c .before .before .before .before .before .before .before .before .before .before .before .before .before .before .before .before .before .before .before in
     let next = c .before .before .before .before .before .before .before .before .before .before .before .before .before .before .before .before .next-kind in
     let both = c .before .before .before .before .sides in
-    (both .ensures .0, record { result = λ D s ls R st task opened. next-result (entry .args .p) task (both .result) (next .result) (next .ensures) (omega (arith, c .before .before .before .before .before .before .before .before .before .before .before .before .before .before .before .if1 .left)) opened (both .ensures .1) })
+    (both .ensures .0, record { result = λ D s ls R g st task opened. next-result (entry .args .p) task (both .result) (next .result) (next .ensures) (omega (arith, c .before .before .before .before .before .before .before .before .before .before .before .before .before .before .before .if1 .left)) opened (both .ensures .1) })
 
 pub start-spec : {M : Type 1} → statement M
 start-spec =

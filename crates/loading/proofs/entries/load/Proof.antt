@@ -16,14 +16,14 @@ Inv-loop store sizes places cells₀ links₀ count k₀ cells links k = (count 
 abbrev μ-loop : tie.MeasureT-loop
 μ-loop store sizes places cells₀ links₀ count k₀ cells links k = count - k
 
-element-copy-out-count : tie.Need-element-copy-out-count Inv-loop μ-loop
-element-copy-out-count c = search needs
+shared-slice-read-count : tie.Need-shared-slice-read-count Inv-loop μ-loop
+shared-slice-read-count c = search needs
 
 cast-count : tie.Need-cast-count Inv-loop μ-loop
 cast-count c = search needs
 
 loop-holds : tie.Need-loop-holds Inv-loop μ-loop
-loop-holds c = (search needs, search needs, c .before .pre .0, load-none (now (c .before .args .store)) (now (c .before .args .sizes)) (now (c .before .args .places)) (now (c .before .args .cells)) (now (c .before .args .links)) (c .before .pre .1) (c .before .pre .2))
+loop-holds c = (search needs, search needs, c .before .before .pre .0, load-none (now (c .before .before .args .store)) (now (c .before .before .args .sizes)) (now (c .before .before .args .places)) (now (c .before .before .args .cells)) (now (c .before .before .args .links)) (c .before .before .pre .1) (c .before .before .pre .2))
 
 load-row-requires : tie.Need-load-row-requires Inv-loop μ-loop
 load-row-requires c κs = (c .before .before .before .loop .inv .2, c .before .before .before .loop .inv .3 .shelf, c .before .before .before .loop .inv .3 .newest, omega (arith, c .before .before .before .loop .inv .0))
@@ -46,7 +46,7 @@ load-spec =
     (tie.spec
     Inv-loop
     μ-loop
-    element-copy-out-count
+    shared-slice-read-count
     cast-count
     loop-holds
     load-row-requires

@@ -5,14 +5,14 @@ use borrow.Author.Needs.{needs}
 use denote.Ref.{now}
 use Prim.Native.Nat.{_-_, _≤_}
 use native.Mathlib.Omega.{arith}
-use mathlib.Core.Path.{_≡_, sym, _∙_}
+use mathlib.Core.Path.{_≡_, _∙_}
 use lib.ListN.{length-set}
 use Rattle.qbf.specs.Formula.{paper}
 use Rattle.tables.specs.Shelves.{Entries, newestOf, baseOf}
 use Rattle.loading.proofs.Unloading.{Unloading, unload-none, unload-more, unload-end}
 
 abbrev Inv-loop : tie.InvT-loop
-Inv-loop cells links numbers store₀ sizes₀ count k₀ store sizes k = (count ≡ newestOf links - baseOf (paper .constraints) links) × (k ≤ count) × Entries cells links × Unloading numbers cells links k store sizes
+Inv-loop cells links numbers store₀ sizes₀ count k₀ store sizes k = (count ≡ newestOf links - baseOf (paper .constraints) links) × (k ≤ count) × Entries cells links × Unloading numbers cells links sizes₀ k store sizes
 
 abbrev μ-loop : tie.MeasureT-loop
 μ-loop cells links numbers store₀ sizes₀ count k₀ store sizes k = count - k
@@ -45,7 +45,7 @@ same-length : tie.Need-same-length Inv-loop μ-loop
 same-length c = search needs
 
 same-length-2 : tie.Need-same-length-2 Inv-loop μ-loop
-same-length-2 c = length-set (c .before .loop .sizes) 0 (c .before .before .standing .result) ∙ c .before .loop .inv .3 .counted ∙ sym (c .before .before .before .before .pre .2)
+same-length-2 c = length-set (c .before .loop .sizes) 0 (c .before .before .standing .result) ∙ c .before .loop .inv .3 .size
 
 returns : tie.Need-returns Inv-loop μ-loop
 returns c = unload-end (now (c .before .before .before .before .args .cells)) (now (c .before .before .before .before .args .links)) (c .before .loop .inv .3) (c .before .before .standing .result) (omega arith) (c .before .before .standing .ensures)

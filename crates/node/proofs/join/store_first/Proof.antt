@@ -69,6 +69,7 @@ returns-3 c =
         subst (λ (b : Bounds). Stored b (take (c .before .before .before .before .before .before .before .before .before .args .n) (now (c .before .before .before .before .before .before .before .before .before .args .row))) (c .before .push .last .0)) (sym (c .placed3 .ensures))
             (record { source = refl; part = stored-part (c .before .push .last .0) (now (c .before .before .before .before .before .before .before .before .before .args .row)) (c .before .before .before .before .before .before .before .before .before .args .n) (c .before .push .result) (c .before .before .before .before .before .before .before .before .before .pre .1) (pushed .4) }),
         pushed .1,
+        pushed .2,
       ),
     )
 

@@ -19,10 +19,10 @@ Inv-loop places kinds flat sizes cube count k₀ k = Scanning (λ D. Places D pl
 abbrev μ-loop : tie.MeasureT-loop
 μ-loop places kinds flat sizes cube count k₀ k = count - k
 
-size-read : (c : tie.After-entry Inv-loop μ-loop) → let a = c .before .before .before .before .before .before .before .args in SizeRead (λ D. Places D (now (a .places)) × Kinds D (now (a .kinds))) (λ D. constraintOk D (a .cube)) 40 64 (now (a .flat)) (now (a .sizes)) (c .before .before .before .before .before .count .result) (c .before .before .before .loop .k) (c .entry .result)
-size-read c = record { scanning = c .before .before .before .loop .inv; more = c .before .before .loop-test .taken; is = c .entry .ensures }
+size-read : (c : tie.After-entry Inv-loop μ-loop) → let a = c .before .before .before .before .before .before .args in SizeRead (λ D. Places D (now (a .places)) × Kinds D (now (a .kinds))) (λ D. constraintOk D (a .cube)) 40 64 (now (a .flat)) (now (a .sizes)) (c .before .before .before .before .count .result) (c .before .before .loop .k) (c .entry .result)
+size-read c = record { scanning = c .before .before .loop .inv; more = c .before .loop-test .taken; is = c .entry .ensures }
 
-tested : (c : tie.After-constraint-ok Inv-loop μ-loop) → let a = c .before .before .before .before .before .before .before .before .before .before .before .args in RowTested (λ D. Places D (now (a .places)) × Kinds D (now (a .kinds))) (λ D. constraintOk D (a .cube)) 40 64 (now (a .flat)) (now (a .sizes)) (c .before .before .before .before .before .before .before .before .before .count .result) (c .before .before .before .before .before .before .before .loop .k) (c .before .before .before .before .entry .result) (now (c .before .row .result)) (c .constraint-ok .result)
+tested : (c : tie.After-constraint-ok Inv-loop μ-loop) → let a = c .before .before .before .before .before .before .before .before .before .before .args in RowTested (λ D. Places D (now (a .places)) × Kinds D (now (a .kinds))) (λ D. constraintOk D (a .cube)) 40 64 (now (a .flat)) (now (a .sizes)) (c .before .before .before .before .before .before .before .before .count .result) (c .before .before .before .before .before .before .loop .k) (c .before .before .before .before .entry .result) (now (c .before .row .result)) (c .constraint-ok .result)
 tested c = record { size-read = size-read (c .before .before .before .before); short = c .before .before .before .if2 .left; part = c .before .row .ensures; said = λ D s. c .constraint-ok .ensures D (s .0) (s .1) }
 
 count-requires : tie.Need-count-requires Inv-loop μ-loop
