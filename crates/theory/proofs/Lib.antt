@@ -26,6 +26,11 @@ pub mod PlainSearch
 pub mod Visits
 pub mod WellFormed
 pub mod AcceptedRule
+pub mod OneCount
+pub mod OneTruth
+pub mod OneHeld
+pub mod OneAdded
+pub mod OneAdds
 pub mod Starting
 pub mod Preserved
 pub mod Refusals
