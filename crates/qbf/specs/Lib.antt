@@ -4,6 +4,8 @@ pub mod Plain
 pub mod Learning
 pub mod Card
 pub mod Finder
+pub mod One
 pub mod Calls
+pub mod OneAdds
 pub mod Runs
 pub mod Demands

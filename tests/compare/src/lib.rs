@@ -11,6 +11,7 @@ pub mod check;
 pub mod constraint;
 pub mod dead;
 mod decide;
+pub mod editions;
 pub mod finder;
 pub mod formula;
 pub mod last_card;
