@@ -23,11 +23,16 @@ pub enum Check {
     EntryRepeats,
     EntryOrder,
     EntryUnreduced,
+    RecordTooHigh,
 }
 
 /// "22 the state is malformed".
 pub fn malformed(state: &State, options: &Options) -> bool {
-    let faults = [declarations, clauses, entries];
+    let faults = [declarations, clauses, entries, records];
+    let standing = state.formula.clauses.len();
+    if options.slips(Slip::EqualRecordRefused) && state.store.records.contains(&standing) {
+        return true;
+    }
     faults.iter().any(|fault| {
         fault(state, &options.limits)
             .into_iter()
@@ -91,6 +96,13 @@ fn entries(state: &State, limits: &Limits) -> Vec<Check> {
         }
     }
     faults
+}
+
+/// "The state check refuses a bar whose record exceeds the rules standing."
+fn records(state: &State, _limits: &Limits) -> Vec<Check> {
+    let standing = state.formula.clauses.len();
+    let high = state.store.records.iter().filter(|record| **record > standing);
+    high.map(|_| Check::RecordTooHigh).collect()
 }
 
 /// Faults of one list of literals; a number out of range is an undeclared one as well.

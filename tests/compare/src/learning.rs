@@ -20,6 +20,8 @@ pub struct LearningSearch<'a> {
     pub(crate) store: &'a mut Store,
     pub(crate) node: Vec<bool>,
     pub(crate) start_length: usize,
+    /// The verdict of the lines: Yes for a card, No for a keep card.
+    pub(crate) wanted: Polarity,
     pub lines: Lines,
     pub visits: u64,
 }
@@ -30,6 +32,7 @@ impl<'a> LearningSearch<'a> {
         formula: &'a Formula,
         store: &'a mut Store,
         start: &[bool],
+        wanted: Polarity,
         options: &'a Options,
     ) -> (Outcome, LearningSearch<'a>) {
         let mut search = LearningSearch {
@@ -38,6 +41,7 @@ impl<'a> LearningSearch<'a> {
             store,
             node: start.to_vec(),
             start_length: start.len(),
+            wanted,
             lines: Lines::default(),
             visits: 0,
         };
@@ -148,9 +152,22 @@ impl<'a> LearningSearch<'a> {
         let mut joined = off.join(on, v, self.formula, self.options);
         joined.stored_at = match self.options.slips(Slip::LearnsNothing) {
             true => None,
-            false => self.store.learn(joined.polarity, &joined.literals, self.options),
+            false => {
+                let record = self.record(&joined);
+                self.store.learn(joined.polarity, &joined.literals, record, self.options)
+            }
         };
         Outcome::Decided(joined)
+    }
+
+    /// "how many rules stood when it was stored".
+    fn record(&self, joined: &Constraint) -> usize {
+        let standing = self.formula.clauses.len();
+        match self.options.slip {
+            Some(Slip::RecordOfYoungestRule) => joined.youngest,
+            Some(Slip::RecordOneLess) => standing.saturating_sub(1),
+            _ => standing,
+        }
     }
 
     /// Nothing, unless slipped: displacement happens "without changing an entry already on its
@@ -165,15 +182,21 @@ impl<'a> LearningSearch<'a> {
         }
     }
 
-    /// A Yes node within the free variables takes the place of the lines below it.
+    /// A node of the wanted verdict within the free variables takes the place of the lines below it.
     fn settle_lines(&mut self, lines_above: usize, outcome: &Outcome) {
-        let free_count = self.formula.free_count();
-        let yes = matches!(outcome, Outcome::Decided(c) if c.polarity == Polarity::Cube);
+        let keep = self.wanted == Polarity::Clause;
+        let is_line = match outcome {
+            Outcome::Decided(constraint) => constraint.polarity == self.wanted,
+            Outcome::Mixed => keep && self.options.slips(Slip::MixedIsNo),
+        };
+        let below = keep && self.options.slips(Slip::NoLinesBelowFlags);
+        let two_lines = match self.wanted {
+            Polarity::Cube => self.options.slips(Slip::YesHalvesTwoLines),
+            Polarity::Clause => self.options.slips(Slip::NoHalvesTwoLines),
+        };
         let halves = self.lines.count() - lines_above >= 2;
-        if yes
-            && self.node.len() <= free_count
-            && !(halves && self.options.slips(Slip::YesHalvesTwoLines))
-        {
+        let within = self.node.len() <= self.formula.free_count() || below;
+        if is_line && within && !(halves && two_lines) {
             self.lines.replace_after(lines_above, &self.node);
         }
     }

@@ -79,3 +79,10 @@ pub fn of_query(formula: &Formula, on: &[i16], options: &Options) -> Option<u8> 
         || twice && !options.slips(Slip::QueryTakesRepeat);
     refused.then_some(8)
 }
+
+/// "Withdrawing from a book without rules is 32". `spared` is 0: an opened book's rules can be
+/// withdrawn like any other.
+pub fn of_withdrawal(formula: &Formula, spared: usize, options: &Options) -> Option<u8> {
+    let none = formula.clauses.len() <= spared;
+    (none && !options.slips(Slip::NothingWithdrawn)).then_some(32)
+}

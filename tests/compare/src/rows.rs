@@ -215,7 +215,8 @@ impl Source {
     fn store(&self, term: &Term) -> Store {
         let (name, args) = self.open(term);
         assert_eq!(name, "store");
-        Store { clauses: self.clauses(&args[0]), cubes: self.clauses(&args[1]) }
+        let clauses = self.clauses(&args[0]);
+        Store { records: vec![0; clauses.len()], clauses, cubes: self.clauses(&args[1]) }
     }
 
     fn call(&self, term: &Term) -> Call {

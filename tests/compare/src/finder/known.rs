@@ -52,7 +52,7 @@ fn two_cubes_at_one_node() -> Case {
 fn equal_clauses_learned() -> Case {
     let clauses: &[&[i16]] = &[&[1, 4], &[1, -4]];
     let mut case = opened(&[Free, Free, Free, Exists], clauses, vec![Call::Card(24)]);
-    case.state.store = Store { clauses: vec![vec![-1]], cubes: vec![vec![-3]] };
+    case.state.store = Store { clauses: vec![vec![-1]], records: vec![0], cubes: vec![vec![-3]] };
     case.limits.entries = 2;
     case
 }
