@@ -6,6 +6,7 @@
 //! that shows each of them.
 
 pub mod answer;
+pub mod bounded;
 pub mod cases;
 pub mod check;
 pub mod constraint;

@@ -4,7 +4,7 @@ use crate::answer::{Answer, Call, Said, Subject, LENT_BYTE};
 use crate::check;
 use crate::constraint::Polarity;
 use crate::formula::{Formula, Literal};
-use crate::learning::{LearningSearch, Outcome};
+use crate::learning::{LearningSearch, Outcome, UNBOUNDED};
 use crate::options::Options;
 use crate::refusal;
 use crate::slip::Slip;
@@ -30,17 +30,25 @@ pub struct Solver {
 
 impl Subject for Solver {
     fn call(&mut self, call: &Call) -> Answer {
+        self.call_within(call, UNBOUNDED)
+    }
+}
+
+impl Solver {
+    /// A call under a ceiling on visits, which only searches have: "query and either card take a ceiling
+    /// on visits".
+    pub fn call_within(&mut self, call: &Call, ceiling: u64) -> Answer {
         match call {
             Call::Rule(literals) => self.rule(literals),
             Call::Withdraw => self.withdraw(),
-            Call::Query(on) => self.query(on),
+            Call::Query(on) => self.query(on, ceiling),
             Call::Card(length) => {
                 let mut table = vec![LENT_BYTE; *length];
-                self.card(&mut table)
+                self.lines(Polarity::Cube, &mut table, ceiling)
             }
             Call::KeepCard(length) => {
                 let mut table = vec![LENT_BYTE; *length];
-                self.keep_card(&mut table)
+                self.keep_card(&mut table, ceiling)
             }
             Call::Forget => self.forget(),
             Call::Write(length) => {
@@ -49,9 +57,7 @@ impl Subject for Solver {
             }
         }
     }
-}
 
-impl Solver {
     pub fn new(state: State, options: Options) -> Solver {
         let opened = state.formula.clauses.len();
         Solver { state, options, opened }
@@ -104,17 +110,19 @@ impl Solver {
     }
 
     /// "A query starts at the node of all its flags", where "a flag not named is off".
-    pub fn query(&mut self, on: &[i16]) -> Answer {
+    fn query(&mut self, on: &[i16], ceiling: u64) -> Answer {
         let refused = refusal::of_query(&self.state.formula, on, &self.options);
         if let Some(number) = self.first_refusal(refused) {
             return Answer::new(Said::Refused(number));
         }
         let start = start_node(&self.state.formula, on);
         let State { formula, store } = &mut self.state;
+        let wanted = Polarity::Cube;
         let (outcome, search) =
-            LearningSearch::run(formula, store, &start, Polarity::Cube, &self.options);
+            LearningSearch::run(formula, store, &start, wanted, ceiling, &self.options);
         let visits = search.visits;
         store.search_ended(formula.clauses.len(), &self.options);
+        let Some(outcome) = outcome else { return stopped(&mut [], visits) };
         let yes = matches!(outcome, Outcome::Decided(c) if c.polarity == Polarity::Cube);
         let said = if yes { Said::Swap } else { Said::Keep };
         Answer { said, table: vec![], visits }
@@ -123,17 +131,18 @@ impl Solver {
     /// "Card writes to a lent byte table and returns lines and visits." The answer carries the
     /// table's bytes as well.
     pub fn card(&mut self, table: &mut [u8]) -> Answer {
-        self.lines(Polarity::Cube, table)
+        self.lines(Polarity::Cube, table, UNBOUNDED)
     }
 
     /// "Make the keep card in the same way, with topmost No nodes."
-    pub fn keep_card(&mut self, table: &mut [u8]) -> Answer {
+    fn keep_card(&mut self, table: &mut [u8], ceiling: u64) -> Answer {
         let store = self.state.store.clone();
         if self.options.slips(Slip::KeepCardStartsEmpty) {
             self.state.store = Store::default();
         }
         let yes = self.options.slips(Slip::KeepCardOfYes);
-        let answer = self.lines(if yes { Polarity::Cube } else { Polarity::Clause }, table);
+        let wanted = if yes { Polarity::Cube } else { Polarity::Clause };
+        let answer = self.lines(wanted, table, ceiling);
         let lost = [Slip::KeepCardStartsEmpty, Slip::KeepCardLearnsNothing];
         if self.options.slip.is_some_and(|slip| lost.contains(&slip)) {
             self.state.store = store;
@@ -142,15 +151,19 @@ impl Solver {
     }
 
     /// The lines of a verdict, which a constraint's polarity stands for.
-    fn lines(&mut self, wanted: Polarity, table: &mut [u8]) -> Answer {
+    fn lines(&mut self, wanted: Polarity, table: &mut [u8], ceiling: u64) -> Answer {
         if let Some(number) = self.first_refusal(None) {
             table.fill(0);
             return Answer { said: Said::Refused(number), table: table.to_vec(), visits: 0 };
         }
         let State { formula, store } = &mut self.state;
-        let (_, search) = LearningSearch::run(formula, store, &[], wanted, &self.options);
+        let (outcome, search) =
+            LearningSearch::run(formula, store, &[], wanted, ceiling, &self.options);
         let (mut lines, visits) = (search.lines, search.visits);
         store.search_ended(formula.clauses.len(), &self.options);
+        if outcome.is_none() {
+            return stopped(table, visits);
+        }
         let flagless = formula.free_count() == 0 && wanted == Polarity::Clause;
         if flagless && self.options.slips(Slip::FlaglessKeepCardHasNoLine) {
             lines = Lines::default();
@@ -214,6 +227,12 @@ impl Solver {
         }
         of_state.or(of_input)
     }
+}
+
+/// "a stopped walk returns 34, never 21, with visits equal to the ceiling and a zeroed card".
+fn stopped(table: &mut [u8], visits: u64) -> Answer {
+    table.fill(0);
+    Answer { said: Said::Refused(34), table: table.to_vec(), visits }
 }
 
 /// The node that gives every free variable its value.

@@ -91,7 +91,7 @@ fn declare(
     options: &Options,
 ) -> Result<(), u8> {
     for &number in numbers {
-        if let Some(refused) = refusal::of_declaration(formula, number, options) {
+        if let Some(refused) = refusal::of_declaration(formula, number, quantifier, options) {
             return Err(refused);
         }
         formula.prefix.push(Variable { number: number as i16, quantifier });
