@@ -1,8 +1,8 @@
 -- The answers of query and card, from what the search on the state found and the next state that it left.
-use Prim.Native.Nat.{ℕ, _*_}
+use Prim.Native.Nat.{ℕ, _+_, _*_}
 use native.Mathlib.Omega.{arith}
 use mathlib.Core.Path.{_≡_, refl, sym, ap, _∙_, subst}
-use mathlib.Core.Bool.{Bool, true, false, cond}
+use mathlib.Core.Bool.{Bool, true, false, cond, not, Bool·beq}
 use mathlib.Core.List.{List, [], _∷_}
 use mathlib.Core.Option.{Option, none, some}
 use lib.ListN.{length, drop, length-replicate}
@@ -63,8 +63,8 @@ module _ (x : State) (v : valid x ≡ true) where
   abbrev searchFrom : ℕ → Node → LearningResult
   searchFrom at s = learningSearch paper (prefixIn x) (b .clauses) (drop at (quantifiers (prefixIn x))) s (storeIn x)
 
-  asked : (ls : List Literal) (free : ℕ) (r : Found) (y : State) (table : List ℕ) → free ≡ freeVariables (prefixIn x) → queryFault b [] ls ≡ none
-      → FoundBy x (searchFrom free (startNode ls (prefixIn x))) free r y table → Serves x (query ls) (rulingSaid (rulingFor (r .verdict)) (r .visits)) y
+  asked : {p : Bool} (ls : List Literal) (free : ℕ) (r : Found) (y : State) (table : List ℕ) → free ≡ freeVariables (prefixIn x) → queryFault b [] ls ≡ none
+      → FoundBy p x (searchFrom free (startNode ls (prefixIn x))) free r y table → Serves x (query ls) (rulingSaid (rulingFor (r .verdict)) (r .visits)) y
   asked ls free r y table frees fine f =
       subst (λ (a : Said). Serves x (query ls) a y) whole (moved-on x (query ls) v y (f .state ∙ ap some state-is) passes)
     where
@@ -94,13 +94,13 @@ module _ (x : State) (v : valid x ≡ true) where
 
   -- from what the code has at hand: its reading of the arguments, the search from the start node, and the ruling
   module _ {ls : List Literal} {free : ℕ} {ok : Bool} {values : List ℕ} (frees : free ≡ freeVariables (prefixIn x)) (read : QueryRead (prefixIn x) free ls ok values) where
-    pub asked-by : {places kinds : List ℕ} {at : ℕ} (r : Found) (y : State) (table : List ℕ) → Places (prefixIn x) places → Kinds (prefixIn x) kinds → ok ≡ true
-        → Ran x places kinds values at free (0 ∷ []) r y table → at ≡ free → {q : Ruling} → q ≡ rulingFor (r .verdict) → Serves x (query ls) (rulingSaid q (r .visits)) y
-    asked-by {places} {kinds} {at} r y table ps ks fine ran here {q} is =
+    pub asked-by : {p : Bool} {places kinds : List ℕ} {at : ℕ} (r : Found) (y : State) (table : List ℕ) → Places (prefixIn x) places → Kinds (prefixIn x) kinds → ok ≡ true
+        → Ran p x places kinds values at free (0 ∷ []) r y table → at ≡ free → {q : Ruling} → q ≡ rulingFor (r .verdict) → Serves x (query ls) (rulingSaid q (r .visits)) y
+    asked-by {p} {places} {kinds} {at} r y table ps ks fine ran here {q} is =
         let good = formed x v .prefix-ok in
         subst (λ (z : Ruling). Serves x (query ls) (rulingSaid z (r .visits)) y) (sym is)
         (asked ls free r y table frees (read .fine b refl good frees fine)
-        (subst (λ (i : ℕ). FoundBy x (searchFrom i (startNode ls (prefixIn x))) free r y table) here
+        (subst (λ (i : ℕ). FoundBy p x (searchFrom i (startNode ls (prefixIn x))) free r y table) here
         (ran .found (startNode ls (prefixIn x)) ps ks (read .shown good frees fine) (start-length ls (prefixIn x) ∙ sym frees ∙ sym here) frees (covers-none free 1 (0 ∷ []) refl))))
 
     -- refused with 8: the state is as given
@@ -113,33 +113,54 @@ module _ (x : State) (v : valid x ≡ true) where
         e = read .fault b refl (formed x v .prefix-ok) frees bad
 
   -- ---- card
-  -- all lines: those below the empty node, and its own where it is Yes
-  abbrev allLines : Outcome Constraint → List Node
-  allLines o = select true (decidedNodes [] (outline o))
+  -- all lines of the verdict p: those below the empty node, and its own where it has that verdict
+  abbrev allLines : Bool → Outcome Constraint → List Node
+  allLines p o = select p (decidedNodes [] (outline o))
 
-  all-lines : (w : Verdict) (o : Outcome Constraint) (f : ℕ) (tb : List ℕ) (n : ℕ) → Ends w o → Covers f tb (newLines o) → n ≡ length (newLines o) → Covers f tb (allLines o) × (total w n ≡ length (allLines o))
-  all-lines Yes o f tb n (e, p) c h = (
-    subst (λ (z : Outcome Constraint). Covers f tb (allLines z)) (sym p) (covers-open f tb [] (subst (λ (z : Outcome Constraint). Covers f tb (newLines z)) p c)),
-    omega (arith, h, ap (λ (z : Outcome Constraint). length (newLines z)) p, ap (λ (z : Outcome Constraint). length (allLines z)) p),
-  )
-  all-lines No o f tb n (e, p) c h = (
-    subst (λ (z : Outcome Constraint). Covers f tb (allLines z)) (sym p) (subst (λ (z : Outcome Constraint). Covers f tb (newLines z)) p c),
-    omega (arith, h, ap (λ (z : Outcome Constraint). length (newLines z)) p, ap (λ (z : Outcome Constraint). length (allLines z)) p),
-  )
-  all-lines Mixed o f tb n (ds, p) c h = (
-    subst (λ (z : Outcome Constraint). Covers f tb (allLines z)) (sym p) (subst (λ (z : Outcome Constraint). Covers f tb (newLines z)) p c),
-    omega (arith, h, ap (λ (z : Outcome Constraint). length (newLines z)) p, ap (λ (z : Outcome Constraint). length (allLines z)) p),
-  )
+  all-lines : (p : Bool) (w : Verdict) (o : Outcome Constraint) (f : ℕ) (tb : List ℕ) (n : ℕ) → Ends w o → Covers f tb (newLines p o) → n ≡ length (newLines p o)
+      → Covers f tb (allLines p o) × (total p w n ≡ length (allLines p o))
+  all-lines p w o f tb n h c k = by w h
+    where
+      self : Bool → List Node
+      self h = cond h ([] ∷ []) []
 
-  module _ (size free : ℕ) (r : Found) (y : State) (table : List ℕ) (frees : free ≡ freeVariables (prefixIn x)) (sized : length table ≡ size) (f : FoundBy x (searchFrom 0 []) free r y table) (n : ℕ) (counted : n ≡ total (r .verdict) (r .lines)) where
+      -- a decided node has no line below it
+      own : (h : Bool) (m : ℕ) → m ≡ 0 → Covers f tb [] → Covers f tb (self h) × (cond h (m + 1) m ≡ length (self h))
+      own true m e cov = (covers-open f tb [] cov, omega (arith, e))
+      own false m e cov = (cov, e)
+
+      at : {z : Outcome Constraint} → o ≡ z → (m : ℕ) → Covers f tb (allLines p z) × (m ≡ length (allLines p z)) → Covers f tb (allLines p o) × (m ≡ length (allLines p o))
+      at e m both = subst (λ (z : Outcome Constraint). Covers f tb (allLines p z) × (m ≡ length (allLines p z))) (sym e) both
+
+      below : {z : Outcome Constraint} → o ≡ z → Covers f tb (newLines p z) × (n ≡ length (newLines p z))
+      below e = subst (λ (z : Outcome Constraint). Covers f tb (newLines p z) × (n ≡ length (newLines p z))) e (c, k)
+
+      -- the empty node is decided, and a line by itself where that is its verdict
+      decided-own : (z : Bool) {m : ℕ} (h : Bool) → h ≡ Bool·beq p z → m ≡ 0 → Covers f tb [] → Covers f tb (self (Bool·beq p z)) × (cond h (m + 1) m ≡ length (self (Bool·beq p z)))
+      decided-own z {m} h e q cov = subst (λ (d : Bool). Covers f tb (self d) × (cond h (m + 1) m ≡ length (self d))) e (own h m q cov)
+
+      is-yes : (d : Bool) → d ≡ Bool·beq d true
+      is-yes true = refl
+      is-yes false = refl
+
+      is-no : (d : Bool) → not d ≡ Bool·beq d false
+      is-no true = refl
+      is-no false = refl
+
+      by : (w : Verdict) → Ends w o → Covers f tb (allLines p o) × (total p w n ≡ length (allLines p o))
+      by Yes (e, q) = at q (cond p (n + 1) n) (decided-own true p (is-yes p) (below q .1) (below q .0))
+      by No (e, q) = at q (cond (not p) (n + 1) n) (decided-own false (not p) (is-no p) (below q .1) (below q .0))
+      by Mixed (ds, q) = at q n (below q)
+
+  module _ (size free : ℕ) (r : Found) (y : State) (table : List ℕ) (frees : free ≡ freeVariables (prefixIn x)) (sized : length table ≡ size) (f : FoundBy true x (searchFrom 0 []) free r y table) (n : ℕ) (counted : n ≡ total true (r .verdict) (r .lines)) where
     abbrev w : LearningResult
     w = searchFrom 0 []
 
     abbrev ls : List Node
-    ls = allLines (w .outcome)
+    ls = allLines true (w .outcome)
 
-    both : Covers free table ls × (total (r .verdict) (r .lines) ≡ length ls)
-    both = all-lines (r .verdict) (w .outcome) free table (r .lines) (f .verdict) (f .covers) (f .lines)
+    both : Covers free table ls × (total true (r .verdict) (r .lines) ≡ length ls)
+    both = all-lines true (r .verdict) (w .outcome) free table (r .lines) (f .verdict) (f .covers) (f .lines)
 
     test : leb (n * free) size ≡ leb (length ls * freeVariables (prefixIn x)) size
     test = (λ i. leb ((counted ∙ both .1) i * frees i) size)

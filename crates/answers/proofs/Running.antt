@@ -56,11 +56,11 @@ pub decided-few : {w : Verdict} {r : Answer} → r ≡ decidedAt w → r .lines 
 decided-few {w} {r} e = omega (arith, ap (λ (a : Answer). a .lines) e)
 
 -- where a search on a state starts
-abbrev pub startAt : ℕ → ℕ → ℕ → Position
-startAt at free words = record { at = at; free = free; visits = 0; lines = 0; words = words }
+abbrev pub startAt : ℕ → ℕ → ℕ → Bool → Position
+startAt at free words p = record { at = at; free = free; visits = 0; lines = 0; words = words; yes = p }
 
-pub room : (cl ql : List ℕ) (at free words : ℕ) → at ≤ paper .numbers → free ≤ paper .numbers → RowLength words
-    → newestOf cl ≤ paper .constraints → newestOf ql ≤ paper .constraints → Room (paper .numbers * paper .numbers) cl ql (startAt at free words)
+pub room : {p : Bool} (cl ql : List ℕ) (at free words : ℕ) → at ≤ paper .numbers → free ≤ paper .numbers → RowLength words
+    → newestOf cl ≤ paper .constraints → newestOf ql ≤ paper .constraints → Room (paper .numbers * paper .numbers) cl ql (startAt at free words p)
 room cl ql at free words within small long learned cubes =
     record {
       within = within;
@@ -73,7 +73,7 @@ room cl ql at free words within small long learned cubes =
       cubes = cubes;
     }
 
-pub few-lines : (cl ql : List ℕ) (at free words : ℕ) (r : Answer) (cl′ ql′ : List ℕ) → Counts cl ql (startAt at free words) r cl′ ql′ → r .lines < 2 ^ 63
+pub few-lines : {p : Bool} (cl ql : List ℕ) (at free words : ℕ) (r : Answer) (cl′ ql′ : List ℕ) → Counts cl ql (startAt at free words p) r cl′ ql′ → r .lines < 2 ^ 63
 few-lines cl ql at free words r cl′ ql′ c =
     omega (arith, c .fewer, c .lines-fewer, pow-le-pow-right {n = 2} (omega arith) {i = suc (paper .numbers - at)} {j = suc (paper .numbers)} (omega arith))
 
@@ -83,20 +83,20 @@ ends D No cs o h = (h .0, h .1)
 ends D Mixed cs o h = h
 
 -- the search below an open start node, from what the branch there gives
-pub below-shown : (rows sets : List ℕ) (count words : ℕ) (numbers quantifiers values statuses cs cl qs ql table sat marks : List ℕ) (at free : ℕ) (a : Answer)
+pub below-shown : {p : Bool} (rows sets : List ℕ) (count words : ℕ) (numbers quantifiers values statuses cs cl qs ql table sat marks : List ℕ) (at free : ℕ) (a : Answer)
     (up cs′ cl′ qs′ ql′ table′ : List ℕ)
     → at ≤ getD numbers 0 0 → words ≡ wordsOf count
     → ((D : Prefix) (s : Node) → Numbers D numbers → Values D s values → numbersOk paper [] D ≡ true → length s ≡ at → length s ≤ length D → Statuses s statuses)
     → ((D : Prefix) (R : List Clause) (s : Node) → StartShown D R s words at sets statuses → length R ≡ count → Descended D s R words sat marks (length s))
-    → Followed (startAt at free words) a rows sets quantifiers statuses cs cl qs ql table sat marks up cs′ cl′ qs′ ql′ table′
-    → Below rows sets count numbers quantifiers values cs cl qs ql table at free a cs′ cl′ qs′ ql′ table′
-below-shown rows sets count words numbers quantifiers values statuses cs cl qs ql table sat marks at free a up cs′ cl′ qs′ ql′ table′ within is coded known follow =
+    → Followed (startAt at free words p) a rows sets quantifiers statuses cs cl qs ql table sat marks up cs′ cl′ qs′ ql′ table′
+    → Below p rows sets count numbers quantifiers values cs cl qs ql table at free a cs′ cl′ qs′ ql′ table′
+below-shown {p} rows sets count words numbers quantifiers values statuses cs cl qs ql table sat marks at free a up cs′ cl′ qs′ ql′ table′ within is coded known follow =
     record { by = shown }
   where
     shown : (D : Prefix) (R : List Clause) (s : Node) (st : Store)
         → Numbers D numbers → Values D s values → Quantified D quantifiers → MatrixShown D R (wordsOf count) rows sets → length R ≡ count → StoreShown D st cs cl qs ql
         → Formed D R st → length s ≡ at → free ≡ freeVariables D → Covers free table [] → firstDead D s R ≡ none
-        → BelowBy D (belowStart D R at s st) free a cs′ cl′ qs′ ql′ table′
+        → BelowBy p D (belowStart D R at s st) free a cs′ cl′ qs′ ql′ table′
     shown D R s st ns vs qs-shown m counted stored form long frees cov alive =
         record {
           verdict = ends D (a .verdict) (entryOf a rows cs′ qs′ up) _ (r .verdict);
@@ -118,7 +118,7 @@ below-shown rows sets count words numbers quantifiers values statuses cs cl qs q
         matrix : MatrixShown D R words rows sets
         matrix = matrix-words (sym is) m
 
-        r : Result D [] (belowStart D R at s st) (startAt at free words) a rows up cs′ cl′ qs′ ql′ table′
+        r : Result D [] (belowStart D R at s st) (startAt at free words p) a rows up cs′ cl′ qs′ ql′ table′
         r =
             follow .result D s [] R st
             (record {
@@ -188,12 +188,12 @@ module _ (x : State) (v : valid x ≡ true) where
           (ap (λ (i : ℕ). drop i (quantifiers (prefixIn x))) long) (state-facts (stateIn x) (f .formed) .store-ok) .store-ok
 
   -- the search on the state, over derived tables of its clauses
-  module _ (rows sets : List ℕ) (count : ℕ) (quantifiers places values : List ℕ) (at free : ℕ) (table table′ : List ℕ) (a : Answer)
+  module _ {p : Bool} (rows sets : List ℕ) (count : ℕ) (quantifiers places values : List ℕ) (at free : ℕ) (table table′ : List ℕ) (a : Answer)
       (cs cl qs ql cs′ cl′ qs′ ql′ : List ℕ) (lc : List ℤ) (lcs : List ℕ) (lq : List ℤ) (lqs : List ℕ)
       (within : at ≤ getD (x .numbers) 0 0)
       (loaded : (D : Prefix) → Places D places → length D ≤ paper .numbers → entriesOf cs cl ≡ map (codes D) (rowsOf (paper .numbers) (x .«learned_clauses») (x .«learned_clause_sizes»)))
       (loaded-cubes : (D : Prefix) → Places D places → length D ≤ paper .numbers → entriesOf qs ql ≡ map (codes D) (rowsOf (paper .numbers) (x .«learned_cubes») (x .«learned_cube_sizes»)))
-      (run : Below rows sets count (x .numbers) quantifiers values cs cl qs ql table at free a cs′ cl′ qs′ ql′ table′)
+      (run : Below p rows sets count (x .numbers) quantifiers values cs cl qs ql table at free a cs′ cl′ qs′ ql′ table′)
       (stores : Stores lc lcs lq lqs)
       (unloaded : (D : Prefix) (es : List Constraint) → Numbers D (x .numbers) → numbersOk paper [] D ≡ true → entriesOf cs′ cl′ ≡ map (codes D) es
       → ((e : Constraint) → Mem e es → (l : Literal) → Mem l e → 1 ≤ place D l) → rowsOf (paper .numbers) lc lcs ≡ es)
@@ -206,7 +206,7 @@ module _ (x : State) (v : valid x ≡ true) where
           abbrev o : LearningResult
           o = belowStart (prefixIn x) (formulaIn x .clauses) at s (storeIn x)
 
-          r : BelowBy (prefixIn x) o free a cs′ cl′ qs′ ql′ table′
+          r : BelowBy p (prefixIn x) o free a cs′ cl′ qs′ ql′ table′
           r =
               run .by (prefixIn x) (formulaIn x .clauses) s (storeIn x) (valid-numbers x v) vs quantified matrix counted
               (record { clauses = loaded (prefixIn x) ps variables-small; cubes = loaded-cubes (prefixIn x) ps variables-small }) formed long frees cov alive
@@ -218,7 +218,7 @@ module _ (x : State) (v : valid x ≡ true) where
                 cubes = unloaded-cubes (prefixIn x) (o .store .cubes) (valid-numbers x v) variables-numbered (r .stored .cubes) (learned-declared at s long within true) i;
               }
 
-          found-over : FoundBy x o free a (withStore x lc lcs lq lqs) table′
+          found-over : FoundBy p x o free a (withStore x lc lcs lq lqs) table′
           found-over =
               record {
                 verdict = r .verdict;
@@ -228,21 +228,21 @@ module _ (x : State) (v : valid x ≡ true) where
                 lines = r .lines;
               }
 
-      pub over-found : Over x rows sets count quantifiers places values at free table a (withStore x lc lcs lq lqs) table′
+      pub over-found : Over p x rows sets count quantifiers places values at free table a (withStore x lc lcs lq lqs) table′
       over-found = record { found = found-over }
 
   -- ---- the whole search
   module _ (places kinds values : List ℕ) (at free : ℕ) (table : List ℕ) where
     -- a start node that is decided
-    decided-found : (w : Verdict) (b : Bool) → ((e : Constraint) → Ends w (decided b e))
+    decided-found : {p : Bool} (w : Verdict) (b : Bool) → ((e : Constraint) → Ends w (decided b e))
         → ((s : Node) → Places (prefixIn x) places → Kinds (prefixIn x) kinds → Values (prefixIn x) s values → length s ≡ at
         → (e : Constraint) × (leaf (prefixIn x) (formulaIn x .clauses) leb s (storeIn x) ≡ some (decided b e)))
-        → {y : Answer} → y ≡ decidedAt w → Ran x places kinds values at free table y x table
-    decided-found w b is start {y} q =
-        subst (λ (z : Answer). Ran x places kinds values at free table z x table) (sym q)
+        → {y : Answer} → y ≡ decidedAt w → Ran p x places kinds values at free table y x table
+    decided-found {p} w b is start {y} q =
+        subst (λ (z : Answer). Ran p x places kinds values at free table z x table) (sym q)
         (record {
           found = λ s ps ks vs long frees cov.
-              subst (λ (o : Option (Outcome Constraint)). FoundBy x (settle o (below paper (prefixIn x) (formulaIn x .clauses) (drop at (quantifiers (prefixIn x)))) s (storeIn x)) free (decidedAt w) x table)
+              subst (λ (o : Option (Outcome Constraint)). FoundBy p x (settle o (below paper (prefixIn x) (formulaIn x .clauses) (drop at (quantifiers (prefixIn x)))) s (storeIn x)) free (decidedAt w) x table)
               (sym (start s ps ks vs long .1))
               (record { verdict = is (start s ps ks vs long .0); visits = refl; state = f .read; covers = cov; lines = refl });
         })
@@ -252,19 +252,19 @@ module _ (x : State) (v : valid x ≡ true) where
           → Starts l (leaf (prefixIn x) (formulaIn x .clauses) leb s (storeIn x))
       by-start e s ps ks vs long = subst (λ (l : Start). Starts l (leaf (prefixIn x) (formulaIn x .clauses) leb s (storeIn x))) e (start .read s ps ks vs long)
 
-      pub start-no : r ≡ NoStart → {y : Answer} → y ≡ decidedAt No → Ran x places kinds values at free table y x table
+      pub start-no : {p : Bool} → r ≡ NoStart → {y : Answer} → y ≡ decidedAt No → Ran p x places kinds values at free table y x table
       start-no e q = decided-found No false (λ c. (c, refl)) (by-start e) q
 
-      pub start-yes : r ≡ YesStart → {y : Answer} → y ≡ decidedAt Yes → Ran x places kinds values at free table y x table
+      pub start-yes : {p : Bool} → r ≡ YesStart → {y : Answer} → y ≡ decidedAt Yes → Ran p x places kinds values at free table y x table
       start-yes e q = decided-found Yes true (λ c. (c, refl)) (by-start e) q
 
       -- one that is open
-      pub start-open : r ≡ Open → (a : Answer) (y : State) (table′ : List ℕ) → Searched x places kinds values at free table a y table′ → Ran x places kinds values at free table a y table′
-      start-open e a y table′ h =
+      pub start-open : {p : Bool} → r ≡ Open → (a : Answer) (y : State) (table′ : List ℕ) → Searched p x places kinds values at free table a y table′ → Ran p x places kinds values at free table a y table′
+      start-open {p} e a y table′ h =
           record {
             found = λ s ps ks vs long frees cov.
                 let none-yet = by-start e s ps ks vs long in
-                subst (λ (o : Option (Outcome Constraint)). FoundBy x (settle o (below paper (prefixIn x) (formulaIn x .clauses) (drop at (quantifiers (prefixIn x)))) s (storeIn x)) free a y table′)
+                subst (λ (o : Option (Outcome Constraint)). FoundBy p x (settle o (below paper (prefixIn x) (formulaIn x .clauses) (drop at (quantifiers (prefixIn x)))) s (storeIn x)) free a y table′)
                 (sym none-yet)
                 (h .found s ps ks vs long frees cov (open-alive (prefixIn x) (formulaIn x .clauses) leb s (storeIn x) none-yet));
           }

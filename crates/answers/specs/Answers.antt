@@ -1,10 +1,12 @@
 -- What the answer of a query or a card says, in the paper's numbers.
 use Prim.Native.Nat.{ℕ, _+_}
+use mathlib.Core.Bool.{Bool, cond}
 use mathlib.Core.List.{List, []}
 use mathlib.Core.Option.{none, some}
 use Rattle.serving.specs.Serves.{Said, said}
 use Rattle.node.specs.declared.Verdict.{Verdict}
 use Rattle.node.specs.declared.Verdict.the-variants as verdict
+use Rattle.node.specs.Node.{isOf}
 use Rattle.answers.specs.declared.Ruling.{Ruling}
 use Rattle.answers.specs.declared.Ruling.the-variants as ruling
 use Rattle.answers.specs.declared.Printed.{Printed}
@@ -25,7 +27,6 @@ rulingFor verdict.Yes = ruling.Swap
 rulingFor verdict.No = ruling.Keep
 rulingFor verdict.Mixed = ruling.Keep
 
-abbrev pub total : Verdict → ℕ → ℕ
-total verdict.Yes n = n + 1
-total verdict.No n = n
-total verdict.Mixed n = n
+-- the lines of the verdict p below the empty node, and its own where it has that verdict
+abbrev pub total : Bool → Verdict → ℕ → ℕ
+total p v n = cond (isOf p v) (n + 1) n

@@ -2,7 +2,7 @@
 -- state x, it is the next one: x with the learned constraints that the search leaves.
 use Prim.Native.Nat.{ℕ, _≤_}
 use mathlib.Core.Path.{_≡_}
-use mathlib.Core.Bool.{true, false}
+use mathlib.Core.Bool.{Bool, true, false}
 use mathlib.Core.List.{List, []}
 use mathlib.Core.Option.{none, some}
 use lib.ListN.{length, getD, drop}
@@ -32,13 +32,13 @@ Ends Yes o = (e : Constraint) × (o ≡ decided true e)
 Ends No o = (e : Constraint) × (o ≡ decided false e)
 Ends Mixed o = (ds : List DecidedNode) × (o ≡ mixed ds)
 
--- the answer r, the next state and the table are the result o
-pub record FoundBy (x : State) (o : LearningResult) (free : ℕ) (r : Answer) (y : State) (table : List ℕ) : Type 0 where
+-- the answer r, the next state and the table are the result o, with its lines of the verdict p
+pub record FoundBy (p : Bool) (x : State) (o : LearningResult) (free : ℕ) (r : Answer) (y : State) (table : List ℕ) : Type 0 where
   pub verdict : Ends (r .verdict) (o .outcome)
   pub visits : r .visits ≡ o .visits
   pub state : readState y ≡ some (record { formula = formulaIn x; store = o .store })
-  pub covers : Covers free table (newLines (o .outcome))
-  pub lines : r .lines ≡ length (newLines (o .outcome))
+  pub covers : Covers free table (newLines p (o .outcome))
+  pub lines : r .lines ≡ length (newLines p (o .outcome))
 
 -- what a search asks of the tables of a state, which a valid one has: rows within their tables, and a start among the variables
 pub record Ready (numbers : List ℕ) (clauses : List ℤ) (sizes : List ℕ) (lc : List ℤ) (lcs : List ℕ) (lq : List ℤ) (lqs : List ℕ) (at free : ℕ) : Type 0 where
@@ -58,34 +58,34 @@ abbrev pub belowStart : Prefix → List Clause → ℕ → Node → Store → Le
 belowStart D R at s st = below paper D R (drop at (quantifiers D)) s st
 
 -- over the derived tables, for every prefix, clauses, store and node that they show
-pub record BelowBy (D : Prefix) (o : LearningResult) (free : ℕ) (r : Answer) (cs cl qs ql table : List ℕ) : Type 0 where
+pub record BelowBy (p : Bool) (D : Prefix) (o : LearningResult) (free : ℕ) (r : Answer) (cs cl qs ql table : List ℕ) : Type 0 where
   pub verdict : Ends (r .verdict) (o .outcome)
   pub visits : r .visits ≡ o .visits
   pub stored : StoreShown D (o .store) cs cl qs ql
-  pub covers : Covers free table (newLines (o .outcome))
-  pub lines : r .lines ≡ length (newLines (o .outcome))
+  pub covers : Covers free table (newLines p (o .outcome))
+  pub lines : r .lines ≡ length (newLines p (o .outcome))
 
-pub record Below (rows sets : List ℕ) (count : ℕ) (numbers quantifiers values cs cl qs ql table : List ℕ) (at free : ℕ) (r : Answer) (cs′ cl′ qs′ ql′ table′ : List ℕ) : Type 0 where
+pub record Below (p : Bool) (rows sets : List ℕ) (count : ℕ) (numbers quantifiers values cs cl qs ql table : List ℕ) (at free : ℕ) (r : Answer) (cs′ cl′ qs′ ql′ table′ : List ℕ) : Type 0 where
   pub by : (D : Prefix) (R : List Clause) (s : Node) (st : Store)
       → Numbers D numbers → Values D s values → Quantified D quantifiers → MatrixShown D R (wordsOf count) rows sets → length R ≡ count → StoreShown D st cs cl qs ql
       → Formed D R st → length s ≡ at → free ≡ freeVariables D → Covers free table [] → firstDead D s R ≡ none
-      → BelowBy D (belowStart D R at s st) free r cs′ cl′ qs′ ql′ table′
+      → BelowBy p D (belowStart D R at s st) free r cs′ cl′ qs′ ql′ table′
 
 -- on a state, over derived tables of its clauses
-pub record Over (x : State) (rows sets : List ℕ) (count : ℕ) (quantifiers places values : List ℕ) (at free : ℕ) (table : List ℕ) (r : Answer) (y : State) (table′ : List ℕ) : Type 0 where
+pub record Over (p : Bool) (x : State) (rows sets : List ℕ) (count : ℕ) (quantifiers places values : List ℕ) (at free : ℕ) (table : List ℕ) (r : Answer) (y : State) (table′ : List ℕ) : Type 0 where
   pub found : (s : Node) → MatrixShown (prefixIn x) (formulaIn x .clauses) (wordsOf count) rows sets → length (formulaIn x .clauses) ≡ count
       → Quantified (prefixIn x) quantifiers
       → Places (prefixIn x) places → Values (prefixIn x) s values → length s ≡ at → free ≡ freeVariables (prefixIn x) → Covers free table []
       → firstDead (prefixIn x) s (formulaIn x .clauses) ≡ none
-      → FoundBy x (belowStart (prefixIn x) (formulaIn x .clauses) at s (storeIn x)) free r y table′
+      → FoundBy p x (belowStart (prefixIn x) (formulaIn x .clauses) at s (storeIn x)) free r y table′
 
 -- on a state
-pub record Searched (x : State) (places kinds values : List ℕ) (at free : ℕ) (table : List ℕ) (r : Answer) (y : State) (table′ : List ℕ) : Type 0 where
+pub record Searched (p : Bool) (x : State) (places kinds values : List ℕ) (at free : ℕ) (table : List ℕ) (r : Answer) (y : State) (table′ : List ℕ) : Type 0 where
   pub found : (s : Node) → Places (prefixIn x) places → Kinds (prefixIn x) kinds → Values (prefixIn x) s values → length s ≡ at → free ≡ freeVariables (prefixIn x) → Covers free table []
       → firstDead (prefixIn x) s (formulaIn x .clauses) ≡ none
-      → FoundBy x (belowStart (prefixIn x) (formulaIn x .clauses) at s (storeIn x)) free r y table′
+      → FoundBy p x (belowStart (prefixIn x) (formulaIn x .clauses) at s (storeIn x)) free r y table′
 
 -- the whole search, with the start node
-pub record Ran (x : State) (places kinds values : List ℕ) (at free : ℕ) (table : List ℕ) (r : Answer) (y : State) (table′ : List ℕ) : Type 0 where
+pub record Ran (p : Bool) (x : State) (places kinds values : List ℕ) (at free : ℕ) (table : List ℕ) (r : Answer) (y : State) (table′ : List ℕ) : Type 0 where
   pub found : (s : Node) → Places (prefixIn x) places → Kinds (prefixIn x) kinds → Values (prefixIn x) s values → length s ≡ at → free ≡ freeVariables (prefixIn x) → Covers free table []
-      → FoundBy x (learningSearch paper (prefixIn x) (formulaIn x .clauses) (drop at (quantifiers (prefixIn x))) s (storeIn x)) free r y table′
+      → FoundBy p x (learningSearch paper (prefixIn x) (formulaIn x .clauses) (drop at (quantifiers (prefixIn x))) s (storeIn x)) free r y table′

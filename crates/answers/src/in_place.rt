@@ -132,6 +132,7 @@ pub fn query<'a>(
         at,
         free,
         &mut no_table,
+        true, // there are no lines
     );
     let verdict = found.verdict;
     Ruled {
@@ -210,9 +211,10 @@ pub fn card<'a>(
         0,
         free,
         table,
+        true,
     );
     let verdict = found.verdict;
-    let lines = total_lines(verdict, found.lines);
+    let lines = total_lines(verdict, found.lines, true);
     let visits = found.visits;
     if cover::fits(table.len(), free, lines) {
         return with_lines(lines, visits);

@@ -7,6 +7,7 @@ ghost use Rattle.qbf.specs.Calls.{query, card};
 ghost use Rattle.serving.specs.Serves.{number, Serves};
 ghost use Rattle.answers.specs.Answers.{rulingSaid, cardSaid, rulingFor, total};
 use node::Verdict;
+use node::lined;
 use state::State;
 
 pub mod in_place; // the calls on lent tables
@@ -73,16 +74,15 @@ fn ruling_for(v: Verdict) -> Ruling
     }
 }
 
-// The lines below the empty node, and its own where that is Yes.
-fn total_lines(v: Verdict, below: usize) -> usize
+// The lines below the empty node, and its own where it is one, the lines being Yes nodes or No nodes.
+fn total_lines(v: Verdict, below: usize, yes: bool) -> usize
     requires { ⌜ below < 2 ^ 63 ⌝ }
-    ensures { λ r. ⌜ r ≡ total v below ⌝ }
+    ensures { λ r. ⌜ r ≡ total yes v below ⌝ }
 {
-    match v {
-        Verdict::Yes => below + 1,
-        Verdict::No => below,
-        Verdict::Mixed => below,
+    if lined(v, tables::FREE, yes) {
+        return below + 1;
     }
+    below
 }
 
 // "Query takes the numbers of the flags that are on; a flag not named is off. It returns swap or keep, and the visits."

@@ -121,6 +121,7 @@ fn below<'a>(
     table: &mut [u8],
     at: usize,
     free: usize,
+    yes: bool,
 ) -> Answer
     requires { ⌜
         (count ≤ paper .clauses)
@@ -138,6 +139,7 @@ fn below<'a>(
         ⌝ }
     ensures { λ r. ⌜
         Below
+        yes
         (now (rows .entry))
         (now (sets .entry))
         count
@@ -172,6 +174,7 @@ fn below<'a>(
         visits: 0,
         lines: 0,
         words: words,
+        yes: yes,
     };
     search::start(
         rows,
@@ -207,6 +210,7 @@ fn over_clauses<'a>(
     at: usize,
     free: usize,
     table: &mut [u8],
+    yes: bool,
 ) -> Answer
     requires { ⌜
         (count ≤ paper .clauses)
@@ -231,6 +235,7 @@ fn over_clauses<'a>(
         (now («learned_cube_sizes» .entry)))
         ≡ true →
         Over
+        yes
         (stateOf
         (now (numbers .entry))
         levels
@@ -296,6 +301,7 @@ fn over_clauses<'a>(
         table,
         at,
         free,
+        yes,
     );
     unload(
         &learned,
@@ -329,6 +335,7 @@ fn searched<'a>(
     at: usize,
     free: usize,
     table: &mut [u8],
+    yes: bool,
 ) -> Answer
     requires { ⌜
         Ready
@@ -358,6 +365,7 @@ fn searched<'a>(
         (now («learned_cube_sizes» .entry)))
         ≡ true →
         Searched
+        yes
         (stateOf
         (now (numbers .entry))
         levels
@@ -415,6 +423,7 @@ fn searched<'a>(
         at,
         free,
         table,
+        yes,
     )
 }
 
@@ -432,6 +441,7 @@ pub fn run<'a>(
     at: usize,
     free: usize,
     table: &mut [u8],
+    yes: bool,
 ) -> Answer
     requires { ⌜
         Ready
@@ -461,6 +471,7 @@ pub fn run<'a>(
         (now («learned_cube_sizes» .entry)))
         ≡ true →
         Ran
+        yes
         (stateOf
         (now (numbers .entry))
         levels
@@ -521,6 +532,7 @@ pub fn run<'a>(
                 at,
                 free,
                 table,
+                yes,
             )
         }
     }

@@ -1,7 +1,7 @@
 -- What the code's answers say: verdicts and the constraint that goes up, the tables of a node, step 5, and the lines of a card.
 use Prim.Native.Nat.{ℕ, zero, suc, _+_, _-_, _≤_, _<_}
 use mathlib.Core.Path.{_≡_}
-use mathlib.Core.Bool.{Bool, true, false, cond}
+use mathlib.Core.Bool.{Bool, true, false, cond, not}
 use mathlib.Core.List.{List, [], _∷_, _++_}
 use mathlib.Core.Option.{none}
 use lib.ListN.{length, getD, take}
@@ -21,15 +21,11 @@ use Rattle.node.specs.declared.Position.{Position}
 use Rattle.node.specs.declared.Answer.{Answer}
 
 -- ---- verdicts
-abbrev pub isYes : Verdict → Bool
-isYes Yes = true
-isYes No = false
-isYes Mixed = false
-
-abbrev pub isNo : Verdict → Bool
-isNo Yes = false
-isNo No = true
-isNo Mixed = false
+-- the verdict is p: Yes where that is true, No where it is false
+abbrev pub isOf : Bool → Verdict → Bool
+isOf p Yes = p
+isOf p No = not p
+isOf p Mixed = false
 
 abbrev pub isMixed : Verdict → Bool
 isMixed Yes = false
@@ -87,10 +83,10 @@ onwardOf D R κ s (decided b e) o st n = afterBoth paper D R κ s b e o st n
 onwardOf D R κ s (mixed ds) o st n = record { outcome = mixed (ds ++ decidedNodes (s ▹ true) o); store = st; visits = n }
 
 -- ---- lines of a card
--- the lines that an outcome adds before it goes up: those of its decided nodes, where it is Mixed
-abbrev pub newLines : Outcome Constraint → List Node
-newLines (decided v e) = []
-newLines (mixed ds) = select true ds
+-- the lines of the verdict p that an outcome adds before it goes up: those of its decided nodes, where it is Mixed
+abbrev pub newLines : Bool → Outcome Constraint → List Node
+newLines p (decided v e) = []
+newLines p (mixed ds) = select p ds
 
 -- ---- what the small functions of step 5 say
 -- the quantifier of the next place, by the table; 3 where none is left
@@ -131,20 +127,16 @@ pub record LineTask (s : Node) (ls : List Node) (statuses table : List ℕ) (p :
   pub covers : Covers (p .free) table ls
   pub counted : lines ≡ length ls
 
--- the verdict of a side as far as lines go, by the quantifier's code: that of a free variable is 0
-abbrev pub linedOf : ℕ → Verdict → Verdict
-linedOf zero v = v
-linedOf (suc k) v = No
+-- whether a side is a line by itself, by the quantifier's code, that of a free variable being 0, and the verdict p of the lines
+abbrev pub linedOf : ℕ → Bool → Verdict → Bool
+linedOf zero p v = isOf p v
+linedOf (suc k) p v = false
 
-abbrev pub settledLines : Verdict → Verdict → ℕ → ℕ
-settledLines a Yes n = cond (isYes a) (n - 1) (n + 1)
-settledLines a No n = n
-settledLines a Mixed n = n
+-- the lines where both sides are done, by whether each was one: two take the off side's line back, else the on side adds its own
+abbrev pub settledLines : Bool → Bool → ℕ → ℕ
+settledLines a true n = cond a (n - 1) (n + 1)
+settledLines a false n = n
 
--- the lines where both sides are done: two Yes take the off side's line back, else a Yes on side adds its own
-abbrev pub SettledTo : Verdict → Verdict → Node → List Node → ℕ → List ℕ → Type 0
-SettledTo Yes Yes s ls f table = (ms : List Node) (x : Node) → ls ≡ ms ++ (x ∷ []) → Covers f table ms
-SettledTo No Yes s ls f table = Covers f table (ls ++ ((s ▹ true) ∷ []))
-SettledTo Mixed Yes s ls f table = Covers f table (ls ++ ((s ▹ true) ∷ []))
-SettledTo a No s ls f table = Covers f table ls
-SettledTo a Mixed s ls f table = Covers f table ls
+abbrev pub SettledTo : Bool → Bool → Node → List Node → ℕ → List ℕ → Type 0
+SettledTo a true s ls f table = cond a ((ms : List Node) (x : Node) → ls ≡ ms ++ (x ∷ []) → Covers f table ms) (Covers f table (ls ++ ((s ▹ true) ∷ [])))
+SettledTo a false s ls f table = Covers f table ls

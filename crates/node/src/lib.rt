@@ -19,7 +19,7 @@ ghost use Rattle.tables.specs.Codes.{Quantified};
 ghost use Rattle.tables.specs.Shelves.{Shelves, StoreShown, newestOf};
 ghost use Rattle.cover.specs.Cover.{Covers};
 ghost use Rattle.search_entry.specs.Entry.{Bounded};
-ghost use Rattle.node.specs.Node.{isYes, boundsOf, entryOf, Reads, Ended, Grown, goesUpOf, onwardOf, resolventOf, Fits, NextKind, Finished, Joined, LineTask, linedOf, settledLines, SettledTo};
+ghost use Rattle.node.specs.Node.{boundsOf, entryOf, Reads, Ended, Grown, goesUpOf, onwardOf, resolventOf, Fits, NextKind, Finished, Joined, LineTask, linedOf, settledLines, SettledTo};
 
 mod line; // one line more of the card
 mod side; // what the verdict and the constraint of one side say
@@ -43,13 +43,15 @@ pub struct Answer {
     pub lines: usize,
 }
 
-// Where a visit stands: the node's length, the count of the free variables, the visits and lines so far, and the words of a row of clauses.
+// Where a visit stands: the node's length, the count of the free variables, the visits and lines so far, and the words of a row of clauses; and
+// whether the lines are Yes nodes or No nodes.
 pub struct Position {
     pub at: usize,
     pub free: usize,
     pub visits: u64,
     pub lines: usize,
     pub words: usize,
+    pub yes: bool,
 }
 
 // The quantifier of the next place; END where none is left.
@@ -231,19 +233,19 @@ pub fn finish<'a>(
     }
 }
 
-// The verdict of a side as far as lines go: below the free variables there are none.
-pub fn lined(v: Verdict, kind: u16) -> Verdict
-    ensures { λ r. ⌜ r ≡ linedOf kind v ⌝ }
+// Whether a side of that verdict is a line by itself, the lines being Yes nodes or No nodes: below the free variables there are none.
+pub fn lined(v: Verdict, kind: u16, yes: bool) -> bool
+    ensures { λ r. ⌜ r ≡ linedOf kind yes v ⌝ }
 {
     if kind == tables::FREE {
-        return v;
+        return side::is_of(v, yes);
     }
-    Verdict::No
+    false
 }
 
-// A line more where the side with that value is Yes.
+// A line more where the side with that value is one.
 pub fn line_if<'a>(
-    v: Verdict,
+    one: bool,
     value: u8,
     table: &mut [u8],
     lines: usize,
@@ -253,40 +255,37 @@ pub fn line_if<'a>(
     requires { ⌜ (p .free ≤ paper .numbers) × (lines < 2 ^ 63) ⌝ }
     ensures { λ r. ⌜
         (length (now (table .exit)) ≡ length (now (table .entry)))
-        × (r ≡ cond (isYes v) (lines + 1) lines)
-        × (isYes v ≡ false → now (table .exit) ≡ now (table .entry))
+        × (r ≡ cond one (lines + 1) lines)
+        × (one ≡ false → now (table .exit) ≡ now (table .entry))
         ⌝ }
     ensures { λ _. ⌜
         ((s : Node) (b : Bool) (ls : List Node)
         → LineTask s ls (now (statuses .entry)) (now (table .entry)) p lines
         → value ≡ byteOf b
-        → Covers (p .free) (now (table .exit)) (ls ++ cond (isYes v) ((s ▹ b) ∷ []) []))
+        → Covers (p .free) (now (table .exit)) (ls ++ cond one ((s ▹ b) ∷ []) []))
         ⌝ }
 {
-    match v {
-        Verdict::Yes => {
-            line::add_line(table, value, lines, p, statuses);
-            lines + 1
-        }
-        Verdict::No => lines,
-        Verdict::Mixed => lines,
+    if !one {
+        return lines;
     }
+    line::add_line(table, value, lines, p, statuses);
+    lines + 1
 }
 
-// After both sides: two Yes are one line above, so the off side's line is taken back; else the on side's line is added where it is Yes.
+// After both sides: two lines are one line above, so the off side's line is taken back; else the on side's line is added where it is one.
 pub fn settle_lines<'a>(
-    first: Verdict,
-    second: Verdict,
+    first: bool,
+    second: bool,
     table: &mut [u8],
     lines: usize,
     p: Position,
     statuses: &'a [u8; tables::CODES],
 ) -> usize
-    requires { ⌜ (p .free ≤ paper .numbers) × (lines < 2 ^ 63) × (isYes first ≡ true → isYes second ≡ true → 1 ≤ lines) ⌝ }
+    requires { ⌜ (p .free ≤ paper .numbers) × (lines < 2 ^ 63) × (first ≡ true → second ≡ true → 1 ≤ lines) ⌝ }
     ensures { λ r. ⌜
         (length (now (table .exit)) ≡ length (now (table .entry)))
         × (r ≡ settledLines first second lines)
-        × (isYes second ≡ false → now (table .exit) ≡ now (table .entry))
+        × (second ≡ false → now (table .exit) ≡ now (table .entry))
         ⌝ }
     ensures { λ _. ⌜
         ((s : Node) (ls : List Node)
@@ -294,10 +293,10 @@ pub fn settle_lines<'a>(
         → SettledTo first second s ls (p .free) (now (table .exit)))
         ⌝ }
 {
-    if !side::is_yes(second) {
+    if !second {
         return lines;
     }
-    if side::is_yes(first) {
+    if first {
         let free = p.free;
         cover::pop_line(table, lines, free);
         return lines - 1;
@@ -308,7 +307,7 @@ pub fn settle_lines<'a>(
 // The position of the off side, where this visit is counted, and of the on side.
 pub fn to_off(p: Position) -> Position
     requires { ⌜ (p .at < suc (paper .numbers)) × (p .visits < 2 ^ 62) ⌝ }
-    ensures { λ r. ⌜ r ≡ record { at = p .at + 1; free = p .free; visits = p .visits + 1; lines = p .lines; words = p .words } ⌝ }
+    ensures { λ r. ⌜ r ≡ record { at = p .at + 1; free = p .free; visits = p .visits + 1; lines = p .lines; words = p .words; yes = p .yes } ⌝ }
 {
     Position {
         at: p.at + 1,
@@ -316,12 +315,13 @@ pub fn to_off(p: Position) -> Position
         visits: p.visits + 1,
         lines: p.lines,
         words: p.words,
+        yes: p.yes,
     }
 }
 
 pub fn to_on(p: Position, visits: u64, lines: usize) -> Position
     requires { ⌜ p .at < suc (paper .numbers) ⌝ }
-    ensures { λ r. ⌜ r ≡ record { at = p .at + 1; free = p .free; visits = visits; lines = lines; words = p .words } ⌝ }
+    ensures { λ r. ⌜ r ≡ record { at = p .at + 1; free = p .free; visits = visits; lines = lines; words = p .words; yes = p .yes } ⌝ }
 {
     Position {
         at: p.at + 1,
@@ -329,6 +329,7 @@ pub fn to_on(p: Position, visits: u64, lines: usize) -> Position
         visits: visits,
         lines: lines,
         words: p.words,
+        yes: p.yes,
     }
 }
 

@@ -11,16 +11,17 @@ ghost use Rattle.qbf.specs.Formula.{paper, Prefix, Quantifier};
 ghost use Rattle.qbf.specs.Learning.{Constraint, lastPlace};
 ghost use Rattle.tables.specs.Views.{quantifierCode};
 ghost use Rattle.tables.specs.Codes.{codes};
-ghost use Rattle.node.specs.Node.{isYes, isMixed, storedBy};
+ghost use Rattle.node.specs.Node.{isOf, isMixed, storedBy};
 ghost use Rattle.node.specs.Step.{alone};
 
-pub fn is_yes(v: Verdict) -> bool
-    ensures { λ r. ⌜ r ≡ isYes v ⌝ }
+// Whether the verdict is Yes, or where `yes` is false whether it is No.
+pub fn is_of(v: Verdict, yes: bool) -> bool
+    ensures { λ r. ⌜ r ≡ isOf yes v ⌝ }
 {
     match v {
-        Verdict::Yes => true,
-        Verdict::No => false,
-        Verdict::Mixed => false,
+        Verdict::Yes => yes,
+        Verdict::No => !yes,
+        Verdict::Mixed => false, // it is neither
     }
 }
 

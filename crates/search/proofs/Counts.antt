@@ -3,15 +3,14 @@ use Prim.Native.Nat.{ℕ, suc, _+_, _-_, _*_, _^_, _≤_, _<_}
 use native.Mathlib.Omega.{arith}
 use native.Mathlib.Nat.{two-pow-succ, pow-le-pow-right}
 use mathlib.Core.Path.{_≡_, sym, ap, _∙_, subst}
-use mathlib.Core.Bool.{Bool, true, cond}
+use mathlib.Core.Bool.{Bool, true, false, cond}
 use mathlib.Core.List.{List}
 use Rattle.qbf.specs.Formula.{paper, Prefix, Node}
 use Rattle.qbf.specs.Learning.{LearningResult}
 use Rattle.tables.specs.Shelves.{Shelves, newestOf}
 use Rattle.search_entry.specs.Entry.{Bounded}
 use Rattle.search_entry.specs.declared.Bounds.{Bounds}
-use Rattle.node.specs.Node.{boundsOf, Finished, Grown, isYes, settledLines}
-use Rattle.node.specs.declared.Verdict.the-variants.{Yes, No, Mixed}
+use Rattle.node.specs.Node.{boundsOf, Finished, Grown, settledLines}
 use Rattle.search.specs.Search.{left, Room, Asked, AskedBelow, Counts, Result}
 use Rattle.node.specs.declared.Verdict.{Verdict}
 use Rattle.node.specs.declared.Position.{Position}
@@ -19,7 +18,7 @@ use Rattle.node.specs.declared.Answer.{Answer}
 
 -- the positions of the sides, and an answer, as the code makes them
 abbrev pub below : Position → ℕ → ℕ → Position
-below p v l = record { at = p .at + 1; free = p .free; visits = v; lines = l; words = p .words }
+below p v l = record { at = p .at + 1; free = p .free; visits = v; lines = l; words = p .words; yes = p .yes }
 
 abbrev pub answered : Verdict → Bounds → ℕ → ℕ → Answer
 answered v b k l = record { verdict = v; source = b .source; start = b .start; len = b .len; visits = k; lines = l }
@@ -28,28 +27,20 @@ two : (n : ℕ) → 2 ≤ 2 ^ suc n
 two n = pow-le-pow-right {n = 2} (omega arith) {i = 1} {j = suc n} (omega arith)
 
 -- the off side's line is one more at most
-pub off-lines : (v : Verdict) (n l : ℕ) → l ≡ cond (isYes v) (n + 1) n → (n ≤ l) × (l ≤ n + 1)
-off-lines Yes n l e = (omega arith, omega arith)
-off-lines No n l e = (omega arith, omega arith)
-off-lines Mixed n l e = (omega arith, omega arith)
+pub off-lines : (v : Bool) (n l : ℕ) → l ≡ cond v (n + 1) n → (n ≤ l) × (l ≤ n + 1)
+off-lines true n l e = (omega arith, omega arith)
+off-lines false n l e = (omega arith, omega arith)
 
-settle-high : (v w : Verdict) (n : ℕ) → settledLines v w n ≤ n + 1
-settle-high Yes Yes n = omega arith
-settle-high No Yes n = omega arith
-settle-high Mixed Yes n = omega arith
-settle-high v No n = omega arith
-settle-high v Mixed n = omega arith
+settle-high : (v w : Bool) (n : ℕ) → settledLines v w n ≤ n + 1
+settle-high true true n = omega arith
+settle-high false true n = omega arith
+settle-high v false n = omega arith
 
-settle-low : (v w : Verdict) (m l n : ℕ) → l ≡ cond (isYes v) (m + 1) m → l ≤ n → m ≤ settledLines v w n
-settle-low Yes Yes m l n e h = omega arith
-settle-low No Yes m l n e h = omega arith
-settle-low Mixed Yes m l n e h = omega arith
-settle-low Yes No m l n e h = omega arith
-settle-low No No m l n e h = omega arith
-settle-low Mixed No m l n e h = omega arith
-settle-low Yes Mixed m l n e h = omega arith
-settle-low No Mixed m l n e h = omega arith
-settle-low Mixed Mixed m l n e h = omega arith
+settle-low : (v w : Bool) (m l n : ℕ) → l ≡ cond v (m + 1) m → l ≤ n → m ≤ settledLines v w n
+settle-low true true m l n e h = omega arith
+settle-low false true m l n e h = omega arith
+settle-low true false m l n e h = omega arith
+settle-low false false m l n e h = omega arith
 
 module _ (p : Position) where
   pub counts-settled : {cl ql : List ℕ} (r : Answer) (v : Verdict) (b : Bounds) → r ≡ answered v b (p .visits + 1) (p .lines) → Bounded b → Counts cl ql p r cl ql
@@ -144,9 +135,9 @@ module _ (p : Position) where
               cubes = omega (arith, c .cubes, d .cubes, g .cubes, hv);
             }
 
-        -- the off side's line, then what both sides settle to, by the verdicts that lines go by
-        module _ (v w : Verdict) (lined : l ≡ cond (isYes v) (off .lines + 1) (off .lines)) where
-          pub on-lines-one : isYes v ≡ true → isYes w ≡ true → 1 ≤ on .lines
+        -- the off side's line, then what both sides settle to, by whether each is a line
+        module _ (v w : Bool) (lined : l ≡ cond v (off .lines + 1) (off .lines)) where
+          pub on-lines-one : v ≡ true → w ≡ true → 1 ≤ on .lines
           on-lines-one y z =
               let e : l ≡ off .lines + 1 = lined ∙ ap (λ (b : Bool). cond b (off .lines + 1) (off .lines)) y in
               omega (arith, d .lines-more)

@@ -45,9 +45,9 @@ onward-visits : (D : Prefix) (R : List Clause) (κ : Quantifier) (s : Node) (a o
 onward-visits D R κ s (decided b e) o st k = on-visits paper D R κ s b e o st k
 onward-visits D R κ s (mixed ds) o st k = refl
 
-pub unmixed-lines : (ks : List Quantifier) (o : Outcome Constraint) → Unmixed ks o → NoFree ks → newLines o ≡ []
-unmixed-lines ks (decided v e) h n = refl
-unmixed-lines ks (mixed ds) h n = absurd (h n)
+pub unmixed-lines : (y : Bool) (ks : List Quantifier) (o : Outcome Constraint) → Unmixed ks o → NoFree ks → newLines y o ≡ []
+unmixed-lines y ks (decided v e) h n = refl
+unmixed-lines y ks (mixed ds) h n = absurd (h n)
 
 module _ {cls sets kd ss cs cl qs ql tb sat mk : List ℕ} (κ : Quantifier) (kind : ℕ) (code : quantifierCode κ ≡ kind) (p : Position)
     (q : Position) (eq : q ≡ counts.below p (p .visits + 1) (p .lines)) (off : Answer) {up₁ cs₁ cl₁ qs₁ ql₁ tb₁ : List ℕ}
@@ -147,8 +147,8 @@ module _ {cls sets kd ss cs cl qs ql tb sat mk : List ℕ} (κ : Quantifier) (ki
         record {
           verdict = j .verdict;
           stored = j .stored;
-          visited = visits-both D s ls R st task opened inside is l kept q′ eq′ on ons (ls ++ newLines a) cov cnt saved aside r fins unup visits;
-          covers = subst (λ (x : List ℕ). Covers (p .free) x (ls ++ newLines (branchOf D R κ p s st .outcome))) (sym same₃) (subst (Covers (p .free) tb₂) lists (z .covers));
+          visited = visits-both D s ls R st task opened inside is l kept q′ eq′ on ons (ls ++ newLines (p .yes) a) cov cnt saved aside r fins unup visits;
+          covers = subst (λ (x : List ℕ). Covers (p .free) x (ls ++ newLines (p .yes) (branchOf D R κ p s st .outcome))) (sym same₃) (subst (Covers (p .free) tb₂) lists (z .covers));
           counted = lines₃ ∙ z .counted ∙ ap length lists;
         }
       where
@@ -158,20 +158,20 @@ module _ {cls sets kd ss cs cl qs ql tb sat mk : List ℕ} (κ : Quantifier) (ki
         w : Result D ls (offR D s ls R st task opened inside is) (counts.below p (p .visits + 1) (p .lines)) off cls up₁ cs₁ cl₁ qs₁ ql₁ tb₁
         w = off-result D s ls R st task opened inside is
 
-        cov : Covers (p .free) tbₐ (ls ++ newLines a)
-        cov = subst (λ (x : List ℕ). Covers (p .free) x (ls ++ newLines a)) (sym same) (w .covers)
+        cov : Covers (p .free) tbₐ (ls ++ newLines (p .yes) a)
+        cov = subst (λ (x : List ℕ). Covers (p .free) x (ls ++ newLines (p .yes) a)) (sym same) (w .covers)
 
-        cnt : l ≡ length (ls ++ newLines a)
+        cnt : l ≡ length (ls ++ newLines (p .yes) a)
         cnt = lines ∙ w .counted
 
         j : Joined D (branchOf D R κ p s st) r cls up₂ cs₃ cl₃ qs₃ ql₃
-        j = joined D s ls R st task opened inside is l kept q′ eq′ on ons (ls ++ newLines a) cov cnt saved aside r fins unup
+        j = joined D s ls R st task opened inside is l kept q′ eq′ on ons (ls ++ newLines (p .yes) a) cov cnt saved aside r fins unup
 
         onRes : LearningResult
-        onRes = onR D s ls R st task opened inside is l kept q′ eq′ on ons (ls ++ newLines a) cov cnt
+        onRes = onR D s ls R st task opened inside is l kept q′ eq′ on ons (ls ++ newLines (p .yes) a) cov cnt
 
-        z : Result D (ls ++ newLines a) onRes (counts.below p (off .visits) l) on cls up₂ cs₂ cl₂ qs₂ ql₂ tb₂
-        z = on-result D s ls R st task opened inside is l kept q′ eq′ on ons (ls ++ newLines a) cov cnt
+        z : Result D (ls ++ newLines (p .yes) a) onRes (counts.below p (off .visits) l) on cls up₂ cs₂ cl₂ qs₂ ql₂ tb₂
+        z = on-result D s ls R st task opened inside is l kept q′ eq′ on ons (ls ++ newLines (p .yes) a) cov cnt
 
         ks′ : List Quantifier
         ks′ = drop (p .at + 1) (quantifiers D)
@@ -179,23 +179,23 @@ module _ {cls sets kd ss cs cl qs ql tb sat mk : List ℕ} (κ : Quantifier) (ki
         nothing : NoFree (κ ∷ ks′)
         nothing = nofree ks′ (quantified D R κ s (p .at) (task .shown .long) inside is st (task .formed))
 
-        no-off : newLines a ≡ []
-        no-off = unmixed-lines ks′ a (unmixed-side D R κ s (p .at) (task .shown .long) inside is false st (task .formed)) (nobelow ks′ nothing)
+        no-off : newLines (p .yes) a ≡ []
+        no-off = unmixed-lines (p .yes) ks′ a (unmixed-side D R κ s (p .at) (task .shown .long) inside is false st (task .formed)) (nobelow ks′ nothing)
 
         o : Outcome Constraint
         o = onRes .outcome
 
-        no-on : newLines o ≡ []
+        no-on : newLines (p .yes) o ≡ []
         no-on =
-            unmixed-lines ks′ o
+            unmixed-lines (p .yes) ks′ o
             (unmixed-side D R κ s (p .at) (task .shown .long) inside is true (offR D s ls R st task opened inside is .store) (formed-on D R κ s (p .at) (task .shown .long) inside is st (task .formed))) (nobelow ks′ nothing)
 
-        no-here : newLines (branchOf D R κ p s st .outcome) ≡ []
-        no-here = unmixed-lines (κ ∷ ks′) (branchOf D R κ p s st .outcome) (unmixed-here D R κ s (p .at) (task .shown .long) inside is st (task .formed)) nothing
+        no-here : newLines (p .yes) (branchOf D R κ p s st .outcome) ≡ []
+        no-here = unmixed-lines (p .yes) (κ ∷ ks′) (branchOf D R κ p s st .outcome) (unmixed-here D R κ s (p .at) (task .shown .long) inside is st (task .formed)) nothing
 
         end : (xs : List Node) → xs ++ [] ≡ xs
         end [] = refl
         end (x ∷ xs) = ap {B = List Node} (λ ys. x ∷ ys) (end xs)
 
-        lists : (ls ++ newLines a) ++ newLines o ≡ ls ++ newLines (branchOf D R κ p s st .outcome)
+        lists : (ls ++ newLines (p .yes) a) ++ newLines (p .yes) o ≡ ls ++ newLines (p .yes) (branchOf D R κ p s st .outcome)
         lists = (λ i. (ls ++ no-off i) ++ no-on i) ∙ end (ls ++ []) ∙ sym (λ i. ls ++ no-here i)

@@ -1,19 +1,18 @@
 -- What both sides give at a variable of any quantifier: lines at a free variable, none at the others.
 use Prim.Native.Nat.{ℕ, suc, _+_, _<_}
-use mathlib.Core.Path.{_≡_, refl, sym, ap, _∙_, subst}
-use mathlib.Core.Bool.{Bool, true, false, cond}
+use mathlib.Core.Path.{_≡_, sym, ap, _∙_}
+use mathlib.Core.Bool.{Bool, false, cond}
 use mathlib.Core.List.{List, [], _∷_, _++_}
 use lib.ListN.{length, take}
-use Rattle.qbf.specs.Formula.{paper, Quantifier, free, exists, forall, Prefix, Clause, Node, _▹_, quantifierAt}
+use Rattle.qbf.specs.Formula.{Quantifier, free, exists, forall, Prefix, Clause, Node, _▹_, quantifierAt}
 use Rattle.qbf.specs.Learning.{Store}
 use Rattle.qbf.specs.Card.{byteOf}
 use Rattle.theory.proofs.Verdict.{NoFree}
 use Rattle.theory.proofs.Search.{Below}
 use Rattle.tables.specs.Views.{quantifierCode}
 use Rattle.cover.specs.Cover.{Covers}
-use Rattle.node.specs.Node.{isYes, boundsOf, entryOf, LineTask, linedOf, settledLines, SettledTo}
+use Rattle.node.specs.Node.{boundsOf, entryOf, LineTask, linedOf, settledLines, SettledTo}
 use Rattle.node.specs.declared.Verdict.{Verdict}
-use Rattle.node.specs.declared.Verdict.the-variants.{Yes, No, Mixed}
 use Rattle.node.specs.declared.Position.{Position}
 use Rattle.node.specs.declared.Answer.{Answer}
 use Rattle.search.specs.Search.{Kept, Task, Opened, Result, SideVisited, branchOf}
@@ -25,44 +24,36 @@ module _ {cls sets kd ss cs cl qs ql tb sat mk : List ℕ} (kind : ℕ) (p q : P
     (off : Answer) {up₁ cs₁ cl₁ qs₁ ql₁ tb₁ : List ℕ} (offs : SideVisited 1 q off cls sets kd ss cs cl qs ql tb sat mk up₁ cs₁ cl₁ qs₁ ql₁ tb₁) (t : Bool)
     (ups : UpSays (off .verdict) kind (entryOf off cls cs₁ qs₁ up₁) (p .at) t)
     {ss₁ sat₁ mk₁ : List ℕ} (kept : Kept (q .at) (q .words) ss ss₁ tb tb₁ sat sat₁ mk mk₁)
-    (one : Verdict) (one-is : one ≡ linedOf kind (off .verdict)) {tbₐ : List ℕ} (l : ℕ) (counted : l ≡ cond (isYes one) (off .lines + 1) (off .lines)) (same : isYes one ≡ false → tbₐ ≡ tb₁)
-    (lined : (s : Node) (b : Bool) (ls : List Node) → LineTask s ls ss₁ tb₁ p (off .lines) → 1 ≡ byteOf b → Covers (p .free) tbₐ (ls ++ cond (isYes one) ((s ▹ b) ∷ []) []))
+    (one : Bool) (one-is : one ≡ linedOf kind (p .yes) (off .verdict)) {tbₐ : List ℕ} (l : ℕ) (counted : l ≡ cond one (off .lines + 1) (off .lines)) (same : one ≡ false → tbₐ ≡ tb₁)
+    (lined : (s : Node) (b : Bool) (ls : List Node) → LineTask s ls ss₁ tb₁ p (off .lines) → 1 ≡ byteOf b → Covers (p .free) tbₐ (ls ++ cond one ((s ▹ b) ∷ []) []))
     (q′ : Position) (eq′ : q′ ≡ counts.below p (off .visits) l) (on : Answer) {up₂ cs₂ cl₂ qs₂ ql₂ tb₂ : List ℕ}
     (ons : SideVisited 2 q′ on cls sets kd ss₁ cs₁ cl₁ qs₁ ql₁ tbₐ sat₁ mk₁ up₂ cs₂ cl₂ qs₂ ql₂ tb₂)
     (saved : List ℕ) (aside : take (off .len) saved ≡ entryOf off cls cs₁ qs₁ up₁) (r : Answer) {cs₃ cl₃ qs₃ ql₃ : List ℕ}
     (fins : FinishSays kd (off .verdict) (off .len) on kind saved cls up₂ (p .at) cs₂ cl₂ qs₂ ql₂ r cs₃ cl₃ qs₃ ql₃) (unup : t ≡ false) (visits : r .visits ≡ on .visits)
-    {ss₂ : List ℕ} (same₂ : ss₂ ≡ ss₁) (two : Verdict) (two-is : two ≡ linedOf kind (on .verdict)) {tb₃ : List ℕ} (n : ℕ) (settled : n ≡ settledLines one two (on .lines)) (same₃ : isYes two ≡ false → tb₃ ≡ tb₂)
+    {ss₂ : List ℕ} (same₂ : ss₂ ≡ ss₁) (two : Bool) (two-is : two ≡ linedOf kind (p .yes) (on .verdict)) {tb₃ : List ℕ} (n : ℕ) (settled : n ≡ settledLines one two (on .lines)) (same₃ : two ≡ false → tb₃ ≡ tb₂)
     (settling : (s : Node) (ls : List Node) → LineTask s ls ss₂ tb₂ p (on .lines) → SettledTo one two s ls (p .free) tb₃) where
-  -- the verdicts that lines go by, where the code is that of the quantifier
-  lines-by : (κ : Quantifier) → quantifierCode κ ≡ kind → (v w : Verdict) → v ≡ linedOf kind w → v ≡ linedOf (quantifierCode κ) w
-  lines-by κ code v w e = e ∙ ap (λ (k : ℕ). linedOf k w) (sym code)
+  -- whether a side is a line, where the code is that of the quantifier
+  lines-by : (κ : Quantifier) → quantifierCode κ ≡ kind → (b : Bool) (v : Verdict) → b ≡ linedOf kind (p .yes) v → b ≡ linedOf (quantifierCode κ) (p .yes) v
+  lines-by κ code b v e = e ∙ ap (λ (k : ℕ). linedOf k (p .yes) v) (sym code)
 
   -- no line is added or taken back
-  module _ (κ : Quantifier) (code : quantifierCode κ ≡ kind) (one-no : one ≡ No) (two-no : two ≡ No)
+  module _ (κ : Quantifier) (code : quantifierCode κ ≡ kind) (one-no : one ≡ false) (two-no : two ≡ false)
       (nofree : (qs : List Quantifier) → Below κ qs → NoFree (κ ∷ qs)) (nobelow : (qs : List Quantifier) → NoFree (κ ∷ qs) → NoFree qs) where
     quantified-result : (D : Prefix) (s : Node) (ls : List Node) (R : List Clause) (st : Store) → Task D s ls R st cls sets kd ss cs cl qs ql tb (p .at) p
         → Opened D s R p sat mk → p .at < length D → quantifierAt D (suc (p .at)) ≡ κ
         → Result D ls (branchOf D R κ p s st) p (counts.answered (r .verdict) (boundsOf r) (r .visits) n) cls up₂ cs₃ cl₃ qs₃ ql₃ tb₃
     quantified-result =
-        both-result κ kind code p q eq off offs t ups nofree nobelow kept (same (ap isYes one-no)) l (counted ∙ ap (λ (v : Verdict). cond (isYes v) (off .lines + 1) (off .lines)) one-no)
-        q′ eq′ on ons saved aside r fins unup visits (same₃ (ap isYes two-no)) n (settled ∙ (λ i. settledLines (one-no i) (two-no i) (on .lines)))
+        both-result κ kind code p q eq off offs t ups nofree nobelow kept (same one-no) l (counted ∙ ap (λ (b : Bool). cond b (off .lines + 1) (off .lines)) one-no)
+        q′ eq′ on ons saved aside r fins unup visits (same₃ two-no) n (settled ∙ (λ i. settledLines (one-no i) (two-no i) (on .lines)))
 
   -- lines at a free variable
   module _ (code : quantifierCode free ≡ kind) where
-    abbrev one-off : one ≡ off .verdict
-    one-off = lines-by free code one (off .verdict) one-is
-
-    abbrev two-on : two ≡ on .verdict
-    two-on = lines-by free code two (on .verdict) two-is
-
     free-lines : (D : Prefix) (s : Node) (ls : List Node) (R : List Clause) (st : Store) → Task D s ls R st cls sets kd ss cs cl qs ql tb (p .at) p
         → Opened D s R p sat mk → p .at < length D → quantifierAt D (suc (p .at)) ≡ free
         → Result D ls (branchOf D R free p s st) p (counts.answered (r .verdict) (boundsOf r) (r .visits) n) cls up₂ cs₃ cl₃ qs₃ ql₃ tb₃
     free-lines =
-        free-result kind code p q eq off offs t ups kept l (counted ∙ ap (λ (v : Verdict). cond (isYes v) (off .lines + 1) (off .lines)) one-off)
-        (λ s b ls h e. subst (λ (v : Verdict). Covers (p .free) tbₐ (ls ++ cond (isYes v) ((s ▹ b) ∷ []) [])) one-off (lined s b ls h e))
-        q′ eq′ on ons saved aside r fins unup visits same₂ tb₃ n (settled ∙ (λ i. settledLines (one-off i) (two-on i) (on .lines)))
-        (λ s ls h. subst (λ (w : Verdict). SettledTo (off .verdict) w s ls (p .free) tb₃) two-on (subst (λ (v : Verdict). SettledTo v two s ls (p .free) tb₃) one-off (settling s ls h)))
+        free-result kind code p q eq off offs t ups kept one (lines-by free code one (off .verdict) one-is) l counted lined
+        q′ eq′ on ons saved aside r fins unup visits same₂ two (lines-by free code two (on .verdict) two-is) tb₃ n settled settling
 
   pub sides-result : (D : Prefix) (s : Node) (ls : List Node) (R : List Clause) (st : Store) (κ : Quantifier) → Task D s ls R st cls sets kd ss cs cl qs ql tb (p .at) p
       → Opened D s R p sat mk → p .at < length D → quantifierAt D (suc (p .at)) ≡ κ → quantifierCode κ ≡ kind

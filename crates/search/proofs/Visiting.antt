@@ -173,7 +173,15 @@ module _ {D : Prefix} {s : Node} {ls : List Node} {R : List Clause} {st : Store}
     at-kind : p .at < length D → k ≡ quantifierCode (quantifierAt D (suc (p .at)))
     at-kind inD = kind-here D kd (task .shown .quantified) (p .at) k next inD (prefix-short D R st (task .formed))
 
-    -- a kind is that of one quantifier only, so it says which branch is taken
+    -- the kind of the next place says which branch is taken
+    pub next-result : {sat mk up cs′ cl′ qs′ ql′ tb′ : List ℕ} → k < 3 → Opened D s R p sat mk
+        → Branched k p r cls sets kd ss cs cl qs ql tb sat mk up cs′ cl′ qs′ ql′ tb′ → Result D ls (belowOf D R p s st) p r cls up cs′ cl′ qs′ ql′ tb′
+    next-result low opened h =
+        let κ : Quantifier = quantifierAt D (suc (p .at)) in
+        let inD : p .at < length D = next-inside D kd (task .shown .quantified) (p .at) k next low in
+        branch-result κ r inD refl (h .result D s ls R st κ task opened inD refl (sym (at-kind inD)))
+
+    -- a kind is that of one quantifier only
     pub kind-result : (κ : Quantifier) {sat mk up cs′ cl′ qs′ ql′ tb′ : List ℕ} → k ≡ quantifierCode κ → Opened D s R p sat mk
         → Branched (quantifierCode κ) p r cls sets kd ss cs cl qs ql tb sat mk up cs′ cl′ qs′ ql′ tb′ → Result D ls (belowOf D R p s st) p r cls up cs′ cl′ qs′ ql′ tb′
     kind-result κ e opened h =

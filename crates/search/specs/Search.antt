@@ -100,8 +100,8 @@ pub record Result (D : Prefix) (ls : List Node) (o : LearningResult) (p : Positi
   pub verdict : Reads D (r .verdict) (entryOf r clauses cs qs area) (o .outcome)
   pub stored : StoreShown D (o .store) cs cl qs ql
   pub visited : r .visits ≡ p .visits + o .visits
-  pub covers : Covers (p .free) table (ls ++ newLines (o .outcome))
-  pub counted : r .lines ≡ length (ls ++ newLines (o .outcome))
+  pub covers : Covers (p .free) table (ls ++ newLines (p .yes) (o .outcome))
+  pub counted : r .lines ≡ length (ls ++ newLines (p .yes) (o .outcome))
 
 -- the search at a position: what follows at a node s that is open, the node itself, and the branch on a variable of the quantifier κ
 abbrev pub belowOf : Prefix → List Clause → Position → Node → Store → LearningResult

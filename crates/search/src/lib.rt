@@ -28,7 +28,8 @@ use node::with_lines;
 use search_entry::Source;
 use search_entry::placed;
 
-// The search at a start node, where steps 1 to 4 have been taken and leave it open: its visit is counted, and it branches.
+// The search at a start node, where steps 1 to 4 have been taken and leave it open: its visit is counted, and it branches. It goes to `sides` itself, and
+// not through `branch`: called from one place alone, `branch` and the visitors become a part of `visit`, and a level is one call less.
 pub fn start<'a>(
     clauses: &'a [u16; tables::CLAUSE_ROWS],
     sets: &'a [u64; tables::CLAUSE_SETS],
@@ -49,7 +50,11 @@ pub fn start<'a>(
     ensures { λ r. ⌜ Left (suc (p .at)) p r (now («learned_links» .entry)) (now («cube_links» .entry)) (now (statuses .entry)) (now (table .entry)) (now (sat .entry)) (now (marks .entry)) (now (learned .exit)) (now («learned_links» .exit)) (now (cubes .exit)) (now («cube_links» .exit)) (now (statuses .exit)) (now (table .exit)) (now (sat .exit)) (now (marks .exit)) ⌝ }
     ensures { λ r. ⌜ Followed p r (now (clauses .entry)) (now (sets .entry)) (now (quantifiers .entry)) (now (statuses .entry)) (now (learned .entry)) (now («learned_links» .entry)) (now (cubes .entry)) (now («cube_links» .entry)) (now (table .entry)) (now (sat .entry)) (now (marks .entry)) (now (up .exit)) (now (learned .exit)) (now («learned_links» .exit)) (now (cubes .exit)) (now («cube_links» .exit)) (now (table .exit)) ⌝ }
 {
-    branch(
+    let kind = next_kind(quantifiers, p.at);
+    if kind > tables::FORALL {
+        return settled(Verdict::No, placed(Source::Area, 0, 0), p);
+    }
+    sides(
         clauses,
         sets,
         quantifiers,
@@ -64,6 +69,7 @@ pub fn start<'a>(
         sat,
         marks,
         p,
+        kind,
     )
 }
 
@@ -375,7 +381,7 @@ fn sides<'a>(
         return with_lines(off, off.lines); // not copied whole: see `side`
     }
     put_aside(saved, off, clauses, learned, cubes, up);
-    let one = lined(first, kind);
+    let one = lined(first, kind, p.yes);
     let lines = line_if(one, tables::OFF, table, off.lines, p, statuses);
     let on = side(
         clauses,
@@ -411,7 +417,7 @@ fn sides<'a>(
         quantifiers,
         at,
     );
-    let two = lined(second, kind);
+    let two = lined(second, kind, p.yes);
     let after = settle_lines(one, two, table, on.lines, p, statuses);
     with_lines(both, after)
 }

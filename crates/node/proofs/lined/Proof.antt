@@ -4,11 +4,14 @@ use Rattle.node.proofs.lined.Statement.{statement}
 use Rattle.node.proofs.lined.Tie as tie
 use Rattle.node.proofs.Lines.{lined-free, lined-other}
 
+is-of-requires : tie.Need-is-of-requires
+is-of-requires c κs = search needs
+
 returns : tie.Need-returns
-returns c = lined-free (c .before .args .kind) (c .before .args .v) (c .if1 .taken)
+returns c = let t = c .before .before .args in lined-free (t .kind) (t .yes) (t .v) (c .before .if1 .taken) (c .is-of .ensures)
 
 returns-2 : tie.Need-returns-2
-returns-2 c = lined-other (c .before .args .kind) (c .before .args .v) (c .if1 .left)
+returns-2 c = let t = c .before .args in lined-other (t .kind) (t .yes) (t .v) (c .if1 .left)
 
 pub lined-spec : {M : Type 1} → statement M
-lined-spec = tie.close (tie.spec returns returns-2)
+lined-spec = tie.close (tie.spec is-of-requires returns returns-2)
