@@ -17,6 +17,7 @@ pub mod formula;
 pub mod last_card;
 pub mod layout;
 pub mod learning;
+pub mod open_query;
 pub mod options;
 pub mod page;
 pub mod plain;
