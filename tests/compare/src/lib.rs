@@ -6,6 +6,7 @@
 //! that shows each of them.
 
 pub mod answer;
+pub mod bounded;
 pub mod cases;
 pub mod check;
 pub mod constraint;
@@ -17,6 +18,7 @@ pub mod formula;
 pub mod last_card;
 pub mod layout;
 pub mod learning;
+pub mod open_query;
 pub mod options;
 pub mod page;
 pub mod plain;

@@ -375,5 +375,5 @@ pub fn store(formula: &Formula, random: &mut Random) -> Store {
     };
     let clauses = entries(Polarity::Clause);
     let cubes = entries(Polarity::Cube);
-    Store { clauses, cubes }
+    Store { records: vec![0; clauses.len()], clauses, cubes }
 }

@@ -26,7 +26,15 @@ pub fn read(raw: &Raw) -> Option<State> {
     formula.clauses = rows(&raw.clauses, &raw.clause_sizes, CLAUSE_WIDTH, CLAUSES)?;
     let clauses = rows(&raw.learned_clauses, &raw.learned_clause_sizes, ENTRY_WIDTH, ENTRIES)?;
     let cubes = rows(&raw.learned_cubes, &raw.learned_cube_sizes, ENTRY_WIDTH, ENTRIES)?;
-    Some(State { formula, store: Store { clauses, cubes } })
+    let records = vec![0; clauses.len()];
+    Some(State { formula, store: Store { clauses, records, cubes } })
+}
+
+/// The state as these tables have it: no learned clause has a record there.
+pub fn without_records(state: &State) -> State {
+    let mut state = state.clone();
+    state.store.records.fill(0);
+    state
 }
 
 /// The state, where no call refuses it with 22.

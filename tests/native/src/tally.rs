@@ -8,6 +8,7 @@ use std::fmt;
 pub struct Tally {
     pub lists: u64,
     pub rules: u64,
+    pub withdrawals: u64,
     pub forgets: u64,
     pub swaps: u64,
     pub keeps: u64,
@@ -51,6 +52,7 @@ impl Tally {
         match answer.said {
             Said::Refused(number) => *self.refusals.entry(number).or_default() += 1,
             Said::Added => self.rules += 1,
+            Said::Withdrawn => self.withdrawals += 1,
             Said::Forgotten => self.forgets += 1,
             Said::Swap => self.swaps += 1,
             Said::Keep => self.keeps += 1,
@@ -80,6 +82,7 @@ impl Tally {
         let sums = [
             (&mut self.lists, other.lists),
             (&mut self.rules, other.rules),
+            (&mut self.withdrawals, other.withdrawals),
             (&mut self.forgets, other.forgets),
             (&mut self.swaps, other.swaps),
             (&mut self.keeps, other.keeps),
