@@ -12,18 +12,18 @@ slice-aggregate-put-word c = search needs
 
 put-word-requires : tie.Need-put-word-requires
 put-word-requires c κs =
-    let args = c .before .before .before .before .args in
+    let args = c .before .before .before .before .before .args in
     omega (arith, card-length (args .f) (args .numbers .now) (args .table .now) (args .n) (args .visits))
 
 put-lines-requires : tie.Need-put-lines-requires
 put-lines-requires c κs =
-    let pre = c .before .before .before .before .before .before .before .before .pre in
-    let args = c .before .before .before .before .before .before .before .before .args in
+    let pre = c .before .before .before .before .before .before .before .before .before .pre in
+    let args = c .before .before .before .before .before .before .before .before .before .args in
     (pre .0, omega (arith, card-length (args .f) (args .numbers .now) (args .table .now) (args .n) (args .visits)))
 
 put-visits-requires : tie.Need-put-visits-requires
 put-visits-requires c κs =
-    let args = c .before .before .before .before .before .before .before .before .before .before .before .before .args in
+    let args = c .before .before .before .before .before .before .before .before .before .before .before .before .before .args in
     omega (arith, card-length (args .f) (args .numbers .now) (args .table .now) (args .n) (args .visits))
 
 slice-aggregate-put-word-2 : tie.Need-slice-aggregate-put-word-2
@@ -31,7 +31,7 @@ slice-aggregate-put-word-2 c = search needs
 
 put-word-requires-2 : tie.Need-put-word-requires-2
 put-word-requires-2 c κs =
-    let args = c .before .before .before .before .before .before .before .before .before .before .before .before .before .before .before .before .before .args in
+    let args = c .before .before .before .before .before .before .before .before .before .before .before .before .before .before .before .before .before .before .args in
     omega (arith, card-length (args .f) (args .numbers .now) (args .table .now) (args .n) (args .visits))
 
 same-length : tie.Need-same-length
