@@ -103,9 +103,8 @@ impl Sides {
         }
         let Some(solver) = &self.solver else { return Ok(()) };
         let next = reading::read(&self.native.state);
-        let expected = reading::without_records(&solver.state);
-        if next.as_ref() != Some(&expected) {
-            return Err(format!("next state {next:?}; expected {expected:?}"));
+        if next.as_ref() != Some(&solver.state) {
+            return Err(format!("next state {next:?}; expected {:?}", solver.state));
         }
         Ok(())
     }

@@ -115,7 +115,7 @@ impl Tally {
     pub fn calls(&self) -> u64 {
         let refused: u64 = self.refusals.values().sum();
         let answered = self.swaps + self.keeps + self.cards + self.written;
-        self.rules + self.forgets + answered + refused
+        self.rules + self.withdrawals + self.forgets + answered + refused
     }
 }
 
@@ -123,7 +123,8 @@ impl fmt::Display for Tally {
     fn fmt(&self, f: &mut fmt::Formatter) -> fmt::Result {
         let Tally { lists, rules, forgets, swaps, keeps, cards, lines, written, .. } = self;
         writeln!(f, "{lists} lists, {} calls:", self.calls())?;
-        write!(f, "  {rules} rules accepted, {forgets} forgets, {swaps} swap, {keeps} keep, ")?;
+        write!(f, "  {rules} rules accepted, {} withdrawn, {forgets} forgets, ", self.withdrawals)?;
+        write!(f, "{swaps} swap, {keeps} keep, ")?;
         writeln!(f, "{cards} cards of {lines} lines, {written} books written")?;
         writeln!(f, "  refusals by number: {:?}", self.refusals)?;
         let [clauses, cubes] = self.filled;
