@@ -145,7 +145,8 @@ impl Reader<'_> {
 
     fn declare(&mut self, numbers: &[i32], quantifier: Quantifier) -> Result<(), u8> {
         for &number in numbers {
-            if let Some(refused) = refusal::of_declaration(&self.formula, number, self.options) {
+            let refused = refusal::of_declaration(&self.formula, number, quantifier, self.options);
+            if let Some(refused) = refused {
                 return Err(refused);
             }
             self.formula.prefix.push(Variable { number: number as i16, quantifier });
