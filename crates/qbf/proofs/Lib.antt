@@ -4,3 +4,4 @@ pub mod Bench
 pub mod Cases
 pub mod Finder
 pub mod Withdrawals
+pub mod KeepCards

@@ -5,5 +5,6 @@ pub mod Learning
 pub mod Card
 pub mod Finder
 pub mod Calls
+pub mod Partition
 pub mod Runs
 pub mod Demands
