@@ -160,7 +160,7 @@ module _ (D : Prefix) (R : List Clause) (s : Node) (st : Store) (k : ℕ) where
 -- ---- the visitor
 module _ {cls sets kd ss cs cl qs ql tb sat mk : List ℕ} (kind : ℕ) (code : quantifierCode free ≡ kind) (p q : Position) (eq : q ≡ counts.below p (p .visits + 1) (p .lines))
     (off : Answer) {up₁ cs₁ cl₁ qs₁ ql₁ tb₁ : List ℕ} (offs : SideVisited 1 q off cls sets kd ss cs cl qs ql tb sat mk up₁ cs₁ cl₁ qs₁ ql₁ tb₁) (t : Bool)
-    (ups : UpSays (off .verdict) kind (entryOf off cls cs₁ qs₁ up₁) (p .at) t) {ss₁ sat₁ mk₁ : List ℕ} (kept : Kept (q .at) (q .words) ss ss₁ tb tb₁ sat sat₁ mk mk₁) 
+    (ups : UpSays (off .verdict) kind (entryOf off cls cs₁ qs₁ up₁) (p .at) t) {ss₁ sat₁ mk₁ : List ℕ} (kept : Kept (q .at) (q .words) ss ss₁ tb tb₁ sat sat₁ mk mk₁)
     (one : Bool) (one-is : one ≡ isOf (p .yes) (off .verdict)) {tbₐ : List ℕ} (l : ℕ) (counted : l ≡ cond one (off .lines + 1) (off .lines))
     (lined : (s : Node) (b : Bool) (ls : List Node) → LineTask s ls ss₁ tb₁ p (off .lines) → 1 ≡ byteOf b → Covers (p .free) tbₐ (ls ++ cond one ((s ▹ b) ∷ []) []))
     (q′ : Position) (eq′ : q′ ≡ counts.below p (off .visits) l) (on : Answer) {up₂ cs₂ cl₂ qs₂ ql₂ tb₂ : List ℕ}

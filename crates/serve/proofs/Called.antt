@@ -10,7 +10,7 @@ use lib.IntN.{ℤ, pos}
 use lib.ListN.{length, take}
 use lib.Dec.{leb, ltb}
 use Rattle.qbf.specs.Formula.{paper, Literal, numberOf}
-use Rattle.qbf.specs.Calls.{Call, rule, query, card, forget, withdraw}
+use Rattle.qbf.specs.Calls.{Call, rule, query, card, forget, withdraw, keepCard}
 use Rattle.layout.specs.Words.{Bytes, space, split, same, inside}
 use Rattle.layout.specs.Forms.{then, items, ruleWord}
 use Rattle.layout.specs.Output.{refusalText}
@@ -118,6 +118,9 @@ module _ {x : State} {number : ℕ} {s₀ : Shown} {t₀ : Bytes} {r : Turn} {t 
 
     pub called-card : (size : ℕ) → q ≡ line.Card size → Turned x (some (card size)) number s₀ t₀ r t d → Turned x c number s₀ t₀ r t d
     called-card size e u = meant c (some (card size)) (subst (λ (z : CallLine). CallRead c z lits) e h) u
+
+    pub called-keep-card : (size : ℕ) → q ≡ line.KeepCard size → Turned x (some (keepCard size)) number s₀ t₀ r t d → Turned x c number s₀ t₀ r t d
+    called-keep-card size e u = meant c (some (keepCard size)) (subst (λ (z : CallLine). CallRead c z lits) e h) u
 
     pub called-forget : q ≡ line.Forget → Turned x (some forget) number s₀ t₀ r t d → Turned x c number s₀ t₀ r t d
     called-forget e u = meant c (some forget) (subst (λ (z : CallLine). CallRead c z lits) e h) u

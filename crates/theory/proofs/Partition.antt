@@ -175,7 +175,7 @@ module _ (D : Prefix) (R : List Clause) (order : FreeFirst (quantifiers D)) wher
       total false = omega (arith, weigh-select (freeVariables D) ds, tops-weigh D R (quantifiers D) [] order (freeVariables D) (omega arith))
 
 -- ---- calls that leave the clauses
-same-clauses : (b : Formula) (c : Call) → keepsClauses b c ≡ true → nextFormula b c ≡ b
+pub same-clauses : (b : Formula) (c : Call) → keepsClauses b c ≡ true → nextFormula b c ≡ b
 same-clauses b (rule ls) e = by (ruleFault b ls) e
   where
     by : (o : Option ℕ) → isRefused o ≡ true → withRule o b ls ≡ b
