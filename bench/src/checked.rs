@@ -1,8 +1,9 @@
 //! The check of a state's tables, as every call owes it (refusal 22), in plain Rust: what the tables by
-//! number are, and whether clauses and entries are declared, in place order and reduced.
+//! number are, whether clauses and entries are declared, in place order and reduced, and whether records
+//! are at most the clauses standing.
 
 use compare::Quantifier;
-use native::raw::{Raw, BY_PLACE, CLAUSES, CLAUSE_WIDTH, ENTRIES, ENTRY_WIDTH};
+use native::raw::{Raw, BY_PLACE, CLAUSES, CLAUSE_WIDTH, ENTRIES, ENTRY_WIDTH, RECORDS};
 use native::raw::{EXISTS, FORALL, FREE};
 
 /// A prefix by variable number.
@@ -24,10 +25,18 @@ pub fn check(raw: &Raw) -> Option<Prefix> {
     let (cells, sizes) = (&raw.learned_clauses, &raw.learned_clause_sizes);
     let learned = rows(cells, sizes, ENTRY_WIDTH, ENTRIES)?;
     well &= learned.into_iter().all(|entry| prefix.entry(entry, Quantifier::Forall));
+    let standing = raw.clause_sizes[0];
+    well &= records(raw).iter().all(|record| *record <= standing);
     let (cells, sizes) = (&raw.learned_cubes, &raw.learned_cube_sizes);
     let cubes = rows(cells, sizes, ENTRY_WIDTH, ENTRIES)?;
     well &= cubes.into_iter().all(|entry| prefix.entry(entry, Quantifier::Exists));
     well.then_some(prefix)
+}
+
+/// The records of the learned clauses that a checked count tells.
+pub fn records(raw: &Raw) -> &[u16] {
+    let count = usize::from(raw.learned_clause_sizes[0]);
+    &raw.learned_clause_sizes[RECORDS..][..count]
 }
 
 /// The rows of a table, as its counts say.

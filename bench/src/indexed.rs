@@ -322,7 +322,10 @@ impl Search<'_> {
         off[i..].iter().chain(&on[j..]).for_each(|&code| joined.push(code));
         self.reduce(&mut joined, polarity);
         match polarity {
-            Polarity::Clause => self.learned.push(&joined),
+            Polarity::Clause => {
+                self.solver.record();
+                self.learned.push(&joined);
+            }
             Polarity::Cube => self.cubes.push(&joined),
         }
         Outcome::Decided(polarity, joined)

@@ -28,7 +28,7 @@ pub fn cell<'a>(table: &'a [u8; tables::CODES], code: u16) -> u8
 }
 
 // The code of a literal. A place past the numbers is no variable's; it gets the code 0.
-pub fn code_of<'a>(places: &'a [u16; tables::BY_NUMBER], lit: i16) -> u16
+pub fn code_of<'a>(places: &'a [u16], lit: i16) -> u16
     ensures { λ r. ⌜
         (r < codeCount)
         × ((D : Prefix) → Places D (now (places .entry)) → length D ≤ paper .numbers → r ≡ codeOf D lit)
@@ -45,7 +45,7 @@ pub fn code_of<'a>(places: &'a [u16; tables::BY_NUMBER], lit: i16) -> u16
 }
 
 // The codes of a list of literals, in the first cells.
-pub fn encode<'a>(cells: &mut [u16], lits: &'a [i16], places: &'a [u16; tables::BY_NUMBER])
+pub fn encode<'a>(cells: &mut [u16], lits: &'a [i16], places: &'a [u16])
     requires { ⌜ length (now lits) ≤ length (now cells) ⌝ }
     ensures { λ _. ⌜
         (length (now (cells .exit)) ≡ length (now (cells .entry)))
@@ -64,7 +64,7 @@ pub fn encode<'a>(cells: &mut [u16], lits: &'a [i16], places: &'a [u16; tables::
 }
 
 // The literal of a code; 0 where its place has no variable.
-pub fn literal_of<'a>(numbers: &'a [u16; tables::BY_NUMBER], code: u16) -> i16
+pub fn literal_of<'a>(numbers: &'a [u16], code: u16) -> i16
     ensures { λ r. ⌜
         ((D : Prefix) (l : Literal)
         → Numbers D (now (numbers .entry))

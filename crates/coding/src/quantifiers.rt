@@ -11,12 +11,7 @@ ghost use Rattle.tables.specs.Codes.{codeAt, Quantified};
 use literal::cell_at;
 
 // The quantifier of the variable of a place, by its number.
-fn kind_at<'a>(
-    numbers: &'a [u16; tables::BY_NUMBER],
-    kinds: &'a [u16; tables::BY_NUMBER],
-    place: usize,
-) -> u8
-    requires { ⌜ place ≤ paper .numbers ⌝ }
+fn kind_at<'a>(numbers: &'a [u16], kinds: &'a [u16], place: usize) -> u8
     ensures { λ r. ⌜
         (getD (now (kinds .entry)) (getD (now (numbers .entry)) place 0) 0 ≤ 2
         → r ≡ getD (now (kinds .entry)) (getD (now (numbers .entry)) place 0) 0)
@@ -41,10 +36,7 @@ fn put(table: &mut [u8; tables::CODES], place: usize, kind: u8)
 }
 
 // The quantifiers of the first places, as many as there are variables; the places after them have none.
-pub fn quantifiers_of<'a>(
-    numbers: &'a [u16; tables::BY_NUMBER],
-    kinds: &'a [u16; tables::BY_NUMBER],
-) -> [u8; tables::CODES]
+pub fn quantifiers_of<'a>(numbers: &'a [u16], kinds: &'a [u16]) -> [u8; tables::CODES]
     requires { ⌜ getD (now numbers) 0 0 ≤ paper .numbers ⌝ }
     ensures { λ r. ⌜
         ((D : Prefix)

@@ -51,12 +51,7 @@ pub fn restore(statuses: &mut [u8; tables::CODES], place: usize, was: Was)
 }
 
 // The value of the variable of a place, by its number.
-fn value_at<'a>(
-    numbers: &'a [u16; tables::BY_NUMBER],
-    values: &'a [u8; tables::BY_NUMBER],
-    place: usize,
-) -> u8
-    requires { ⌜ place ≤ paper .numbers ⌝ }
+fn value_at<'a>(numbers: &'a [u16], values: &'a [u8], place: usize) -> u8
     ensures { λ r. ⌜ r ≡ getD (now (values .entry)) (getD (now (numbers .entry)) place 0) 0 ⌝ }
 {
     let number = cell_at(numbers, place) as usize;
@@ -64,11 +59,7 @@ fn value_at<'a>(
 }
 
 // The statuses at the node whose values by number are given: the first `at` places have them.
-pub fn statuses_of<'a>(
-    numbers: &'a [u16; tables::BY_NUMBER],
-    values: &'a [u8; tables::BY_NUMBER],
-    at: usize,
-) -> [u8; tables::CODES]
+pub fn statuses_of<'a>(numbers: &'a [u16], values: &'a [u8], at: usize) -> [u8; tables::CODES]
     requires { ⌜ at ≤ paper .numbers ⌝ }
     ensures { λ r. ⌜
         ((D : Prefix) (s : Node)

@@ -40,7 +40,7 @@ fn code_row<'a>(
     rows: &mut [u16],
     at: usize,
     lits: &'a [i16],
-    places: &'a [u16; tables::BY_NUMBER],
+    places: &'a [u16],
     quantifiers: &'a [u8; tables::CODES],
 )
     requires { ⌜ (at + 1 + length (now lits) ≤ length (now rows)) × (length (now lits) ≤ paper .literals) ⌝ }
@@ -85,7 +85,7 @@ fn add_clause<'a>(sets: &mut [u64], words: usize, row: &'a [u16], left: usize, k
 fn load_clause<'a>(
     clauses: &'a [i16; tables::CLAUSE_CELLS],
     sizes: &'a [u16; tables::CLAUSE_SIZES],
-    places: &'a [u16; tables::BY_NUMBER],
+    places: &'a [u16],
     quantifiers: &'a [u8; tables::CODES],
     rows: &mut [u16],
     sets: &mut [u64],
@@ -124,7 +124,7 @@ fn load_clause<'a>(
 fn add_clauses<'a>(
     clauses: &'a [i16; tables::CLAUSE_CELLS],
     sizes: &'a [u16; tables::CLAUSE_SIZES],
-    places: &'a [u16; tables::BY_NUMBER],
+    places: &'a [u16],
     quantifiers: &'a [u8; tables::CODES],
     rows: &mut [u16],
     sets: &mut [u64],
@@ -159,7 +159,7 @@ fn add_clauses<'a>(
 pub fn load_clauses<'a>(
     clauses: &'a [i16; tables::CLAUSE_CELLS],
     sizes: &'a [u16; tables::CLAUSE_SIZES],
-    places: &'a [u16; tables::BY_NUMBER],
+    places: &'a [u16],
     quantifiers: &'a [u8; tables::CODES],
     last: usize,
     rows: &mut [u16; tables::CLAUSE_ROWS],

@@ -44,7 +44,7 @@ pub fn refuse(number: u16, line: usize) -> Opened
 }
 
 // After the end's line: "nothing after", where left counts the bytes.
-fn ended(x: State, left: usize, number: usize) -> Opened
+pub fn ended(x: State, left: usize, number: usize) -> Opened
     ensures { λ r. ⌜
         ((b : Formula) → readState x ≡ some (fresh b) → OpenedAs (cond (eqb left 0) (opened b) (refused 1 number)) r)
         ⌝ }

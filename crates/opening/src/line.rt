@@ -99,7 +99,7 @@ pub fn take_rule(x: State, stage: usize, lits: &[i16]) -> Taken
     }
 }
 
-fn take_end(x: State, stage: usize) -> Taken
+pub fn take_end(x: State, stage: usize) -> Taken
     requires { ⌜ Standing stage x ⌝ }
     ensures { λ r. ⌜ TookForm stage (formulaIn x) end r ⌝ }
 {

@@ -5,3 +5,4 @@ pub mod Cases
 pub mod Finder
 pub mod Withdrawals
 pub mod KeepCards
+pub mod Ones

@@ -1,8 +1,8 @@
--- The calls rule, query, card, forget, withdraw and keep card on a state, with every refusal. Paper 01, "Calls and card" and both lists
--- of refusals; paper 02, wishes 4 and 7.
-use Prim.Native.Nat.{ℕ, _*_, _-_}
+-- The calls rule, query, card, forget, withdraw and keep card on a state, with every refusal, and the exactly-one form. Paper 01, "Calls and
+-- card" and both lists of refusals; paper 02, wishes 4, 7 and 10.
+use Prim.Native.Nat.{ℕ, _+_, _*_, _-_}
 use mathlib.Core.Bool.{Bool, true, false, cond, not, _&&_, _||_}
-use mathlib.Core.List.{List, [], _∷_, _++_}
+use mathlib.Core.List.{List, [], _∷_, _++_, map}
 use mathlib.Core.Option.{Option, none, some}
 use lib.ListN.{length, take}
 use lib.Dec.{leb, ltb, eqb}
@@ -10,6 +10,7 @@ use Rattle.qbf.specs.Formula.{Limits, Quantifier, free, exists, forall, 
 use Rattle.qbf.specs.Truth.{Verdict, Outcome, decided, mixed, outline, decidedNodes, select, bound, freeVariables}
 use Rattle.qbf.specs.Learning.{Polarity, Constraint, Store, constraints, emptyStore, union, lastPlace, dropped, LearningResult, learningSearch}
 use Rattle.qbf.specs.Card.{tableOf, zeroTable}
+use Rattle.qbf.specs.One.{oneForms, oneCount}
 
 -- A call with its arguments as a caller may give them: any signed numbers; of a card's table its length.
 pub data Call : Type 0 where
@@ -84,6 +85,24 @@ abbrev pub withRule : Option ℕ → Formula → List Literal → Formula
 withRule none b ls = record { limits = b .limits; prefix = b .prefix; clauses = b .clauses ++ (clauseOf (b .prefix) ls ∷ []) }
 withRule (some n) b ls = b
 
+-- ---- exactly one of some literals. Paper 02, wish 10.
+-- "Fewer than two literals or more than 16 is 7, in this form before 20"; "20 counts them together"
+abbrev pub oneFault : Formula → List Literal → Option ℕ
+oneFault b ls =
+    given (ltb (length ls) 2 || ltb (b .limits .literals) (length ls)) 7
+    orElse given (ltb (b .limits .clauses) (length (b .clauses) + oneCount (length ls))) 20
+    orElse literalFault (b .limits) (b .prefix) [] ls
+
+-- the rules that it stands for, each held in place order
+abbrev pub oneRules : Prefix → List Literal → List Clause
+oneRules D ls = map (clauseOf D) (oneForms ls)
+
+-- "All of its rules are added, or none"
+abbrev pub withOne : Option ℕ → Formula → List Literal → Formula
+withOne none b ls = record { limits = b .limits; prefix = b .prefix; clauses = b .clauses ++ oneRules (b .prefix) ls }
+withOne (some n) b ls = b
+
+-- ---- the store after a rule
 -- "if accepted, all passes go and bars remain"
 abbrev pub storeAfterRule : Option ℕ → Store → Store
 storeAfterRule none st = record { clauses = st .clauses; records = st .records; cubes = [] }

@@ -4,7 +4,9 @@ pub mod Plain
 pub mod Learning
 pub mod Card
 pub mod Finder
+pub mod One
 pub mod Calls
+pub mod OneAdds
 pub mod Partition
 pub mod Runs
 pub mod Demands

@@ -1,6 +1,6 @@
 // Reading a line of a text: words, numbers, literals and the form or the call that they make. Each function is equal to its
 // definition in layout, for every byte string.
-mod brackets;
+pub mod brackets;
 pub mod call;
 pub mod item;
 pub mod items;

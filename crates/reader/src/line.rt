@@ -16,7 +16,7 @@ ghost use Rattle.layout.specs.Forms.{formFrom, formOf};
 ghost use Rattle.reader.specs.Lines.{LineRead};
 
 // The form between a line's brackets.
-fn read_form(s: &[u8], out: &mut [i16]) -> Line
+pub fn read_form(s: &[u8], out: &mut [i16]) -> Line
     ensures { λ r. ⌜ LineRead (formFrom (split space (now (s .entry)))) r (now (out .exit)) ⌝ }
 {
     let e = find(s, 0, SPACE);

@@ -26,11 +26,10 @@ pub fn number_after<'a>(numbers: &'a [u16], i: usize) -> usize
     0
 }
 
-pub fn put(values: &mut [u8; tables::BY_NUMBER], n: usize, value: u8)
+pub fn put(values: &mut [u8], n: usize, value: u8)
     ensures { λ _. ⌜ now (values .exit) ≡ set (now (values .entry)) n value ⌝ }
 {
-    let cells: &mut [u8] = values;
-    if n < cells.len() {
-        cells[n] = value;
+    if n < values.len() {
+        values[n] = value;
     }
 }

@@ -13,12 +13,7 @@ pub struct Reading {
     pub values: [u8; tables::BY_NUMBER],
 }
 
-pub fn read<'a>(
-    numbers: &'a [u16; tables::BY_NUMBER],
-    places: &'a [u16; tables::BY_NUMBER],
-    free: usize,
-    on: &'a [i16],
-) -> Reading
+pub fn read<'a>(numbers: &'a [u16], places: &'a [u16], free: usize, on: &'a [i16]) -> Reading
     ensures { λ r. ⌜
         ((D : Prefix)
         → Numbers D (now (numbers .entry))

@@ -8,12 +8,7 @@ ghost use mathlib.Core.Path.{_≡_};
 ghost use Rattle.reading.specs.Marking.{barred, Marked, Named};
 
 // "8 a query names a non-flag, or a flag twice"
-fn is_barred<'a>(
-    places: &'a [u16; tables::BY_NUMBER],
-    free: usize,
-    values: &'a [u8; tables::BY_NUMBER],
-    lit: i16,
-) -> bool
+fn is_barred<'a>(places: &'a [u16], free: usize, values: &'a [u8], lit: i16) -> bool
     ensures { λ r. ⌜ r ≡ barred (now (places .entry)) free (now (values .entry)) lit ⌝ }
 {
     if lit < 0 {
@@ -30,12 +25,7 @@ fn is_barred<'a>(
 }
 
 // Sets a named flag on; false where it may not be named.
-fn mark<'a>(
-    values: &mut [u8; tables::BY_NUMBER],
-    places: &'a [u16; tables::BY_NUMBER],
-    free: usize,
-    lit: i16,
-) -> bool
+fn mark<'a>(values: &mut [u8], places: &'a [u16], free: usize, lit: i16) -> bool
     ensures { λ r. ⌜ Marked (now (places .entry)) free (now (values .entry)) lit r (now (values .exit)) ⌝ }
 {
     if is_barred(places, free, values, lit) {
@@ -45,7 +35,7 @@ fn mark<'a>(
     true
 }
 
-pub fn mark_all<'a>(places: &'a [u16; tables::BY_NUMBER], free: usize, on: &'a [i16]) -> Reading
+pub fn mark_all<'a>(places: &'a [u16], free: usize, on: &'a [i16]) -> Reading
     ensures { λ r. ⌜ Named (now (places .entry)) free (now (on .entry)) (r .ok) (r .values) ⌝ }
 {
     let mut values = [tables::OPEN; tables::BY_NUMBER];

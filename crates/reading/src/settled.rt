@@ -5,7 +5,7 @@ use crate::cells::put;
 ghost use mathlib.Core.Path.{_≡_};
 ghost use Rattle.reading.specs.Marking.{settled, settledTo};
 
-fn settle(values: &mut [u8; tables::BY_NUMBER], n: usize)
+fn settle(values: &mut [u8], n: usize)
     ensures { λ _. ⌜ now (values .exit) ≡ settled (now (values .entry)) n ⌝ }
 {
     if !is_on(values, n) {
@@ -14,11 +14,7 @@ fn settle(values: &mut [u8; tables::BY_NUMBER], n: usize)
 }
 
 // The free variables have the first places.
-pub fn settle_all<'a>(
-    values: &mut [u8; tables::BY_NUMBER],
-    numbers: &'a [u16; tables::BY_NUMBER],
-    free: usize,
-)
+pub fn settle_all<'a>(values: &mut [u8], numbers: &'a [u16], free: usize)
     ensures { λ _. ⌜ now (values .exit) ≡ settledTo (now (numbers .entry)) free (now (values .entry)) ⌝ }
 {
     let mut i: usize = 0;

@@ -1,41 +1,45 @@
 // The program `session`: a book on standard input, then one call to a line, each answered as soon as its line is read.
-mod book;
-mod input;
-mod lines;
-
+use input::read_more;
+use output::print;
 use reader::call::TABLE;
+use serve::ANSWER;
+use session_turn::ROOM;
+use session_turn::turn;
+ghost use Prim.Native.Nat.{_<_};
 
-// A refused book.
-fn print_refusal(refusal: u16, line: usize, answer: &mut [u8; serve::ANSWER]) {
-    let written = serve::book::print_refusal(refusal, line, answer);
-    output::print(answer, written.length);
-}
-
-// The lines are counted from the book's first.
-fn serve_book(text: &mut [u8], cards: &mut [u8; TABLE], answer: &mut [u8; serve::ANSWER]) {
-    let read = book::read_book(text);
-    let opened = opening::open_text(&text[..read.end]);
-    if opened.refusal != opening::NONE {
-        print_refusal(opened.refusal, opened.line, answer);
-        return;
+// Where the program does not wait, what it holds is used first.
+fn read_where(waits: bool, text: &mut [u8; ROOM], held: usize) -> usize {
+    if waits {
+        return read_more(text, held);
     }
-    let before = reader::text::line_count(&text[..read.end]);
-    let x = opened.state;
-    lines::serve_all(
-        x,
-        text,
-        lines::behind_book(read.end, read.held, before),
-        cards,
-        answer,
-    );
+    0
 }
 
-// One byte more than a text or a line may have.
-const ROOM: usize = reader::text::TEXT + 1;
+// A proved loop counts its rounds down, from a number that no session uses up.
+fn rounds_left(rounds: u64, over: bool) -> u64
+    requires { ⌜ 0 < rounds ⌝ }
+    ensures { λ r. ⌜ r < rounds ⌝ }
+{
+    if over {
+        return 0;
+    }
+    rounds - 1
+}
+
+fn run(text: &mut [u8; ROOM], cards: &mut [u8; TABLE], answer: &mut [u8; ANSWER]) {
+    let mut s = session_turn::start();
+    let mut rounds = u64::MAX;
+    while rounds > 0 {
+        let got = read_where(s.waits, text, s.held);
+        s = turn(s, got, text, cards, answer);
+        print(answer, s.length);
+        rounds = rounds_left(rounds, s.over);
+    }
+}
 
 fn main() {
     let mut text = [0u8; ROOM];
     let mut cards = [tables::OPEN; TABLE];
-    let mut answer = [0u8; serve::ANSWER];
-    serve_book(&mut text, &mut cards, &mut answer);
+    let mut answer = [0u8; ANSWER];
+    run(&mut text, &mut cards, &mut answer);
 }

@@ -98,24 +98,24 @@ module _ (ls ks : List ℕ) where
   behind-none : Behind ls ks 0 0 0
   behind-none = record { each = λ j b. absurd (not-suc-le-zero b); low = omega arith; code = omega arith; zero-level = λ e. refl }
 
-  -- the tests of k places from i on, each next to the place before it
-  abbrev pub steps : ℕ → ℕ → Bool
-  steps i k = stepsFrom ls ks (levelFor ls i) (codeFor ls ks i) i k
+  -- the tests of k places from i on, under the limit `top`, each next to the place before it
+  abbrev pub steps : ℕ → ℕ → ℕ → Bool
+  steps top i k = stepsFrom top ls ks (levelFor ls i) (codeFor ls ks i) i k
 
   abbrev pub stepAt : ℕ → Bool
   stepAt i = stepOk (levelFor ls i) (codeFor ls ks i) (entryAt ls i) (codeAt ls ks i)
 
-  behind-steps : (i k : ℕ) → steps i k ≡ true → Behind ls ks (levelFor ls i) (codeFor ls ks i) i → Behind ls ks (levelFor ls (i + k)) (codeFor ls ks (i + k)) (i + k)
-  behind-steps i zero e w = let q : i ≡ i + 0 = omega arith in subst (λ (n : ℕ). Behind ls ks (levelFor ls n) (codeFor ls ks n) n) q w
-  behind-steps i (suc k) e w =
+  behind-steps : (top i k : ℕ) → steps top i k ≡ true → Behind ls ks (levelFor ls i) (codeFor ls ks i) i → Behind ls ks (levelFor ls (i + k)) (codeFor ls ks (i + k)) (i + k)
+  behind-steps top i zero e w = let q : i ≡ i + 0 = omega arith in subst (λ (n : ℕ). Behind ls ks (levelFor ls n) (codeFor ls ks n) n) q w
+  behind-steps top i (suc k) e w =
       let q : suc i + k ≡ i + suc k = omega arith in
-      subst (λ (n : ℕ). Behind ls ks (levelFor ls n) (codeFor ls ks n) n) q (behind-steps (suc i) k (and-right (stepAt i) (steps (suc i) k) tests) here)
+      subst (λ (n : ℕ). Behind ls ks (levelFor ls n) (codeFor ls ks n) n) q (behind-steps top (suc i) k (and-right (stepAt i) (steps top (suc i) k) tests) here)
     where
-      tests : (stepAt i && steps (suc i) k) ≡ true
-      tests = and-right (leb (entryAt ls i) 40) (stepAt i && steps (suc i) k) e
+      tests : (stepAt i && steps top (suc i) k) ≡ true
+      tests = and-right (leb (entryAt ls i) top) (stepAt i && steps top (suc i) k) e
 
       test : stepAt i ≡ true
-      test = and-left (stepAt i) (steps (suc i) k) tests
+      test = and-left (stepAt i) (steps top (suc i) k) tests
 
       level : Bool
       level = eqb (levelBeside (levelFor ls i) (quantifierOf (codeFor ls ks i)) (quantifierOf (codeAt ls ks i))) (entryAt ls i)
@@ -132,26 +132,26 @@ module _ (ls ks : List ℕ) where
       here : Behind ls ks (entryAt ls i) (codeAt ls ks i) (suc i)
       here = behind-next (ahead w small (and-right level order rest) (sym (eqb-true _ _ (and-left level order rest)))) small refl refl
 
-  pub behind : (n : ℕ) → stepsFrom ls ks 0 0 0 n ≡ true → Behind ls ks (levelFor ls n) (codeFor ls ks n) n
-  behind n e = let q : 0 + n ≡ n = omega arith in subst (λ (i : ℕ). Behind ls ks (levelFor ls i) (codeFor ls ks i) i) q (behind-steps 0 n e behind-none)
+  pub behind : (top n : ℕ) → stepsFrom top ls ks 0 0 0 n ≡ true → Behind ls ks (levelFor ls n) (codeFor ls ks n) n
+  behind top n e = let q : 0 + n ≡ n = omega arith in subst (λ (i : ℕ). Behind ls ks (levelFor ls i) (codeFor ls ks i) i) q (behind-steps top 0 n e behind-none)
 
   -- one place more
-  pub steps-snoc : (i k : ℕ) → steps i k ≡ true → leb (entryAt ls (i + k)) 40 ≡ true → stepAt (i + k) ≡ true → steps i (suc k) ≡ true
-  steps-snoc i zero e a b =
+  pub steps-snoc : (top i k : ℕ) → steps top i k ≡ true → leb (entryAt ls (i + k)) top ≡ true → stepAt (i + k) ≡ true → steps top i (suc k) ≡ true
+  steps-snoc top i zero e a b =
       let q : i + 0 ≡ i = omega arith in
-      and-both (leb (entryAt ls i) 40) (stepAt i && true) (ap (λ (n : ℕ). leb (entryAt ls n) 40) (sym q) ∙ a) (and-both (stepAt i) true (ap stepAt (sym q) ∙ b) refl)
-  steps-snoc i (suc k) e a b =
+      and-both (leb (entryAt ls i) top) (stepAt i && true) (ap (λ (n : ℕ). leb (entryAt ls n) top) (sym q) ∙ a) (and-both (stepAt i) true (ap stepAt (sym q) ∙ b) refl)
+  steps-snoc top i (suc k) e a b =
       let q : i + suc k ≡ suc i + k = omega arith in
-      let r : (stepAt i && steps (suc i) k) ≡ true = and-right (leb (entryAt ls i) 40) (stepAt i && steps (suc i) k) e in
+      let r : (stepAt i && steps top (suc i) k) ≡ true = and-right (leb (entryAt ls i) top) (stepAt i && steps top (suc i) k) e in
       and-both
-      (leb (entryAt ls i) 40)
-      (stepAt i && steps (suc i) (suc k))
-      (and-left (leb (entryAt ls i) 40) (stepAt i && steps (suc i) k) e)
+      (leb (entryAt ls i) top)
+      (stepAt i && steps top (suc i) (suc k))
+      (and-left (leb (entryAt ls i) top) (stepAt i && steps top (suc i) k) e)
       (and-both
       (stepAt i)
-      (steps (suc i) (suc k))
-      (and-left (stepAt i) (steps (suc i) k) r)
-      (steps-snoc (suc i) k (and-right (stepAt i) (steps (suc i) k) r) (ap (λ (n : ℕ). leb (entryAt ls n) 40) (sym q) ∙ a) (ap stepAt (sym q) ∙ b)))
+      (steps top (suc i) (suc k))
+      (and-left (stepAt i) (steps top (suc i) k) r)
+      (steps-snoc top (suc i) k (and-right (stepAt i) (steps top (suc i) k) r) (ap (λ (n : ℕ). leb (entryAt ls n) top) (sym q) ∙ a) (ap stepAt (sym q) ∙ b)))
 
 -- two pairs of tables with the same levels and codes at n places
 pub record Agree (ls ks ls′ ks′ : List ℕ) (n : ℕ) : Type 0 where
@@ -159,13 +159,13 @@ pub record Agree (ls ks ls′ ks′ : List ℕ) (n : ℕ) : Type 0 where
   pub code : (j : ℕ) → j < n → codeAt ls′ ks′ j ≡ codeAt ls ks j
 
 module _ {ls ks ls′ ks′ : List ℕ} {n : ℕ} (w : Agree ls ks ls′ ks′ n) where
-  pub steps-agree : (m c i k : ℕ) → i + k ≤ n → stepsFrom ls′ ks′ m c i k ≡ stepsFrom ls ks m c i k
-  steps-agree m c i zero h = refl
-  steps-agree m c i (suc k) h =
+  pub steps-agree : (top m c i k : ℕ) → i + k ≤ n → stepsFrom top ls′ ks′ m c i k ≡ stepsFrom top ls ks m c i k
+  steps-agree top m c i zero h = refl
+  steps-agree top m c i (suc k) h =
       let low : i < n = omega (arith, h) in
-      ap (λ (x : Bool). leb (entryAt ls′ i) 40 && (stepOk m c (entryAt ls′ i) (codeAt ls′ ks′ i) && x)) (steps-agree (entryAt ls′ i) (codeAt ls′ ks′ i) (suc i) k (omega (arith, h)))
-      ∙ ap (λ (l : ℕ). leb l 40 && (stepOk m c l (codeAt ls′ ks′ i) && stepsFrom ls ks l (codeAt ls′ ks′ i) (suc i) k)) (w .level i low)
-      ∙ ap (λ (d : ℕ). leb (entryAt ls i) 40 && (stepOk m c (entryAt ls i) d && stepsFrom ls ks (entryAt ls i) d (suc i) k)) (w .code i low)
+      ap (λ (x : Bool). leb (entryAt ls′ i) top && (stepOk m c (entryAt ls′ i) (codeAt ls′ ks′ i) && x)) (steps-agree top (entryAt ls′ i) (codeAt ls′ ks′ i) (suc i) k (omega (arith, h)))
+      ∙ ap (λ (l : ℕ). leb l top && (stepOk m c l (codeAt ls′ ks′ i) && stepsFrom top ls ks l (codeAt ls′ ks′ i) (suc i) k)) (w .level i low)
+      ∙ ap (λ (d : ℕ). leb (entryAt ls i) top && (stepOk m c (entryAt ls i) d && stepsFrom top ls ks (entryAt ls i) d (suc i) k)) (w .code i low)
 
   pub level-agree : (p : ℕ) → p ≤ n → levelFor ls′ p ≡ levelFor ls p
   level-agree zero h = refl

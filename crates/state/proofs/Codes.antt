@@ -6,7 +6,7 @@ use native.Mathlib.Omega.{arith}
 use mathlib.Core.Path.{_≡_, refl, sym, ap, _∙_}
 use mathlib.Core.Logic.{_⊎_, inl, inr}
 use mathlib.Core.List.{List, _∷_}
-use lib.ListN.{length, getD, set, drop, replicate, length-set, length-map, List·getD-eq-default, drop-of-length-le}
+use lib.ListN.{length, getD, set, drop, length-set, length-map, List·getD-eq-default, drop-of-length-le}
 use lib.Seq.{drop-cons, getD-set-same, getD-set-other}
 use lib.IntN.{pos}
 use borrow.Author.Count.{below-more}
@@ -26,37 +26,34 @@ kinds-long D = length-map D (λ d. d .quantifier)
 
 -- ---- by number: the cells below n are filled
 pub record Coded (ls ks places table : List ℕ) (n : ℕ) : Type 0 where
-  pub room : length table ≡ 41
-  pub long : 0 < n → length places ≡ 41
+  pub room : length table ≡ length places
   pub passed : (m : ℕ) → m < n → getD table m 0 ≡ codeFor ls ks (getD places m 0)
 
 module _ (ls ks places : List ℕ) where
-  pub coded-none : Coded ls ks places (replicate 41 0) 0
-  coded-none = record { room = refl; long = λ h. absurd (not-suc-le-zero h); passed = λ m h. absurd (not-suc-le-zero h) }
+  pub coded-none : {table : List ℕ} → length table ≡ length places → Coded ls ks places table 0
+  coded-none h = record { room = h; passed = λ m h. absurd (not-suc-le-zero h) }
 
   module _ {table : List ℕ} {n : ℕ} (w : Coded ls ks places table n) where
-    pub coded-more : n < 41 → length places ≡ 41 → {p v : ℕ} → p ≡ getD places n 0 → v ≡ codeFor ls ks p → Coded ls ks places (set table n v) (n + 1)
-    coded-more h long {p} {v} is reads =
+    pub coded-more : n < length table → {p v : ℕ} → p ≡ getD places n 0 → v ≡ codeFor ls ks p → Coded ls ks places (set table n v) (n + 1)
+    coded-more h {p} {v} is reads =
         record {
           room = length-set table n v ∙ w .room;
-          long = λ b. long;
           passed =
               below-more
               (λ m. getD (set table n v) m 0 ≡ codeFor ls ks (getD places m 0))
               n
               (λ m b. getD-set-other table n m v 0 (λ e. omega (arith, b, e)) ∙ w .passed m b)
-              (getD-set-same table n v 0 (omega (arith, h, w .room)) ∙ reads ∙ ap (codeFor ls ks) is);
+              (getD-set-same table n v 0 h ∙ reads ∙ ap (codeFor ls ks) is);
         }
 
-    all-cells : 41 ≤ n → (m : ℕ) → getD table m 0 ≡ codeFor ls ks (getD places m 0)
-    all-cells h m = by (le-or-lt 41 m)
+    all-cells : length table ≤ n → (m : ℕ) → getD table m 0 ≡ codeFor ls ks (getD places m 0)
+    all-cells h m = by (le-or-lt (length table) m)
       where
-        by : (41 ≤ m) ⊎ (m < 41) → getD table m 0 ≡ codeFor ls ks (getD places m 0)
-        by (inl b) =
-            List·getD-eq-default table 0 (omega (arith, b, w .room)) ∙ sym (ap (codeFor ls ks) (List·getD-eq-default places 0 (omega (arith, b, w .long (omega (arith, h))))))
+        by : (length table ≤ m) ⊎ (m < length table) → getD table m 0 ≡ codeFor ls ks (getD places m 0)
+        by (inl b) = List·getD-eq-default table 0 b ∙ sym (ap (codeFor ls ks) (List·getD-eq-default places 0 (omega (arith, b, w .room))))
         by (inr b) = w .passed m (omega (arith, b, h))
 
-    pub coded-end : 41 ≤ n → (D : Prefix) → Places D places → Quantified D ls ks → Kinds D table
+    pub coded-end : length table ≤ n → (D : Prefix) → Places D places → Quantified D ls ks → Kinds D table
     coded-end h D shown kinds =
         record { at = λ m. all-cells h m ∙ ap (codeFor ls ks) (shown .at m) ∙ by (placeOf D m) (omega (arith, inside D (pos m), kinds-long D)) }
       where

@@ -47,12 +47,12 @@ cond-suc : (b : Bool) (p q : ℕ) → cond b (suc p) q ≡ 0 → (b ≡ false) �
 cond-suc true p q e = absurd (not-suc-le-zero {n = p} (omega (arith, e)))
 cond-suc false p q e = (refl, e)
 
-numbers-snoc : (seen : List ℕ) (D : Prefix) (p : ℕ) (κ : Quantifier) (n : ℕ) → numbersOk paper seen D ≡ true → leb 1 n ≡ true → leb n 40 ≡ true → any (eqb n) seen ≡ false
+numbers-snoc : (seen : List ℕ) (D : Prefix) (p : ℕ) (κ : Quantifier) (n : ℕ) → numbersOk paper seen D ≡ true → leb 1 n ≡ true → leb n (paper .numbers) ≡ true → any (eqb n) seen ≡ false
     → placeFrom (suc p) n D ≡ 0 → numbersOk paper seen (D ++ (variable κ n ∷ [])) ≡ true
 numbers-snoc seen [] p κ n e a b f z =
-    and-both (leb 1 n && leb n 40 && not (any (eqb n) seen)) true (and-both (leb 1 n && leb n 40) (not (any (eqb n) seen)) (and-both (leb 1 n) (leb n 40) a b) (ap not f)) refl
+    and-both (leb 1 n && leb n (paper .numbers) && not (any (eqb n) seen)) true (and-both (leb 1 n && leb n (paper .numbers)) (not (any (eqb n) seen)) (and-both (leb 1 n) (leb n (paper .numbers)) a b) (ap not f)) refl
 numbers-snoc seen (d ∷ ds) p κ n e a b f z =
-    let here : Bool = leb 1 (d .number) && leb (d .number) 40 && not (any (eqb (d .number)) seen) in
+    let here : Bool = leb 1 (d .number) && leb (d .number) (paper .numbers) && not (any (eqb (d .number)) seen) in
     let q = cond-suc (eqb n (d .number)) p (placeFrom (suc (suc p)) n ds) z in
     and-both
     here
@@ -62,12 +62,12 @@ numbers-snoc seen (d ∷ ds) p κ n e a b f z =
 
 -- ---- the tables after the stores
 pub record New (ns ls ks : List ℕ) (n kind : ℕ) : Type 0 where
-  pub numbers-room : length ns ≡ 41
-  pub levels-room : length ls ≡ 41
-  pub kinds-room : length ks ≡ 41
+  pub numbers-room : length ns ≡ suc (paper .numbers)
+  pub levels-room : length ls ≡ suc (paper .numbers)
+  pub kinds-room : length ks ≡ suc (paper .numbers)
   pub may : Declarable ns ls ks kind
   pub low : 1 ≤ n
-  pub high : n ≤ 40
+  pub high : n ≤ paper .numbers
   pub fresh : placeOf (prefixOf ns ls ks) n ≡ 0
 
 module _ {ns ls ks : List ℕ} {n kind : ℕ} (w : New ns ls ks n kind) where
@@ -79,9 +79,9 @@ module _ {ns ls ks : List ℕ} {n kind : ℕ} (w : New ns ls ks n kind) where
 
   grown-numbers : numbersOk paper [] (prefixOf ns ls ks ++ (variable (quantifierOf kind) n ∷ [])) ≡ true
   unfolding placeOf
-  grown-numbers = numbers-snoc [] (prefixOf ns ls ks) 0 (quantifierOf kind) n (w .may .sound .numbers-ok) (le-leb 1 n (w .low)) (le-leb n 40 (w .high)) refl (w .fresh)
+  grown-numbers = numbers-snoc [] (prefixOf ns ls ks) 0 (quantifierOf kind) n (w .may .sound .numbers-ok) (le-leb 1 n (w .low)) (le-leb n (paper .numbers) (w .high)) refl (w .fresh)
 
-  few : count < 40
+  few : count < paper .numbers
   few =
       omega (
         arith,
@@ -94,11 +94,11 @@ module _ {ns ls ks : List ℕ} {n kind : ℕ} (w : New ns ls ks n kind) where
   order : ordered (quantifierOf (codeFor ls ks count)) (quantifierOf kind) ≡ true
   order = order-next ns ls ks (quantifierOf kind) (w .may .next)
 
-  so-far : stepsFrom ls ks 0 0 0 count ≡ true
-  so-far = sym (steps-ok ns ls ks (omega (arith, few))) ∙ w .may .sound .levels-ok
+  so-far : stepsFrom (paper .numbers) ls ks 0 0 0 count ≡ true
+  so-far = sym (steps-ok paper ns ls ks (omega (arith, few))) ∙ w .may .sound .levels-ok
 
   past : Behind ls ks (levelFor ls count) (codeFor ls ks count) count
-  past = behind ls ks count so-far
+  past = behind ls ks (paper .numbers) count so-far
 
   before-all : Ahead ls ks level kind count
   before-all = ahead ls ks past (w .may .code) order refl
@@ -131,7 +131,7 @@ module _ {ns ls ks : List ℕ} {n kind : ℕ} (w : New ns ls ks n kind) where
   level-kept : (j : ℕ) → j < count → entryAt ls′ j ≡ entryAt ls j
   level-kept j h = getD-set-other ls (suc count) (suc j) level 0 (λ e. omega (arith, e, h))
 
-  pub level-fits : level ≤ 40
+  pub level-fits : level ≤ paper .numbers
   level-fits = omega (arith, before-all .low, few)
 
   kind-stored : getD ks′ level 0 ≡ kind
@@ -172,14 +172,14 @@ module _ {ns ls ks : List ℕ} {n kind : ℕ} (w : New ns ls ks n kind) where
           let q : 0 + count ≡ count = omega arith in
           ap (variableAt ns′ ls′ ks′) q ∙ one (entryAt ns′ count) n (codeAt ls′ ks′ count) kind number-last code-last
 
-  grown-steps : stepsFrom ls′ ks′ 0 0 0 (suc count) ≡ true
-  grown-steps = steps-snoc ls′ ks′ 0 count (steps-agree agreed 0 0 0 count (omega arith) ∙ so-far) small test
+  grown-steps : stepsFrom (paper .numbers) ls′ ks′ 0 0 0 (suc count) ≡ true
+  grown-steps = steps-snoc ls′ ks′ (paper .numbers) 0 count (steps-agree agreed (paper .numbers) 0 0 0 count (omega arith) ∙ so-far) small test
     where
       q : 0 + count ≡ count
       q = omega arith
 
-      small : leb (entryAt ls′ (0 + count)) 40 ≡ true
-      small = ap (λ (i : ℕ). leb (entryAt ls′ i) 40) q ∙ ap (λ (l : ℕ). leb l 40) level-last ∙ le-leb level 40 level-fits
+      small : leb (entryAt ls′ (0 + count)) (paper .numbers) ≡ true
+      small = ap (λ (i : ℕ). leb (entryAt ls′ i) (paper .numbers)) q ∙ ap (λ (l : ℕ). leb l (paper .numbers)) level-last ∙ le-leb level (paper .numbers) level-fits
 
       at : (m m′ c c′ l l′ k k′ : ℕ) → m ≡ m′ → c ≡ c′ → l ≡ l′ → k ≡ k′ → stepOk m c l k ≡ stepOk m′ c′ l′ k′
       at m m′ c c′ l l′ k k′ a b d e =
@@ -198,13 +198,13 @@ module _ {ns ls ks : List ℕ} {n kind : ℕ} (w : New ns ls ks n kind) where
   grown-sound =
       record {
         numbers-ok = ap (numbersOk paper []) grown-prefix ∙ grown-numbers;
-        levels-ok = steps-ok ns′ ls′ ks′ (omega (arith, counted, few)) ∙ ap (stepsFrom ls′ ks′ 0 0 0) counted ∙ grown-steps;
+        levels-ok = steps-ok paper ns′ ls′ ks′ (omega (arith, counted, few)) ∙ ap (stepsFrom (paper .numbers) ls′ ks′ 0 0 0) counted ∙ grown-steps;
       }
 
   no-fault : variableFault paper (prefixOf ns ls ks) n ≡ none
   no-fault =
-      ap (λ (x : Bool). given (x || ltb 40 n) 3 orElse given (not (eqb (placeOf (prefixOf ns ls ks) n) 0)) 4) (ne-eqb n 0 (λ e. omega (arith, e, w .low)))
-      ∙ ap (λ (x : Bool). given x 3 orElse given (not (eqb (placeOf (prefixOf ns ls ks) n) 0)) 4) (le-ltb 40 n (w .high))
+      ap (λ (x : Bool). given (x || ltb (paper .numbers) n) 3 orElse given (not (eqb (placeOf (prefixOf ns ls ks) n) 0)) 4) (ne-eqb n 0 (λ e. omega (arith, e, w .low)))
+      ∙ ap (λ (x : Bool). given x 3 orElse given (not (eqb (placeOf (prefixOf ns ls ks) n) 0)) 4) (le-ltb (paper .numbers) n (w .high))
       ∙ ap (λ (p : ℕ). given (not (eqb p 0)) 4) (w .fresh)
 
   stored : Declared ns ls ks n kind 0 ns′ ls′ ks′
@@ -218,7 +218,7 @@ module _ {ns ls ks : List ℕ} {n kind : ℕ} (w : New ns ls ks n kind) where
   pub growing : Growing ls ks count kind
   growing = record { level = omega (arith, past .low, few); beside = past .code; code = w .may .code }
 
-  pub count-fits : count < 40
+  pub count-fits : count < paper .numbers
   count-fits = few
 
   -- q is the place, and l the level, as they were computed
@@ -239,19 +239,19 @@ module _ (ns ls ks : List ℕ) (n kind : ℕ) (may : Declarable ns ls ks kind) w
 
   pub declared-low : n < 1 → Declared ns ls ks n kind 3 ns ls ks
   declared-low h =
-      refused 3 (ap (λ (x : Bool). given (x || ltb 40 n) 3 orElse given (not (eqb (placeOf (prefixOf ns ls ks) n) 0)) 4) (eq-eqb n 0 (omega (arith, h))))
+      refused 3 (ap (λ (x : Bool). given (x || ltb (paper .numbers) n) 3 orElse given (not (eqb (placeOf (prefixOf ns ls ks) n) 0)) 4) (eq-eqb n 0 (omega (arith, h))))
 
-  pub declared-high : 40 < n → Declared ns ls ks n kind 3 ns ls ks
+  pub declared-high : paper .numbers < n → Declared ns ls ks n kind 3 ns ls ks
   declared-high h =
       refused 3
-      (ap (λ (x : Bool). given (x || ltb 40 n) 3 orElse given (not (eqb (placeOf (prefixOf ns ls ks) n) 0)) 4) (ne-eqb n 0 (λ e. omega (arith, e, h)))
-      ∙ ap (λ (x : Bool). given x 3 orElse given (not (eqb (placeOf (prefixOf ns ls ks) n) 0)) 4) (lt-ltb 40 n h))
+      (ap (λ (x : Bool). given (x || ltb (paper .numbers) n) 3 orElse given (not (eqb (placeOf (prefixOf ns ls ks) n) 0)) 4) (ne-eqb n 0 (λ e. omega (arith, e, h)))
+      ∙ ap (λ (x : Bool). given x 3 orElse given (not (eqb (placeOf (prefixOf ns ls ks) n) 0)) 4) (lt-ltb (paper .numbers) n h))
 
-  pub declared-twice : 1 ≤ n → n ≤ 40 → (placeOf (prefixOf ns ls ks) n ≡ 0 → ⊥) → Declared ns ls ks n kind 4 ns ls ks
+  pub declared-twice : 1 ≤ n → n ≤ paper .numbers → (placeOf (prefixOf ns ls ks) n ≡ 0 → ⊥) → Declared ns ls ks n kind 4 ns ls ks
   declared-twice l h z =
       refused 4
-      (ap (λ (x : Bool). given (x || ltb 40 n) 3 orElse given (not (eqb (placeOf (prefixOf ns ls ks) n) 0)) 4) (ne-eqb n 0 (λ e. omega (arith, e, l)))
-      ∙ ap (λ (x : Bool). given x 3 orElse given (not (eqb (placeOf (prefixOf ns ls ks) n) 0)) 4) (le-ltb 40 n h)
+      (ap (λ (x : Bool). given (x || ltb (paper .numbers) n) 3 orElse given (not (eqb (placeOf (prefixOf ns ls ks) n) 0)) 4) (ne-eqb n 0 (λ e. omega (arith, e, l)))
+      ∙ ap (λ (x : Bool). given x 3 orElse given (not (eqb (placeOf (prefixOf ns ls ks) n) 0)) 4) (le-ltb (paper .numbers) n h)
       ∙ ap (λ (x : Bool). given (not x) 4) (ne-eqb (placeOf (prefixOf ns ls ks) n) 0 z))
 
 pub level-at : (ls : List ℕ) (p : ℕ) → (p ≡ 0 → ⊥) → getD ls p 0 ≡ levelFor ls p

@@ -23,15 +23,15 @@ module _ (ns ls ks : List ℕ) where
   sound-none e =
       record {
         numbers-ok = ap (λ (n : ℕ). numbersOk paper [] (listed n)) e;
-        levels-ok = steps-ok ns ls ks (omega (arith, e)) ∙ ap (stepsFrom ls ks 0 0 0) e;
+        levels-ok = steps-ok paper ns ls ks (omega (arith, e)) ∙ ap (stepsFrom (paper .numbers) ls ks 0 0 0) e;
       }
     where
       listed : ℕ → Prefix
       listed n = listing (variableAt ns ls ks) 0 n
 
   module _ (s : Sound ns ls ks) where
-    pub sound-numbered : numbered (prefixOf ns ls ks) ≡ true
-    sound-numbered = numbers-numbered (prefixOf ns ls ks) (s .numbers-ok)
+    pub sound-numbered : numbered paper (prefixOf ns ls ks) ≡ true
+    sound-numbered = numbers-numbered paper (prefixOf ns ls ks) (s .numbers-ok)
 
     pub sound-fits : prefixFits paper ns ls ks ≡ true
     sound-fits = and-left (prefixFits paper ns ls ks) (freeFirst (quantifiers (prefixOf ns ls ks))) (s .levels-ok)
@@ -40,13 +40,13 @@ module _ (ns ls ks : List ℕ) where
     sound-free-first = and-right (prefixFits paper ns ls ks) (freeFirst (quantifiers (prefixOf ns ls ks))) (s .levels-ok)
 
     pub sound-quantified : Quantified (prefixOf ns ls ks) ls ks
-    sound-quantified = prefix-quantified ns ls ks sound-fits
+    sound-quantified = prefix-quantified ns ls ks paper sound-fits
 
 -- ---- states
 pub valid-sound : (x : State) → valid x ≡ true → Sound (x .numbers) (x .levels) (x .kinds)
 valid-sound x v =
     let p = valid-parts x v in
-    record { numbers-ok = and-right (leb (length (prefixIn x)) 40) (numbersOk paper [] (prefixIn x)) (p .numbers-ok); levels-ok = p .levels-ok }
+    record { numbers-ok = and-right (leb (length (prefixIn x)) (paper .numbers)) (numbersOk paper [] (prefixIn x)) (p .numbers-ok); levels-ok = p .levels-ok }
 
 pub sound-valid : (x : State) → Sound (x .numbers) (x .levels) (x .kinds) → clausesPart x ≡ true → learnedClausesPart x ≡ true → learnedCubesPart x ≡ true → recordsPart x ≡ true → valid x ≡ true
 sound-valid x s c l p r =

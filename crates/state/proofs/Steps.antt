@@ -9,7 +9,7 @@ use mathlib.Core.List.{List, [], _∷_}
 use lib.ListN.{getD}
 use lib.Dec.{leb, eqb}
 use borrow.Author.Tests.{eqb-true, eq-eqb, ne-eqb, leb-true, le-leb, lt-leb, not-true, not-false}
-use Rattle.qbf.specs.Formula.{paper, Quantifier, free, exists, forall, isFree, sameQuantifier, quantifiers, levelBeside, levelsFrom, levels}
+use Rattle.qbf.specs.Formula.{Limits, Quantifier, free, exists, forall, isFree, sameQuantifier, quantifiers, levelBeside, levelsFrom, levels}
 use Rattle.qbf.specs.Calls.{freeFirst, noFree}
 use Rattle.theory.proofs.Basics.{dichotomy, and-left}
 use Rattle.state.specs.Reading.{listing, atMost, same, quantifierOf, entryAt, codeAt, variableAt, prefixOf, levelsFit}
@@ -126,21 +126,21 @@ shuffle true true true false true true true O = refl
 shuffle true true true true A B S O = refl
 
 -- k places from i on, after one of level m and of code c
-abbrev pub stepsFrom : List ℕ → List ℕ → ℕ → ℕ → ℕ → ℕ → Bool
-stepsFrom ls ks m c i zero = true
-stepsFrom ls ks m c i (suc k) =
-    leb (entryAt ls i) 40 && (stepOk m c (entryAt ls i) (codeAt ls ks i) && stepsFrom ls ks (entryAt ls i) (codeAt ls ks i) (suc i) k)
+abbrev pub stepsFrom : ℕ → List ℕ → List ℕ → ℕ → ℕ → ℕ → ℕ → Bool
+stepsFrom w ls ks m c i zero = true
+stepsFrom w ls ks m c i (suc k) =
+    leb (entryAt ls i) w && (stepOk m c (entryAt ls i) (codeAt ls ks i) && stepsFrom w ls ks (entryAt ls i) (codeAt ls ks i) (suc i) k)
 
-module _ (ns ls ks : List ℕ) where
+module _ (w : ℕ) (ns ls ks : List ℕ) where
   abbrev kindsFrom : ℕ → ℕ → List Quantifier
   kindsFrom i k = quantifiers (listing (variableAt ns ls ks) i k)
 
   abbrev restOk : ℕ → Quantifier → ℕ → ℕ → Bool
   restOk m κ i k =
-      (atMost 40 (listing (entryAt ls) i k) && atMost 2 (listing (codeAt ls ks) i k) && same (levelsFrom m κ (kindsFrom i k)) (listing (entryAt ls) i k))
+      (atMost w (listing (entryAt ls) i k) && atMost 2 (listing (codeAt ls ks) i k) && same (levelsFrom m κ (kindsFrom i k)) (listing (entryAt ls) i k))
       && orderFrom κ (kindsFrom i k)
 
-  steps-rest : (m c i k : ℕ) → stepsFrom ls ks m c i k ≡ restOk m (quantifierOf c) i k
+  steps-rest : (m c i k : ℕ) → stepsFrom w ls ks m c i k ≡ restOk m (quantifierOf c) i k
   steps-rest m c i zero = by (quantifierOf c)
     where
       by : (κ : Quantifier) → true ≡ orderFrom κ []
@@ -148,10 +148,10 @@ module _ (ns ls ks : List ℕ) where
       by exists = refl
       by forall = refl
   steps-rest m c i (suc k) =
-      ap (λ (x : Bool). leb l 40 && (stepOk m c l d && x)) (steps-rest l d (suc i) k)
-      ∙ shuffle (leb l 40) (leb d 2) (eqb g l) (ordered (quantifierOf c) κ) (atMost 40 (listing (entryAt ls) (suc i) k)) (atMost 2 (listing (codeAt ls ks) (suc i) k)) (rest l) (orderFrom κ (kindsFrom (suc i) k))
-      ∙ ap (λ (x : Bool). (leb l 40 && atMost 40 (listing (entryAt ls) (suc i) k)) && (leb d 2 && atMost 2 (listing (codeAt ls ks) (suc i) k)) && x && (ordered (quantifierOf c) κ && orderFrom κ (kindsFrom (suc i) k))) (by (dichotomy (eqb g l)))
-      ∙ ap (λ (x : Bool). (leb l 40 && atMost 40 (listing (entryAt ls) (suc i) k)) && (leb d 2 && atMost 2 (listing (codeAt ls ks) (suc i) k)) && (eqb g l && rest g) && x) (sym (order-step (quantifierOf c) κ (kindsFrom (suc i) k)))
+      ap (λ (x : Bool). leb l w && (stepOk m c l d && x)) (steps-rest l d (suc i) k)
+      ∙ shuffle (leb l w) (leb d 2) (eqb g l) (ordered (quantifierOf c) κ) (atMost w (listing (entryAt ls) (suc i) k)) (atMost 2 (listing (codeAt ls ks) (suc i) k)) (rest l) (orderFrom κ (kindsFrom (suc i) k))
+      ∙ ap (λ (x : Bool). (leb l w && atMost w (listing (entryAt ls) (suc i) k)) && (leb d 2 && atMost 2 (listing (codeAt ls ks) (suc i) k)) && x && (ordered (quantifierOf c) κ && orderFrom κ (kindsFrom (suc i) k))) (by (dichotomy (eqb g l)))
+      ∙ ap (λ (x : Bool). (leb l w && atMost w (listing (entryAt ls) (suc i) k)) && (leb d 2 && atMost 2 (listing (codeAt ls ks) (suc i) k)) && (eqb g l && rest g) && x) (sym (order-step (quantifierOf c) κ (kindsFrom (suc i) k)))
     where
       l : ℕ
       l = entryAt ls i
@@ -172,70 +172,80 @@ module _ (ns ls ks : List ℕ) where
       by (inl e) = ap (λ (n : ℕ). eqb g l && rest n) (sym (eqb-true g l e))
       by (inr e) = ap (λ (x : Bool). x && rest l) e ∙ sym (ap (λ (x : Bool). x && rest g) e)
 
-  pub steps-ok : getD ns 0 0 ≤ 40 → levelsOk ns ls ks ≡ stepsFrom ls ks 0 0 0 (getD ns 0 0)
+module _ (L : Limits) (ns ls ks : List ℕ) where
+  pub steps-ok : getD ns 0 0 ≤ L .numbers → levelsOk L ns ls ks ≡ stepsFrom (L .numbers) ls ks 0 0 0 (getD ns 0 0)
   unfolding levels
   steps-ok few =
-      ap (λ (x : Bool). x && levelsFit paper ns ls ks && freeFirst (quantifiers (prefixOf ns ls ks))) (le-leb (getD ns 0 0) 40 few)
-      ∙ sym (steps-rest 0 0 0 (getD ns 0 0))
+      ap (λ (x : Bool). x && levelsFit L ns ls ks && freeFirst (quantifiers (prefixOf ns ls ks))) (le-leb (getD ns 0 0) (L .numbers) few)
+      ∙ sym (steps-rest (L .numbers) ns ls ks 0 0 0 (getD ns 0 0))
 
-  pub levels-many : {count : ℕ} → count ≡ getD ns 0 0 → 40 < count → false ≡ levelsOk ns ls ks
-  levels-many w h =
-      sym (ap (λ (x : Bool). x && levelsFit paper ns ls ks && freeFirst (quantifiers (prefixOf ns ls ks))) (lt-leb (getD ns 0 0) 40 (omega (arith, w, h))))
+  pub levels-many : {w count : ℕ} → count ≡ getD ns 0 0 → w < count → L .numbers ≡ w → false ≡ levelsOk L ns ls ks
+  levels-many is h e =
+      sym (ap (λ (x : Bool). x && levelsFit L ns ls ks && freeFirst (quantifiers (prefixOf ns ls ks))) (lt-leb (getD ns 0 0) (L .numbers) (omega (arith, is, h, e))))
 
--- ---- the loop along the places; the last one has the level m and the code c
-pub record Stepping (ns ls ks : List ℕ) (count m c i : ℕ) : Type 0 where
+-- ---- the loop along the places, under the limit w; the last one has the level m and the code c
+pub record Stepping (w : ℕ) (ns ls ks : List ℕ) (count m c i : ℕ) : Type 0 where
   pub whole : count ≡ getD ns 0 0
-  pub few : count ≤ 40
-  pub level : m ≤ 40
+  pub few : count ≤ w
+  pub level : m ≤ w
   pub code : c ≤ 2
-  pub judged : levelsOk ns ls ks ≡ stepsFrom ls ks m c i (count - i)
+  pub judged : (L : Limits) → L .numbers ≡ w → levelsOk L ns ls ks ≡ stepsFrom w ls ks m c i (count - i)
 
-pub stepping-none : (ns ls ks : List ℕ) {count : ℕ} → count ≡ getD ns 0 0 → count ≤ 40 → Stepping ns ls ks count 0 0 0
-stepping-none ns ls ks {count} w h =
-    let e : getD ns 0 0 ≡ count - 0 = omega (arith, w) in
-    record { whole = w; few = h; level = omega arith; code = omega arith; judged = steps-ok ns ls ks (omega (arith, w, h)) ∙ ap (stepsFrom ls ks 0 0 0) e }
+pub stepping-none : (w : ℕ) (ns ls ks : List ℕ) {count : ℕ} → count ≡ getD ns 0 0 → count ≤ w → Stepping w ns ls ks count 0 0 0
+stepping-none w ns ls ks {count} is h =
+    let e : getD ns 0 0 ≡ count - 0 = omega (arith, is) in
+    record {
+      whole = is;
+      few = h;
+      level = omega arith;
+      code = omega arith;
+      judged = λ L q.
+          steps-ok L ns ls ks (omega (arith, is, h, q))
+          ∙ ap (λ (n : ℕ). stepsFrom n ls ks 0 0 0 (getD ns 0 0)) q
+          ∙ ap (stepsFrom w ls ks 0 0 0) e;
+    }
 
-pub stepping-end : {ns ls ks : List ℕ} {count m c i : ℕ} → Stepping ns ls ks count m c i → count ≤ i → true ≡ levelsOk ns ls ks
-stepping-end {ls = ls} {ks = ks} {count = count} {m = m} {c = c} {i = i} w h =
-    let e : count - i ≡ 0 = omega arith in sym (w .judged ∙ ap (stepsFrom ls ks m c i) e)
+pub stepping-end : {w : ℕ} {ns ls ks : List ℕ} {count m c i : ℕ} → Stepping w ns ls ks count m c i → count ≤ i → (L : Limits) → L .numbers ≡ w → true ≡ levelsOk L ns ls ks
+stepping-end {w} {ls = ls} {ks = ks} {count = count} {m = m} {c = c} {i = i} s h L q =
+    let e : count - i ≡ 0 = omega arith in sym (s .judged L q ∙ ap (stepsFrom w ls ks m c i) e)
 
 -- the next level, read as l
-pub record LevelRead (ns ls ks : List ℕ) (count m c i l : ℕ) : Type 0 where
-  pub stepping : Stepping ns ls ks count m c i
+pub record LevelRead (w : ℕ) (ns ls ks : List ℕ) (count m c i l : ℕ) : Type 0 where
+  pub stepping : Stepping w ns ls ks count m c i
   pub more : i < count
   pub is : l ≡ entryAt ls i
 
-module _ {ns ls ks : List ℕ} {count m c i l : ℕ} (t : LevelRead ns ls ks count m c i l) where
+module _ {w : ℕ} {ns ls ks : List ℕ} {count m c i l : ℕ} (t : LevelRead w ns ls ks count m c i l) where
   abbrev onward : ℕ → ℕ → Bool
-  onward n d = leb n 40 && (stepOk m c n d && stepsFrom ls ks n d (suc i) (count - suc i))
+  onward n d = leb n w && (stepOk m c n d && stepsFrom w ls ks n d (suc i) (count - suc i))
 
-  next : levelsOk ns ls ks ≡ onward l (getD ks l 0)
-  next =
+  next : (L : Limits) → L .numbers ≡ w → levelsOk L ns ls ks ≡ onward l (getD ks l 0)
+  next L q =
       let e : count - i ≡ suc (count - suc i) = omega (arith, t .more) in
-      t .stepping .judged ∙ ap (stepsFrom ls ks m c i) e ∙ ap (λ (n : ℕ). onward n (getD ks n 0)) (sym (t .is))
+      t .stepping .judged L q ∙ ap (stepsFrom w ls ks m c i) e ∙ ap (λ (n : ℕ). onward n (getD ks n 0)) (sym (t .is))
 
-  pub level-high : 40 < l → false ≡ levelsOk ns ls ks
-  level-high h = sym (next ∙ ap (λ (x : Bool). x && (stepOk m c l (getD ks l 0) && stepsFrom ls ks l (getD ks l 0) (suc i) (count - suc i))) (lt-leb l 40 h))
+  pub level-high : w < l → (L : Limits) → L .numbers ≡ w → false ≡ levelsOk L ns ls ks
+  level-high h L q = sym (next L q ∙ ap (λ (x : Bool). x && (stepOk m c l (getD ks l 0) && stepsFrom w ls ks l (getD ks l 0) (suc i) (count - suc i))) (lt-leb l w h))
 
 -- its code, read as d, was tested with the answer r
-pub record StepTested (ns ls ks : List ℕ) (count m c i l d : ℕ) (r : Bool) : Type 0 where
-  pub level-read : LevelRead ns ls ks count m c i l
-  pub small : l ≤ 40
+pub record StepTested (w : ℕ) (ns ls ks : List ℕ) (count m c i l d : ℕ) (r : Bool) : Type 0 where
+  pub level-read : LevelRead w ns ls ks count m c i l
+  pub small : l ≤ w
   pub is : d ≡ getD ks l 0
   pub said : r ≡ stepOk m c l d
 
-module _ {ns ls ks : List ℕ} {count m c i l d : ℕ} {r : Bool} (t : StepTested ns ls ks count m c i l d r) where
-  tested : levelsOk ns ls ks ≡ (r && stepsFrom ls ks l d (suc i) (count - suc i))
-  tested =
-      next (t .level-read)
+module _ {w : ℕ} {ns ls ks : List ℕ} {count m c i l d : ℕ} {r : Bool} (t : StepTested w ns ls ks count m c i l d r) where
+  tested : (L : Limits) → L .numbers ≡ w → levelsOk L ns ls ks ≡ (r && stepsFrom w ls ks l d (suc i) (count - suc i))
+  tested L q =
+      next (t .level-read) L q
       ∙ ap (onward (t .level-read) l) (sym (t .is))
-      ∙ ap (λ (x : Bool). x && (stepOk m c l d && stepsFrom ls ks l d (suc i) (count - suc i))) (le-leb l 40 (t .small))
-      ∙ ap (λ (x : Bool). x && stepsFrom ls ks l d (suc i) (count - suc i)) (sym (t .said))
+      ∙ ap (λ (x : Bool). x && (stepOk m c l d && stepsFrom w ls ks l d (suc i) (count - suc i))) (le-leb l w (t .small))
+      ∙ ap (λ (x : Bool). x && stepsFrom w ls ks l d (suc i) (count - suc i)) (sym (t .said))
 
-  pub step-bad : not r ≡ true → false ≡ levelsOk ns ls ks
-  step-bad e = sym (tested ∙ ap (λ (x : Bool). x && stepsFrom ls ks l d (suc i) (count - suc i)) (not-true r e))
+  pub step-bad : not r ≡ true → (L : Limits) → L .numbers ≡ w → false ≡ levelsOk L ns ls ks
+  step-bad e L q = sym (tested L q ∙ ap (λ (x : Bool). x && stepsFrom w ls ks l d (suc i) (count - suc i)) (not-true r e))
 
-  pub step-more : not r ≡ false → Stepping ns ls ks count l d (i + 1)
+  pub step-more : not r ≡ false → Stepping w ns ls ks count l d (i + 1)
   step-more e =
       rw add-one
       (record {
@@ -243,5 +253,5 @@ module _ {ns ls ks : List ℕ} {count m c i l d : ℕ} {r : Bool} (t : StepTeste
         few = t .level-read .stepping .few;
         level = t .small;
         code = leb-true d 2 (and-left (leb d 2) (eqb (levelBeside m (quantifierOf c) (quantifierOf d)) l && ordered (quantifierOf c) (quantifierOf d)) (sym (t .said) ∙ not-false r e));
-        judged = tested ∙ ap (λ (x : Bool). x && stepsFrom ls ks l d (suc i) (count - suc i)) (not-false r e);
+        judged = λ L q. tested L q ∙ ap (λ (x : Bool). x && stepsFrom w ls ks l d (suc i) (count - suc i)) (not-false r e);
       })

@@ -9,7 +9,7 @@ use lib.ListN.{length, getD}
 use lib.Dec.{leb, eqb}
 use lib.IntN.{ℤ}
 use borrow.Author.Tests.{le-leb, leb-true}
-use Rattle.qbf.specs.Formula.{paper, free, Prefix, Clause, quantifiers, quantifierAt, all}
+use Rattle.qbf.specs.Formula.{Limits, paper, free, Prefix, Clause, quantifiers, quantifierAt, all}
 use Rattle.qbf.specs.Learning.{Constraint}
 use Rattle.qbf.specs.Calls.{wellFormed, formulaOk, prefixOk, numbersOk, freeFirst, clauseOk, clausesOk, constraintOk, storeOk, recordsOk}
 use Rattle.theory.proofs.Basics.{and-left, and-right, and-both, true-eqb}
@@ -41,15 +41,15 @@ module _ (ns ls ks : List ℕ) where
   code-back (suc zero) h = refl
   code-back (suc (suc n)) h = omega (arith, h)
 
-  pub prefix-quantified : prefixFits paper ns ls ks ≡ true → Quantified (prefixOf ns ls ks) ls ks
-  prefix-quantified e = record { at = λ i h. code-back (codeAt ls ks i) (small i (omega (arith, h, prefix-length))) ∙ ap quantifierCode (sym (read i (omega (arith, h, prefix-length)))) }
+  pub prefix-quantified : (L : Limits) → prefixFits L ns ls ks ≡ true → Quantified (prefixOf ns ls ks) ls ks
+  prefix-quantified L e = record { at = λ i h. code-back (codeAt ls ks i) (small i (omega (arith, h, prefix-length))) ∙ ap quantifierCode (sym (read i (omega (arith, h, prefix-length)))) }
     where
       codes : atMost 2 (listing (codeAt ls ks) 0 (getD ns 0 0)) ≡ true
       codes =
           and-right
-          (atMost 40 (listing (entryAt ls) 0 (getD ns 0 0)))
+          (atMost (L .numbers) (listing (entryAt ls) 0 (getD ns 0 0)))
           (atMost 2 (listing (codeAt ls ks) 0 (getD ns 0 0)))
-          (and-left _ _ (and-right (leb (getD ns 0 0) 40) (levelsFit paper ns ls ks) e))
+          (and-left _ _ (and-right (leb (getD ns 0 0) (L .numbers)) (levelsFit L ns ls ks) e))
 
       small : (i : ℕ) → i < getD ns 0 0 → codeAt ls ks i ≤ 2
       small i h =
@@ -62,22 +62,22 @@ module _ (ns ls ks : List ℕ) where
           ∙ listing-at (λ j. quantifierOf (codeAt ls ks j)) 0 (getD ns 0 0) i free h
           ∙ ap (λ j. quantifierOf (codeAt ls ks j)) (let e : 0 + i ≡ i = omega arith in e)
 
-  module _ {ok : Bool} {places kinds : List ℕ} (placed : Placing ns ok places) where
-    pub shown-bad : ok ≡ false → Shown ns ls ks false places kinds
+  module _ (L : Limits) {ok : Bool} {places kinds : List ℕ} (placed : Placing L ns ok places) where
+    pub shown-bad : ok ≡ false → Shown L ns ls ks false places kinds
     shown-bad e =
         record {
-          said = sym (ap (λ (q : Bool). q && levelsOk ns ls ks) (sym (placed .said (prefixOf ns ls ks) prefix-numbers) ∙ e));
+          said = sym (ap (λ (q : Bool). q && levelsOk L ns ls ks) (sym (placed .said (prefixOf ns ls ks) prefix-numbers) ∙ e));
           places-shown = λ q. absurd (false≢true q);
           kinds-shown = λ q. absurd (false≢true q);
         }
 
-    pub shown-end : ok ≡ true → ((D : Prefix) → Places D places → Quantified D ls ks → Kinds D kinds) → {r : Bool} → r ≡ levelsOk ns ls ks → Shown ns ls ks r places kinds
+    pub shown-end : ok ≡ true → ((D : Prefix) → Places D places → Quantified D ls ks → Kinds D kinds) → {r : Bool} → r ≡ levelsOk L ns ls ks → Shown L ns ls ks r places kinds
     shown-end e coded s =
         let P : Places (prefixOf ns ls ks) places = placed .shown e (prefixOf ns ls ks) prefix-numbers in
         record {
-          said = s ∙ sym (ap (λ (q : Bool). q && levelsOk ns ls ks) (sym (placed .said (prefixOf ns ls ks) prefix-numbers) ∙ e));
+          said = s ∙ sym (ap (λ (q : Bool). q && levelsOk L ns ls ks) (sym (placed .said (prefixOf ns ls ks) prefix-numbers) ∙ e));
           places-shown = λ q. P;
-          kinds-shown = λ q. coded (prefixOf ns ls ks) P (prefix-quantified (and-left (prefixFits paper ns ls ks) (freeFirst (quantifiers (prefixOf ns ls ks))) (sym s ∙ q)));
+          kinds-shown = λ q. coded (prefixOf ns ls ks) P (prefix-quantified L (and-left (prefixFits L ns ls ks) (freeFirst (quantifiers (prefixOf ns ls ks))) (sym s ∙ q)));
         }
 
 -- ---- a flat table
@@ -165,10 +165,10 @@ module _ (x : State) where
   C₁ = rowsOf (paper .numbers) (x .«learned_cubes») (x .«learned_cube_sizes»)
 
   abbrev pub numbersPart : Bool
-  numbersPart = numbered D
+  numbersPart = numbered paper D
 
   abbrev pub levelsPart : Bool
-  levelsPart = levelsOk (x .numbers) (x .levels) (x .kinds)
+  levelsPart = levelsOk paper (x .numbers) (x .levels) (x .kinds)
 
   abbrev pub clausesPart : Bool
   clausesPart = clausesFine D (x .clauses) (x .«clause_sizes»)
@@ -222,11 +222,11 @@ module _ (x : State) where
 
       prefix : prefixOk paper D ≡ true
       prefix =
-          and-both (numbersOk paper [] D) (freeFirst (quantifiers D)) (and-right (leb (length D) 40) (numbersOk paper [] D) (q .numbers-ok)) (and-right p (freeFirst (quantifiers D)) (q .levels-ok))
+          and-both (numbersOk paper [] D) (freeFirst (quantifiers D)) (and-right (leb (length D) (paper .numbers)) (numbersOk paper [] D) (q .numbers-ok)) (and-right p (freeFirst (quantifiers D)) (q .levels-ok))
 
       clauses : clausesOk paper D R ≡ true
       clauses =
-          and-both (leb (length R) 255) (all (clauseOk paper D) R) (counted 16 255 (x .clauses) (x .«clause_sizes») i) (and-right a (all (clauseOk paper D) R) (q .clauses-ok))
+          and-both (leb (length R) (paper .clauses)) (all (clauseOk paper D) R) (counted (paper .literals) (paper .clauses) (x .clauses) (x .«clause_sizes») i) (and-right a (all (clauseOk paper D) R) (q .clauses-ok))
 
       formula : formulaOk (stateIn x .formula) ≡ true
       formula = and-both (prefixOk paper D) (clausesOk paper D R) prefix clauses
@@ -234,23 +234,23 @@ module _ (x : State) where
       store : storeOk paper D (stateIn x .store) ≡ true
       store =
           and-both
-          (leb (length C₀) 64 && leb (length C₁) 64 && all (constraintOk D false) C₀)
+          (leb (length C₀) (paper .constraints) && leb (length C₁) (paper .constraints) && all (constraintOk D false) C₀)
           (all (constraintOk D true) C₁)
           (and-both
-          (leb (length C₀) 64 && leb (length C₁) 64)
+          (leb (length C₀) (paper .constraints) && leb (length C₁) (paper .constraints))
           (all (constraintOk D false) C₀)
-          (and-both (leb (length C₀) 64) (leb (length C₁) 64) (counted 40 64 (x .«learned_clauses») (x .«learned_clause_sizes») j) (counted 40 64 (x .«learned_cubes») (x .«learned_cube_sizes») k))
+          (and-both (leb (length C₀) (paper .constraints)) (leb (length C₁) (paper .constraints)) (counted (paper .numbers) (paper .constraints) (x .«learned_clauses») (x .«learned_clause_sizes») j) (counted (paper .numbers) (paper .constraints) (x .«learned_cubes») (x .«learned_cube_sizes») k))
           (and-right b (all (constraintOk D false) C₀) (q .learned-clauses-ok)))
           (and-right c (all (constraintOk D true) C₁) (q .learned-cubes-ok))
 
   pub valid-parts : valid x ≡ true → Parts
   valid-parts e =
       record {
-        numbers-ok = and-both (leb (length D) 40) (numbersOk paper [] D) few (and-left (numbersOk paper [] D) (freeFirst (quantifiers D)) prefix);
+        numbers-ok = and-both (leb (length D) (paper .numbers)) (numbersOk paper [] D) few (and-left (numbersOk paper [] D) (freeFirst (quantifiers D)) prefix);
         levels-ok = and-both p (freeFirst (quantifiers D)) (f .prefix-fits) (and-right (numbersOk paper [] D) (freeFirst (quantifiers D)) prefix);
-        clauses-ok = and-both a (all (clauseOk paper D) R) (f .clauses-fit) (and-right (leb (length R) 255) (all (clauseOk paper D) R) (and-right (prefixOk paper D) (clausesOk paper D R) formula));
-        learned-clauses-ok = and-both b (all (constraintOk D false) C₀) (f .learned-clauses-fit) (and-right (leb (length C₀) 64 && leb (length C₁) 64) (all (constraintOk D false) C₀) (and-left (leb (length C₀) 64 && leb (length C₁) 64 && all (constraintOk D false) C₀) (all (constraintOk D true) C₁) store));
-        learned-cubes-ok = and-both c (all (constraintOk D true) C₁) (f .learned-cubes-fit) (and-right (leb (length C₀) 64 && leb (length C₁) 64 && all (constraintOk D false) C₀) (all (constraintOk D true) C₁) store);
+        clauses-ok = and-both a (all (clauseOk paper D) R) (f .clauses-fit) (and-right (leb (length R) (paper .clauses)) (all (clauseOk paper D) R) (and-right (prefixOk paper D) (clausesOk paper D R) formula));
+        learned-clauses-ok = and-both b (all (constraintOk D false) C₀) (f .learned-clauses-fit) (and-right (leb (length C₀) (paper .constraints) && leb (length C₁) (paper .constraints)) (all (constraintOk D false) C₀) (and-left (leb (length C₀) (paper .constraints) && leb (length C₁) (paper .constraints) && all (constraintOk D false) C₀) (all (constraintOk D true) C₁) store));
+        learned-cubes-ok = and-both c (all (constraintOk D true) C₁) (f .learned-cubes-fit) (and-right (leb (length C₀) (paper .constraints) && leb (length C₁) (paper .constraints) && all (constraintOk D false) C₀) (all (constraintOk D true) C₁) store);
         records-ok = sym recorded ∙ and-right (storeOk paper D (storeIn x)) (recordsOk (length R) (storeIn x)) kept;
       }
     where
@@ -269,10 +269,10 @@ module _ (x : State) where
       store : storeOk paper D (stateIn x .store) ≡ true
       store = and-left (storeOk paper D (storeIn x)) (recordsOk (length R) (storeIn x)) kept
 
-      few : leb (length D) 40 ≡ true
+      few : leb (length D) (paper .numbers) ≡ true
       few =
-          ap (λ (n : ℕ). leb n 40) (prefix-length (x .numbers) (x .levels) (x .kinds))
-          ∙ and-left (leb (getD (x .numbers) 0 0) 40) (levelsFit paper (x .numbers) (x .levels) (x .kinds)) (f .prefix-fits)
+          ap (λ (n : ℕ). leb n (paper .numbers)) (prefix-length (x .numbers) (x .levels) (x .kinds))
+          ∙ and-left (leb (getD (x .numbers) 0 0) (paper .numbers)) (levelsFit paper (x .numbers) (x .levels) (x .kinds)) (f .prefix-fits)
 
   -- two answers that are true of each other are one
   alike : (r q : Bool) → (q ≡ true → r ≡ true) → (r ≡ true → q ≡ true) → r ≡ q
@@ -306,7 +306,7 @@ module _ (x : State) where
       }))
 
   -- from the prefix that was read: the check stops there, or goes on to the rows
-  module _ {ok : Bool} {places kinds : List ℕ} (shown : Shown (x .numbers) (x .levels) (x .kinds) ok places kinds) (sized : Sized x) where
+  module _ {ok : Bool} {places kinds : List ℕ} (shown : Shown paper (x .numbers) (x .levels) (x .kinds) ok places kinds) (sized : Sized x) where
     valid-read : valid x ≡ true → ok ≡ true
     valid-read v = shown .said ∙ and-both numbersPart levelsPart (valid-parts v .numbers-ok) (valid-parts v .levels-ok)
 
@@ -314,8 +314,8 @@ module _ (x : State) where
     checked e =
         record { said = e; sized = sized; placed = λ v. shown .places-shown (valid-read v); kinded = λ v. shown .kinds-shown (valid-read v) }
 
-    pub checked-bad : ok ≡ false → Checked x ok places kinds
-    checked-bad e = checked (alike ok (valid x) valid-read (λ t. absurd (false≢true (sym e ∙ t))))
+    pub checked-bad : ok ≡ false → Checked x false places kinds
+    checked-bad e = checked (sym e ∙ alike ok (valid x) valid-read (λ t. absurd (false≢true (sym e ∙ t))))
 
     pub checked-rows : ok ≡ true → {r : Bool} → ((D : Prefix) → Places D places → Kinds D kinds
         → r ≡ (clausesFine D (x .clauses) (x .«clause_sizes») && constraintsFine D false (x .«learned_clauses») (x .«learned_clause_sizes») && constraintsFine D true (x .«learned_cubes») (x .«learned_cube_sizes») && recordsFine (x .«clause_sizes») (x .«learned_clause_sizes»)))
@@ -338,11 +338,11 @@ module _ (x : State) (v : valid x ≡ true) where
         learned-cubes = rows-table (paper .numbers) (paper .constraints) (x .«learned_cubes») (x .«learned_cube_sizes») (f .learned-cubes-fit) (s .learned-cubes-room) (omega (arith, s .learned-cube-sizes-room));
       }
 
-  pub valid-numbered : numbered (prefixIn x) ≡ true
+  pub valid-numbered : numbered paper (prefixIn x) ≡ true
   valid-numbered = valid-parts x v .numbers-ok
 
   pub valid-numbers : Numbers (prefixIn x) (x .numbers)
   valid-numbers = prefix-numbers (x .numbers) (x .levels) (x .kinds)
 
   pub valid-quantified : Quantified (prefixIn x) (x .levels) (x .kinds)
-  valid-quantified = prefix-quantified (x .numbers) (x .levels) (x .kinds) (valid-facts x v .prefix-fits)
+  valid-quantified = prefix-quantified (x .numbers) (x .levels) (x .kinds) paper (valid-facts x v .prefix-fits)

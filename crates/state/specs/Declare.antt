@@ -44,7 +44,7 @@ pub record Growing (ls ks : List ℕ) (p kind : ℕ) : Type 0 where
 -- the tables by place show a well-formed prefix
 pub record Sound (ns ls ks : List ℕ) : Type 0 where
   pub numbers-ok : numbersOk paper [] (prefixOf ns ls ks) ≡ true
-  pub levels-ok : levelsOk ns ls ks ≡ true
+  pub levels-ok : levelsOk paper ns ls ks ≡ true
 
 -- a variable of this quantifier may stand after those that are declared: the free variables come first
 pub record Declarable (ns ls ks : List ℕ) (kind : ℕ) : Type 0 where

@@ -6,22 +6,27 @@ use mathlib.Core.List.{List, []}
 use lib.ListN.{length, getD}
 use lib.Dec.{leb, eqb}
 use lib.IntN.{ℤ}
-use Rattle.qbf.specs.Formula.{paper, Quantifier, free, exists, forall, isFree, Prefix, quantifiers, quantifierAt, levelBeside, all}
+use Rattle.qbf.specs.Formula.{Limits, paper, Quantifier, free, exists, forall, isFree, Prefix, quantifiers, quantifierAt, levelBeside, all}
 use Rattle.qbf.specs.Calls.{numbersOk, freeFirst, clauseOk, constraintOk}
 use Rattle.tables.specs.Views.{quantifierCode, Numbers, Places, Kinds, rowsOf}
 use Rattle.state.specs.declared.State.{State}
 use Rattle.state.specs.Reading.{atMost, quantifierOf, codeAt, prefixOf, prefixFits, rowsFit, recordsOf, prefixIn, valid}
 
+-- a table of n cells, each of them 0
+pub record Cleared (n : ℕ) (t : List ℕ) : Type 0 where
+  pub room : length t ≡ n
+  pub zero : (i : ℕ) → getD t i 0 ≡ 0
+
 -- no more variables than there are numbers, each of its own number
-abbrev pub numbered : Prefix → Bool
-numbered D = leb (length D) (paper .numbers) && numbersOk paper [] D
+abbrev pub numbered : Limits → Prefix → Bool
+numbered L D = leb (length D) (L .numbers) && numbersOk L [] D
 
--- a number that may be declared, where a table has the places of those that are
-abbrev pub isFresh : List ℕ → ℕ → Bool
-isFresh places n = leb 1 n && leb n (paper .numbers) && eqb (getD places n 0) 0
+-- a number that may be declared under a limit, where a table has the places of those that are
+abbrev pub isFresh : ℕ → List ℕ → ℕ → Bool
+isFresh limit places n = leb 1 n && leb n limit && eqb (getD places n 0) 0
 
-pub record Placing (ns : List ℕ) (ok : Bool) (places : List ℕ) : Type 0 where
-  pub said : (D : Prefix) → Numbers D ns → ok ≡ numbered D
+pub record Placing (L : Limits) (ns : List ℕ) (ok : Bool) (places : List ℕ) : Type 0 where
+  pub said : (D : Prefix) → Numbers D ns → ok ≡ numbered L D
   pub shown : ok ≡ true → (D : Prefix) → Numbers D ns → Places D places
 
 -- the levels and the codes of the levels show each place's quantifier
@@ -44,12 +49,12 @@ abbrev pub stepOk : ℕ → ℕ → ℕ → ℕ → Bool
 stepOk m c l k =
     leb k (quantifierCode forall) && (eqb (levelBeside m (quantifierOf c) (quantifierOf k)) l && ordered (quantifierOf c) (quantifierOf k))
 
-abbrev pub levelsOk : List ℕ → List ℕ → List ℕ → Bool
-levelsOk ns ls ks = prefixFits paper ns ls ks && freeFirst (quantifiers (prefixOf ns ls ks))
+abbrev pub levelsOk : Limits → List ℕ → List ℕ → List ℕ → Bool
+levelsOk L ns ls ks = prefixFits L ns ls ks && freeFirst (quantifiers (prefixOf ns ls ks))
 
 -- the tables by number that show the prefix, where it is well formed
-pub record Shown (ns ls ks : List ℕ) (ok : Bool) (places kinds : List ℕ) : Type 0 where
-  pub said : ok ≡ (numbered (prefixOf ns ls ks) && levelsOk ns ls ks)
+pub record Shown (L : Limits) (ns ls ks : List ℕ) (ok : Bool) (places kinds : List ℕ) : Type 0 where
+  pub said : ok ≡ (numbered L (prefixOf ns ls ks) && levelsOk L ns ls ks)
   pub places-shown : ok ≡ true → Places (prefixOf ns ls ks) places
   pub kinds-shown : ok ≡ true → Kinds (prefixOf ns ls ks) kinds
 

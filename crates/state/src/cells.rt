@@ -1,7 +1,8 @@
-// Cells of a table, 0 past its end.
+// Cells of a table, read as 0 past its end.
 ghost use mathlib.Core.Path.{_≡_};
-ghost use lib.ListN.{getD};
+ghost use lib.ListN.{length, getD};
 ghost use Rattle.state.specs.Reading.{entryAt, recordAt};
+ghost use Rattle.state.specs.Derived.{Cleared};
 
 pub fn cell<'a>(table: &'a [u16], i: usize) -> u16
     ensures { λ r. ⌜ r ≡ getD (now (table .entry)) i 0 ⌝ }
@@ -34,5 +35,16 @@ pub fn record<'a>(table: &'a [u16], i: usize) -> usize
         cell(table, tables::CONSTRAINT_SIZES + i) as usize
     } else {
         0
+    }
+}
+
+// Every cell is 0, whatever it was.
+pub fn clear(table: &mut [u16])
+    ensures { λ _. ⌜ Cleared (length (now (table .entry))) (now (table .exit)) ⌝ }
+{
+    let mut i: usize = 0;
+    while i < table.len() {
+        table[i] = 0;
+        i += 1;
     }
 }

@@ -1,5 +1,6 @@
 // The quantifiers of a state: by place through the level, and the table by number that is derived from them.
 ghost use mathlib.Core.Path.{_≡_};
+ghost use lib.ListN.{length};
 ghost use Rattle.qbf.specs.Formula.{Prefix};
 ghost use Rattle.qbf.specs.Truth.{freeVariables};
 ghost use Rattle.tables.specs.Views.{Numbers, Places, Kinds};
@@ -18,34 +19,27 @@ pub fn kind_at<'a>(levels: &'a [u16], kinds: &'a [u16], place: Place) -> u16
     crate::cells::cell(kinds, level)
 }
 
-pub fn kinds_of<'a>(
-    places: &'a [u16; tables::BY_NUMBER],
-    levels: &'a [u16; tables::BY_NUMBER],
-    kinds: &'a [u16; tables::BY_NUMBER],
-) -> [u16; tables::BY_NUMBER]
-    ensures { λ r. ⌜
-        ((D : Prefix) →
+// By number, in a table as long as that of the places; its content before is free.
+pub fn kinds_of<'a>(places: &'a [u16], levels: &'a [u16], kinds: &'a [u16], table: &mut [u16])
+    requires { ⌜ length (now table) ≡ length (now places) ⌝ }
+    ensures { λ _. ⌜
+        (length (now (table .exit)) ≡ length (now (table .entry)))
+        × ((D : Prefix) →
         Places D (now (places .entry)) →
         Quantified D (now (levels .entry)) (now (kinds .entry)) →
-        Kinds D r)
+        Kinds D (now (table .exit)))
         ⌝ }
 {
-    let mut table = [tables::FREE; tables::BY_NUMBER];
     let mut n: usize = 0;
-    while n < tables::BY_NUMBER {
+    while n < table.len() {
         let place = crate::cells::cell(places, n) as usize;
         table[n] = kind_at(levels, kinds, Place(place));
         n += 1;
     }
-    table
 }
 
 // The free variables come first.
-pub fn free_count<'a>(
-    numbers: &'a [u16; tables::BY_NUMBER],
-    levels: &'a [u16; tables::BY_NUMBER],
-    kinds: &'a [u16; tables::BY_NUMBER],
-) -> usize
+pub fn free_count<'a>(numbers: &'a [u16], levels: &'a [u16], kinds: &'a [u16]) -> usize
     ensures { λ r. ⌜
         ((D : Prefix) →
         Numbers D (now (numbers .entry)) →

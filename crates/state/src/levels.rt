@@ -2,7 +2,7 @@
 // that its quantifiers give, and its free variables come first.
 ghost use mathlib.Core.Path.{_≡_};
 ghost use Prim.Native.Nat.{_≤_};
-ghost use Rattle.qbf.specs.Formula.{paper, forall, levelBeside};
+ghost use Rattle.qbf.specs.Formula.{Limits, paper, forall, levelBeside};
 ghost use Rattle.tables.specs.Views.{quantifierCode};
 ghost use Rattle.state.specs.Reading.{quantifierOf};
 ghost use Rattle.state.specs.Derived.{stepOk, levelsOk};
@@ -40,15 +40,16 @@ fn step_ok(level: Level, beside: u16, next: Level, kind: u16) -> bool
     kind != tables::FREE
 }
 
-pub fn levels_ok<'a>(
-    numbers: &'a [u16; tables::BY_NUMBER],
-    levels: &'a [u16; tables::BY_NUMBER],
-    kinds: &'a [u16; tables::BY_NUMBER],
-) -> bool
-    ensures { λ r. ⌜ r ≡ levelsOk (now (numbers .entry)) (now (levels .entry)) (now (kinds .entry)) ⌝ }
+pub fn levels_ok<'a>(numbers: &'a [u16], levels: &'a [u16], kinds: &'a [u16], limit: usize) -> bool
+    requires { ⌜ limit ≤ paper .numbers ⌝ }
+    ensures { λ r. ⌜
+        ((L : Limits) →
+        L .numbers ≡ limit →
+        r ≡ levelsOk L (now (numbers .entry)) (now (levels .entry)) (now (kinds .entry)))
+        ⌝ }
 {
     let count = crate::cells::count(numbers);
-    if count > tables::NUMBERS {
+    if count > limit {
         return false;
     }
     let mut level: usize = 0;
@@ -56,7 +57,7 @@ pub fn levels_ok<'a>(
     let mut i: usize = 0;
     while i < count {
         let next = crate::cells::entry(levels, i);
-        if next > tables::NUMBERS {
+        if next > limit {
             return false;
         }
         let kind = crate::cells::cell(kinds, next);

@@ -110,12 +110,23 @@ pub fn check_tables<'a>(
         learned_cubes,
         learned_cube_sizes,
     );
-    let read = prefix::read_prefix(numbers, levels, kinds);
-    if !read.ok {
-        return read;
+    let mut places = [0u16; tables::BY_NUMBER];
+    let mut by_number = [0u16; tables::BY_NUMBER];
+    let fits = prefix::read_prefix(
+        numbers,
+        levels,
+        kinds,
+        tables::NUMBERS,
+        &mut places,
+        &mut by_number,
+    );
+    if !fits {
+        return prefix::Tables {
+            ok: false,
+            places: places,
+            kinds: by_number,
+        };
     }
-    let places = read.places;
-    let by_number = read.kinds;
     let ok = rows::all_ok(
         &places,
         &by_number,

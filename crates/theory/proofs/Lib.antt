@@ -28,6 +28,11 @@ pub mod WellFormed
 pub mod Withdrawn
 pub mod AcceptedRule
 pub mod Validity
+pub mod OneCount
+pub mod OneTruth
+pub mod OneHeld
+pub mod OneAdded
+pub mod OneAdds
 pub mod Starting
 pub mod Preserved
 pub mod Refusals

@@ -2,9 +2,8 @@
 use crate::bytes::put_word;
 use crate::line::put_line;
 use crate::number::put_number;
-ghost use Prim.Native.Nat.{_+_, _*_, _≤_};
+ghost use Prim.Native.Nat.{_+_, _*_, _≤_, _<_};
 ghost use lib.ListN.{length};
-ghost use Rattle.qbf.specs.Formula.{paper};
 ghost use Rattle.layout.specs.Output.{visitsText, cardHead};
 ghost use Rattle.writer.specs.Rows.{rowsText, cardRows};
 ghost use Rattle.writer.specs.Wrote.{Wrote};
@@ -13,12 +12,12 @@ ghost use Rattle.writer.specs.Wrote.{Wrote};
 pub fn put_lines<'a>(
     d: &mut [u8],
     at: usize,
-    numbers: &'a [u16; tables::BY_NUMBER],
+    numbers: &'a [u16],
     table: &'a [u8],
     f: usize,
     n: usize,
 ) -> usize
-    requires { ⌜ (f ≤ paper .numbers) × (n * f ≤ length (now table)) ⌝ }
+    requires { ⌜ (f < length (now numbers)) × (n * f ≤ length (now table)) ⌝ }
     requires { ⌜ at + length (rowsText f (now numbers) (now table) n) ≤ length (now d) ⌝ }
     ensures { λ r. ⌜ Wrote (now (d .entry)) at (rowsText f (now (numbers .entry)) (now (table .entry)) n) (now (d .exit)) r ⌝ }
 {
@@ -58,13 +57,13 @@ pub fn put_card<'a>(
     d: &mut [u8],
     at: usize,
     yes: bool,
-    numbers: &'a [u16; tables::BY_NUMBER],
+    numbers: &'a [u16],
     table: &'a [u8],
     f: usize,
     n: usize,
     visits: u64,
 ) -> usize
-    requires { ⌜ (f ≤ paper .numbers) × (n * f ≤ length (now table)) ⌝ }
+    requires { ⌜ (f < length (now numbers)) × (n * f ≤ length (now table)) ⌝ }
     requires { ⌜ at + length (cardRows yes f (now numbers) (now table) n visits) ≤ length (now d) ⌝ }
     ensures { λ r. ⌜ Wrote (now (d .entry)) at (cardRows yes f (now (numbers .entry)) (now (table .entry)) n visits) (now (d .exit)) r ⌝ }
 {

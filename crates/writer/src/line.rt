@@ -2,9 +2,8 @@
 use crate::bytes::put_byte;
 use crate::bytes::put_word;
 use crate::number::put_number;
-ghost use Prim.Native.Nat.{_+_, _≤_};
+ghost use Prim.Native.Nat.{_+_, _≤_, _<_};
 ghost use lib.ListN.{length};
-ghost use Rattle.qbf.specs.Formula.{paper};
 ghost use Rattle.writer.specs.Rows.{itemText, rowText};
 ghost use Rattle.writer.specs.Wrote.{Wrote};
 
@@ -26,13 +25,8 @@ pub fn put_item(d: &mut [u8], at: usize, n: u16, v: u8) -> usize
 }
 
 // A row of the card's table, by the numbers of the places.
-pub fn put_line<'a>(
-    d: &mut [u8],
-    at: usize,
-    numbers: &'a [u16; tables::BY_NUMBER],
-    row: &'a [u8],
-) -> usize
-    requires { ⌜ length (now row) ≤ paper .numbers ⌝ }
+pub fn put_line<'a>(d: &mut [u8], at: usize, numbers: &'a [u16], row: &'a [u8]) -> usize
+    requires { ⌜ length (now row) < length (now numbers) ⌝ }
     requires { ⌜ at + length (rowText (now numbers) (now row)) ≤ length (now d) ⌝ }
     ensures { λ r. ⌜ Wrote (now (d .entry)) at (rowText (now (numbers .entry)) (now (row .entry))) (now (d .exit)) r ⌝ }
 {

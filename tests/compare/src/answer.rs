@@ -6,10 +6,14 @@ use std::fmt;
 #[derive(Clone, Debug, PartialEq, Eq)]
 pub enum Call {
     Rule(Vec<Literal>),
+    /// The rule added last goes.
+    Withdraw,
     /// The numbers of the free variables that are on.
     Query(Vec<i16>),
     /// The length of the lent card table.
     Card(usize),
+    /// The same, for the card of the readings that are kept.
+    KeepCard(usize),
     Forget,
     /// The length of the table that the book's text is written to.
     Write(usize),
@@ -19,6 +23,7 @@ pub enum Call {
 pub enum Said {
     Refused(u8),
     Added,
+    Withdrawn,
     Swap,
     Keep,
     /// The count of lines.
@@ -64,8 +69,10 @@ impl fmt::Display for Call {
     fn fmt(&self, f: &mut fmt::Formatter) -> fmt::Result {
         match self {
             Call::Rule(literals) => write!(f, "rule {literals:?}"),
+            Call::Withdraw => write!(f, "withdraw"),
             Call::Query(on) => write!(f, "query {on:?}"),
             Call::Card(length) => write!(f, "card into {length} bytes"),
+            Call::KeepCard(length) => write!(f, "keep card into {length} bytes"),
             Call::Forget => write!(f, "forget"),
             Call::Write(length) => write!(f, "write into {length} bytes"),
         }
@@ -77,6 +84,7 @@ impl fmt::Display for Answer {
         match self.said {
             Said::Refused(number) => write!(f, "refused {number}")?,
             Said::Added => write!(f, "added")?,
+            Said::Withdrawn => write!(f, "withdrawn")?,
             Said::Swap => write!(f, "swap")?,
             Said::Keep => write!(f, "keep")?,
             Said::Lines(count) => write!(f, "{count} line(s)")?,

@@ -2,7 +2,7 @@
 
 use crate::constraint::Polarity;
 use crate::formula::{Formula, Literal, Quantifier};
-use crate::options::{Limits, Options};
+use crate::options::{Limits, Options, MOST_FLAGS};
 use crate::slip::Slip;
 use crate::solver::State;
 
@@ -23,16 +23,31 @@ pub enum Check {
     EntryRepeats,
     EntryOrder,
     EntryUnreduced,
+    RecordTooHigh,
+    /// Only states of own limits have this and the next fault alone.
+    LimitsTooHigh,
+    TooManyFlags,
 }
 
 /// "22 the state is malformed".
 pub fn malformed(state: &State, options: &Options) -> bool {
-    let faults = [declarations, clauses, entries];
+    let faults = [own_limits, declarations, clauses, entries, records];
+    let standing = state.formula.clauses.len();
+    if options.slips(Slip::EqualRecordRefused) && state.store.records.contains(&standing) {
+        return true;
+    }
     faults.iter().any(|fault| {
         fault(state, &options.limits)
             .into_iter()
             .any(|check| options.slip != Some(Slip::CheckOmits(check)))
     })
+}
+
+/// Paper 02, wish 8: limits above the highest, and more than 40 flags.
+fn own_limits(state: &State, limits: &Limits) -> Vec<Check> {
+    let high = limits.too_high().then_some(Check::LimitsTooHigh);
+    let many = (state.formula.free_count() > MOST_FLAGS).then_some(Check::TooManyFlags);
+    high.into_iter().chain(many).collect()
 }
 
 fn declarations(state: &State, limits: &Limits) -> Vec<Check> {
@@ -91,6 +106,13 @@ fn entries(state: &State, limits: &Limits) -> Vec<Check> {
         }
     }
     faults
+}
+
+/// "The state check refuses a bar whose record exceeds the rules standing."
+fn records(state: &State, _limits: &Limits) -> Vec<Check> {
+    let standing = state.formula.clauses.len();
+    let high = state.store.records.iter().filter(|record| **record > standing);
+    high.map(|_| Check::RecordTooHigh).collect()
 }
 
 /// Faults of one list of literals; a number out of range is an undeclared one as well.

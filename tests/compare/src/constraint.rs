@@ -36,11 +36,14 @@ pub struct Constraint {
     /// Where it stood in the store when it was found or stored. Only a slip reads this: a
     /// constraint on its way up is a value, not a place in the store.
     pub stored_at: Option<usize>,
+    /// The youngest rule that it rests on, counted from 1. Only a slip reads this: the record of a
+    /// learned clause is the count of the rules that stand when it is stored.
+    pub youngest: usize,
 }
 
 impl Constraint {
     pub fn new(polarity: Polarity, literals: Vec<Literal>) -> Constraint {
-        Constraint { polarity, literals, stored_at: None }
+        Constraint { polarity, literals, stored_at: None, youngest: 0 }
     }
 
     pub fn names(&self, number: i16) -> bool {
@@ -72,6 +75,7 @@ impl Constraint {
         let both = self.literals.iter().chain(&other.literals).copied();
         let literals = both.filter(|l| l.unsigned_abs() != v.unsigned_abs()).collect();
         let mut joined = Constraint::new(self.polarity, literals);
+        joined.youngest = self.youngest.max(other.youngest);
         joined.order(formula, options);
         if !options.slips(Slip::JoinNotReduced) {
             joined.reduce(formula, options);

@@ -27,6 +27,7 @@ impl LearningSearch<'_> {
         let index = dead_clause(self.formula, &self.node, self.options)?;
         let mut clause = Constraint::new(Polarity::Clause, self.formula.clauses[index].clone());
         clause.reduce(self.formula, self.options);
+        clause.youngest = index + 1;
         Some(clause)
     }
 
@@ -44,8 +45,12 @@ impl LearningSearch<'_> {
         } else {
             entries.iter().position(matches)?
         };
-        let stored_at = Some(index);
-        Some(Constraint { polarity, literals: entries[index].clone(), stored_at })
+        let mut found = Constraint::new(polarity, entries[index].clone());
+        found.stored_at = Some(index);
+        if polarity == Polarity::Clause {
+            found.youngest = self.store.records[index];
+        }
+        Some(found)
     }
 
     /// "eligible at a node of length k if its last place is k; at the start node, if it is at

@@ -37,7 +37,13 @@ impl Formula {
     /// The place of a literal's variable; none if it is not declared.
     pub fn place(&self, literal: Literal) -> Option<Place> {
         let number = literal.unsigned_abs();
-        let index = self.prefix.iter().position(|v| v.number.unsigned_abs() == number)?;
+        let is_its = |variable: &Variable| variable.number.unsigned_abs() == number;
+        // Where numbers follow the places, as in most large books, it is found at once.
+        let guess = usize::from(number).saturating_sub(1);
+        if self.prefix.get(guess).is_some_and(is_its) {
+            return Some(Place(guess + 1));
+        }
+        let index = self.prefix.iter().position(is_its)?;
         Some(Place(index + 1))
     }
 

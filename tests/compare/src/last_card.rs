@@ -8,9 +8,13 @@ use crate::page::{Card, PageSlip};
 #[derive(Clone, Copy, Debug, PartialEq, Eq)]
 pub enum LastCardSlip {
     KeptAfterRule,
+    KeptAfterWithdrawal,
     KeptAfterRefusedCard,
+    KeptAfterKeepCard,
+    KeptAfterRefusedKeepCard,
     RefusedCardShown,
     LostAfterRefusedRule,
+    LostAfterRefusedWithdrawal,
     LostAfterQuery,
     LostAfterForget,
     LostAfterWrite,
@@ -20,6 +24,10 @@ pub enum LastCardSlip {
 
 pub const ALL: &[(LastCardSlip, &str)] = &[
     (LastCardSlip::KeptAfterRule, "a page of a card that an accepted rule has made untrue"),
+    (LastCardSlip::KeptAfterWithdrawal, "a page of a card that a withdrawal has made untrue"),
+    (LastCardSlip::KeptAfterKeepCard, "a page of the card before the keep card"),
+    (LastCardSlip::KeptAfterRefusedKeepCard, "a page of the card before the refused keep card"),
+    (LastCardSlip::LostAfterRefusedWithdrawal, "a refused withdrawal takes the card away"),
     (LastCardSlip::KeptAfterRefusedCard, "a page of the card before the refused one"),
     (LastCardSlip::RefusedCardShown, "a refused card is shown as one without lines"),
     (LastCardSlip::LostAfterRefusedRule, "a refused rule takes the card away"),
@@ -53,22 +61,27 @@ impl LastCard {
         LastCard { held: None, flags, slip }
     }
 
-    /// What a call and its answer make of it: "the last one was refused, or a rule .. was accepted".
+    /// What a call and its answer make of it: "the last one was refused, or a rule .. was accepted or a
+    /// rule withdrawn since".
     pub fn after(&mut self, call: &Call, answer: &Answer) {
         use LastCardSlip::*;
         let slips = |slip| self.slip == Some(slip);
         let stays = match (call, answer.said) {
-            (Call::Card(_), Said::Lines(lines)) => {
+            (Call::KeepCard(_), Said::Lines(_)) if slips(KeptAfterKeepCard) => true,
+            (Call::KeepCard(_), Said::Refused(_)) if slips(KeptAfterRefusedKeepCard) => true,
+            (Call::Card(_) | Call::KeepCard(_), Said::Lines(lines)) => {
                 self.held = Some(Held { table: answer.table.clone(), lines });
                 return;
             }
-            (Call::Card(_), _) if slips(RefusedCardShown) => {
+            (Call::Card(_) | Call::KeepCard(_), _) if slips(RefusedCardShown) => {
                 self.held = Some(Held { table: answer.table.clone(), lines: 0 });
                 return;
             }
-            (Call::Card(_), _) => slips(KeptAfterRefusedCard),
+            (Call::Card(_) | Call::KeepCard(_), _) => slips(KeptAfterRefusedCard),
             (Call::Rule(_), Said::Added) => slips(KeptAfterRule),
             (Call::Rule(_), _) => !slips(LostAfterRefusedRule),
+            (Call::Withdraw, Said::Withdrawn) => slips(KeptAfterWithdrawal),
+            (Call::Withdraw, _) => !slips(LostAfterRefusedWithdrawal),
             (Call::Query(_), _) => !slips(LostAfterQuery),
             (Call::Forget, _) => !slips(LostAfterForget),
             (Call::Write(_), _) => !slips(LostAfterWrite),

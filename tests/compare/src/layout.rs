@@ -29,7 +29,7 @@ pub fn read(line: &[u8]) -> Option<Form> {
 pub(crate) fn items(line: &[u8]) -> Option<(&[u8], Vec<Item>)> {
     let mut cursor = Cursor { rest: line };
     cursor.expect(b"(")?;
-    let keyword = cursor.letters();
+    let keyword = cursor.keyword();
     let mut items = vec![];
     while cursor.expect(b" ").is_some() {
         items.push(cursor.item()?);
@@ -79,8 +79,8 @@ impl<'a> Cursor<'a> {
         taken
     }
 
-    fn letters(&mut self) -> &'a [u8] {
-        self.take_while(|byte| byte.is_ascii_lowercase())
+    fn keyword(&mut self) -> &'a [u8] {
+        self.take_while(|byte| byte.is_ascii_lowercase() || byte == b'-')
     }
 
     fn item(&mut self) -> Option<Item> {

@@ -6,16 +6,19 @@
 //! that shows each of them.
 
 pub mod answer;
+pub mod bounded;
 pub mod cases;
 pub mod check;
 pub mod constraint;
 pub mod dead;
 mod decide;
+pub mod editions;
 pub mod finder;
 pub mod formula;
 pub mod last_card;
 pub mod layout;
 pub mod learning;
+pub mod open_query;
 pub mod options;
 pub mod page;
 pub mod plain;

@@ -17,7 +17,25 @@ pub struct Limits {
 
 impl Limits {
     pub const PAPER: Limits = Limits { numbers: 40, clauses: 255, literals: 16, entries: 64 };
+
+    /// Paper 02, wish 8: "Variable numbers run to 1,000, rules to 4,000".
+    pub const HIGHEST: Limits = Limits { numbers: 1_000, clauses: 4_000, ..Limits::PAPER };
+
+    /// "A book is opened with its own limits for numbers and rules, capped at these".
+    pub fn own(numbers: usize, clauses: usize) -> Limits {
+        let most = Limits::HIGHEST;
+        let numbers = numbers.min(most.numbers as usize) as i16;
+        Limits { numbers, clauses: clauses.min(most.clauses), ..most }
+    }
+
+    /// "(a state with higher ones is 22)".
+    pub fn too_high(&self) -> bool {
+        self.numbers > Limits::HIGHEST.numbers || self.clauses > Limits::HIGHEST.clauses
+    }
 }
+
+/// "flags stay at most 40".
+pub const MOST_FLAGS: usize = 40;
 
 /// What a solver is run with.
 #[derive(Clone, Copy, Debug)]

@@ -8,12 +8,15 @@ pub struct PlainOutcome {
     pub verdict: Verdict,
     /// The topmost Yes nodes within the free variables, in order.
     pub lines: Vec<Vec<bool>>,
+    /// The topmost No nodes.
+    pub keep_lines: Vec<Vec<bool>>,
     pub visits: u64,
 }
 
 /// Searches from a start node: the empty one, or that of all free variables.
 pub fn search(formula: &Formula, start: &[bool]) -> PlainOutcome {
-    let mut found = PlainOutcome { verdict: Verdict::Mixed, lines: vec![], visits: 0 };
+    let mut found =
+        PlainOutcome { verdict: Verdict::Mixed, lines: vec![], keep_lines: vec![], visits: 0 };
     let mut node = start.to_vec();
     found.verdict = visit(formula, &mut node, &mut found);
     found
@@ -21,11 +24,16 @@ pub fn search(formula: &Formula, start: &[bool]) -> PlainOutcome {
 
 fn visit(formula: &Formula, node: &mut Vec<bool>, found: &mut PlainOutcome) -> Verdict {
     found.visits += 1;
-    let lines_above = found.lines.len();
+    let (lines_above, keep_above) = (found.lines.len(), found.keep_lines.len());
     let verdict = decide(formula, node).unwrap_or_else(|| branch(formula, node, found));
-    if verdict == Verdict::Yes && node.len() <= formula.free_count() {
-        found.lines.truncate(lines_above);
-        found.lines.push(node.clone());
+    let (lines, above) = match verdict {
+        Verdict::Yes => (&mut found.lines, lines_above),
+        Verdict::No => (&mut found.keep_lines, keep_above),
+        Verdict::Mixed => return verdict,
+    };
+    if node.len() <= formula.free_count() {
+        lines.truncate(above);
+        lines.push(node.clone());
     }
     verdict
 }

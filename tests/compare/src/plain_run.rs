@@ -20,7 +20,9 @@ impl Subject for PlainRun {
         match call {
             Call::Rule(literals) => self.rule(literals),
             Call::Query(on) => self.query(on),
-            Call::Card(length) => self.card(*length),
+            Call::Withdraw => self.withdraw(),
+            Call::Card(length) => self.card(*length, Verdict::Yes),
+            Call::KeepCard(length) => self.card(*length, Verdict::No),
             Call::Forget => Answer::new(Said::Forgotten),
             Call::Write(length) => self.write(*length),
         }
@@ -41,6 +43,15 @@ impl PlainRun {
         Answer::new(Said::Added)
     }
 
+    /// "the plain run, too, takes away the last of the rules that it carries, one of the opened book's
+    /// included".
+    fn withdraw(&mut self) -> Answer {
+        match self.formula.clauses.pop() {
+            Some(_) => Answer::new(Said::Withdrawn),
+            None => Answer::new(Said::Refused(32)),
+        }
+    }
+
     fn query(&self, on: &[i16]) -> Answer {
         if let Some(number) = refusal::of_query(&self.formula, on, &self.options) {
             return Answer::new(Said::Refused(number));
@@ -56,14 +67,15 @@ impl PlainRun {
     }
 
     /// "too many lines give 21, 0 lines and a zeroed table".
-    fn card(&self, length: usize) -> Answer {
+    fn card(&self, length: usize, wanted: Verdict) -> Answer {
         let found = plain::search(&self.formula, &[]);
+        let lines = if wanted == Verdict::Yes { found.lines } else { found.keep_lines };
         let mut table = vec![0; length];
-        let said = if found.lines.len() > table::lines_held(&self.formula, length, &self.options) {
+        let said = if lines.len() > table::lines_held(&self.formula, length, &self.options) {
             Said::Refused(21)
         } else {
-            table::write(&found.lines, self.formula.free_count(), &mut table, &self.options);
-            Said::Lines(found.lines.len())
+            table::write(&lines, self.formula.free_count(), &mut table, &self.options);
+            Said::Lines(lines.len())
         };
         Answer { said, table, visits: found.visits }
     }

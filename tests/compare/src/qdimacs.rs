@@ -2,7 +2,7 @@
 //! description of its text (appendix A of source 000) alone.
 
 use crate::formula::{Formula, Quantifier, Variable};
-use crate::options::Options;
+use crate::options::{Options, MOST_FLAGS};
 use crate::refusal;
 use crate::text::{TextRefusal, LARGEST_TEXT};
 use crate::write;
@@ -147,13 +147,16 @@ impl Reader<'_> {
     }
 
     /// "A clause count that differs from the header is 30, given at the end of the text, as a
-    /// missing line is": a missing header is one.
+    /// missing line is": a missing header is one. Wish 8: 33 is given there too, before 30.
     fn end(mut self) -> Result<Formula, u8> {
         let Some(header) = self.header else {
             return if self.slips(Slip::NoHeaderOpens) { Ok(Formula::default()) } else { Err(1) };
         };
         let whole = self.whole(header);
         let mut book = self.book.take().unwrap_or(whole);
+        if book.free_count() > MOST_FLAGS {
+            return Err(33);
+        }
         let found = book.clauses.len() as i32;
         let differs = match self.slip {
             Some(Slip::SurplusAccepted) => found < header.clauses,

@@ -1,7 +1,7 @@
 //! Refusals of rules, declarations and queries, in the paper's order.
 
 use crate::formula::{Formula, Quantifier};
-use crate::options::Options;
+use crate::options::{Options, MOST_FLAGS};
 use crate::slip::Slip;
 
 /// "20, 7, then each number from the left 3, 5, 6". Literals come wider than 16 bits, so that a
@@ -61,10 +61,17 @@ fn repeats(literals: &[i32], index: usize) -> bool {
     literals[..index].iter().any(|earlier| earlier.abs() == literals[index].abs())
 }
 
-/// A declaration: 3, then 4.
-pub fn of_declaration(formula: &Formula, number: i32, options: &Options) -> Option<u8> {
+/// A declaration: 3, then 4; "Declaring a 41st flag is 33, checked after 4".
+pub fn of_declaration(
+    formula: &Formula,
+    number: i32,
+    quantifier: Quantifier,
+    options: &Options,
+) -> Option<u8> {
     let range = out_of_range(number, options).then_some(3);
-    range.or_else(|| (!undeclared(formula, number)).then_some(4))
+    let flag = quantifier == Quantifier::Free;
+    let full = flag && formula.free_count() >= MOST_FLAGS;
+    range.or_else(|| (!undeclared(formula, number)).then_some(4)).or(full.then_some(33))
 }
 
 /// "8 a query names a non-flag, or a flag twice": every bad number is an 8.
@@ -78,4 +85,11 @@ pub fn of_query(formula: &Formula, on: &[i16], options: &Options) -> Option<u8> 
     let refused = non_free && !options.slips(Slip::QueryTakesNonFree)
         || twice && !options.slips(Slip::QueryTakesRepeat);
     refused.then_some(8)
+}
+
+/// "Withdrawing from a book without rules is 32". `spared` is 0: an opened book's rules can be
+/// withdrawn like any other.
+pub fn of_withdrawal(formula: &Formula, spared: usize, options: &Options) -> Option<u8> {
+    let none = formula.clauses.len() <= spared;
+    (none && !options.slips(Slip::NothingWithdrawn)).then_some(32)
 }

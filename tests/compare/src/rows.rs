@@ -41,9 +41,21 @@ pub fn read_finder() -> io::Result<Vec<FinderRow>> {
     Ok(source.list(&source.named("table")).iter().map(|term| source.finder_row(term)).collect())
 }
 
+/// A file, and before it the files whose names it uses.
 fn open(file: &str) -> io::Result<Source> {
     let folder = Path::new(env!("CARGO_MANIFEST_DIR")).join("../../crates/qbf/proofs");
-    Ok(Source::new(&fs::read_to_string(folder.join(file))?))
+    let text = fs::read_to_string(folder.join(file))?;
+    let mut source = Source { definitions: BTreeMap::new() };
+    let used = text.lines().filter_map(|line| {
+        let used = line.strip_prefix("use Rattle.qbf.proofs.")?;
+        used.split_once('.').map(|(name, _)| name)
+    });
+    // What rows are built with stands in Rows, and is known here by name.
+    for name in used.filter(|name| *name != "Rows") {
+        source.add(&fs::read_to_string(folder.join(format!("{name}.antt")))?);
+    }
+    source.add(&text);
+    Ok(source)
 }
 
 #[derive(Clone, Debug)]
@@ -60,8 +72,8 @@ struct Source {
 }
 
 impl Source {
-    fn new(text: &str) -> Source {
-        let mut definitions = BTreeMap::new();
+    fn add(&mut self, text: &str) {
+        let definitions = &mut self.definitions;
         let mut name = None;
         for line in text.lines().map(|line| line.split("--").next().unwrap_or_default()) {
             if !line.starts_with(' ') {
@@ -74,7 +86,6 @@ impl Source {
                 text.push_str(line);
             }
         }
-        Source { definitions }
     }
 
     fn named(&self, name: &str) -> Term {
@@ -214,16 +225,29 @@ impl Source {
 
     fn store(&self, term: &Term) -> Store {
         let (name, args) = self.open(term);
-        assert_eq!(name, "store");
-        Store { clauses: self.clauses(&args[0]), cubes: self.clauses(&args[1]) }
+        match (&*name, &args[..]) {
+            // Learned clauses of record 0.
+            ("store", [clauses, cubes]) => {
+                let clauses = self.clauses(clauses);
+                Store { records: vec![0; clauses.len()], clauses, cubes: self.clauses(cubes) }
+            }
+            ("recorded", [clauses, records, cubes]) => {
+                let records = self.numbers(records).into_iter().map(|record| record as usize);
+                let (clauses, cubes) = (self.clauses(clauses), self.clauses(cubes));
+                Store { clauses, records: records.collect(), cubes }
+            }
+            _ => panic!("{name} is no store"),
+        }
     }
 
     fn call(&self, term: &Term) -> Call {
         let (name, args) = self.open(term);
         match (&*name, &args[..]) {
             ("rule", [literals]) => Call::Rule(self.literals(literals)),
+            ("withdraw", []) => Call::Withdraw,
             ("query", [on]) => Call::Query(self.literals(on)),
             ("card", [size]) => Call::Card(number(size) as usize),
+            ("keepCard", [size]) => Call::KeepCard(number(size) as usize),
             ("forget", []) => Call::Forget,
             _ => panic!("{name} is no call"),
         }
@@ -235,14 +259,17 @@ impl Source {
         let bytes = |table| self.numbers(table).into_iter().map(|byte| byte as u8).collect();
         let (said, table) = match (&*name, &args[..], call) {
             ("done", [], Call::Rule(_)) => (Said::Added, vec![]),
+            ("done", [], Call::Withdraw) => (Said::Withdrawn, vec![]),
             ("done", [], Call::Forget) => (Said::Forgotten, vec![]),
             ("swap", [], Call::Query(_)) => (Said::Swap, vec![]),
             ("keep", [], Call::Query(_)) => (Said::Keep, vec![]),
             ("refused", [number], _) => (refused(number), vec![]),
-            ("lines", [lines, table], Call::Card(_)) => {
+            ("lines", [lines, table], Call::Card(_) | Call::KeepCard(_)) => {
                 (Said::Lines(self.list(lines).len()), bytes(table))
             }
-            ("cardRefused", [number, table], Call::Card(_)) => (refused(number), bytes(table)),
+            ("cardRefused", [number, table], Call::Card(_) | Call::KeepCard(_)) => {
+                (refused(number), bytes(table))
+            }
             _ => panic!("{name} is no reply to {call}"),
         };
         Answer { said, table, visits }

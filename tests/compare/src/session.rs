@@ -51,7 +51,7 @@ pub fn run_on<S: Subject>(
             Some(Request::Call(call)) => {
                 let answer = subject.call(&call);
                 last.after(&call, &answer);
-                print(&formula, &answer, line)
+                print(&call, &formula, &answer, line)
             }
             Some(Request::Page(number)) => print_page(&mut last, number, line),
             None => refusal(1, line),
@@ -109,9 +109,12 @@ pub fn call(line: &[u8]) -> Option<Call> {
     let plain = !items.iter().any(|item| item.negated);
     match (keyword, &items[..]) {
         (b"rule", _) => Some(Call::Rule(literals())),
+        (b"withdraw", []) => Some(Call::Withdraw),
         (b"query", _) if plain => Some(Call::Query(literals())),
         (b"card", []) => Some(Call::Card(PROGRAM_TABLE)),
         (b"card", [length]) if plain => table(length).map(Call::Card),
+        (b"keep-card", []) => Some(Call::KeepCard(PROGRAM_TABLE)),
+        (b"keep-card", [length]) if plain => table(length).map(Call::KeepCard),
         (b"forget", []) => Some(Call::Forget),
         (b"write", []) => Some(Call::Write(write::WHOLE)),
         (b"write", [length]) if plain => table(length).map(Call::Write),
@@ -143,16 +146,18 @@ pub fn print_page(last: &mut LastCard, number: usize, line: usize) -> String {
 }
 
 /// What is printed for an answer. The formula is the opened one: calls change no declaration.
-pub fn print(formula: &Formula, answer: &Answer, line: usize) -> String {
+pub fn print(call: &Call, formula: &Formula, answer: &Answer, line: usize) -> String {
     let visits = answer.visits;
+    let word = if matches!(call, Call::KeepCard(_)) { "keep-card" } else { "card" };
     match answer.said {
         Said::Added => "(accepted)\n".into(),
+        Said::Withdrawn => "(withdrawn)\n".into(),
         Said::Forgotten => "(forgotten)\n".into(),
         Said::Swap => format!("(swap (visits {visits}))\n"),
         Said::Keep => format!("(keep (visits {visits}))\n"),
         Said::Refused(21) => format!("(refused 21 {line} (visits {visits}))\n"),
         Said::Refused(number) => refusal(number, line),
-        Said::Lines(count) => text::print_card(formula, count, &answer.table, visits),
+        Said::Lines(count) => text::print_card(word, formula, count, &answer.table, visits),
         Said::Written(length) => String::from_utf8_lossy(&answer.table[..length]).into(),
     }
 }
@@ -186,6 +191,40 @@ mod tests {
         assert_eq!(on_a("(card)\n"), format!("{A_CARD}(visits 11)\n(end)\n"));
         assert_eq!(on_a("(card 4)\n"), on_a("(card)\n"));
         assert_eq!(on_a("(card 3)\n"), "(refused 21 9 (visits 11))\n");
+    }
+
+    #[test]
+    fn withdrawals() {
+        let withdrawn = "(withdrawn)\n".repeat(3);
+        assert_eq!(on_a("(withdraw)\n"), "(withdrawn)\n");
+        assert_eq!(on_a(&"(withdraw)\n".repeat(4)), format!("{withdrawn}(refused 32 12)\n"));
+        for line in ["(withdraw 1)", "(withdraw )", "(withdraw", "(withdrawn)", "(with-draw)"] {
+            assert_eq!(on_a(&format!("{line}\n")), "(refused 1 9)\n", "{line}");
+        }
+    }
+
+    #[test]
+    fn keep_cards() {
+        let keep = "(keep-card 1)\n(line (no 1) (no 2))\n(line 1 (no 2))\n";
+        assert_eq!(on_a("(keep-card)\n"), format!("{keep}(visits 11)\n(end)\n"));
+        assert_eq!(on_a("(keep-card 4)\n"), on_a("(keep-card)\n"));
+        assert_eq!(on_a("(keep-card 3)\n"), "(refused 21 9 (visits 11))\n");
+        let both = format!("{keep}(visits 11)\n(end)\n{A_CARD}(visits 9)\n(end)\n");
+        assert_eq!(on_a("(keep-card)\n(card)\n"), both);
+        let others = [
+            "(keep-card 65537)",
+            "(keep-card (no 4))",
+            "(keep-card 4 4)",
+            "(keep-card )",
+            "(keep-card",
+            "(keep card)",
+            "(keepcard)",
+            "(keep-)",
+            "(-)",
+        ];
+        for line in others {
+            assert_eq!(on_a(&format!("{line}\n")), "(refused 1 9)\n", "{line}");
+        }
     }
 
     /// What was stored before 21 is kept; a refused call changes nothing.
@@ -287,6 +326,18 @@ mod tests {
         assert_eq!(on_a(&format!("(card)\n{kept}")), format!("{card}{expected}{page}{page}"));
     }
 
+    #[test]
+    fn pages_of_the_keep_card() {
+        let page = a_page().replace("  01", "  00").replace("  11", "  10");
+        assert!(on_a("(card)\n(keep-card)\n(page 1)\n").ends_with(&page));
+        assert!(on_a("(keep-card)\n(card)\n(page 1)\n").ends_with(&a_page()));
+        let refused = "(withdrawn)\n".repeat(3);
+        let calls = "(withdraw)\n".repeat(3) + "(keep-card)\n(withdraw)\n(page 1)\n";
+        let none = a_page().replace("    1  01", "         ").replace("    2  11", "         ");
+        let keep = "(keep-card 1)\n(visits 1)\n(end)\n(refused 32 13)\n";
+        assert_eq!(on_a(&calls), format!("{refused}{keep}{none}"));
+    }
+
     /// "a page never shows lines that no longer hold".
     #[test]
     fn pages_that_no_longer_hold() {
@@ -294,6 +345,9 @@ mod tests {
         let lost = "(accepted)\n(refused 36 11)\n";
         assert_eq!(on_a("(card)\n(rule 1)\n(page 1)\n"), format!("{card}{lost}"));
         assert!(on_a("(card)\n(card 3)\n(page 1)\n").ends_with("(refused 36 11)\n"));
+        let lost = "(withdrawn)\n(refused 36 11)\n";
+        assert_eq!(on_a("(card)\n(withdraw)\n(page 1)\n"), format!("{card}{lost}"));
+        assert!(on_a("(card)\n(keep-card 3)\n(page 1)\n").ends_with("(refused 36 11)\n"));
         for line in
             ["(page)", "(page (no 1))", "(page 1 1)", "(page 01)", "(page 100000)", "(page )"]
         {

@@ -13,6 +13,27 @@ pub enum Slip {
     ForgetKeepsCubes,
     StoreLostAfter21,
     LearnsNothing,
+    // Withdrawals and the records of learned clauses.
+    WithdrawalDropsCubes,
+    WithdrawalKeepsClauses,
+    WithdrawalDropsClauses,
+    EqualRecordDropped,
+    CutAtFirstLarger,
+    CutFromYoungEnd,
+    NewestFillsGap,
+    RecordsCutNotFiltered,
+    RecordsNotMoved,
+    RecordOfDisplacedTaken,
+    RecordOfYoungestRule,
+    RecordOneLess,
+    RuleRaisesRecords,
+    SearchRenewsRecords,
+    SearchLosesRecords,
+    OldestRuleWithdrawn,
+    OpenedRulesStay,
+    NothingWithdrawn,
+    RefusedWithdrawalEmptiesStore,
+    EqualRecordRefused,
     // The store within a search.
     NewestDisplaced,
     FullStoreLearnsNothing,
@@ -50,6 +71,16 @@ pub enum Slip {
     NoVisitsAt21,
     TableRoundedUp,
     EmptyLineNeedsByte,
+    YesLineBytesLeft,
+    // Lines of the keep card.
+    NoHalvesTwoLines,
+    MixedIsNo,
+    NoLineBytesLeft,
+    NoLinesBelowFlags,
+    KeepCardOfYes,
+    KeepCardStartsEmpty,
+    KeepCardLearnsNothing,
+    FlaglessKeepCardHasNoLine,
     // Refusals and accepted rules.
     LengthBeforeFull,
     UndeclaredBeforeRange,
@@ -89,6 +120,32 @@ pub const ALL: &[(Slip, &str)] = &[
     (Slip::ForgetKeepsCubes, "forget keeps the cubes"),
     (Slip::StoreLostAfter21, "the store is thrown away after 21"),
     (Slip::LearnsNothing, "nothing is ever stored"),
+    (Slip::WithdrawalDropsCubes, "a withdrawal drops the cubes"),
+    (Slip::WithdrawalKeepsClauses, "a withdrawal keeps every learned clause"),
+    (Slip::WithdrawalDropsClauses, "a withdrawal drops every learned clause"),
+    (
+        Slip::EqualRecordDropped,
+        "a learned clause with a record equal to the rules that remain dropped",
+    ),
+    (Slip::CutAtFirstLarger, "everything younger than the first larger record dropped"),
+    (Slip::CutFromYoungEnd, "larger records dropped at the young end only"),
+    (Slip::NewestFillsGap, "the newest learned clause fills the gap of a dropped one"),
+    (
+        Slip::RecordsCutNotFiltered,
+        "a withdrawal drops clauses anywhere but records at the young end",
+    ),
+    (Slip::RecordsNotMoved, "displacement moves the learned clauses but not their records"),
+    (Slip::RecordOfDisplacedTaken, "a learned clause takes the record of the displaced one"),
+    (Slip::RecordOfYoungestRule, "the record is that of the youngest rule that a clause rests on"),
+    (Slip::RecordOneLess, "the record is one less than the rules standing"),
+    (Slip::RuleRaisesRecords, "an accepted rule raises the records to the rules standing"),
+    (Slip::SearchRenewsRecords, "a search writes all records back as the rules standing"),
+    (Slip::SearchLosesRecords, "a search writes all records back as 0"),
+    (Slip::OldestRuleWithdrawn, "the oldest rule withdrawn instead of the newest"),
+    (Slip::OpenedRulesStay, "32 for a rule of the opened book"),
+    (Slip::NothingWithdrawn, "a book without rules answers that one is withdrawn"),
+    (Slip::RefusedWithdrawalEmptiesStore, "32 empties the store"),
+    (Slip::EqualRecordRefused, "22 for a record equal to the rules standing"),
     (Slip::NewestDisplaced, "a full store drops its newest entry instead of the oldest"),
     (Slip::FullStoreLearnsNothing, "a full store takes no entry"),
     (Slip::CapacityOneLess, "the store holds one entry less"),
@@ -122,6 +179,15 @@ pub const ALL: &[(Slip, &str)] = &[
     (Slip::NoVisitsAt21, "21 reports no visits"),
     (Slip::TableRoundedUp, "the table's capacity rounded up"),
     (Slip::EmptyLineNeedsByte, "with no free variable a line needs a byte"),
+    (Slip::YesLineBytesLeft, "bytes of a card's line that was taken back left in the table"),
+    (Slip::NoHalvesTwoLines, "two No halves left as two lines"),
+    (Slip::MixedIsNo, "Mixed counted as No"),
+    (Slip::NoLineBytesLeft, "bytes of a keep card's line that was taken back left in the table"),
+    (Slip::NoLinesBelowFlags, "No nodes below the flags are lines of the keep card"),
+    (Slip::KeepCardOfYes, "a keep card has the card's lines"),
+    (Slip::KeepCardStartsEmpty, "a keep card searches without the store"),
+    (Slip::KeepCardLearnsNothing, "what a keep card learns is thrown away"),
+    (Slip::FlaglessKeepCardHasNoLine, "with no free variable a keep card has no line"),
     (Slip::LengthBeforeFull, "7 judged before 20"),
     (Slip::UndeclaredBeforeRange, "5 judged before 3"),
     (Slip::RepeatBeforeUndeclared, "6 judged on the whole rule before 5"),
@@ -159,12 +225,35 @@ pub const ALL: &[(Slip, &str)] = &[
     (Slip::CheckOmits(Check::EntryRepeats), "22 misses a variable twice in an entry"),
     (Slip::CheckOmits(Check::EntryOrder), "22 misses an entry out of place order"),
     (Slip::CheckOmits(Check::EntryUnreduced), "22 misses an unreduced entry"),
+    (Slip::CheckOmits(Check::RecordTooHigh), "22 misses a record above the rules standing"),
 ];
 
 impl Slip {
     /// Whether only a malformed state can show the slip.
     pub fn is_of_check(self) -> bool {
         matches!(self, Slip::CheckOmits(_) | Slip::StateJudgedLast)
+    }
+
+    /// Whether a slipped solver judges its states: only then does the slip show.
+    pub fn judges_state(self) -> bool {
+        self.is_of_check() || self == Slip::EqualRecordRefused
+    }
+
+    /// Whether calls on an opened formula cannot show the slip: entries learned by calls are sound, and a
+    /// sound entry is met at its own last place and never learned while it is stored; and their records
+    /// never fall from old to young; and where no rule stands a search makes one visit whatever is stored.
+    pub fn needs_given_store(self) -> bool {
+        matches!(
+            self,
+            Slip::InnerTestsAtMost
+                | Slip::SatisfiedBeforeStoredClause
+                | Slip::EqualNotStoredAgain
+                | Slip::CutAtFirstLarger
+                | Slip::CutFromYoungEnd
+                | Slip::NewestFillsGap
+                | Slip::RecordsCutNotFiltered
+                | Slip::RefusedWithdrawalEmptiesStore
+        )
     }
 
     /// Whether the slip is one of the finder of dead clauses, which can be asked alone.
@@ -177,6 +266,49 @@ impl Slip {
     /// start node's clause goes nowhere.
     pub fn is_hidden(self) -> bool {
         self == Slip::FirstDeadClause
+    }
+
+    /// Whether only a list with a withdrawal, or a state with a record that is not 0, can show the slip.
+    pub fn is_of_withdrawal(self) -> bool {
+        matches!(
+            self,
+            Slip::WithdrawalDropsCubes
+                | Slip::WithdrawalKeepsClauses
+                | Slip::WithdrawalDropsClauses
+                | Slip::EqualRecordDropped
+                | Slip::CutAtFirstLarger
+                | Slip::CutFromYoungEnd
+                | Slip::NewestFillsGap
+                | Slip::RecordsCutNotFiltered
+                | Slip::RecordsNotMoved
+                | Slip::RecordOfDisplacedTaken
+                | Slip::RecordOfYoungestRule
+                | Slip::RecordOneLess
+                | Slip::RuleRaisesRecords
+                | Slip::SearchRenewsRecords
+                | Slip::SearchLosesRecords
+                | Slip::OldestRuleWithdrawn
+                | Slip::OpenedRulesStay
+                | Slip::NothingWithdrawn
+                | Slip::RefusedWithdrawalEmptiesStore
+                | Slip::EqualRecordRefused
+                | Slip::CheckOmits(Check::RecordTooHigh)
+        )
+    }
+
+    /// Whether only a keep card can show the slip.
+    pub fn is_of_keep_card(self) -> bool {
+        matches!(
+            self,
+            Slip::NoHalvesTwoLines
+                | Slip::MixedIsNo
+                | Slip::NoLineBytesLeft
+                | Slip::NoLinesBelowFlags
+                | Slip::KeepCardOfYes
+                | Slip::KeepCardStartsEmpty
+                | Slip::KeepCardLearnsNothing
+                | Slip::FlaglessKeepCardHasNoLine
+        )
     }
 
     /// Whether only a book written back can show the slip.

@@ -4,12 +4,12 @@ use crate::answer::{Answer, Call, Said, Subject, LENT_BYTE};
 use crate::check;
 use crate::constraint::Polarity;
 use crate::formula::{Formula, Literal};
-use crate::learning::{LearningSearch, Outcome};
+use crate::learning::{LearningSearch, Outcome, UNBOUNDED};
 use crate::options::Options;
 use crate::refusal;
 use crate::slip::Slip;
 use crate::store::Store;
-use crate::table;
+use crate::table::{self, Lines};
 use crate::write;
 
 #[derive(Clone, Debug, Default, PartialEq, Eq)]
@@ -24,16 +24,31 @@ pub struct State {
 pub struct Solver {
     pub state: State,
     pub options: Options,
+    /// How many rules stood at first. Only a slip reads this.
+    opened: usize,
 }
 
 impl Subject for Solver {
     fn call(&mut self, call: &Call) -> Answer {
+        self.call_within(call, UNBOUNDED)
+    }
+}
+
+impl Solver {
+    /// A call under a ceiling on visits, which only searches have: "query and either card take a ceiling
+    /// on visits".
+    pub fn call_within(&mut self, call: &Call, ceiling: u64) -> Answer {
         match call {
             Call::Rule(literals) => self.rule(literals),
-            Call::Query(on) => self.query(on),
+            Call::Withdraw => self.withdraw(),
+            Call::Query(on) => self.query(on, ceiling),
             Call::Card(length) => {
                 let mut table = vec![LENT_BYTE; *length];
-                self.card(&mut table)
+                self.lines(Polarity::Cube, &mut table, ceiling)
+            }
+            Call::KeepCard(length) => {
+                let mut table = vec![LENT_BYTE; *length];
+                self.keep_card(&mut table, ceiling)
             }
             Call::Forget => self.forget(),
             Call::Write(length) => {
@@ -42,11 +57,10 @@ impl Subject for Solver {
             }
         }
     }
-}
 
-impl Solver {
     pub fn new(state: State, options: Options) -> Solver {
-        Solver { state, options }
+        let opened = state.formula.clauses.len();
+        Solver { state, options, opened }
     }
 
     /// A freshly opened formula: its store is empty.
@@ -71,39 +85,101 @@ impl Solver {
         } else if !(stands && self.options.slips(Slip::EqualClauseNotAdded)) {
             self.state.formula.add(literals);
         }
-        self.state.store.rule_added(&self.options);
+        self.state.store.rule_added(self.state.formula.clauses.len(), &self.options);
         Answer::new(Said::Added)
     }
 
+    /// "Add a call that withdraws the rule added last."
+    pub fn withdraw(&mut self) -> Answer {
+        let spared = if self.options.slips(Slip::OpenedRulesStay) { self.opened } else { 0 };
+        let refused = refusal::of_withdrawal(&self.state.formula, spared, &self.options);
+        if let Some(number) = self.first_refusal(refused) {
+            if number == 32 && self.options.slips(Slip::RefusedWithdrawalEmptiesStore) {
+                self.state.store = Store::default();
+            }
+            return Answer::new(Said::Refused(number));
+        }
+        let clauses = &mut self.state.formula.clauses;
+        if self.options.slips(Slip::OldestRuleWithdrawn) {
+            clauses.remove(0);
+        } else {
+            clauses.pop();
+        }
+        self.state.store.rule_withdrawn(clauses.len(), &self.options);
+        Answer::new(Said::Withdrawn)
+    }
+
     /// "A query starts at the node of all its flags", where "a flag not named is off".
-    pub fn query(&mut self, on: &[i16]) -> Answer {
+    fn query(&mut self, on: &[i16], ceiling: u64) -> Answer {
         let refused = refusal::of_query(&self.state.formula, on, &self.options);
         if let Some(number) = self.first_refusal(refused) {
             return Answer::new(Said::Refused(number));
         }
         let start = start_node(&self.state.formula, on);
         let State { formula, store } = &mut self.state;
-        let (outcome, search) = LearningSearch::run(formula, store, &start, &self.options);
+        let wanted = Polarity::Cube;
+        let (outcome, search) =
+            LearningSearch::run(formula, store, &start, wanted, ceiling, &self.options);
+        let visits = search.visits;
+        store.search_ended(formula.clauses.len(), &self.options);
+        let Some(outcome) = outcome else { return stopped(&mut [], visits) };
         let yes = matches!(outcome, Outcome::Decided(c) if c.polarity == Polarity::Cube);
         let said = if yes { Said::Swap } else { Said::Keep };
-        Answer { said, table: vec![], visits: search.visits }
+        Answer { said, table: vec![], visits }
     }
 
     /// "Card writes to a lent byte table and returns lines and visits." The answer carries the
     /// table's bytes as well.
     pub fn card(&mut self, table: &mut [u8]) -> Answer {
+        self.lines(Polarity::Cube, table, UNBOUNDED)
+    }
+
+    /// "Make the keep card in the same way, with topmost No nodes."
+    fn keep_card(&mut self, table: &mut [u8], ceiling: u64) -> Answer {
+        let store = self.state.store.clone();
+        if self.options.slips(Slip::KeepCardStartsEmpty) {
+            self.state.store = Store::default();
+        }
+        let yes = self.options.slips(Slip::KeepCardOfYes);
+        let wanted = if yes { Polarity::Cube } else { Polarity::Clause };
+        let answer = self.lines(wanted, table, ceiling);
+        let lost = [Slip::KeepCardStartsEmpty, Slip::KeepCardLearnsNothing];
+        if self.options.slip.is_some_and(|slip| lost.contains(&slip)) {
+            self.state.store = store;
+        }
+        answer
+    }
+
+    /// The lines of a verdict, which a constraint's polarity stands for.
+    fn lines(&mut self, wanted: Polarity, table: &mut [u8], ceiling: u64) -> Answer {
         if let Some(number) = self.first_refusal(None) {
             table.fill(0);
             return Answer { said: Said::Refused(number), table: table.to_vec(), visits: 0 };
         }
         let State { formula, store } = &mut self.state;
-        let (_, search) = LearningSearch::run(formula, store, &[], &self.options);
-        let (lines, visits) = (search.lines, search.visits);
+        let (outcome, search) =
+            LearningSearch::run(formula, store, &[], wanted, ceiling, &self.options);
+        let (mut lines, visits) = (search.lines, search.visits);
+        store.search_ended(formula.clauses.len(), &self.options);
+        if outcome.is_none() {
+            return stopped(table, visits);
+        }
+        let flagless = formula.free_count() == 0 && wanted == Polarity::Clause;
+        if flagless && self.options.slips(Slip::FlaglessKeepCardHasNoLine) {
+            lines = Lines::default();
+        }
         let held = table::lines_held(formula, table.len(), &self.options);
         if lines.too_many(held, &self.options) {
             return self.too_many_lines(table, visits);
         }
         table::write(lines.nodes(), formula.free_count(), table, &self.options);
+        let taken_back = match wanted {
+            Polarity::Cube => Slip::YesLineBytesLeft,
+            Polarity::Clause => Slip::NoLineBytesLeft,
+        };
+        if self.options.slips(taken_back) {
+            lines.leave_taken_back(formula.free_count(), table);
+        }
         Answer { said: Said::Lines(lines.count()), table: table.to_vec(), visits }
     }
 
@@ -151,6 +227,12 @@ impl Solver {
         }
         of_state.or(of_input)
     }
+}
+
+/// "a stopped walk returns 34, never 21, with visits equal to the ceiling and a zeroed card".
+fn stopped(table: &mut [u8], visits: u64) -> Answer {
+    table.fill(0);
+    Answer { said: Said::Refused(34), table: table.to_vec(), visits }
 }
 
 /// The node that gives every free variable its value.

@@ -91,7 +91,7 @@ fn declare(
     options: &Options,
 ) -> Result<(), u8> {
     for &number in numbers {
-        if let Some(refused) = refusal::of_declaration(formula, number, options) {
+        if let Some(refused) = refusal::of_declaration(formula, number, quantifier, options) {
             return Err(refused);
         }
         formula.prefix.push(Variable { number: number as i16, quantifier });
@@ -108,16 +108,23 @@ pub fn card_program(text: &[u8], options: &Options) -> String {
     let mut table = vec![0; PROGRAM_TABLE];
     let answer = Solver::opened(formula.clone(), *options).card(&mut table);
     match answer.said {
-        Said::Lines(count) => print_card(&formula, count, &table, answer.visits),
+        Said::Lines(count) => print_card("card", &formula, count, &table, answer.visits),
         Said::Refused(number) => format!("(refused {number} 0)\n"),
         _ => unreachable!("a card returns lines or a refusal"),
     }
 }
 
 /// "The card's own edition, always 1, then each line's set flags in place order, then visits".
-pub fn print_card(formula: &Formula, count: usize, table: &[u8], visits: u64) -> String {
+/// `word` is that of its kind, `card` or `keep-card`.
+pub fn print_card(
+    word: &str,
+    formula: &Formula,
+    count: usize,
+    table: &[u8],
+    visits: u64,
+) -> String {
     let free_count = formula.free_count();
-    let mut text = String::from("(card 1)\n");
+    let mut text = format!("({word} 1)\n");
     for line in 0..count {
         text.push_str("(line");
         let bytes = table.iter().skip(line * free_count).take(free_count);

@@ -54,19 +54,19 @@ pub fn verdict(formula: &Formula, node: &[bool]) -> Verdict {
 }
 
 /// The lines below a node: "a Yes node within the flags with no shorter Yes node above it", off
-/// before on.
-pub fn lines(formula: &Formula, node: &mut Vec<bool>) -> Vec<Vec<bool>> {
+/// before on; for the keep card "with topmost No nodes".
+pub fn lines(formula: &Formula, node: &mut Vec<bool>, wanted: Verdict) -> Vec<Vec<bool>> {
     match verdict(formula, node) {
-        Verdict::Yes => vec![node.clone()],
-        Verdict::No => vec![],
         Verdict::Mixed => {
             let mut found = vec![];
             for value in [false, true] {
                 node.push(value);
-                found.extend(lines(formula, node));
+                found.extend(lines(formula, node, wanted));
                 node.pop();
             }
             found
         }
+        verdict if verdict == wanted => vec![node.clone()],
+        _ => vec![],
     }
 }

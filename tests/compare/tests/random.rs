@@ -46,20 +46,29 @@ fn check_case(case: &Case) {
     }
 }
 
+/// The verdict of a card's lines.
+fn verdict_of(call: &Call) -> Verdict {
+    if matches!(call, Call::KeepCard(_)) {
+        Verdict::No
+    } else {
+        Verdict::Yes
+    }
+}
+
 fn check_truth(formula: &Formula, call: &Call, answer: &Answer, options: &Options) {
     match (call, answer.said) {
         (Call::Query(on), Said::Swap | Said::Keep) => {
             let yes = truth::verdict(formula, &start_node(formula, on)) == Verdict::Yes;
             assert_eq!(answer.said == Said::Swap, yes, "{call}\n{formula:?}");
         }
-        (Call::Card(length), Said::Lines(count)) => {
-            let lines = truth::lines(formula, &mut vec![]);
+        (Call::Card(length) | Call::KeepCard(length), Said::Lines(count)) => {
+            let lines = truth::lines(formula, &mut vec![], verdict_of(call));
             let mut expected = vec![0; *length];
             table::write(&lines, formula.free_count(), &mut expected, options);
             assert_eq!((count, &answer.table), (lines.len(), &expected), "{call}\n{formula:?}");
         }
-        (Call::Card(length), Said::Refused(21)) => {
-            let lines = truth::lines(formula, &mut vec![]).len();
+        (Call::Card(length) | Call::KeepCard(length), Said::Refused(21)) => {
+            let lines = truth::lines(formula, &mut vec![], verdict_of(call)).len();
             assert!(lines * formula.free_count() > *length, "{call}\n{formula:?}");
         }
         _ => {}

@@ -68,7 +68,14 @@ fn queries() {
 fn malformed_state_comes_first() {
     let mut solver = solver();
     solver.state.store.cubes.push(vec![1, 40]);
-    let calls = [Call::Rule(vec![]), Call::Query(vec![0]), Call::Card(3), Call::Forget];
+    let calls = [
+        Call::Rule(vec![]),
+        Call::Withdraw,
+        Call::Query(vec![0]),
+        Call::Card(3),
+        Call::KeepCard(3),
+        Call::Forget,
+    ];
     for call in calls {
         assert_eq!(solver.call(&call).said, Said::Refused(22), "{call}");
     }

@@ -1,18 +1,30 @@
 //! The rows that the definitions answer by computation (`crates/qbf/proofs/Bench.antt`,
-//! `Cases.antt` and `Finder.antt`), answered by this implementation.
+//! `Cases.antt`, `Withdrawals.antt` and `Finder.antt`), answered by this implementation.
 
+use compare::check;
 use compare::dead::dead_clause;
 use compare::rows::{read, read_finder, FinderRow, Row};
 use compare::slip::{Slip, ALL};
 use compare::{Answer, Call, Options, PlainRun, Said, Solver, Subject};
 
 /// Each table with how many rows it has at least.
-const TABLES: [(&str, &str, usize); 5] = [
+const TABLES: [(&str, &str, usize); 7] = [
     ("Bench.antt", "table", 10),
     ("Bench.antt", "others", 6),
     ("Cases.antt", "table", 28),
     ("Cases.antt", "on-states", 3),
+    ("Withdrawals.antt", "table", 6),
+    ("Withdrawals.antt", "on-states", 5),
     ("Cases.antt", "malformed", 16),
+];
+
+/// What no row shows: records that move, where 64 learned clauses or several withdrawals are needed.
+const NOT_IN_ROWS: [Slip; 5] = [
+    Slip::NewestFillsGap,
+    Slip::RecordsCutNotFiltered,
+    Slip::RecordsNotMoved,
+    Slip::RecordOfDisplacedTaken,
+    Slip::SearchRenewsRecords,
 ];
 
 fn rows(file: &str, name: &str) -> Vec<Row> {
@@ -39,7 +51,7 @@ fn every_row() {
 /// Whether a slip changes what a row answers. A search on a malformed state means nothing, so what a
 /// check omits is shown by forget alone.
 fn changes(row: &Row, slip: Slip) -> bool {
-    let judges_state = slip.is_of_check();
+    let judges_state = slip.judges_state();
     let options = Options { slip: Some(slip), judges_state, ..Options::with(row.limits) };
     let answers = |call: &Call| Solver::new(row.state.clone(), options).call(call);
     match slip {
@@ -48,14 +60,18 @@ fn changes(row: &Row, slip: Slip) -> bool {
     }
 }
 
-/// The rows are strong enough: every slip changes what one of them answers. No row writes a book; its slips are shown by `slips` and the cases.
+/// The rows are strong enough: every slip changes what one of them answers. No row writes a book or makes a
+/// keep card; their slips are shown by `slips` and the cases.
 /// The slips of the finder change one of its own rows.
 #[test]
 fn every_slip_changes_a_row() {
-    let (last, others) = TABLES.split_last().expect("there are tables");
-    let malformed = rows(last.0, last.1);
-    let sound: Vec<Row> = others.iter().flat_map(|table| rows(table.0, table.1)).collect();
-    let of_calls = |slip: Slip| !slip.is_of_writing() && !slip.is_of_finder();
+    let all = TABLES.iter().flat_map(|(file, name, _)| rows(file, name));
+    let is_malformed = |row: &Row| check::malformed(&row.state, &Options::with(row.limits));
+    let (malformed, sound): (Vec<Row>, Vec<Row>) = all.partition(is_malformed);
+    let of_calls = |slip: Slip| {
+        let other = slip.is_of_writing() || slip.is_of_finder() || slip.is_of_keep_card();
+        !other && !NOT_IN_ROWS.contains(&slip)
+    };
     for (slip, words) in ALL.iter().filter(|entry| of_calls(entry.0)) {
         let rows = if slip.is_of_check() { &malformed } else { &sound };
         assert!(rows.iter().any(|row| changes(row, *slip)), "{slip:?}: {words}");

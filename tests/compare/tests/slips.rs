@@ -7,13 +7,10 @@ fn effort(tries: usize) -> Effort {
     Effort { tries, hits: 1 }
 }
 
-/// Where calls on an opened formula cannot show a slip: entries learned by calls are sound, and a
-/// sound entry is met at its own last place and never learned while it is stored.
+/// Where a slip shows.
 fn source(slip: Slip) -> Source {
     match slip {
-        Slip::InnerTestsAtMost | Slip::SatisfiedBeforeStoredClause | Slip::EqualNotStoredAgain => {
-            Source::GivenStore
-        }
+        _ if slip.needs_given_store() => Source::GivenStore,
         _ if slip.is_of_check() => Source::Malformed,
         _ => Source::Opened,
     }

@@ -16,8 +16,8 @@ pub enum Walk {
 /// Whether a call's search visits at most `limit` nodes.
 pub fn affords(formula: &Formula, call: &Call, walk: Walk, limit: u64) -> bool {
     match call {
-        Call::Rule(_) | Call::Forget | Call::Write(_) => true,
-        Call::Card(_) => within(formula, &[], walk, limit),
+        Call::Rule(_) | Call::Withdraw | Call::Forget | Call::Write(_) => true,
+        Call::Card(_) | Call::KeepCard(_) => within(formula, &[], walk, limit),
         Call::Query(on) => {
             refusal::of_query(formula, on, &Options::paper()).is_some()
                 || within(formula, &start_node(formula, on), walk, limit)

@@ -147,11 +147,15 @@ impl Shape {
 
 /// The formula after a call.
 pub fn follow(formula: &mut Formula, call: &Call) {
-    if let Call::Rule(literals) = call {
-        let wide: Vec<i32> = literals.iter().map(|&literal| literal.into()).collect();
-        if refusal::of_rule(formula, &wide, &Options::paper()).is_none() {
-            formula.add(literals);
+    match call {
+        Call::Rule(literals) => {
+            let wide: Vec<i32> = literals.iter().map(|&literal| literal.into()).collect();
+            if refusal::of_rule(formula, &wide, &Options::paper()).is_none() {
+                formula.add(literals);
+            }
         }
+        Call::Withdraw => drop(formula.clauses.pop()),
+        _ => {}
     }
 }
 
@@ -339,7 +343,16 @@ fn write(formula: &Formula, random: &mut Random) -> Call {
     Call::Write(length)
 }
 
-/// A well-formed store that calls need not reach.
+/// A record that a learned clause can have: most often one of the highest.
+pub fn record(formula: &Formula, random: &mut Random) -> usize {
+    let standing = formula.clauses.len();
+    match random.below(3) {
+        0 => random.below(standing + 1),
+        _ => standing.saturating_sub(random.below(4)),
+    }
+}
+
+/// A well-formed store that calls need not reach: records stand in any order.
 pub fn store(formula: &Formula, random: &mut Random) -> Store {
     let most = random.pick(&[2, 6, 20, 64, 64]);
     let (shortest, longest) = random.pick(&[(1, 3), (2, 5), (4, 8), (6, 12), (1, 40)]);
@@ -375,5 +388,6 @@ pub fn store(formula: &Formula, random: &mut Random) -> Store {
     };
     let clauses = entries(Polarity::Clause);
     let cubes = entries(Polarity::Cube);
-    Store { clauses, cubes }
+    let records = clauses.iter().map(|_| record(formula, random)).collect();
+    Store { clauses, records, cubes }
 }

@@ -113,10 +113,19 @@ impl Sides {
 /// "22 the state is malformed": no lines, no visits, and the table zeroed.
 fn refused_by_state(call: &Call) -> Answer {
     let length = match call {
-        Call::Card(length) | Call::Write(length) => *length,
+        Call::Card(length) | Call::KeepCard(length) | Call::Write(length) => *length,
         _ => 0,
     };
     Answer { said: Said::Refused(22), table: vec![0; length], visits: 0 }
+}
+
+/// The verdict of a card's lines.
+fn wanted(call: &Call) -> Verdict {
+    if matches!(call, Call::KeepCard(_)) {
+        Verdict::No
+    } else {
+        Verdict::Yes
+    }
 }
 
 /// Whether there was something to evaluate.
@@ -129,16 +138,16 @@ fn true_answer(formula: &Formula, call: &Call, answer: &Answer) -> Result<bool, 
                 return Err(format!("{answer}; by evaluation {yes}"));
             }
         }
-        (Call::Card(length), Said::Lines(count)) => {
-            let lines = truth::lines(formula, &mut vec![]);
+        (Call::Card(length) | Call::KeepCard(length), Said::Lines(count)) => {
+            let lines = truth::lines(formula, &mut vec![], wanted(call));
             let mut expected = vec![0; *length];
             table::write(&lines, formula.free_count(), &mut expected, &options);
             if (count, &answer.table) != (lines.len(), &expected) {
                 return Err(format!("{answer}; by evaluation {lines:?}"));
             }
         }
-        (Call::Card(length), Said::Refused(21)) => {
-            let lines = truth::lines(formula, &mut vec![]).len();
+        (Call::Card(length) | Call::KeepCard(length), Said::Refused(21)) => {
+            let lines = truth::lines(formula, &mut vec![], wanted(call)).len();
             if lines <= table::lines_held(formula, *length, &options) {
                 return Err(format!("{answer}; by evaluation {lines} lines"));
             }

@@ -155,6 +155,16 @@ fn learned(formula: &Formula, shape: Shape, random: &mut Random) -> Store {
             }
         }
     }
+    // As the search left them, or in any order.
+    let standing = formula.clauses.len();
+    store.records.iter_mut().for_each(|record| *record = standing.min(*record));
+    let any = random.one_in(2);
+    store.records = (0..store.clauses.len())
+        .map(|index| match store.records.get(index) {
+            Some(record) if !any => *record,
+            _ => generate::record(formula, random),
+        })
+        .collect();
     store
 }
 

@@ -68,6 +68,7 @@ impl Native {
                 }
                 (by_value, in_place)
             }
+            Call::Withdraw | Call::KeepCard(_) => return Err(format!("the library has no {call}")),
             Call::Write(length) => {
                 // There is no such call by value: a call line is one, and is compared with the others.
                 table = vec![LENT_BYTE; *length];

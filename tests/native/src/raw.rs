@@ -9,6 +9,10 @@ pub const CLAUSE_WIDTH: usize = 16;
 pub const ENTRIES: usize = 64;
 /// Cells of an entry.
 pub const ENTRY_WIDTH: usize = 40;
+/// Where the records of learned clauses begin, after their count and their lengths.
+pub const RECORDS: usize = ENTRIES + 1;
+/// The count, lengths and records of learned clauses.
+pub const RECORDED: usize = RECORDS + ENTRIES;
 
 pub const FREE: u16 = 0;
 pub const EXISTS: u16 = 1;
@@ -31,7 +35,9 @@ pub struct Raw {
     /// The count of clauses, then the length of each.
     pub clause_sizes: [u16; CLAUSES + 1],
     pub learned_clauses: [i16; ENTRIES * ENTRY_WIDTH],
-    pub learned_clause_sizes: [u16; ENTRIES + 1],
+    /// The count of learned clauses, the length of each, then the record of each: entry i, from 0, has
+    /// its record in cell 65 + i.
+    pub learned_clause_sizes: [u16; RECORDED],
     pub learned_cubes: [i16; ENTRIES * ENTRY_WIDTH],
     pub learned_cube_sizes: [u16; ENTRIES + 1],
 }
@@ -44,7 +50,7 @@ impl Raw {
         clauses: [0; CLAUSES * CLAUSE_WIDTH],
         clause_sizes: [0; CLAUSES + 1],
         learned_clauses: [0; ENTRIES * ENTRY_WIDTH],
-        learned_clause_sizes: [0; ENTRIES + 1],
+        learned_clause_sizes: [0; RECORDED],
         learned_cubes: [0; ENTRIES * ENTRY_WIDTH],
         learned_cube_sizes: [0; ENTRIES + 1],
     };
@@ -87,13 +93,13 @@ pub const LENGTHS: [usize; 9] = [
     CLAUSES * CLAUSE_WIDTH,
     CLAUSES + 1,
     ENTRIES * ENTRY_WIDTH,
-    ENTRIES + 1,
+    RECORDED,
     ENTRIES * ENTRY_WIDTH,
     ENTRIES + 1,
 ];
 
 /// The cells of all tables.
-pub const CELLS: usize = 9_709;
+pub const CELLS: usize = 9_773;
 
 impl Raw {
     /// The tables one after another.

@@ -1,6 +1,6 @@
 //! Between the library's tables and the lists of the independent implementation.
 
-use crate::raw::{Raw, BY_PLACE, CLAUSES, CLAUSE_WIDTH, ENTRIES, ENTRY_WIDTH};
+use crate::raw::{Raw, BY_PLACE, CLAUSES, CLAUSE_WIDTH, ENTRIES, ENTRY_WIDTH, RECORDS};
 use crate::raw::{EXISTS, FORALL, FREE};
 use compare::formula::Place;
 use compare::random::Random;
@@ -26,7 +26,9 @@ pub fn read(raw: &Raw) -> Option<State> {
     formula.clauses = rows(&raw.clauses, &raw.clause_sizes, CLAUSE_WIDTH, CLAUSES)?;
     let clauses = rows(&raw.learned_clauses, &raw.learned_clause_sizes, ENTRY_WIDTH, ENTRIES)?;
     let cubes = rows(&raw.learned_cubes, &raw.learned_cube_sizes, ENTRY_WIDTH, ENTRIES)?;
-    Some(State { formula, store: Store { clauses, cubes } })
+    let records = raw.learned_clause_sizes[RECORDS..].iter().take(clauses.len());
+    let records = records.map(|&record| usize::from(record)).collect();
+    Some(State { formula, store: Store { clauses, records, cubes } })
 }
 
 /// The state, where no call refuses it with 22.
@@ -111,6 +113,9 @@ fn write_over(state: &State, raw: &mut Raw) {
     write_rows(&formula.clauses, &mut raw.clauses, &mut raw.clause_sizes, CLAUSE_WIDTH);
     let (cells, sizes) = (&mut raw.learned_clauses, &mut raw.learned_clause_sizes);
     write_rows(&store.clauses, cells, sizes, ENTRY_WIDTH);
+    for (cell, &record) in sizes[RECORDS..].iter_mut().zip(&store.records) {
+        *cell = record as u16;
+    }
     let (cells, sizes) = (&mut raw.learned_cubes, &mut raw.learned_cube_sizes);
     write_rows(&store.cubes, cells, sizes, ENTRY_WIDTH);
 }

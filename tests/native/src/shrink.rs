@@ -57,6 +57,9 @@ fn smaller(case: &Case) -> Vec<Case> {
         for row in 0..lists(&mut state.clone())[which].len() {
             let mut other = state.clone();
             lists(&mut other)[which].remove(row);
+            if which == LEARNED {
+                other.store.records.remove(row);
+            }
             with(other);
         }
     }
@@ -78,6 +81,9 @@ fn smaller(case: &Case) -> Vec<Case> {
     }
     found
 }
+
+/// Which of the lists holds the learned clauses.
+const LEARNED: usize = 1;
 
 fn lists(state: &mut State) -> [&mut Vec<Vec<i16>>; 3] {
     [&mut state.formula.clauses, &mut state.store.clauses, &mut state.store.cubes]

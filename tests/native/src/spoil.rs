@@ -1,6 +1,6 @@
 //! Faults of a state, one for each sentence of refusal 22 and each limit of the tables.
 
-use crate::raw::{Raw, BY_PLACE, CLAUSES, CLAUSE_WIDTH, ENTRIES, ENTRY_WIDTH};
+use crate::raw::{Raw, BY_PLACE, CLAUSES, CLAUSE_WIDTH, ENTRIES, ENTRY_WIDTH, RECORDS};
 use crate::reading::any_number;
 use compare::random::Random;
 
@@ -25,6 +25,7 @@ pub enum Fault {
     EntryCount(Rows),
     EntryLength(Rows),
     EntryUnreduced(Rows),
+    RecordTooHigh,
     /// Any cell, any number.
     AnyCell,
     /// Every cell any number.
@@ -41,7 +42,7 @@ pub enum Rows {
 
 use Rows::{Clauses, LearnedClauses, LearnedCubes};
 
-pub const FAULTS: [Fault; 34] = [
+pub const FAULTS: [Fault; 35] = [
     Fault::VariableCount,
     Fault::NumberOutOfRange,
     Fault::NumberTwice,
@@ -74,6 +75,7 @@ pub const FAULTS: [Fault; 34] = [
     Fault::EntryLength(LearnedCubes),
     Fault::EntryUnreduced(LearnedClauses),
     Fault::EntryUnreduced(LearnedCubes),
+    Fault::RecordTooHigh,
     Fault::AnyCell,
     Fault::AllCells,
 ];
@@ -144,10 +146,9 @@ pub fn spoil(raw: &mut Raw, fault: Fault, random: &mut Random) -> Option<()> {
     let declared = matches!(fault, Fault::NumberOutOfRange | Fault::NumberTwice);
     if declared && random.one_in(2) {
         // No row, so that none names an undeclared variable: the declaration is the only fault.
-        for sizes in [&mut raw.learned_clause_sizes, &mut raw.learned_cube_sizes] {
-            sizes[0] = 0;
-        }
         raw.clause_sizes[0] = 0;
+        raw.learned_clause_sizes[0] = 0;
+        raw.learned_cube_sizes[0] = 0;
     }
     match fault {
         Fault::VariableCount => raw.numbers[0] = above(BY_PLACE - 1, random),
@@ -238,6 +239,15 @@ pub fn spoil(raw: &mut Raw, fault: Fault, random: &mut Random) -> Option<()> {
             *size = keep as u16;
             grow(cells, size, keep, literal);
         }
+        Fault::RecordTooHigh => {
+            let standing = usize::from(raw.clause_sizes[0]);
+            let count = usize::from(raw.learned_clause_sizes[0]);
+            if count == 0 {
+                return None;
+            }
+            let record = random.below(count);
+            raw.learned_clause_sizes[RECORDS + record] = above(standing, random);
+        }
         Fault::AnyCell => {
             for _ in 0..random.pick(&[1, 1, 2, 5]) {
                 any_cell(raw, random);
@@ -262,7 +272,7 @@ pub fn spoil(raw: &mut Raw, fault: Fault, random: &mut Random) -> Option<()> {
 /// A cell within the counts or just past them, more often than another.
 fn any_cell(raw: &mut Raw, random: &mut Random) {
     let value = any_number(random);
-    let which = random.below(9);
+    let which = random.below(10);
     let mut near = |count: usize, length: usize| {
         let bound = if random.one_in(4) { length } else { (count + 2).min(length) };
         random.below(bound)
@@ -272,14 +282,20 @@ fn any_cell(raw: &mut Raw, random: &mut Random) {
         0 => raw.numbers[near(count, BY_PLACE)] = value as u16,
         1 => raw.levels[near(count, BY_PLACE)] = value as u16,
         2 => raw.kinds[near(3, BY_PLACE)] = value as u16,
+        9 => {
+            let count = usize::from(raw.learned_clause_sizes[0]);
+            raw.learned_clause_sizes[RECORDS + near(count, ENTRIES)] = value as u16;
+        }
         which => {
             let rows = [Clauses, LearnedClauses, LearnedCubes][which % 3];
             let table = table(raw, rows);
             let count = usize::from(table.sizes[0]);
             if which < 6 {
-                table.sizes[near(count, table.sizes.len())] = value as u16;
+                // The count and the lengths.
+                let cells = table.cells.len() / table.width + 1;
+                table.sizes[near(count, cells)] = value as u16;
             } else {
-                let row = near(count, table.sizes.len() - 1);
+                let row = near(count, table.cells.len() / table.width);
                 let size = usize::from(table.sizes[1 + row]);
                 table.cells[row * table.width + near(size, table.width)] = value;
             }

@@ -8,6 +8,7 @@ use std::fmt;
 pub struct Tally {
     pub lists: u64,
     pub rules: u64,
+    pub withdrawals: u64,
     pub forgets: u64,
     pub swaps: u64,
     pub keeps: u64,
@@ -51,6 +52,7 @@ impl Tally {
         match answer.said {
             Said::Refused(number) => *self.refusals.entry(number).or_default() += 1,
             Said::Added => self.rules += 1,
+            Said::Withdrawn => self.withdrawals += 1,
             Said::Forgotten => self.forgets += 1,
             Said::Swap => self.swaps += 1,
             Said::Keep => self.keeps += 1,
@@ -80,6 +82,7 @@ impl Tally {
         let sums = [
             (&mut self.lists, other.lists),
             (&mut self.rules, other.rules),
+            (&mut self.withdrawals, other.withdrawals),
             (&mut self.forgets, other.forgets),
             (&mut self.swaps, other.swaps),
             (&mut self.keeps, other.keeps),
@@ -112,7 +115,7 @@ impl Tally {
     pub fn calls(&self) -> u64 {
         let refused: u64 = self.refusals.values().sum();
         let answered = self.swaps + self.keeps + self.cards + self.written;
-        self.rules + self.forgets + answered + refused
+        self.rules + self.withdrawals + self.forgets + answered + refused
     }
 }
 
@@ -120,7 +123,8 @@ impl fmt::Display for Tally {
     fn fmt(&self, f: &mut fmt::Formatter) -> fmt::Result {
         let Tally { lists, rules, forgets, swaps, keeps, cards, lines, written, .. } = self;
         writeln!(f, "{lists} lists, {} calls:", self.calls())?;
-        write!(f, "  {rules} rules accepted, {forgets} forgets, {swaps} swap, {keeps} keep, ")?;
+        write!(f, "  {rules} rules accepted, {} withdrawn, {forgets} forgets, ", self.withdrawals)?;
+        write!(f, "{swaps} swap, {keeps} keep, ")?;
         writeln!(f, "{cards} cards of {lines} lines, {written} books written")?;
         writeln!(f, "  refusals by number: {:?}", self.refusals)?;
         let [clauses, cubes] = self.filled;

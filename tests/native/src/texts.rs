@@ -55,9 +55,12 @@ pub fn qdimacs(formula: &Formula, random: &mut Random) -> Vec<u8> {
 pub fn line(call: &Call) -> Vec<u8> {
     let text = match call {
         Call::Rule(literals) => format!("(rule{})", items(literals)),
+        Call::Withdraw => "(withdraw)".into(),
         Call::Query(on) => format!("(query{})", items(on)),
         Call::Card(65_536) => "(card)".into(),
         Call::Card(length) => format!("(card {length})"),
+        Call::KeepCard(65_536) => "(keep-card)".into(),
+        Call::KeepCard(length) => format!("(keep-card {length})"),
         Call::Forget => "(forget)".into(),
         Call::Write(compare::write::WHOLE) => "(write)".into(),
         Call::Write(length) => format!("(write {length})"),

@@ -10,7 +10,9 @@ fn card(case: &StoredCase) -> Option<Vec<u8>> {
     let formula = text::open(&case.input, &Options::paper()).ok()?;
     let answer = Native::opened(formula.clone()).call(&Call::Card(PROGRAM_TABLE));
     let printed = match answer.said {
-        Said::Lines(count) => text::print_card(&formula, count, &answer.table, answer.visits),
+        Said::Lines(count) => {
+            text::print_card("card", &formula, count, &answer.table, answer.visits)
+        }
         said => format!("(refused {} 0)\n", if said == Said::Refused(21) { 21 } else { 0 }),
     };
     Some(printed.into_bytes())

@@ -102,8 +102,8 @@ impl Both {
     fn expected(&mut self, line: &[u8], number: u64) -> (String, Said) {
         let formula = self.solver.as_ref().map_or(Formula::default(), |s| s.state.formula.clone());
         let asked = (line.len() <= LARGEST_LINE).then(|| session::request(line)).flatten();
-        let answer = match (asked, &mut self.solver) {
-            (None, _) => Answer::new(Said::Refused(1)),
+        let (call, answer) = match (asked, &mut self.solver) {
+            (None, _) => (Call::Forget, Answer::new(Said::Refused(1))),
             (Some(Request::Page(page)), _) => {
                 let printed = session::print_page(&mut self.last, page, number as usize);
                 let refused = printed.starts_with("(refused 36 ");
@@ -114,10 +114,10 @@ impl Both {
                 let refused = || Answer::new(Said::Refused(22));
                 let answer = solver.as_mut().map_or_else(refused, |solver| solver.call(&call));
                 self.last.after(&call, &answer);
-                answer
+                (call, answer)
             }
         };
-        (session::print(&formula, &answer, number as usize), answer.said)
+        (session::print(&call, &formula, &answer, number as usize), answer.said)
     }
 
     /// A line on both sides: the answer's text and the next state.

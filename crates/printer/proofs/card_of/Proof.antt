@@ -10,6 +10,15 @@ use Rattle.printer.proofs.Making.{frees-are, card-made}
 card-requires : tie.Need-card-requires
 card-requires c κs = search needs
 
+slice-aggregate-free-count : tie.Need-slice-aggregate-free-count
+slice-aggregate-free-count c = search needs
+
+slice-aggregate-free-count-2 : tie.Need-slice-aggregate-free-count-2
+slice-aggregate-free-count-2 c = search needs
+
+slice-aggregate-free-count-3 : tie.Need-slice-aggregate-free-count-3
+slice-aggregate-free-count-3 c = search needs
+
 free-count-requires : tie.Need-free-count-requires
 free-count-requires c κs = search needs
 
@@ -34,6 +43,9 @@ card-of-spec =
     tie.close
     (tie.spec
     card-requires
+    slice-aggregate-free-count
+    slice-aggregate-free-count-2
+    slice-aggregate-free-count-3
     free-count-requires
     refusal-of-requires
     lines-of-requires

@@ -29,7 +29,7 @@ impl Case {
     }
 
     pub fn slipped_answers(&self, slip: Slip) -> Vec<Answer> {
-        let judges_state = slip.is_of_check();
+        let judges_state = slip.judges_state();
         let options = Options { limits: self.limits, slip: Some(slip), judges_state };
         Solver::new(self.state.clone(), options).run(&self.calls)
     }
@@ -109,12 +109,13 @@ impl Case {
             _ => &[],
         });
         let called = called.map(|n| 2 * usize::from(n.unsigned_abs()) + usize::from(*n < 0));
-        declared.sum::<usize>() + called.sum::<usize>()
+        let records = &self.state.store.records;
+        declared.sum::<usize>() + called.sum::<usize>() + records.iter().sum::<usize>()
     }
 
     fn table_bytes(&self) -> usize {
         let bytes = |call: &Call| match call {
-            Call::Card(length) | Call::Write(length) => *length,
+            Call::Card(length) | Call::KeepCard(length) | Call::Write(length) => *length,
             _ => 0,
         };
         self.calls.iter().map(bytes).sum()
@@ -124,6 +125,6 @@ impl Case {
 fn arguments(call: &Call) -> usize {
     match call {
         Call::Rule(list) | Call::Query(list) => list.len(),
-        Call::Card(_) | Call::Forget | Call::Write(_) => 0,
+        _ => 0,
     }
 }

@@ -90,15 +90,12 @@ impl Shape {
 
     /// One call of any kind, at times with a fault.
     fn any_call(self, formula: &Formula, random: &mut Random) -> Call {
-        match random.below(10) {
+        match random.below(13) {
             0..=2 => {
                 let free = formula.free_count();
                 let lengths = [0, free / 2, free, free + 1, 2 * free, 2 * free + 1, 3 * free];
-                if random.one_in(2) {
-                    whole_card(formula)
-                } else {
-                    Call::Card(random.pick(&lengths))
-                }
+                let length = if random.one_in(2) { free << free } else { random.pick(&lengths) };
+                any_card(length, random)
             }
             3..=5 => {
                 let mut on = some_free(formula, random);
@@ -111,23 +108,26 @@ impl Shape {
                 Call::Rule(literals)
             }
             8 => write(formula, random),
+            9..=11 => Call::Withdraw,
             _ => Call::Forget,
         }
     }
 
-    /// A list without faults that lets the store fill: searches, perhaps a rule, searches.
+    /// A list without faults that lets the store fill: searches, perhaps a rule or withdrawals, searches.
     fn plan(self, formula: &Formula, random: &mut Random) -> Vec<Call> {
         let mut calls = vec![];
-        for part in 0..2 {
-            if part == 1 && random.one_in(2) {
-                calls.push(Call::Rule(self.literals(formula, random)));
+        for part in 0..random.pick(&[2, 2, 3]) {
+            match random.below(4) {
+                0 | 1 if part > 0 => calls.push(Call::Rule(self.literals(formula, random))),
+                2 if part > 0 => calls.extend(vec![Call::Withdraw; random.pick(&[1, 1, 2])]),
+                _ => {}
             }
             for _ in 0..random.between(1, self.calls / 2) {
                 let query = random.one_in(2);
                 calls.push(if query {
                     Call::Query(some_free(formula, random))
                 } else {
-                    whole_card(formula)
+                    any_card(formula.free_count() << formula.free_count(), random)
                 });
             }
         }
@@ -142,10 +142,12 @@ fn write(formula: &Formula, random: &mut Random) -> Call {
     Call::Write(random.pick(&lengths))
 }
 
-/// A card into a table that holds every line there can be.
-fn whole_card(formula: &Formula) -> Call {
-    let free = formula.free_count();
-    Call::Card(free << free)
+/// A card of either kind.
+fn any_card(length: usize, random: &mut Random) -> Call {
+    match random.one_in(3) {
+        true => Call::KeepCard(length),
+        false => Call::Card(length),
+    }
 }
 
 fn some_free(formula: &Formula, random: &mut Random) -> Vec<i16> {
@@ -173,7 +175,9 @@ fn store(formula: &Formula, random: &mut Random) -> Store {
         }
         list
     };
-    Store { clauses: entries(Polarity::Clause), cubes: entries(Polarity::Cube) }
+    let (clauses, cubes) = (entries(Polarity::Clause), entries(Polarity::Cube));
+    let records = clauses.iter().map(|_| random.below(formula.clauses.len() + 1)).collect();
+    Store { clauses, records, cubes }
 }
 
 /// The paper's limits, or small ones near what the state holds.

@@ -16,6 +16,7 @@ pub fn cases(slip: Slip, source: Source) -> Vec<Case> {
         (Slip::NewestClauseFirst, Source::Opened) => vec![two_clauses_at_one_node()],
         (Slip::NewestCubeFirst, Source::Opened) => vec![two_cubes_at_one_node()],
         (Slip::EqualNotStoredAgain, Source::GivenStore) => vec![equal_clauses_learned()],
+        (Slip::NewestFillsGap, Source::GivenStore) => vec![gap_before_two_clauses()],
         (Slip::WrittenOrderKept, Source::Opened) => vec![universal_written_last()],
         _ => vec![],
     }
@@ -52,8 +53,18 @@ fn two_cubes_at_one_node() -> Case {
 fn equal_clauses_learned() -> Case {
     let clauses: &[&[i16]] = &[&[1, 4], &[1, -4]];
     let mut case = opened(&[Free, Free, Free, Exists], clauses, vec![Call::Card(24)]);
-    case.state.store = Store { clauses: vec![vec![-1]], cubes: vec![vec![-3]] };
+    case.state.store = Store { clauses: vec![vec![-1]], records: vec![0], cubes: vec![vec![-3]] };
     case.limits.entries = 2;
+    case
+}
+
+/// The same two learned clauses stand behind one that goes with the last rule: their order stays.
+fn gap_before_two_clauses() -> Case {
+    let clauses: &[&[i16]] = &[&[1, 3, 4], &[1, 3, -4], &[2, 3, 4], &[2, 3, -4], &[-3], &[-3]];
+    let calls = vec![Call::Withdraw, Call::Card(8)];
+    let mut case = opened(&[Free, Free, Exists, Exists], clauses, calls);
+    let learned = vec![vec![1, 2, 3], vec![1, 3], vec![2, 3]];
+    case.state.store = Store { clauses: learned, records: vec![6, 0, 0], cubes: vec![] };
     case
 }
 
@@ -63,4 +74,25 @@ fn universal_written_last() -> Case {
     let rules = [vec![3, 2, 1], vec![-3, 2, 1]].map(Call::Rule);
     let calls = rules.into_iter().chain([Call::Card(0)]).collect();
     opened(&[Forall, Exists, Exists], &[&[-1, -2]], calls)
+}
+
+#[cfg(test)]
+mod tests {
+    use super::*;
+    use crate::finder::Difference;
+    use crate::slip::ALL;
+
+    #[test]
+    fn each_shows_its_slip() {
+        let mut count = 0;
+        for (slip, words) in ALL {
+            for source in [Source::Opened, Source::GivenStore] {
+                for case in cases(*slip, source) {
+                    assert!(case.differs(*slip, Difference::Answer), "{slip:?}: {words}");
+                    count += 1;
+                }
+            }
+        }
+        assert_eq!(count, 5);
+    }
 }

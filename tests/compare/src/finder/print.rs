@@ -6,6 +6,7 @@ use crate::formula::{Quantifier, Variable};
 use crate::options::Limits;
 use crate::plain_run::PlainRun;
 use crate::slip::Slip;
+use crate::store::Store;
 use std::fmt::Write;
 
 /// One block: what is given, then a line for each call. The plain run has no store: its visits
@@ -42,7 +43,8 @@ fn given(case: &Case) -> String {
     let _ = writeln!(text, "  rules: {:?}", formula.clauses);
     let store = &case.state.store;
     if !store.clauses.is_empty() || !store.cubes.is_empty() {
-        let _ = writeln!(text, "  given store: bars {:?}, passes {:?}", store.clauses, store.cubes);
+        let Store { clauses, records, cubes } = store;
+        let _ = writeln!(text, "  given store: bars {clauses:?} of {records:?}, passes {cubes:?}");
     }
     text
 }

@@ -24,11 +24,15 @@ fn candidates(case: &Case) -> Vec<Case> {
     without_variables(case, &mut found);
     with_fewer_calls(case, &mut found);
     with_shorter_lists(case, &mut found);
+    with_lower_records(case, &mut found);
     with_simpler_calls(case, &mut found);
     with_simpler_variables(case, &mut found);
     with_other_limits(case, &mut found);
     found
 }
+
+/// Which of the lists holds the learned clauses.
+const LEARNED: usize = 1;
 
 /// The three lists of literal lists of a state.
 fn lists(state: &mut State) -> [&mut Vec<Vec<Literal>>; 3] {
@@ -74,6 +78,9 @@ fn with_shorter_lists(case: &Case, found: &mut Vec<Case>) {
         for (index, literals) in list.iter().enumerate() {
             found.push(changed(case, |other| {
                 lists(&mut other.state)[which].remove(index);
+                if which == LEARNED {
+                    other.state.store.records.remove(index);
+                }
             }));
             for literal in 0..literals.len() {
                 found.push(changed(case, |other| {
@@ -88,6 +95,14 @@ fn with_shorter_lists(case: &Case, found: &mut Vec<Case>) {
     }
 }
 
+fn with_lower_records(case: &Case, found: &mut Vec<Case>) {
+    for (index, record) in case.state.store.records.iter().enumerate() {
+        for lower in [0, record.saturating_sub(1)] {
+            found.push(changed(case, |other| other.state.store.records[index] = lower));
+        }
+    }
+}
+
 fn with_simpler_calls(case: &Case, found: &mut Vec<Case>) {
     for (index, call) in case.calls.iter().enumerate() {
         let mut simpler = vec![];
@@ -98,6 +113,11 @@ fn with_simpler_calls(case: &Case, found: &mut Vec<Case>) {
                 let lengths = [0, length / 2, length.saturating_sub(1), length + 1, free << free];
                 simpler.extend(lengths.map(Call::Card));
             }
+            Call::KeepCard(length) => {
+                let free = case.state.formula.free_count();
+                let lengths = [0, length / 2, length.saturating_sub(1), length + 1, free << free];
+                simpler.extend(lengths.map(Call::KeepCard));
+            }
             Call::Query(list) => simpler.extend(shorter_lists(list).into_iter().map(Call::Query)),
             Call::Rule(list) => simpler.extend(shorter_lists(list).into_iter().map(Call::Rule)),
             Call::Write(length) => {
@@ -105,7 +125,7 @@ fn with_simpler_calls(case: &Case, found: &mut Vec<Case>) {
                 let lengths = [0, length / 2, length.saturating_sub(1), length + 1, text];
                 simpler.extend(lengths.map(Call::Write));
             }
-            Call::Forget => {}
+            Call::Withdraw | Call::Forget => {}
         }
         simpler.push(Call::Forget);
         for call in simpler {

@@ -21,7 +21,7 @@ pub fn numbers(numbers: &mut Vec<i16>, formula: &Formula, random: &mut Random) {
 pub fn state(case: &mut Case, random: &mut Random) {
     let State { formula, store } = &mut case.state;
     let any_number = random.pick(&[0, 1, 2, 3, 41, -1]);
-    match random.below(8) {
+    match random.below(9) {
         0 => formula.prefix.push(Variable { number: any_number, quantifier: Quantifier::Exists }),
         1 => formula.prefix.push(Variable { number: 6, quantifier: Quantifier::Free }),
         2 => case.limits.clauses = formula.clauses.len().saturating_sub(1),
@@ -29,6 +29,11 @@ pub fn state(case: &mut Case, random: &mut Random) {
         4 => case.limits.literals = 1,
         5 => case.limits.entries = store.clauses.len().saturating_sub(1),
         6 => spoil_list(&mut formula.clauses, any_number, random),
+        7 => {
+            let standing = formula.clauses.len();
+            store.clauses.push(vec![]);
+            store.records.push(standing + random.pick(&[0, 1, 1, 2, 1_000]));
+        }
         _ if random.one_in(2) => spoil_list(&mut store.clauses, any_number, random),
         _ => spoil_list(&mut store.cubes, any_number, random),
     }

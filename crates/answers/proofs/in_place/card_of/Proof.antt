@@ -37,8 +37,8 @@ free-count-requires c κs = search needs
 
 run-requires : tie.Need-run-requires
 run-requires c κs =
-    let v = sym (c .before .before .before .before .before .before .before .before .before .before .before .check-tables .ensures .said) ∙ not-false _ (c .before .before .before .before .before .before .before .before .before .before .if1 .left) in
-    ready _ v (c .before .before .before .before .before .before .before .before .before .before .before .check-tables .ensures .sized) _ _ (omega arith) (free-small _ v _ (c .before .before .before .before .before .before .before .before .before .free-count .ensures _ (valid-numbers _ v) (valid-quantified _ v)))
+    let v = sym (c .before .before .before .before .before .before .before .before .before .before .before .before .before .before .check-tables .ensures .said) ∙ not-false _ (c .before .before .before .before .before .before .before .before .before .before .before .before .before .if1 .left) in
+    ready _ v (c .before .before .before .before .before .before .before .before .before .before .before .before .before .before .check-tables .ensures .sized) _ _ (omega arith) (free-small _ v _ (c .before .before .before .before .before .before .before .before .before .free-count .ensures _ (valid-numbers _ v) (valid-quantified _ v)))
 
 total-lines-requires : tie.Need-total-lines-requires
 total-lines-requires c κs = search needs
@@ -50,16 +50,16 @@ with-lines-requires : tie.Need-with-lines-requires
 with-lines-requires c κs = search needs
 
 same-length-2 : tie.Need-same-length-2
-same-length-2 c = c .before .before .before .before .before .before .run .ensures .0 .0 ∙ cleared-length (length (now (c .before .before .before .before .before .before .before .before .before .before .before .before .before .before .before .before .before .before .before .before .before .before .before .before .before .before .before .before .args .table))) (c .before .before .before .before .before .before .before .before .before .before .before .before .before .before .before .before .before .before .before .before .before .before .before .before .before .clear .ensures)
+same-length-2 c = c .before .before .before .before .before .before .run .ensures .0 .0 ∙ cleared-length (length (now (c .before .before .before .before .before .before .before .before .before .before .before .before .before .before .before .before .before .before .before .before .before .before .before .before .before .before .before .before .before .before .before .args .table))) (c .before .before .before .before .before .before .before .before .before .before .before .before .before .before .before .before .before .before .before .before .before .before .before .before .before .before .before .before .clear .ensures)
 
 returns-2 : tie.Need-returns-2
 returns-2 c =
-    let v = sym (c .before .before .before .before .before .before .before .before .before .before .before .before .before .before .before .before .before .before .check-tables .ensures .said) ∙ not-false _ (c .before .before .before .before .before .before .before .before .before .before .before .before .before .before .before .before .before .if1 .left) in
+    let v = sym (c .before .before .before .before .before .before .before .before .before .before .before .before .before .before .before .before .before .before .before .before .before .check-tables .ensures .said) ∙ not-false _ (c .before .before .before .before .before .before .before .before .before .before .before .before .before .before .before .before .before .before .before .before .if1 .left) in
     let frees = c .before .before .before .before .before .before .before .before .before .before .before .before .before .before .before .before .free-count .ensures _ (valid-numbers _ v) (valid-quantified _ v) in
-    let sized = c .before .before .before .before .before .before .run .ensures .0 .0 ∙ cleared-length (length (now (c .before .before .before .before .before .before .before .before .before .before .before .before .before .before .before .before .before .before .before .before .before .before .before .before .before .before .before .before .args .table))) (c .before .before .before .before .before .before .before .before .before .before .before .before .before .before .before .before .before .before .before .before .before .before .before .before .before .clear .ensures) in
-    served-as _ (cardOf (c .before .before .before .before .before .before .before .before .before .before .before .before .before .before .before .before .before .before .before .before .before .before .before .before .before .before .before .before .args .yes) _) (c .with-lines .ensures _)
-    (shown-card _ v (c .before .before .before .before .before .before .before .before .before .before .before .before .before .before .before .before .before .before .before .before .before .before .before .before .before .before .before .before .args .yes) _ (c .before .before .before .before .before .before .before .before .before .before .before .before .before .before .before .before .free-count .result) (c .before .before .before .before .before .before .run .result) _ _ frees sized
-    (c .before .before .before .before .before .before .run .ensures .1 _ _ v .found [] (c .before .before .before .before .before .before .before .before .before .before .before .before .before .before .before .before .before .before .check-tables .ensures .placed v) (c .before .before .before .before .before .before .before .before .before .before .before .before .before .before .before .before .before .before .check-tables .ensures .kinded v) (open-values _) refl frees (covers-none (c .before .before .before .before .before .before .before .before .before .before .before .before .before .before .before .before .free-count .result) (length (now (c .before .before .before .before .before .before .before .before .before .before .before .before .before .before .before .before .before .before .before .before .before .before .before .before .before .before .before .before .args .table))) _ (c .before .before .before .before .before .before .before .before .before .before .before .before .before .before .before .before .before .before .before .before .before .before .before .before .before .clear .ensures)))
+    let sized = c .before .before .before .before .before .before .run .ensures .0 .0 ∙ cleared-length (length (now (c .before .before .before .before .before .before .before .before .before .before .before .before .before .before .before .before .before .before .before .before .before .before .before .before .before .before .before .before .before .before .before .args .table))) (c .before .before .before .before .before .before .before .before .before .before .before .before .before .before .before .before .before .before .before .before .before .before .before .before .before .before .before .before .clear .ensures) in
+    served-as _ (cardOf (c .before .before .before .before .before .before .before .before .before .before .before .before .before .before .before .before .before .before .before .before .before .before .before .before .before .before .before .before .before .before .before .args .yes) _) (c .with-lines .ensures _)
+    (shown-card _ v (c .before .before .before .before .before .before .before .before .before .before .before .before .before .before .before .before .before .before .before .before .before .before .before .before .before .before .before .before .before .before .before .args .yes) _ (c .before .before .before .before .before .before .before .before .before .before .before .before .before .before .before .before .free-count .result) (c .before .before .before .before .before .before .run .result) _ _ frees sized
+    (c .before .before .before .before .before .before .run .ensures .1 _ _ v .found [] (c .before .before .before .before .before .before .before .before .before .before .before .before .before .before .before .before .before .before .before .before .before .check-tables .ensures .placed v) (c .before .before .before .before .before .before .before .before .before .before .before .before .before .before .before .before .before .before .before .before .before .check-tables .ensures .kinded v) (open-values _) refl frees (covers-none (c .before .before .before .before .before .before .before .before .before .before .before .before .before .before .before .before .free-count .result) (length (now (c .before .before .before .before .before .before .before .before .before .before .before .before .before .before .before .before .before .before .before .before .before .before .before .before .before .before .before .before .before .before .before .args .table))) _ (c .before .before .before .before .before .before .before .before .before .before .before .before .before .before .before .before .before .before .before .before .before .before .before .before .before .before .before .before .clear .ensures)))
     (c .before .before .before .total-lines .result) (c .before .before .before .total-lines .ensures) (ap (λ k. leb (c .before .before .before .total-lines .result * c .before .before .before .before .before .before .before .before .before .before .before .before .before .before .before .before .free-count .result) k) (sym sized) ∙ sym (c .before .before .fits2 .ensures) ∙ c .before .if2 .taken))
 
 clear-requires-2 : tie.Need-clear-requires-2
@@ -69,16 +69,16 @@ not-listed-requires-2 : tie.Need-not-listed-requires-2
 not-listed-requires-2 c κs = search needs
 
 same-length-3 : tie.Need-same-length-3
-same-length-3 c = cleared-length _ (c .before .before .before .clear2 .ensures) ∙ c .before .before .before .before .before .before .before .before .before .before .run .ensures .0 .0 ∙ cleared-length (length (now (c .before .before .before .before .before .before .before .before .before .before .before .before .before .before .before .before .before .before .before .before .before .before .before .before .before .before .before .before .before .before .before .before .args .table))) (c .before .before .before .before .before .before .before .before .before .before .before .before .before .before .before .before .before .before .before .before .before .before .before .before .before .before .before .before .before .clear .ensures)
+same-length-3 c = cleared-length _ (c .before .before .before .clear2 .ensures) ∙ c .before .before .before .before .before .before .before .before .before .before .run .ensures .0 .0 ∙ cleared-length (length (now (c .before .before .before .before .before .before .before .before .before .before .before .before .before .before .before .before .before .before .before .before .before .before .before .before .before .before .before .before .before .before .before .before .before .before .before .args .table))) (c .before .before .before .before .before .before .before .before .before .before .before .before .before .before .before .before .before .before .before .before .before .before .before .before .before .before .before .before .before .before .before .before .clear .ensures)
 
 returns-3 : tie.Need-returns-3
 returns-3 c =
-    let v = sym (c .before .before .before .before .before .before .before .before .before .before .before .before .before .before .before .before .before .before .before .before .before .before .check-tables .ensures .said) ∙ not-false _ (c .before .before .before .before .before .before .before .before .before .before .before .before .before .before .before .before .before .before .before .before .before .if1 .left) in
+    let v = sym (c .before .before .before .before .before .before .before .before .before .before .before .before .before .before .before .before .before .before .before .before .before .before .before .before .before .check-tables .ensures .said) ∙ not-false _ (c .before .before .before .before .before .before .before .before .before .before .before .before .before .before .before .before .before .before .before .before .before .before .before .before .if1 .left) in
     let frees = c .before .before .before .before .before .before .before .before .before .before .before .before .before .before .before .before .before .before .before .before .free-count .ensures _ (valid-numbers _ v) (valid-quantified _ v) in
-    let sized = c .before .before .before .before .before .before .before .before .before .before .run .ensures .0 .0 ∙ cleared-length (length (now (c .before .before .before .before .before .before .before .before .before .before .before .before .before .before .before .before .before .before .before .before .before .before .before .before .before .before .before .before .before .before .before .before .args .table))) (c .before .before .before .before .before .before .before .before .before .before .before .before .before .before .before .before .before .before .before .before .before .before .before .before .before .before .before .before .before .clear .ensures) in
-    served-as _ (cardOf (c .before .before .before .before .before .before .before .before .before .before .before .before .before .before .before .before .before .before .before .before .before .before .before .before .before .before .before .before .before .before .before .before .args .yes) _) (c .not-listed2 .ensures (c .before .before .before .clear2 .last .0))
-    (full-card _ v (c .before .before .before .before .before .before .before .before .before .before .before .before .before .before .before .before .before .before .before .before .before .before .before .before .before .before .before .before .before .before .before .before .args .yes) _ (c .before .before .before .before .before .before .before .before .before .before .before .before .before .before .before .before .before .before .before .before .free-count .result) (c .before .before .before .before .before .before .before .before .before .before .run .result) _ _ frees sized
-    (c .before .before .before .before .before .before .before .before .before .before .run .ensures .1 _ _ v .found [] (c .before .before .before .before .before .before .before .before .before .before .before .before .before .before .before .before .before .before .before .before .before .before .check-tables .ensures .placed v) (c .before .before .before .before .before .before .before .before .before .before .before .before .before .before .before .before .before .before .before .before .before .before .check-tables .ensures .kinded v) (open-values _) refl frees (covers-none (c .before .before .before .before .before .before .before .before .before .before .before .before .before .before .before .before .before .before .before .before .free-count .result) (length (now (c .before .before .before .before .before .before .before .before .before .before .before .before .before .before .before .before .before .before .before .before .before .before .before .before .before .before .before .before .before .before .before .before .args .table))) _ (c .before .before .before .before .before .before .before .before .before .before .before .before .before .before .before .before .before .before .before .before .before .before .before .before .before .before .before .before .before .clear .ensures)))
+    let sized = c .before .before .before .before .before .before .before .before .before .before .run .ensures .0 .0 ∙ cleared-length (length (now (c .before .before .before .before .before .before .before .before .before .before .before .before .before .before .before .before .before .before .before .before .before .before .before .before .before .before .before .before .before .before .before .before .before .before .before .args .table))) (c .before .before .before .before .before .before .before .before .before .before .before .before .before .before .before .before .before .before .before .before .before .before .before .before .before .before .before .before .before .before .before .before .clear .ensures) in
+    served-as _ (cardOf (c .before .before .before .before .before .before .before .before .before .before .before .before .before .before .before .before .before .before .before .before .before .before .before .before .before .before .before .before .before .before .before .before .before .before .before .args .yes) _) (c .not-listed2 .ensures (c .before .before .before .clear2 .last .0))
+    (full-card _ v (c .before .before .before .before .before .before .before .before .before .before .before .before .before .before .before .before .before .before .before .before .before .before .before .before .before .before .before .before .before .before .before .before .before .before .before .args .yes) _ (c .before .before .before .before .before .before .before .before .before .before .before .before .before .before .before .before .before .before .before .before .free-count .result) (c .before .before .before .before .before .before .before .before .before .before .run .result) _ _ frees sized
+    (c .before .before .before .before .before .before .before .before .before .before .run .ensures .1 _ _ v .found [] (c .before .before .before .before .before .before .before .before .before .before .before .before .before .before .before .before .before .before .before .before .before .before .before .before .before .check-tables .ensures .placed v) (c .before .before .before .before .before .before .before .before .before .before .before .before .before .before .before .before .before .before .before .before .before .before .before .before .before .check-tables .ensures .kinded v) (open-values _) refl frees (covers-none (c .before .before .before .before .before .before .before .before .before .before .before .before .before .before .before .before .before .before .before .before .free-count .result) (length (now (c .before .before .before .before .before .before .before .before .before .before .before .before .before .before .before .before .before .before .before .before .before .before .before .before .before .before .before .before .before .before .before .before .before .before .before .args .table))) _ (c .before .before .before .before .before .before .before .before .before .before .before .before .before .before .before .before .before .before .before .before .before .before .before .before .before .before .before .before .before .before .before .before .clear .ensures)))
     (c .before .before .before .before .before .before .before .total-lines .result) (c .before .before .before .before .before .before .before .total-lines .ensures) _ (c .before .before .before .clear2 .ensures ∙ ap zeroTable sized) (ap (λ k. leb (c .before .before .before .before .before .before .before .total-lines .result * c .before .before .before .before .before .before .before .before .before .before .before .before .before .before .before .before .before .before .before .before .free-count .result) k) (sym sized) ∙ sym (c .before .before .before .before .before .before .fits2 .ensures) ∙ c .before .before .before .before .before .if2 .left))
 
 pub card-of-spec : {M : Type 1} → statement M

@@ -31,26 +31,26 @@ not-ruled-requires-2 c κs = search needs
 
 returns-2 : tie.Need-returns-2
 returns-2 c =
-    let v = sym (c .before .before .before .before .before .before .before .check-tables .ensures .said) ∙ not-false _ (c .before .before .before .before .before .before .if1 .left) in
+    let v = sym (c .before .before .before .before .before .before .before .before .before .before .before .before .check-tables .ensures .said) ∙ not-false _ (c .before .before .before .before .before .before .before .before .before .before .before .if1 .left) in
     served-as _ (query _) (c .not-ruled2 .ensures)
-    (refused-query _ v (c .before .before .before .before .before .free-count .ensures _ (valid-numbers _ v) (valid-quantified _ v)) (c .before .before .read .ensures _ (valid-numbers _ v) (c .before .before .before .before .before .before .before .check-tables .ensures .placed v)) (not-true _ (c .before .if2 .taken)))
+    (refused-query _ v (c .before .before .before .before .before .before .before .free-count .ensures _ (valid-numbers _ v) (valid-quantified _ v)) (c .before .before .read .ensures _ (valid-numbers _ v) (c .before .before .before .before .before .before .before .before .before .before .before .before .check-tables .ensures .placed v)) (not-true _ (c .before .if2 .taken)))
 
 slice-aggregate-run : tie.Need-slice-aggregate-run
 slice-aggregate-run c = search needs
 
 run-requires : tie.Need-run-requires
 run-requires c κs =
-    let v = sym (c .before .before .before .before .before .before .before .before .before .before .before .before .before .before .before .before .check-tables .ensures .said) ∙ not-false _ (c .before .before .before .before .before .before .before .before .before .before .before .before .before .before .before .if1 .left) in
-    let frees = c .before .before .before .before .before .before .before .before .before .before .before .before .before .before .free-count .ensures _ (valid-numbers _ v) (valid-quantified _ v) in
-    ready _ v (c .before .before .before .before .before .before .before .before .before .before .before .before .before .before .before .before .check-tables .ensures .sized) _ _ (omega (arith, free-within _ v _ frees)) (free-small _ v _ frees)
+    let v = sym (c .before .before .before .before .before .before .before .before .before .before .before .before .before .before .before .before .before .before .before .before .before .check-tables .ensures .said) ∙ not-false _ (c .before .before .before .before .before .before .before .before .before .before .before .before .before .before .before .before .before .before .before .before .if1 .left) in
+    let frees = c .before .before .before .before .before .before .before .before .before .before .before .before .before .before .before .before .free-count .ensures _ (valid-numbers _ v) (valid-quantified _ v) in
+    ready _ v (c .before .before .before .before .before .before .before .before .before .before .before .before .before .before .before .before .before .before .before .before .before .check-tables .ensures .sized) _ _ (omega (arith, free-within _ v _ frees)) (free-small _ v _ frees)
 
 ruling-for-requires : tie.Need-ruling-for-requires
 ruling-for-requires c κs = search needs
 
 returns-3 : tie.Need-returns-3
 returns-3 c =
-    let v = sym (c .before .before .before .before .before .before .before .before .before .before .before .before .before .before .before .before .before .before .before .check-tables .ensures .said) ∙ not-false _ (c .before .before .before .before .before .before .before .before .before .before .before .before .before .before .before .before .before .before .if1 .left) in
-    asked-by _ v (c .before .before .before .before .before .before .before .before .before .before .before .before .before .before .before .before .before .free-count .ensures _ (valid-numbers _ v) (valid-quantified _ v)) (c .before .before .before .before .before .before .before .before .before .before .before .before .before .before .read .ensures _ (valid-numbers _ v) (c .before .before .before .before .before .before .before .before .before .before .before .before .before .before .before .before .before .before .before .check-tables .ensures .placed v)) (c .before .before .run .result) _ _ (c .before .before .before .before .before .before .before .before .before .before .before .before .before .before .before .before .before .before .before .check-tables .ensures .placed v) (c .before .before .before .before .before .before .before .before .before .before .before .before .before .before .before .before .before .before .before .check-tables .ensures .kinded v)
+    let v = sym (c .before .before .before .before .before .before .before .before .before .before .before .before .before .before .before .before .before .before .before .before .before .before .before .before .check-tables .ensures .said) ∙ not-false _ (c .before .before .before .before .before .before .before .before .before .before .before .before .before .before .before .before .before .before .before .before .before .before .before .if1 .left) in
+    asked-by _ v (c .before .before .before .before .before .before .before .before .before .before .before .before .before .before .before .before .before .before .before .free-count .ensures _ (valid-numbers _ v) (valid-quantified _ v)) (c .before .before .before .before .before .before .before .before .before .before .before .before .before .before .read .ensures _ (valid-numbers _ v) (c .before .before .before .before .before .before .before .before .before .before .before .before .before .before .before .before .before .before .before .before .before .before .before .before .check-tables .ensures .placed v)) (c .before .before .run .result) _ _ (c .before .before .before .before .before .before .before .before .before .before .before .before .before .before .before .before .before .before .before .before .before .before .before .before .check-tables .ensures .placed v) (c .before .before .before .before .before .before .before .before .before .before .before .before .before .before .before .before .before .before .before .before .before .before .before .before .check-tables .ensures .kinded v)
     (not-false _ (c .before .before .before .before .before .before .before .before .before .before .before .before .before .if2 .left)) (c .before .before .run .ensures .1 _ _ v) refl (c .ruling-for .ensures)
 
 pub query-spec : {M : Type 1} → statement M

@@ -42,7 +42,7 @@ returns c = (
   λ ls ks v.
       record {
         found = λ s ps kk vs long frees cov alive.
-            let q = c .before .before .before .before .before .before .before .before .before .before .before .before .before .before .before .before .before .quantifiers-of .ensures _ (valid-numbers _ v) kk (variables-numbered _ v) in
+            let q = c .before .before .before .before .before .before .before .before .before .before .before .before .before .before .before .before .before .before .quantifiers-of .ensures _ (valid-numbers _ v) kk (variables-numbered _ v) in
             c .before .before .over-clauses .ensures .1 ls ks _ _ v .found s (c .before .before .before .before .before .before .before .before .before .before .before .before .load-clauses .ensures _ ps q (omega (arith, valid-numbers _ v .count))) (rows-length (paper .literals) _ _ _) q ps vs long frees cov alive;
       },
 )

@@ -29,7 +29,7 @@ abbrev μ-loop : tie.MeasureT-loop
 μ-loop cells₀ lits places i₀ cells i = length lits - i
 
 loop-holds : tie.Need-loop-holds Inv-loop μ-loop
-loop-holds c = (search needs, c .before .pre, refl, λ j m. absurd (omega arith), λ D s h. refl)
+loop-holds c = (search needs, c .before .before .pre, refl, λ j m. absurd (omega arith), λ D s h. refl)
 
 mul-code-of : tie.Need-mul-code-of Inv-loop μ-loop
 mul-code-of c = search needs
@@ -60,7 +60,7 @@ loop-again c = (
   length-set (c .before .before .before .loop .cells) (c .before .before .before .loop .i) (c .code-of .result) ∙ c .before .before .before .loop .inv .2,
   λ j m. low-more (c .before .before .before .loop .cells) (c .before .before .before .loop .i) (c .code-of .result) codeCount (omega (arith, c .before .before .before .loop .inv .2)) (c .before .before .before .loop .inv .3) (c .code-of .ensures .0) j (omega arith),
   λ D s h.
-      codes-more D (c .before .before .before .loop .cells) (now (c .before .before .before .before .before .args .lits)) (c .before .before .before .loop .i) (c .code-of .result) (pos 0) (omega arith) (omega (arith, c .before .before .before .loop .inv .2)) (c .before .before .before .loop .inv .4 D s h)
+      codes-more D (c .before .before .before .loop .cells) (now (c .before .before .before .before .before .before .args .lits)) (c .before .before .before .loop .i) (c .code-of .result) (pos 0) (omega arith) (omega (arith, c .before .before .before .loop .inv .2)) (c .before .before .before .loop .inv .4 D s h)
       (back (sfits-of (c .before .code-of-arg .given))) (c .code-of .ensures .1 D s h),
 )
 
@@ -68,7 +68,7 @@ same-length : tie.Need-same-length Inv-loop μ-loop
 same-length c = search needs
 
 returns : tie.Need-returns Inv-loop μ-loop
-returns c = (c .before .loop .inv .2, λ n m. last-below (c .before .loop .cells) n codeCount (omega arith) (omega (arith, c .before .loop .inv .2)) (λ j q. c .before .loop .inv .3 j (omega arith)), λ D s h. codes-all D (c .before .loop .cells) (now (c .before .before .before .args .lits)) (c .before .loop .i) (c .before .loop .inv .4 D s h) (omega arith))
+returns c = (c .before .loop .inv .2, λ n m. last-below (c .before .loop .cells) n codeCount (omega arith) (omega (arith, c .before .loop .inv .2)) (λ j q. c .before .loop .inv .3 j (omega arith)), λ D s h. codes-all D (c .before .loop .cells) (now (c .before .before .before .before .args .lits)) (c .before .loop .i) (c .before .loop .inv .4 D s h) (omega arith))
 
 pub encode-spec : {M : Type 1} → statement M
 encode-spec =

@@ -43,7 +43,7 @@ loop-holds : tie.Need-loop-holds Inv-loop μ-loop
 loop-holds c = (
   omega arith,
   c .before .before .cell-at .ensures,
-  c .before .before .before .before .pre,
+  c .before .before .before .before .before .pre,
   ap length (c .put .ensures),
   λ D n k o. subst (Filled D 0) (sym (c .put .ensures)) (filled-none D),
 )
@@ -68,7 +68,7 @@ loop-again c = (
   ap length (c .put2 .ensures) ∙ stored-length (c .before .before .before .before .loop .place + 1) (c .before .before .kind-at .result) (c .before .before .kind-at .result) (c .before .before .before .before .loop .table) ∙ c .before .before .before .before .loop .inv .3,
   λ D n k o.
       subst (Filled D (c .before .before .before .before .loop .place + 1)) (sym (c .put2 .ensures))
-      (filled-more D (now (c .before .before .before .before .before .before .before .before .before .args .numbers)) (now (c .before .before .before .before .before .before .before .before .before .args .kinds)) n k o (c .before .before .before .before .loop .place) (c .before .before .before .before .loop .table) (c .before .before .before .before .loop .inv .4 D n k o) (omega (arith, n .count)) (omega (arith, c .before .before .before .before .loop .inv .3)) (c .before .before .kind-at .ensures)),
+      (filled-more D (now (c .before .before .before .before .before .before .before .before .before .before .args .numbers)) (now (c .before .before .before .before .before .before .before .before .before .before .args .kinds)) n k o (c .before .before .before .before .loop .place) (c .before .before .before .before .loop .table) (c .before .before .before .before .loop .inv .4 D n k o) (omega (arith, n .count)) (omega (arith, c .before .before .before .before .loop .inv .3)) (c .before .before .kind-at .ensures)),
 )
 
 returns : tie.Need-returns Inv-loop μ-loop

@@ -28,7 +28,7 @@ abbrev μ-loop : tie.MeasureT-loop
 μ-loop numbers values at statuses₀ place₀ statuses place = at - place
 
 loop-holds : tie.Need-loop-holds Inv-loop μ-loop
-loop-holds c = (omega arith, c .pre, refl, λ D s n v o e h. statuses-root codeCount)
+loop-holds c = (omega arith, c .before .before .pre, refl, λ D s n v o e h. statuses-root codeCount)
 
 add-place : tie.Need-add-place Inv-loop μ-loop
 add-place c = search needs
@@ -50,7 +50,7 @@ loop-again c = (
   λ D s n v o e h.
       subst (Statuses (take (c .before .before .before .before .loop .place + 1) s)) (sym (c .give .ensures .0))
       (statuses-next s (c .before .before .before .before .loop .statuses) (c .before .before .before .before .loop .place) (c .before .before .value-at .result) (c .before .before .before .before .loop .inv .3 D s n v o e h) (omega arith) (omega (arith, c .before .before .before .before .loop .inv .2))
-      (c .before .before .value-at .ensures ∙ value-by-number D s (now (c .before .before .before .before .before .args .numbers)) (now (c .before .before .before .before .before .args .values)) n v o (c .before .before .before .before .loop .place) (omega arith) h)),
+      (c .before .before .value-at .ensures ∙ value-by-number D s (now (c .before .before .before .before .before .before .before .args .numbers)) (now (c .before .before .before .before .before .before .before .args .values)) n v o (c .before .before .before .before .loop .place) (omega arith) h)),
 )
 
 returns : tie.Need-returns Inv-loop μ-loop

@@ -17,7 +17,7 @@ byte-at-requires : tie.Need-byte-at-requires
 byte-at-requires c κs = search needs
 
 returns : tie.Need-returns
-returns c = c .byte-at .ensures ∙ ap (λ (n : ℕ). getD (now (c .before .before .before .before .args .values)) n 0) (c .before .before .cell-at .ensures)
+returns c = c .byte-at .ensures ∙ ap (λ (n : ℕ). getD (now (c .before .before .before .before .args .values)) n 0) (c .before .cell-at .ensures)
 
 pub value-at-spec : {M : Type 1} → statement M
 value-at-spec = tie.close (tie.spec cell-at-requires cast-number byte-at-requires returns)

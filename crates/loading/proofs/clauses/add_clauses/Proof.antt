@@ -25,7 +25,7 @@ cast-count : tie.Need-cast-count Inv-loop μ-loop
 cast-count c = search needs
 
 loop-holds : tie.Need-loop-holds Inv-loop μ-loop
-loop-holds c = (search needs, search needs, c .before .before .before .pre .0, c .before .before .before .pre .1, refl, c .before .before .before .pre .2, filled-none)
+loop-holds c = (search needs, search needs, c .before .before .before .before .pre .0, c .before .before .before .before .pre .1, refl, c .before .before .before .before .pre .2, filled-none)
 
 load-clause-requires : tie.Need-load-clause-requires Inv-loop μ-loop
 load-clause-requires c κs = (c .before .before .before .loop .inv .2, omega (arith, c .before .before .before .loop .inv .0), c .before .before .before .loop .inv .3, record { room = omega (arith, c .before .before .before .loop .inv .4, c .before .before .before .loop .inv .5 .room); number = omega (arith, c .before .before .before .loop .inv .5 .number) })
@@ -46,7 +46,7 @@ same-length-2 : tie.Need-same-length-2 Inv-loop μ-loop
 same-length-2 c = search needs
 
 returns : tie.Need-returns Inv-loop μ-loop
-returns c = (c .before .loop .inv .3 ∙ sym (c .before .before .before .before .before .pre .1), c .before .loop .inv .4, matrix-shown (c .before .loop .inv .6) (c .before .loop .inv .2) (omega (arith, c .before .loop .inv .0)))
+returns c = (c .before .loop .inv .3 ∙ sym (c .before .before .before .before .before .before .pre .1), c .before .loop .inv .4, matrix-shown (c .before .loop .inv .6) (c .before .loop .inv .2) (omega (arith, c .before .loop .inv .0)))
 
 pub add-clauses-spec : {M : Type 1} → statement M
 add-clauses-spec =

@@ -58,7 +58,7 @@ same-length : tie.Need-same-length
 same-length c = search needs
 
 returns : tie.Need-returns
-returns c = row-written (now (c .before .before .before .before .before .before .before .before .args .lits)) (now (c .before .before .before .before .before .before .before .before .args .places)) (now (c .before .before .before .before .before .before .before .before .args .quantifiers)) (now (c .before .before .before .before .before .before .before .before .args .rows)) (c .before .before .before .before .before .encode .last .0) (c .before .before .before .before .before .before .before .before .args .at) (c .reduced-first .result) (c .before .before .before .before .before .before .before .before .pre .0) (c .before .before .before .before .before .encode .ensures .0) (c .reduced-first .ensures .0) (c .before .before .before .before .before .encode .ensures .1) (c .before .before .before .before .before .encode .ensures .2) (length (putMid (c .before .before .before .before .before .before .before .before .args .at + 1) (length (now (c .before .before .before .before .before .before .before .before .args .rows)) - (c .before .before .before .before .before .before .before .before .args .at + 1)) (now (c .before .before .before .before .before .before .before .before .args .rows)) (c .before .before .before .before .before .encode .last .0)) - (c .before .before .before .before .before .before .before .before .args .at + 1)) (omega (arith, same-len-mid (c .before .before .before .before .before .before .before .before .args .at + 1) (length (now (c .before .before .before .before .before .before .before .before .args .rows)) - (c .before .before .before .before .before .before .before .before .args .at + 1)) (now (c .before .before .before .before .before .before .before .before .args .rows)) (c .before .before .before .before .before .encode .last .0) (c .before .before .before .before .before .encode .ensures .0), c .before .before .before .before .before .before .before .before .pre .0)) (c .reduced-first .ensures .1)
+returns c = row-written (now (c .before .before .before .before .before .before .before .before .before .args .lits)) (now (c .before .before .before .before .before .before .before .before .before .args .places)) (now (c .before .before .before .before .before .before .before .before .before .args .quantifiers)) (now (c .before .before .before .before .before .before .before .before .before .args .rows)) (c .before .before .before .before .before .encode .last .0) (c .before .before .before .before .before .before .before .before .before .args .at) (c .reduced-first .result) (c .before .before .before .before .before .before .before .before .before .pre .0) (c .before .before .before .before .before .encode .ensures .0) (c .reduced-first .ensures .0) (c .before .before .before .before .before .encode .ensures .1) (c .before .before .before .before .before .encode .ensures .2) (length (putMid (c .before .before .before .before .before .before .before .before .before .args .at + 1) (length (now (c .before .before .before .before .before .before .before .before .before .args .rows)) - (c .before .before .before .before .before .before .before .before .before .args .at + 1)) (now (c .before .before .before .before .before .before .before .before .before .args .rows)) (c .before .before .before .before .before .encode .last .0)) - (c .before .before .before .before .before .before .before .before .before .args .at + 1)) (omega (arith, same-len-mid (c .before .before .before .before .before .before .before .before .before .args .at + 1) (length (now (c .before .before .before .before .before .before .before .before .before .args .rows)) - (c .before .before .before .before .before .before .before .before .before .args .at + 1)) (now (c .before .before .before .before .before .before .before .before .before .args .rows)) (c .before .before .before .before .before .encode .last .0) (c .before .before .before .before .before .encode .ensures .0), c .before .before .before .before .before .before .before .before .before .pre .0)) (c .reduced-first .ensures .1)
 
 pub code-row-spec : {M : Type 1} → statement M
 code-row-spec =

@@ -28,16 +28,16 @@ mul-clear-2 : tie.Need-mul-clear-2
 mul-clear-2 c = search needs
 
 mul-clear-3 : tie.Need-mul-clear-3
-mul-clear-3 c = omega (arith, codes-within ((c .before .before .before .args .last + 1) * 2) (getD (now (c .before .before .before .args .sizes)) 0 0) (c .before .words-of .result) (c .before .words-of .ensures) (c .before .before .before .pre .0 .few) (omega (arith, c .before .before .before .pre .1)))
+mul-clear-3 c = omega (arith, codes-within ((c .before .before .before .before .args .last + 1) * 2) (getD (now (c .before .before .before .before .args .sizes)) 0 0) (c .before .words-of .result) (c .before .words-of .ensures) (c .before .before .before .before .pre .0 .few) (omega (arith, c .before .before .before .before .pre .1)))
 
 clear-requires : tie.Need-clear-requires
-clear-requires c κs = omega (arith, codes-within ((c .before .before .before .args .last + 1) * 2) (getD (now (c .before .before .before .args .sizes)) 0 0) (c .before .words-of .result) (c .before .words-of .ensures) (c .before .before .before .pre .0 .few) (omega (arith, c .before .before .before .pre .1)))
+clear-requires c κs = omega (arith, codes-within ((c .before .before .before .before .args .last + 1) * 2) (getD (now (c .before .before .before .before .args .sizes)) 0 0) (c .before .words-of .result) (c .before .words-of .ensures) (c .before .before .before .before .pre .0 .few) (omega (arith, c .before .before .before .before .pre .1)))
 
 add-clauses-requires : tie.Need-add-clauses-requires
 add-clauses-requires c κs = search needs
 
 returns : tie.Need-returns
-returns c = λ D p q few. matrix-words (c .before .before .before .before .before .words-of .ensures) (c .add-clauses .ensures .2 D p q (omega (arith, few, c .before .before .before .before .before .before .before .pre .1)) (sets-cleared D (c .before .before .before .clear .ensures) few))
+returns c = λ D p q few. matrix-words (c .before .before .before .before .before .words-of .ensures) (c .add-clauses .ensures .2 D p q (omega (arith, few, c .before .before .before .before .before .before .before .before .pre .1)) (sets-cleared D (c .before .before .before .clear .ensures) few))
 
 pub load-clauses-spec : {M : Type 1} → statement M
 load-clauses-spec =

@@ -29,13 +29,11 @@ shared-slice-read-literal-of c = search needs
 literal-of-requires : tie.Need-literal-of-requires Inv-loop μ-loop
 literal-of-requires c κs = search needs
 
--- src/entries.rt:134:15
-add-t11 : tie.Need-add-t11 Inv-loop μ-loop
-add-t11 c = search needs
+add-t13 : tie.Need-add-t13 Inv-loop μ-loop
+add-t13 c = search needs
 
--- src/entries.rt:134:9
-mul-t12 : tie.Need-mul-t12 Inv-loop μ-loop
-mul-t12 c = search needs
+mul-t14 : tie.Need-mul-t14 Inv-loop μ-loop
+mul-t14 c = search needs
 
 slice-set-from-store : tie.Need-slice-set-from-store Inv-loop μ-loop
 slice-set-from-store c = search needs
@@ -47,7 +45,7 @@ loop-less : tie.Need-loop-less Inv-loop μ-loop
 loop-less c = search needs
 
 loop-again : tie.Need-loop-again Inv-loop μ-loop
-loop-again c = (omega arith, c .before .before .before .before .before .pre, decode-more (c .before .before .before .loop .inv .2) (omega arith) (omega arith) (λ D l n o e p. back (sfits-of (c .literal-of .ok)) ∙ c .literal-of .ensures D l n o e p))
+loop-again c = (omega arith, c .before .before .before .before .before .before .pre, decode-more (c .before .before .before .before .loop .inv .2) (omega arith) (omega arith) (λ D l n o e p. back (sfits-of (c .literal-of .ok)) ∙ c .literal-of .ensures D l n o e p))
 
 same-length : tie.Need-same-length Inv-loop μ-loop
 same-length c = c .before .loop .inv .2 .size
@@ -65,8 +63,8 @@ decode-spec =
     mul-literal-of
     shared-slice-read-literal-of
     literal-of-requires
-    add-t11
-    mul-t12
+    add-t13
+    mul-t14
     slice-set-from-store
     add-i
     loop-less

@@ -6,14 +6,17 @@ use mathlib.Core.Path.{sym}
 use denote.Ref.{now}
 use lib.Seq.{set-out}
 
-slice-write-cells : tie.Need-slice-write-cells
-slice-write-cells c = search needs
+slice-write-values : tie.Need-slice-write-values
+slice-write-values c = search needs
+
+same-length : tie.Need-same-length
+same-length c = search needs
 
 returns : tie.Need-returns
 returns c = search needs
 
 returns-2 : tie.Need-returns-2
-returns-2 c = sym (set-out (now (c .before .before .args .values)) (c .before .before .args .n) (c .before .before .args .value) (c .if1 .left))
+returns-2 c = sym (set-out (now (c .before .args .values)) (c .before .args .n) (c .before .args .value) (c .if1 .left))
 
 pub put-spec : {M : Type 1} → statement M
-put-spec = tie.close (tie.spec slice-write-cells returns returns-2)
+put-spec = tie.close (tie.spec slice-write-values same-length returns returns-2)

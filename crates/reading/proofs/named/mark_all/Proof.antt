@@ -18,7 +18,10 @@ abbrev μ-loop : tie.MeasureT-loop
 
 loop-holds : tie.Need-loop-holds Inv-loop μ-loop
 unfolding allOpen
-loop-holds c = marking-none (now (c .args .places)) (c .args .free) (now (c .args .on))
+loop-holds c = marking-none (now (c .before .args .places)) (c .before .args .free) (now (c .before .args .on))
+
+slice-aggregate-mark : tie.Need-slice-aggregate-mark Inv-loop μ-loop
+slice-aggregate-mark c = search needs
 
 mul-mark : tie.Need-mul-mark Inv-loop μ-loop
 mul-mark c = search needs
@@ -30,7 +33,7 @@ mark-requires : tie.Need-mark-requires Inv-loop μ-loop
 mark-requires c κs = search needs
 
 returns : tie.Need-returns Inv-loop μ-loop
-returns c = marking-bad (now (c .before .before .before .before .before .before .args .places)) (c .before .before .before .before .before .before .args .free) (now (c .before .before .before .before .before .before .args .on)) (c .before .before .before .before .before .loop .inv) (c .before .before .before .before .loop-test .taken) (back (sfits-of (c .before .before .mark-arg .given))) (c .before .mark .ensures) (not-true _ (c .if1 .taken))
+returns c = marking-bad (now (c .before .before .before .before .before .before .before .before .args .places)) (c .before .before .before .before .before .before .before .before .args .free) (now (c .before .before .before .before .before .before .before .before .args .on)) (c .before .before .before .before .before .before .loop .inv) (c .before .before .before .before .before .loop-test .taken) (back (sfits-of (c .before .before .before .mark-arg .given))) (c .before .before .mark .ensures) (not-true _ (c .if1 .taken))
 
 add-i : tie.Need-add-i Inv-loop μ-loop
 add-i c = search needs
@@ -39,10 +42,10 @@ loop-less : tie.Need-loop-less Inv-loop μ-loop
 loop-less c = search needs
 
 loop-again : tie.Need-loop-again Inv-loop μ-loop
-loop-again c = marking-more (now (c .before .before .before .before .before .before .args .places)) (c .before .before .before .before .before .before .args .free) (now (c .before .before .before .before .before .before .args .on)) (c .before .before .before .before .before .loop .inv) (c .before .before .before .before .loop-test .taken) (back (sfits-of (c .before .before .mark-arg .given))) (c .before .mark .ensures) (not-false _ (c .if1 .left))
+loop-again c = marking-more (now (c .before .before .before .before .before .before .before .before .args .places)) (c .before .before .before .before .before .before .before .before .args .free) (now (c .before .before .before .before .before .before .before .before .args .on)) (c .before .before .before .before .before .before .loop .inv) (c .before .before .before .before .before .loop-test .taken) (back (sfits-of (c .before .before .before .mark-arg .given))) (c .before .before .mark .ensures) (not-false _ (c .if1 .left))
 
 returns-2 : tie.Need-returns-2 Inv-loop μ-loop
-returns-2 c = marking-end (now (c .before .before .args .places)) (c .before .before .args .free) (now (c .before .before .args .on)) (c .before .loop .inv) (c .loop-test .left)
+returns-2 c = marking-end (now (c .before .before .before .args .places)) (c .before .before .before .args .free) (now (c .before .before .before .args .on)) (c .before .loop .inv) (c .loop-test .left)
 
 pub mark-all-spec : {M : Type 1} → statement M
 mark-all-spec =
@@ -51,6 +54,7 @@ mark-all-spec =
     Inv-loop
     μ-loop
     loop-holds
+    slice-aggregate-mark
     mul-mark
     shared-slice-copy-out-mark
     mark-requires

@@ -4,6 +4,15 @@ use Rattle.serve.proofs.shown.card_of.Statement.{statement}
 use Rattle.serve.proofs.shown.card_of.Tie as tie
 use mathlib.Core.Path.{refl}
 
+slice-aggregate-free-count : tie.Need-slice-aggregate-free-count
+slice-aggregate-free-count c = search needs
+
+slice-aggregate-free-count-2 : tie.Need-slice-aggregate-free-count-2
+slice-aggregate-free-count-2 c = search needs
+
+slice-aggregate-free-count-3 : tie.Need-slice-aggregate-free-count-3
+slice-aggregate-free-count-3 c = search needs
+
 free-count-requires : tie.Need-free-count-requires
 free-count-requires c κs = search needs
 
@@ -20,6 +29,9 @@ pub card-of-spec : {M : Type 1} → statement M
 card-of-spec =
     tie.close
     (tie.spec
+    slice-aggregate-free-count
+    slice-aggregate-free-count-2
+    slice-aggregate-free-count-3
     free-count-requires
     refusal-of-requires
     lines-of-requires

@@ -18,7 +18,7 @@ use Rattle.state.proofs.Valid.{prefix-numbers}
 use Rattle.state.proofs.Growth.{New, declared-low, declared-high, declared-twice, declared-new, growing, count-fits, level-fits}
 
 abbrev start : tie.After-next-level-arg4 → tie.Start
-start c = c .before .before .before .before .before .before .before .before .before .before .before .before
+start c = c .before .before .before .before .before .before .before .before .before .before .before .before .before
 
 abbrev within : tie.After-next-level → tie.After-next-level-arg4
 within c = c .before
@@ -33,8 +33,8 @@ new c =
       levels-room = c .before .before .next-level-arg2 .given .0;
       kinds-room = c .next-level-arg4 .given .0;
       may = start c .pre;
-      low = c .before .before .before .before .before .before .before .before .before .before .before .if1 .left;
-      high = c .before .before .before .before .before .before .before .before .before .before .if2 .left;
+      low = c .before .before .before .before .before .before .before .before .before .before .before .before .if1 .left;
+      high = c .before .before .before .before .before .before .before .before .before .before .before .if2 .left;
       fresh = sym (c .before .before .before .before .before .before .before .before .places-of .ensures D (prefix-numbers (now (a .numbers)) (now (a .levels)) (now (a .kinds))) (start c .pre .sound .numbers-ok) .at (a .number .0)) ∙ omega (arith, c .before .before .before .before .before .before .before .if3 .left);
     }
 
@@ -57,7 +57,7 @@ array-read-if3 : tie.Need-array-read-if3
 array-read-if3 c = search needs
 
 returns-3 : tie.Need-returns-3
-returns-3 c = declared-twice (now (c .before .before .before .before .before .args .numbers)) (now (c .before .before .before .before .before .args .levels)) (now (c .before .before .before .before .before .args .kinds)) (c .before .before .before .before .before .args .number .0) (c .before .before .before .before .before .args .kind) (c .before .before .before .before .before .pre) (c .before .before .before .before .if1 .left) (c .before .before .before .if2 .left) (λ z. c .if3 .taken (c .before .places-of .ensures (prefixOf (now (c .before .before .before .before .before .args .numbers)) (now (c .before .before .before .before .before .args .levels)) (now (c .before .before .before .before .before .args .kinds))) (prefix-numbers (now (c .before .before .before .before .before .args .numbers)) (now (c .before .before .before .before .before .args .levels)) (now (c .before .before .before .before .before .args .kinds))) (c .before .before .before .before .before .pre .sound .numbers-ok) .at (c .before .before .before .before .before .args .number .0) ∙ z))
+returns-3 c = declared-twice (now (c .before .before .before .before .before .before .args .numbers)) (now (c .before .before .before .before .before .before .args .levels)) (now (c .before .before .before .before .before .before .args .kinds)) (c .before .before .before .before .before .before .args .number .0) (c .before .before .before .before .before .before .args .kind) (c .before .before .before .before .before .before .pre) (c .before .before .before .before .before .if1 .left) (c .before .before .before .before .if2 .left) (λ z. c .if3 .taken (c .before .places-of .ensures (prefixOf (now (c .before .before .before .before .before .before .args .numbers)) (now (c .before .before .before .before .before .before .args .levels)) (now (c .before .before .before .before .before .before .args .kinds))) (prefix-numbers (now (c .before .before .before .before .before .before .args .numbers)) (now (c .before .before .before .before .before .before .args .levels)) (now (c .before .before .before .before .before .before .args .kinds))) (c .before .before .before .before .before .before .pre .sound .numbers-ok) .at (c .before .before .before .before .before .before .args .number .0) ∙ z))
 
 count-requires : tie.Need-count-requires
 count-requires c κs = search needs

@@ -19,16 +19,16 @@ count-requires : tie.Need-count-requires Inv-loop μ-loop
 count-requires c κs = search needs
 
 loop-holds : tie.Need-loop-holds Inv-loop μ-loop
-loop-holds c = freed-none (now (c .before .before .args .numbers)) (now (c .before .before .args .levels)) (now (c .before .before .args .kinds)) (c .count .ensures)
+loop-holds c = freed-none (now (c .before .before .before .before .args .numbers)) (now (c .before .before .before .before .args .levels)) (now (c .before .before .before .before .args .kinds)) (c .count .ensures)
 
-add-t14 : tie.Need-add-t14 Inv-loop μ-loop
-add-t14 c = search needs
+add-t8 : tie.Need-add-t8 Inv-loop μ-loop
+add-t8 c = search needs
 
 kind-at-requires : tie.Need-kind-at-requires Inv-loop μ-loop
 kind-at-requires c κs = search needs
 
 returns : tie.Need-returns Inv-loop μ-loop
-returns c = freed-stop (c .before .before .before .before .before .loop .inv) (c .before .before .before .before .loop-test .taken) (c .before .kind-at .ensures) (c .if1 .taken)
+returns c = freed-stop (c .before .before .before .loop .inv) (c .before .before .loop-test .taken) (c .before .kind-at .ensures) (c .if1 .taken)
 
 add-i : tie.Need-add-i Inv-loop μ-loop
 add-i c = search needs
@@ -37,7 +37,7 @@ loop-less : tie.Need-loop-less Inv-loop μ-loop
 loop-less c = search needs
 
 loop-again : tie.Need-loop-again Inv-loop μ-loop
-loop-again c = freed-more (c .before .before .before .before .before .loop .inv) (c .before .before .before .before .loop-test .taken) (c .before .kind-at .ensures) (c .if1 .left)
+loop-again c = freed-more (c .before .before .before .loop .inv) (c .before .before .loop-test .taken) (c .before .kind-at .ensures) (c .if1 .left)
 
 returns-2 : tie.Need-returns-2 Inv-loop μ-loop
 returns-2 c = freed-end (c .before .loop .inv) (c .loop-test .left)
@@ -50,7 +50,7 @@ free-count-spec =
     μ-loop
     count-requires
     loop-holds
-    add-t14
+    add-t8
     kind-at-requires
     returns
     add-i

@@ -8,29 +8,30 @@ use Rattle.state.proofs.cells.entry.Reads as entry-reads
 use Rattle.state.proofs.levels.step_ok.Reads as step-ok-reads
 use borrow.Author.Needs.{needs}
 use Prim.Native.Nat.{_-_}
+use native.Mathlib.Omega.{arith}
 use denote.Ref.{now}
 use Rattle.state.proofs.Steps.{Stepping, stepping-none, stepping-end, levels-many, LevelRead, level-high, StepTested, step-bad, step-more}
 
 abbrev Inv-loop : tie.InvT-loop
-Inv-loop numbers levels kinds count level₀ beside₀ i₀ level beside i = Stepping numbers levels kinds count level beside i
+Inv-loop numbers levels kinds limit count level₀ beside₀ i₀ level beside i = Stepping limit numbers levels kinds count level beside i
 
 abbrev μ-loop : tie.MeasureT-loop
-μ-loop numbers levels kinds count level₀ beside₀ i₀ level beside i = count - i
+μ-loop numbers levels kinds limit count level₀ beside₀ i₀ level beside i = count - i
 
-level-read : (c : tie.After-entry Inv-loop μ-loop) → let a = c .before .before .before .before .before .before .before .args in LevelRead (now (a .numbers)) (now (a .levels)) (now (a .kinds)) (c .before .before .before .before .before .count .result) (c .before .before .before .loop .level) (c .before .before .before .loop .beside) (c .before .before .before .loop .i) (c .entry .result)
-level-read c = record { stepping = c .before .before .before .loop .inv; more = c .before .before .loop-test .taken; is = c .entry .ensures }
+level-read : (c : tie.After-entry Inv-loop μ-loop) → let a = c .before .before .before .before .before .before .before .before .args in LevelRead (a .limit) (now (a .numbers)) (now (a .levels)) (now (a .kinds)) (c .before .before .before .before .count .result) (c .before .before .loop .level) (c .before .before .loop .beside) (c .before .before .loop .i) (c .entry .result)
+level-read c = record { stepping = c .before .before .loop .inv; more = c .before .loop-test .taken; is = c .entry .ensures }
 
-tested : (c : tie.After-step-ok Inv-loop μ-loop) → let a = c .before .before .before .before .before .before .before .before .before .before .before .args in StepTested (now (a .numbers)) (now (a .levels)) (now (a .kinds)) (c .before .before .before .before .before .before .before .before .before .count .result) (c .before .before .before .before .before .before .before .loop .level) (c .before .before .before .before .before .before .before .loop .beside) (c .before .before .before .before .before .before .before .loop .i) (c .before .before .before .before .entry .result) (c .before .cell .result) (c .step-ok .result)
-tested c = record { level-read = level-read (c .before .before .before .before); small = c .before .before .before .if2 .left; is = c .before .cell .ensures; said = c .step-ok .ensures }
+tested : (c : tie.After-step-ok Inv-loop μ-loop) → let a = c .before .before .before .before .before .before .before .before .before .before .before .args in StepTested (a .limit) (now (a .numbers)) (now (a .levels)) (now (a .kinds)) (c .before .before .before .before .before .before .before .count .result) (c .before .before .before .before .before .loop .level) (c .before .before .before .before .before .loop .beside) (c .before .before .before .before .before .loop .i) (c .before .before .before .entry .result) (c .before .cell .result) (c .step-ok .result)
+tested c = record { level-read = level-read (c .before .before .before); small = c .before .before .if2 .left; is = c .before .cell .ensures; said = c .step-ok .ensures }
 
 count-requires : tie.Need-count-requires Inv-loop μ-loop
 count-requires c κs = search needs
 
 returns : tie.Need-returns Inv-loop μ-loop
-returns c = levels-many (now (c .before .before .before .args .numbers)) (now (c .before .before .before .args .levels)) (now (c .before .before .before .args .kinds)) (c .before .count .ensures) (c .if1 .taken)
+returns c = λ L q. levels-many L (now (c .before .before .before .before .before .args .numbers)) (now (c .before .before .before .before .before .args .levels)) (now (c .before .before .before .before .before .args .kinds)) (c .before .count .ensures) (c .if1 .taken) q
 
 loop-holds : tie.Need-loop-holds Inv-loop μ-loop
-loop-holds c = stepping-none (now (c .before .before .before .args .numbers)) (now (c .before .before .before .args .levels)) (now (c .before .before .before .args .kinds)) (c .before .count .ensures) (c .if1 .left)
+loop-holds c = stepping-none (c .before .before .before .before .before .args .limit) (now (c .before .before .before .before .before .args .numbers)) (now (c .before .before .before .before .before .args .levels)) (now (c .before .before .before .before .before .args .kinds)) (c .before .count .ensures) (c .if1 .left)
 
 entry-requires : tie.Need-entry-requires Inv-loop μ-loop
 entry-requires c κs = search needs
@@ -42,7 +43,7 @@ cell-requires : tie.Need-cell-requires Inv-loop μ-loop
 cell-requires c κs = search needs
 
 step-ok-requires : tie.Need-step-ok-requires Inv-loop μ-loop
-step-ok-requires c κs = (c .before .before .before .before .before .before .loop .inv .level, c .before .before .before .before .before .before .loop .inv .code)
+step-ok-requires c κs = (omega (arith, c .before .before .before .before .loop .inv .level, c .before .before .before .before .before .before .before .before .before .before .pre), c .before .before .before .before .loop .inv .code)
 
 returns-3 : tie.Need-returns-3 Inv-loop μ-loop
 returns-3 c = step-bad (tested (c .before)) (c .if3 .taken)

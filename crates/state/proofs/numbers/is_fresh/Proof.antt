@@ -11,14 +11,11 @@ returns c = simp (lt-leb _ _ (c .if1 .taken))
 returns-2 : tie.Need-returns-2
 returns-2 c = simp (le-leb _ _ (c .before .if1 .left), lt-leb _ _ (c .if2 .taken))
 
-mul-result : tie.Need-mul-result
-mul-result c = search needs
-
-element-copy-out-result : tie.Need-element-copy-out-result
-element-copy-out-result c = search needs
+cell-requires : tie.Need-cell-requires
+cell-requires c κs = search needs
 
 returns-3 : tie.Need-returns-3
-returns-3 c = simp (le-leb _ _ (c .before .before .if1 .left), le-leb _ _ (c .before .if2 .left))
+returns-3 c = simp (le-leb _ _ (c .before .before .if1 .left), le-leb _ _ (c .before .if2 .left), c .cell .ensures)
 
 pub is-fresh-spec : {M : Type 1} → statement M
-is-fresh-spec = tie.close (tie.spec returns returns-2 mul-result element-copy-out-result returns-3)
+is-fresh-spec = tie.close (tie.spec returns returns-2 cell-requires returns-3)

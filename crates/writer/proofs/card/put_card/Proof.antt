@@ -8,19 +8,19 @@ use Rattle.writer.proofs.Appending.{wrote-then}
 use Rattle.writer.proofs.Lengths.{card-length}
 
 put-head-requires : tie.Need-put-head-requires
-put-head-requires c κs = let args = c .before .before .before .args in omega (arith, card-length (args .yes) (args .f) (args .numbers .now) (args .table .now) (args .n) (args .visits))
+put-head-requires c κs = let args = c .before .before .before .before .args in omega (arith, card-length (args .yes) (args .f) (args .numbers .now) (args .table .now) (args .n) (args .visits))
 
 put-lines-requires : tie.Need-put-lines-requires
-put-lines-requires c κs = let args = c .before .before .before .before .before .before .before .args in (c .before .before .before .before .before .before .before .pre .0, omega (arith, card-length (args .yes) (args .f) (args .numbers .now) (args .table .now) (args .n) (args .visits)))
+put-lines-requires c κs = let args = c .before .before .before .before .before .before .before .before .args in (c .before .before .before .before .before .before .before .before .pre .0, omega (arith, card-length (args .yes) (args .f) (args .numbers .now) (args .table .now) (args .n) (args .visits)))
 
 put-visits-requires : tie.Need-put-visits-requires
-put-visits-requires c κs = let args = c .before .before .before .before .before .before .before .before .before .before .before .args in omega (arith, card-length (args .yes) (args .f) (args .numbers .now) (args .table .now) (args .n) (args .visits))
+put-visits-requires c κs = let args = c .before .before .before .before .before .before .before .before .before .before .before .before .args in omega (arith, card-length (args .yes) (args .f) (args .numbers .now) (args .table .now) (args .n) (args .visits))
 
 slice-aggregate-put-word : tie.Need-slice-aggregate-put-word
 slice-aggregate-put-word c = search needs
 
 put-word-requires : tie.Need-put-word-requires
-put-word-requires c κs = let args = c .before .before .before .before .before .before .before .before .before .before .before .before .before .before .before .before .args in omega (arith, card-length (args .yes) (args .f) (args .numbers .now) (args .table .now) (args .n) (args .visits))
+put-word-requires c κs = let args = c .before .before .before .before .before .before .before .before .before .before .before .before .before .before .before .before .before .args in omega (arith, card-length (args .yes) (args .f) (args .numbers .now) (args .table .now) (args .n) (args .visits))
 
 same-length : tie.Need-same-length
 same-length c = search needs

@@ -19,7 +19,7 @@ add-e : tie.Need-add-e Inv-loop μ-loop
 add-e c =
     let loop = c .before .loop in
     let loop-test = c .loop-test in
-    let pre = c .before .before .before .before .pre in
+    let pre = c .before .before .before .before .before .pre in
     omega (arith, list-inside (loop .inv) (loop-test .taken) (pre .0 .1))
 
 sub-put-line : tie.Need-sub-put-line Inv-loop μ-loop
@@ -32,13 +32,13 @@ part-put-line-end : tie.Need-part-put-line-end Inv-loop μ-loop
 part-put-line-end c =
     let loop = c .before .before .loop in
     let loop-test = c .before .loop-test in
-    let pre = c .before .before .before .before .before .pre in
+    let pre = c .before .before .before .before .before .before .pre in
     list-inside (loop .inv) (loop-test .taken) (pre .0 .1)
 
 put-line-requires : tie.Need-put-line-requires Inv-loop μ-loop
 put-line-requires c κs =
-    let inside = list-inside (c .before .before .before .loop .inv) (c .before .before .loop-test .taken) (c .before .before .before .before .before .before .pre .0 .1) in
-    (omega (arith, row-width (c .before .before .before .before .before .before .args .f) (c .before .before .before .loop .b) (c .before .before .before .before .before .before .args .table .now) inside, c .before .before .before .before .before .before .pre .0 .0), list-room (c .before .before .before .loop .inv) (c .before .before .loop-test .taken) (c .before .before .before .before .before .before .pre .1))
+    let inside = list-inside (c .before .before .before .loop .inv) (c .before .before .loop-test .taken) (c .before .before .before .before .before .before .before .pre .0 .1) in
+    (omega (arith, row-width (c .before .before .before .before .before .before .before .args .f) (c .before .before .before .loop .b) (c .before .before .before .before .before .before .before .args .table .now) inside, c .before .before .before .before .before .before .before .pre .0 .0), list-room (c .before .before .before .loop .inv) (c .before .before .loop-test .taken) (c .before .before .before .before .before .before .before .pre .1))
 
 add-k : tie.Need-add-k Inv-loop μ-loop
 add-k c = search needs

@@ -19,7 +19,7 @@ slice-aggregate-put-word c = search needs
 
 put-word-requires : tie.Need-put-word-requires Inv-loop μ-loop
 put-word-requires c κs =
-    let args = c .before .before .before .before .args in
+    let args = c .before .before .before .before .before .args in
     omega (arith, row-length (args .numbers .now) (args .row .now))
 
 loop-holds : tie.Need-loop-holds Inv-loop μ-loop
@@ -31,16 +31,16 @@ add-put-item c = search needs
 mul-put-item : tie.Need-mul-put-item Inv-loop μ-loop
 mul-put-item c = search needs
 
-element-copy-out-put-item : tie.Need-element-copy-out-put-item Inv-loop μ-loop
-element-copy-out-put-item c = search needs
-
 shared-slice-read-put-item : tie.Need-shared-slice-read-put-item Inv-loop μ-loop
 shared-slice-read-put-item c = search needs
+
+shared-slice-read-put-item-2 : tie.Need-shared-slice-read-put-item-2 Inv-loop μ-loop
+shared-slice-read-put-item-2 c = search needs
 
 put-item-requires : tie.Need-put-item-requires Inv-loop μ-loop
 put-item-requires c κs =
     let loop = c .before .before .before .before .loop in
-    let pre = c .before .before .before .before .before .before .before .before .before .before .before .before .pre in
+    let pre = c .before .before .before .before .before .before .before .before .before .before .before .before .before .pre in
     let put-word = c .before .before .before .before .before .before .before .put-word in
     line-room (loop .inv) (search needs) (line-start _ _ (pre .1) (put-word .ensures))
 
@@ -62,7 +62,7 @@ slice-aggregate-put-word-2 c = search needs
 put-word-requires-2 : tie.Need-put-word-requires-2 Inv-loop μ-loop
 put-word-requires-2 c κs =
     let loop = c .before .before .before .loop in
-    let pre = c .before .before .before .before .before .before .before .before .before .before .before .pre in
+    let pre = c .before .before .before .before .before .before .before .before .before .before .before .before .pre in
     let put-word = c .before .before .before .before .before .before .put-word in
     line-last (loop .inv) (line-start _ _ (pre .1) (put-word .ensures))
 
@@ -92,8 +92,8 @@ put-line-spec =
     loop-holds
     add-put-item
     mul-put-item
-    element-copy-out-put-item
     shared-slice-read-put-item
+    shared-slice-read-put-item-2
     put-item-requires
     add-i
     loop-less

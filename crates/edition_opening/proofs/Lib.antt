@@ -1,0 +1,8 @@
+pub mod Taking
+pub mod Judged
+pub mod Negated
+pub mod Adding
+pub mod Lines
+pub mod Turns
+pub mod Apart
+pub mod Books
