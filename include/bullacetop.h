@@ -142,14 +142,14 @@ struct bullacetop_answer bullacetop_card(struct bullacetop_state x, uint8_t *tab
 struct bullacetop_answer bullacetop_keep_card(struct bullacetop_state x, uint8_t *table, size_t n);
 
 /*
- * The four calls in place: the state stays with the caller and nothing of it is copied. It is lent as its nine tables, which need not stand
- * in one struct; bullacetop_rule_at, bullacetop_forget_at, bullacetop_query_at and bullacetop_card_at take the struct.
+ * The five calls in place: the state stays with the caller and nothing of it is copied. It is lent as its nine tables, which need not stand
+ * in one struct; bullacetop_rule_at, bullacetop_forget_at, bullacetop_query_at, bullacetop_card_at and bullacetop_keep_card_at take the struct.
  *
  * The answer, the card table and the next state are those of the same call by value. What a call may write:
  *
  *   rule         rules, rule_sizes, pass_sizes
  *   forget       bar_sizes, pass_sizes
- *   query, card  bars, bar_sizes, passes, pass_sizes
+ *   query, cards bars, bar_sizes, passes, pass_sizes
  *
  * The other tables are only read, so that several calls may have them at once. A refusal leaves all nine as they were, byte for byte; only
  * after 21 the four that a card may write keep what the search learned.
@@ -222,7 +222,7 @@ struct bullacetop_reply bullacetop_keep_card_in_place(
     const int16_t rules[BULLACETOP_RULES * BULLACETOP_LITERALS],
     const uint16_t rule_sizes[BULLACETOP_RULES + 1],
     int16_t bars[BULLACETOP_ENTRIES * BULLACETOP_NUMBERS],
-    uint16_t bar_sizes[BULLACETOP_ENTRIES + 1],
+    uint16_t bar_sizes[BULLACETOP_BAR_SIZES],
     int16_t passes[BULLACETOP_ENTRIES * BULLACETOP_NUMBERS],
     uint16_t pass_sizes[BULLACETOP_ENTRIES + 1],
     uint8_t *table,

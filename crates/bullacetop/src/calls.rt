@@ -1,4 +1,4 @@
-// The four calls on a state by value. A refusal of 0 is none; a verdict is 1 for keep and 2 for swap, 0 where the call is no query.
+// The five calls on a state by value. A refusal of 0 is none; a verdict is 1 for keep and 2 for swap, 0 where the call is no query.
 use answers::Ruling;
 use rules::Changed;
 use state::State;
