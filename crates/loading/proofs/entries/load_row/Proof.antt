@@ -49,19 +49,19 @@ part-encode-end : tie.Need-part-encode-end
 part-encode-end c = omega (arith, table-within (c .before .before .before .before .pre .0) (c .before .before .before .before .args .k) (c .before .before .before .before .pre .3), c .before .before .before .before .pre .0 .room)
 
 encode-requires : tie.Need-encode-requires
-encode-requires c κs = let z : (c .before .before .before .before .before .args .k * 40 + getD (now (c .before .before .before .before .before .args .sizes)) (c .before .before .before .before .before .args .k + 1) 0) - c .before .before .before .before .before .args .k * 40 ≡ getD (now (c .before .before .before .before .before .args .sizes)) (c .before .before .before .before .before .args .k + 1) 0 = omega arith in rw z (omega (arith, part-long (c .before .before .before .before .before .args .k * 40) (getD (now (c .before .before .before .before .before .args .sizes)) (c .before .before .before .before .before .args .k + 1) 0) (now (c .before .before .before .before .before .args .store)) (omega (arith, table-within (c .before .before .before .before .before .pre .0) (c .before .before .before .before .before .args .k) (c .before .before .before .before .before .pre .3), c .before .before .before .before .before .pre .0 .room)), table-size (c .before .before .before .before .before .pre .0) (c .before .before .before .before .before .args .k) (c .before .before .before .before .before .pre .3)))
+encode-requires c κs = let z : (c .before .before .before .before .before .before .args .k * 40 + getD (now (c .before .before .before .before .before .before .args .sizes)) (c .before .before .before .before .before .before .args .k + 1) 0) - c .before .before .before .before .before .before .args .k * 40 ≡ getD (now (c .before .before .before .before .before .before .args .sizes)) (c .before .before .before .before .before .before .args .k + 1) 0 = omega arith in rw z (omega (arith, part-long (c .before .before .before .before .before .before .args .k * 40) (getD (now (c .before .before .before .before .before .before .args .sizes)) (c .before .before .before .before .before .before .args .k + 1) 0) (now (c .before .before .before .before .before .before .args .store)) (omega (arith, table-within (c .before .before .before .before .before .before .pre .0) (c .before .before .before .before .before .before .args .k) (c .before .before .before .before .before .before .pre .3), c .before .before .before .before .before .before .pre .0 .room)), table-size (c .before .before .before .before .before .before .pre .0) (c .before .before .before .before .before .before .args .k) (c .before .before .before .before .before .before .pre .3)))
 
 array-share-prefix-row : tie.Need-array-share-prefix-row
-array-share-prefix-row c = omega (arith, c .before .before .before .encode .ensures .0, table-size (c .before .before .before .before .before .before .before .before .before .pre .0) (c .before .before .before .before .before .before .before .before .before .args .k) (c .before .before .before .before .before .before .before .before .before .pre .3))
+array-share-prefix-row c = omega (arith, c .before .before .before .encode .ensures .0, table-size (c .before .before .before .before .before .before .before .before .before .before .pre .0) (c .before .before .before .before .before .before .before .before .before .before .args .k) (c .before .before .before .before .before .before .before .before .before .before .pre .3))
 
 slice-aggregate-push : tie.Need-slice-aggregate-push
-slice-aggregate-push c = sym (length-take-le (getD (now (c .before .before .before .before .before .before .before .before .before .before .args .sizes)) (c .before .before .before .before .before .before .before .before .before .before .args .k + 1) 0) (c .before .before .before .before .encode .last .0) (omega (arith, c .before .before .before .before .encode .ensures .0, table-size (c .before .before .before .before .before .before .before .before .before .before .pre .0) (c .before .before .before .before .before .before .before .before .before .before .args .k) (c .before .before .before .before .before .before .before .before .before .before .pre .3))))
+slice-aggregate-push c = sym (length-take-le (getD (now (c .before .before .before .before .before .before .before .before .before .before .before .args .sizes)) (c .before .before .before .before .before .before .before .before .before .before .before .args .k + 1) 0) (c .before .before .before .before .encode .last .0) (omega (arith, c .before .before .before .before .encode .ensures .0, table-size (c .before .before .before .before .before .before .before .before .before .before .before .pre .0) (c .before .before .before .before .before .before .before .before .before .before .before .args .k) (c .before .before .before .before .before .before .before .before .before .before .before .pre .3))))
 
 push-requires : tie.Need-push-requires
-push-requires c κs = (c .before .before .before .before .before .before .before .before .before .before .pre .1, search needs, search needs, search needs, omega (arith, length-take-le (getD (now (c .before .before .before .before .before .before .before .before .before .before .args .sizes)) (c .before .before .before .before .before .before .before .before .before .before .args .k + 1) 0) (c .before .before .before .before .encode .last .0) (omega (arith, c .before .before .before .before .encode .ensures .0, table-size (c .before .before .before .before .before .before .before .before .before .before .pre .0) (c .before .before .before .before .before .before .before .before .before .before .args .k) (c .before .before .before .before .before .before .before .before .before .before .pre .3))), table-size (c .before .before .before .before .before .before .before .before .before .before .pre .0) (c .before .before .before .before .before .before .before .before .before .before .args .k) (c .before .before .before .before .before .before .before .before .before .before .pre .3)), c .before .before .before .before .encode .ensures .1 (getD (now (c .before .before .before .before .before .before .before .before .before .before .args .sizes)) (c .before .before .before .before .before .before .before .before .before .before .args .k + 1) 0) (let z : (c .before .before .before .before .before .before .before .before .before .before .args .k * 40 + getD (now (c .before .before .before .before .before .before .before .before .before .before .args .sizes)) (c .before .before .before .before .before .before .before .before .before .before .args .k + 1) 0) - c .before .before .before .before .before .before .before .before .before .before .args .k * 40 ≡ getD (now (c .before .before .before .before .before .before .before .before .before .before .args .sizes)) (c .before .before .before .before .before .before .before .before .before .before .args .k + 1) 0 = omega arith in rw z (omega (arith, part-long (c .before .before .before .before .before .before .before .before .before .before .args .k * 40) (getD (now (c .before .before .before .before .before .before .before .before .before .before .args .sizes)) (c .before .before .before .before .before .before .before .before .before .before .args .k + 1) 0) (now (c .before .before .before .before .before .before .before .before .before .before .args .store)) (omega (arith, table-within (c .before .before .before .before .before .before .before .before .before .before .pre .0) (c .before .before .before .before .before .before .before .before .before .before .args .k) (c .before .before .before .before .before .before .before .before .before .before .pre .3), c .before .before .before .before .before .before .before .before .before .before .pre .0 .room))))), omega (arith, c .before .before .before .before .before .before .before .before .before .before .pre .2, c .before .before .before .before .before .before .before .before .before .before .pre .3, c .before .before .before .before .before .before .before .before .before .before .pre .0 .few))
+push-requires c κs = (c .before .before .before .before .before .before .before .before .before .before .before .pre .1, search needs, search needs, search needs, omega (arith, length-take-le (getD (now (c .before .before .before .before .before .before .before .before .before .before .before .args .sizes)) (c .before .before .before .before .before .before .before .before .before .before .before .args .k + 1) 0) (c .before .before .before .before .encode .last .0) (omega (arith, c .before .before .before .before .encode .ensures .0, table-size (c .before .before .before .before .before .before .before .before .before .before .before .pre .0) (c .before .before .before .before .before .before .before .before .before .before .before .args .k) (c .before .before .before .before .before .before .before .before .before .before .before .pre .3))), table-size (c .before .before .before .before .before .before .before .before .before .before .before .pre .0) (c .before .before .before .before .before .before .before .before .before .before .before .args .k) (c .before .before .before .before .before .before .before .before .before .before .before .pre .3)), c .before .before .before .before .encode .ensures .1 (getD (now (c .before .before .before .before .before .before .before .before .before .before .before .args .sizes)) (c .before .before .before .before .before .before .before .before .before .before .before .args .k + 1) 0) (let z : (c .before .before .before .before .before .before .before .before .before .before .before .args .k * 40 + getD (now (c .before .before .before .before .before .before .before .before .before .before .before .args .sizes)) (c .before .before .before .before .before .before .before .before .before .before .before .args .k + 1) 0) - c .before .before .before .before .before .before .before .before .before .before .before .args .k * 40 ≡ getD (now (c .before .before .before .before .before .before .before .before .before .before .before .args .sizes)) (c .before .before .before .before .before .before .before .before .before .before .before .args .k + 1) 0 = omega arith in rw z (omega (arith, part-long (c .before .before .before .before .before .before .before .before .before .before .before .args .k * 40) (getD (now (c .before .before .before .before .before .before .before .before .before .before .before .args .sizes)) (c .before .before .before .before .before .before .before .before .before .before .before .args .k + 1) 0) (now (c .before .before .before .before .before .before .before .before .before .before .before .args .store)) (omega (arith, table-within (c .before .before .before .before .before .before .before .before .before .before .before .pre .0) (c .before .before .before .before .before .before .before .before .before .before .before .args .k) (c .before .before .before .before .before .before .before .before .before .before .before .pre .3), c .before .before .before .before .before .before .before .before .before .before .before .pre .0 .room))))), omega (arith, c .before .before .before .before .before .before .before .before .before .before .before .pre .2, c .before .before .before .before .before .before .before .before .before .before .before .pre .3, c .before .before .before .before .before .before .before .before .before .before .before .pre .0 .few))
 
 returns : tie.Need-returns
-returns c = (c .push .ensures .0, c .push .ensures .2 ∙ ap suc (c .before .before .before .before .before .before .before .before .before .before .before .pre .2), λ D p few. c .push .ensures .1 ∙ ap (λ (x : List ℕ). push (paper .constraints) x (entriesOf (now (c .before .before .before .before .before .before .before .before .before .before .before .args .cells)) (now (c .before .before .before .before .before .before .before .before .before .before .before .args .links)))) (coded (c .before .before .before .before .before .before .before .before .before .before .before .args .k * 40) (getD (now (c .before .before .before .before .before .before .before .before .before .before .before .args .sizes)) (c .before .before .before .before .before .before .before .before .before .before .before .args .k + 1) 0) ((c .before .before .before .before .before .before .before .before .before .before .before .args .k * 40 + getD (now (c .before .before .before .before .before .before .before .before .before .before .before .args .sizes)) (c .before .before .before .before .before .before .before .before .before .before .before .args .k + 1) 0) - c .before .before .before .before .before .before .before .before .before .before .before .args .k * 40) (c .before .before .before .before .before .encode .last .0) (now (c .before .before .before .before .before .before .before .before .before .before .before .args .store)) D (omega arith) (omega (arith, table-within (c .before .before .before .before .before .before .before .before .before .before .before .pre .0) (c .before .before .before .before .before .before .before .before .before .before .before .args .k) (c .before .before .before .before .before .before .before .before .before .before .before .pre .3), c .before .before .before .before .before .before .before .before .before .before .before .pre .0 .room)) (c .before .before .before .before .before .encode .ensures .2 D p few) ∙ ap (codes D) (row-is 40 (c .before .before .before .before .before .before .before .before .before .before .before .args .k) (now (c .before .before .before .before .before .before .before .before .before .before .before .args .store)) (now (c .before .before .before .before .before .before .before .before .before .before .before .args .sizes)))))
+returns c = (c .push .ensures .0, c .push .ensures .2 ∙ ap suc (c .before .before .before .before .before .before .before .before .before .before .before .before .pre .2), λ D p few. c .push .ensures .1 ∙ ap (λ (x : List ℕ). push (paper .constraints) x (entriesOf (now (c .before .before .before .before .before .before .before .before .before .before .before .before .args .cells)) (now (c .before .before .before .before .before .before .before .before .before .before .before .before .args .links)))) (coded (c .before .before .before .before .before .before .before .before .before .before .before .before .args .k * 40) (getD (now (c .before .before .before .before .before .before .before .before .before .before .before .before .args .sizes)) (c .before .before .before .before .before .before .before .before .before .before .before .before .args .k + 1) 0) ((c .before .before .before .before .before .before .before .before .before .before .before .before .args .k * 40 + getD (now (c .before .before .before .before .before .before .before .before .before .before .before .before .args .sizes)) (c .before .before .before .before .before .before .before .before .before .before .before .before .args .k + 1) 0) - c .before .before .before .before .before .before .before .before .before .before .before .before .args .k * 40) (c .before .before .before .before .before .encode .last .0) (now (c .before .before .before .before .before .before .before .before .before .before .before .before .args .store)) D (omega arith) (omega (arith, table-within (c .before .before .before .before .before .before .before .before .before .before .before .before .pre .0) (c .before .before .before .before .before .before .before .before .before .before .before .before .args .k) (c .before .before .before .before .before .before .before .before .before .before .before .before .pre .3), c .before .before .before .before .before .before .before .before .before .before .before .before .pre .0 .room)) (c .before .before .before .before .before .encode .ensures .2 D p few) ∙ ap (codes D) (row-is 40 (c .before .before .before .before .before .before .before .before .before .before .before .before .args .k) (now (c .before .before .before .before .before .before .before .before .before .before .before .before .args .store)) (now (c .before .before .before .before .before .before .before .before .before .before .before .before .args .sizes)))))
 
 pub load-row-spec : {M : Type 1} → statement M
 load-row-spec =
