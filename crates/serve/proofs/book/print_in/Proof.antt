@@ -3,6 +3,7 @@ use borrow.Author.Needs.{needs}
 use Rattle.serve.proofs.book.print_in.Statement.{statement}
 use Rattle.serve.proofs.book.print_in.Tie as tie
 use native.Mathlib.Omega.{arith}
+use mathlib.Core.Bool.{true}
 use mathlib.Core.Path.{_≡_, _∙_, ap}
 use mathlib.Core.Option.{some}
 use denote.Ref.{now}
