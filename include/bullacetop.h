@@ -136,14 +136,20 @@ struct bullacetop_answer bullacetop_query(struct bullacetop_state x, const int16
 struct bullacetop_answer bullacetop_card(struct bullacetop_state x, uint8_t *table, size_t n);
 
 /*
- * The four calls in place: the state stays with the caller and nothing of it is copied. It is lent as its nine tables, which need not stand
- * in one struct; bullacetop_rule_at, bullacetop_forget_at, bullacetop_query_at and bullacetop_card_at take the struct.
+ * The readings for which the rules are not true, in the same way: same search and visits, same table, same refusals. Where neither card is refused and
+ * no rule is added or withdrawn between them, each reading lies on exactly one line of one of the two.
+ */
+struct bullacetop_answer bullacetop_keep_card(struct bullacetop_state x, uint8_t *table, size_t n);
+
+/*
+ * The five calls in place: the state stays with the caller and nothing of it is copied. It is lent as its nine tables, which need not stand
+ * in one struct; bullacetop_rule_at, bullacetop_forget_at, bullacetop_query_at, bullacetop_card_at and bullacetop_keep_card_at take the struct.
  *
  * The answer, the card table and the next state are those of the same call by value. What a call may write:
  *
  *   rule         rules, rule_sizes, pass_sizes
  *   forget       bar_sizes, pass_sizes
- *   query, card  bars, bar_sizes, passes, pass_sizes
+ *   query, cards bars, bar_sizes, passes, pass_sizes
  *
  * The other tables are only read, so that several calls may have them at once. A refusal leaves all nine as they were, byte for byte; only
  * after 21 the four that a card may write keep what the search learned.
@@ -209,6 +215,19 @@ struct bullacetop_reply bullacetop_card_in_place(
     uint8_t *table,
     size_t n);
 
+struct bullacetop_reply bullacetop_keep_card_in_place(
+    const uint16_t numbers[BULLACETOP_NUMBERS + 1],
+    const uint16_t levels[BULLACETOP_NUMBERS + 1],
+    const uint16_t kinds[BULLACETOP_NUMBERS + 1],
+    const int16_t rules[BULLACETOP_RULES * BULLACETOP_LITERALS],
+    const uint16_t rule_sizes[BULLACETOP_RULES + 1],
+    int16_t bars[BULLACETOP_ENTRIES * BULLACETOP_NUMBERS],
+    uint16_t bar_sizes[BULLACETOP_BAR_SIZES],
+    int16_t passes[BULLACETOP_ENTRIES * BULLACETOP_NUMBERS],
+    uint16_t pass_sizes[BULLACETOP_ENTRIES + 1],
+    uint8_t *table,
+    size_t n);
+
 static inline struct bullacetop_reply bullacetop_rule_at(struct bullacetop_state *x, const int16_t *literals, size_t n)
 {
     return bullacetop_rule_in_place(
@@ -230,6 +249,12 @@ static inline struct bullacetop_reply bullacetop_query_at(struct bullacetop_stat
 static inline struct bullacetop_reply bullacetop_card_at(struct bullacetop_state *x, uint8_t *table, size_t n)
 {
     return bullacetop_card_in_place(
+        x->numbers, x->levels, x->kinds, x->rules, x->rule_sizes, x->bars, x->bar_sizes, x->passes, x->pass_sizes, table, n);
+}
+
+static inline struct bullacetop_reply bullacetop_keep_card_at(struct bullacetop_state *x, uint8_t *table, size_t n)
+{
+    return bullacetop_keep_card_in_place(
         x->numbers, x->levels, x->kinds, x->rules, x->rule_sizes, x->bars, x->bar_sizes, x->passes, x->pass_sizes, table, n);
 }
 

@@ -11,7 +11,7 @@ use Rattle.qbf.specs.Formula.{paper, Formula, Literal, Node, quantifiers}
 use Rattle.qbf.specs.Truth.{Outcome, decided, mixed, decidedNodes, select, outline, bound, freeVariables}
 use Rattle.qbf.specs.Learning.{Constraint, LearningResult, learningSearch}
 use Rattle.qbf.specs.Card.{tableOf, zeroTable}
-use Rattle.qbf.specs.Calls.{Call, query, card, lines, cardRefused, Answer, answer, queryFault, startNode, queryReply, learningQuery, guarded}
+use Rattle.qbf.specs.Calls.{Call, query, card, keepCard, cardOf, lines, cardRefused, Answer, answer, queryFault, startNode, queryReply, learningQuery, learningCard, guarded}
 use Rattle.qbf.specs.Demands.{refusalOf}
 use Rattle.theory.proofs.Starting.{free-rest, start-length}
 use Rattle.tables.specs.Views.{Places, Kinds}
@@ -53,8 +53,12 @@ pub cleared-length : (size : ℕ) {zeros : List ℕ} → zeros ≡ zeroTable siz
 cleared-length size e = ap length e ∙ length-replicate size 0
 
 -- a malformed state: 22, and the table is zero
-pub malformed-card : (x : State) (size : ℕ) (zeros : List ℕ) → zeros ≡ zeroTable size → valid x ≡ false → Serves x (card size) (said (some 22) 0 0 0 zeros) x
-malformed-card x size zeros z e = subst (λ (tb : List ℕ). Serves x (card size) (said (some 22) 0 0 0 tb) x) (sym z) (malformed x (card size) e)
+pub malformed-card : (x : State) (p : Bool) (size : ℕ) (zeros : List ℕ) → zeros ≡ zeroTable size → valid x ≡ false → Serves x (cardOf p size) (said (some 22) 0 0 0 zeros) x
+malformed-card x p size zeros z e = subst (λ (tb : List ℕ). Serves x (cardOf p size) (said (some 22) 0 0 0 tb) x) (sym z) (by p)
+  where
+    by : (q : Bool) → Serves x (cardOf q size) (said (some 22) 0 0 0 (zeroTable size)) x
+    by true = malformed x (card size) e
+    by false = malformed x (keepCard size) e
 
 module _ (x : State) (v : valid x ≡ true) where
   abbrev b : Formula
@@ -152,42 +156,51 @@ module _ (x : State) (v : valid x ≡ true) where
       by No (e, q) = at q (cond (not p) (n + 1) n) (decided-own false (not p) (is-no p) (below q .1) (below q .0))
       by Mixed (ds, q) = at q n (below q)
 
-  module _ (size free : ℕ) (r : Found) (y : State) (table : List ℕ) (frees : free ≡ freeVariables (prefixIn x)) (sized : length table ≡ size) (f : FoundBy true x (searchFrom 0 []) free r y table) (n : ℕ) (counted : n ≡ total true (r .verdict) (r .lines)) where
+  module _ (p : Bool) (size free : ℕ) (r : Found) (y : State) (table : List ℕ) (frees : free ≡ freeVariables (prefixIn x)) (sized : length table ≡ size) (f : FoundBy p x (searchFrom 0 []) free r y table) (n : ℕ) (counted : n ≡ total p (r .verdict) (r .lines)) where
     abbrev w : LearningResult
     w = searchFrom 0 []
 
     abbrev ls : List Node
-    ls = allLines true (w .outcome)
+    ls = allLines p (w .outcome)
 
-    both : Covers free table ls × (total true (r .verdict) (r .lines) ≡ length ls)
-    both = all-lines true (r .verdict) (w .outcome) free table (r .lines) (f .verdict) (f .covers) (f .lines)
+    both : Covers free table ls × (total p (r .verdict) (r .lines) ≡ length ls)
+    both = all-lines p (r .verdict) (w .outcome) free table (r .lines) (f .verdict) (f .covers) (f .lines)
 
     test : leb (n * free) size ≡ leb (length ls * freeVariables (prefixIn x)) size
     test = (λ i. leb ((counted ∙ both .1) i * frees i) size)
 
+    -- the definitions' card is the search's
+    called : (q : Bool) → guarded true (stateIn x) (cardOf q size) .out ≡ learningCard q b (storeIn x) size .out
+    called true = refl
+    called false = refl
+
+    next-is : (q : Bool) → record { formula = b; store = w .store } ≡ guarded true (stateIn x) (cardOf q size) .state
+    next-is true = refl
+    next-is false = refl
+
     out-by : (t : Bool) → leb (n * free) size ≡ t
-        → guarded true (stateIn x) (card size) .out ≡ answer (cond t (lines ls (tableOf (freeVariables (prefixIn x)) size ls)) (cardRefused 21 (zeroTable size))) (w .visits)
-    out-by t e = ap (λ (z : Bool). answer (cond z (lines ls (tableOf (freeVariables (prefixIn x)) size ls)) (cardRefused 21 (zeroTable size))) (w .visits)) (sym test ∙ e)
+        → guarded true (stateIn x) (cardOf p size) .out ≡ answer (cond t (lines ls (tableOf (freeVariables (prefixIn x)) size ls)) (cardRefused 21 (zeroTable size))) (w .visits)
+    out-by t e = called p ∙ ap (λ (z : Bool). answer (cond z (lines ls (tableOf (freeVariables (prefixIn x)) size ls)) (cardRefused 21 (zeroTable size))) (w .visits)) (sym test ∙ e)
 
     -- the lines fit
-    pub shown-card : leb (n * free) size ≡ true → Serves x (card size) (cardSaid (shown.Lines n) (r .visits) table) y
+    pub shown-card : leb (n * free) size ≡ true → Serves x (cardOf p size) (cardSaid (shown.Lines n) (r .visits) table) y
     shown-card e =
-        subst (λ (a : Said). Serves x (card size) a y) whole
-        (moved-on x (card size) v y (f .state) (subst (λ (a : Answer). Passes (refusalOf (a .reply))) (sym (out-by true e)) tt))
+        subst (λ (a : Said). Serves x (cardOf p size) a y) whole
+        (moved-on x (cardOf p size) v y (f .state ∙ ap some (next-is p)) (subst (λ (a : Answer). Passes (refusalOf (a .reply))) (sym (out-by true e)) tt))
       where
         table-is : table ≡ tableOf (freeVariables (prefixIn x)) size ls
         table-is =
             covers-fits free table ls (both .0) ((λ i. leb (sym (both .1) i * free) (sized i)) ∙ ap (λ (k : ℕ). leb (k * free) size) (sym counted) ∙ e)
             ∙ (λ i. tableOf (frees i) (sized i) ls)
 
-        whole : saidOf (guarded true (stateIn x) (card size) .out) ≡ cardSaid (shown.Lines n) (r .visits) table
+        whole : saidOf (guarded true (stateIn x) (cardOf p size) .out) ≡ cardSaid (shown.Lines n) (r .visits) table
         whole = ap saidOf (out-by true e) ∙ sym (λ i. said none 0 ((counted ∙ both .1) i) (f .visits i) (table-is i))
 
     -- they do not: 21, with the visits and the store of the search
-    pub full-card : (zeros : List ℕ) → zeros ≡ zeroTable size → leb (n * free) size ≡ false → Serves x (card size) (cardSaid (shown.Refused 21) (r .visits) zeros) y
+    pub full-card : (zeros : List ℕ) → zeros ≡ zeroTable size → leb (n * free) size ≡ false → Serves x (cardOf p size) (cardSaid (shown.Refused 21) (r .visits) zeros) y
     full-card zeros z e =
-        subst (λ (a : Said). Serves x (card size) a y) whole
-        (moved-on x (card size) v y (f .state) (subst (λ (a : Answer). Passes (refusalOf (a .reply))) (sym (out-by false e)) refl))
+        subst (λ (a : Said). Serves x (cardOf p size) a y) whole
+        (moved-on x (cardOf p size) v y (f .state ∙ ap some (next-is p)) (subst (λ (a : Answer). Passes (refusalOf (a .reply))) (sym (out-by false e)) refl))
       where
-        whole : saidOf (guarded true (stateIn x) (card size) .out) ≡ cardSaid (shown.Refused 21) (r .visits) zeros
+        whole : saidOf (guarded true (stateIn x) (cardOf p size) .out) ≡ cardSaid (shown.Refused 21) (r .visits) zeros
         whole = ap saidOf (out-by false e) ∙ sym (λ i. said (some 21) 0 0 (f .visits i) (z i))

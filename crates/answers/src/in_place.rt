@@ -1,10 +1,10 @@
-// The calls query and card on lent tables, open to outsiders: the learned constraints are written where they stand.
+// The calls query, card and keep card on lent tables, open to outsiders: the learned constraints are written where they stand.
 ghost use mathlib.Core.Path.{_≡_};
 ghost use mathlib.Core.List.{List, []};
 ghost use mathlib.Core.Option.{none, some};
 ghost use Prim.Native.Nat.{ℕ};
 ghost use lib.ListN.{length};
-ghost use Rattle.qbf.specs.Calls.{query, card};
+ghost use Rattle.qbf.specs.Calls.{query, card, keepCard, cardOf};
 ghost use Rattle.state.specs.Reading.{stateOf};
 ghost use Rattle.serving.specs.Serves.{said, Serves};
 ghost use Rattle.answers.specs.Answers.{rulingSaid, cardSaid};
@@ -141,8 +141,9 @@ pub fn query<'a>(
     }
 }
 
-// "Card writes to a lent byte table and returns lines and visits."
-pub fn card<'a>(
+// "Card writes to a lent byte table and returns lines and visits." "Make the keep card in the same way, with topmost No nodes": the lines are Yes
+// nodes, or No nodes.
+pub fn card_of<'a>(
     numbers: &'a [u16; tables::BY_NUMBER],
     levels: &'a [u16; tables::BY_NUMBER],
     kinds: &'a [u16; tables::BY_NUMBER],
@@ -153,6 +154,7 @@ pub fn card<'a>(
     learned_cubes: &mut [i16; tables::CONSTRAINT_CELLS],
     learned_cube_sizes: &mut [u16; tables::CONSTRAINT_SIZES],
     table: &mut [u8],
+    yes: bool,
 ) -> Listed
     ensures { λ r. ⌜
         Serves
@@ -166,7 +168,7 @@ pub fn card<'a>(
         (now («learned_clause_sizes» .entry))
         (now («learned_cubes» .entry))
         (now («learned_cube_sizes» .entry)))
-        (card (length (now (table .entry))))
+        (cardOf yes (length (now (table .entry))))
         (cardSaid (r .printed) (r .visits) (now (table .exit)))
         (stateOf
         (now (numbers .entry))
@@ -211,14 +213,122 @@ pub fn card<'a>(
         0,
         free,
         table,
-        true,
+        yes,
     );
     let verdict = found.verdict;
-    let lines = total_lines(verdict, found.lines, true);
+    let lines = total_lines(verdict, found.lines, yes);
     let visits = found.visits;
     if cover::fits(table.len(), free, lines) {
         return with_lines(lines, visits);
     }
     cover::clear(table);
     not_listed(TOO_MANY_LINES, visits)
+}
+
+// The card: Yes nodes.
+pub fn card<'a>(
+    numbers: &'a [u16; tables::BY_NUMBER],
+    levels: &'a [u16; tables::BY_NUMBER],
+    kinds: &'a [u16; tables::BY_NUMBER],
+    clauses: &'a [i16; tables::CLAUSE_CELLS],
+    clause_sizes: &'a [u16; tables::CLAUSE_SIZES],
+    learned_clauses: &mut [i16; tables::CONSTRAINT_CELLS],
+    learned_clause_sizes: &mut [u16; tables::LEARNED_CLAUSE_SIZES],
+    learned_cubes: &mut [i16; tables::CONSTRAINT_CELLS],
+    learned_cube_sizes: &mut [u16; tables::CONSTRAINT_SIZES],
+    table: &mut [u8],
+) -> Listed
+    ensures { λ r. ⌜
+        Serves
+        (stateOf
+        (now (numbers .entry))
+        (now (levels .entry))
+        (now (kinds .entry))
+        (now (clauses .entry))
+        (now («clause_sizes» .entry))
+        (now («learned_clauses» .entry))
+        (now («learned_clause_sizes» .entry))
+        (now («learned_cubes» .entry))
+        (now («learned_cube_sizes» .entry)))
+        (card (length (now (table .entry))))
+        (cardSaid (r .printed) (r .visits) (now (table .exit)))
+        (stateOf
+        (now (numbers .entry))
+        (now (levels .entry))
+        (now (kinds .entry))
+        (now (clauses .entry))
+        (now («clause_sizes» .entry))
+        (now («learned_clauses» .exit))
+        (now («learned_clause_sizes» .exit))
+        (now («learned_cubes» .exit))
+        (now («learned_cube_sizes» .exit)))
+        ⌝ }
+{
+    card_of(
+        numbers,
+        levels,
+        kinds,
+        clauses,
+        clause_sizes,
+        learned_clauses,
+        learned_clause_sizes,
+        learned_cubes,
+        learned_cube_sizes,
+        table,
+        true,
+    )
+}
+
+// The keep card: No nodes.
+pub fn keep_card<'a>(
+    numbers: &'a [u16; tables::BY_NUMBER],
+    levels: &'a [u16; tables::BY_NUMBER],
+    kinds: &'a [u16; tables::BY_NUMBER],
+    clauses: &'a [i16; tables::CLAUSE_CELLS],
+    clause_sizes: &'a [u16; tables::CLAUSE_SIZES],
+    learned_clauses: &mut [i16; tables::CONSTRAINT_CELLS],
+    learned_clause_sizes: &mut [u16; tables::LEARNED_CLAUSE_SIZES],
+    learned_cubes: &mut [i16; tables::CONSTRAINT_CELLS],
+    learned_cube_sizes: &mut [u16; tables::CONSTRAINT_SIZES],
+    table: &mut [u8],
+) -> Listed
+    ensures { λ r. ⌜
+        Serves
+        (stateOf
+        (now (numbers .entry))
+        (now (levels .entry))
+        (now (kinds .entry))
+        (now (clauses .entry))
+        (now («clause_sizes» .entry))
+        (now («learned_clauses» .entry))
+        (now («learned_clause_sizes» .entry))
+        (now («learned_cubes» .entry))
+        (now («learned_cube_sizes» .entry)))
+        (keepCard (length (now (table .entry))))
+        (cardSaid (r .printed) (r .visits) (now (table .exit)))
+        (stateOf
+        (now (numbers .entry))
+        (now (levels .entry))
+        (now (kinds .entry))
+        (now (clauses .entry))
+        (now («clause_sizes» .entry))
+        (now («learned_clauses» .exit))
+        (now («learned_clause_sizes» .exit))
+        (now («learned_cubes» .exit))
+        (now («learned_cube_sizes» .exit)))
+        ⌝ }
+{
+    card_of(
+        numbers,
+        levels,
+        kinds,
+        clauses,
+        clause_sizes,
+        learned_clauses,
+        learned_clause_sizes,
+        learned_cubes,
+        learned_cube_sizes,
+        table,
+        false,
+    )
 }

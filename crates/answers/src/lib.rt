@@ -1,9 +1,9 @@
-// The calls query and card, open to outsiders, on a state by value and on lent tables; and their answers in the paper's words.
+// The calls query, card and keep card, open to outsiders, on a state by value and on lent tables; and their answers in the paper's words.
 ghost use mathlib.Core.Path.{_≡_};
 ghost use mathlib.Core.List.{[]};
 ghost use Prim.Native.Nat.{_<_, _^_};
 ghost use lib.ListN.{length};
-ghost use Rattle.qbf.specs.Calls.{query, card};
+ghost use Rattle.qbf.specs.Calls.{query, card, keepCard, cardOf};
 ghost use Rattle.serving.specs.Serves.{number, Serves};
 ghost use Rattle.answers.specs.Answers.{rulingSaid, cardSaid, rulingFor, total};
 use node::Verdict;
@@ -118,15 +118,15 @@ pub fn query(x: State, on: &[i16]) -> Asked
     }
 }
 
-// "Card writes to a lent byte table and returns lines and visits."
-pub fn card(x: State, table: &mut [u8]) -> Shown
-    ensures { λ r. ⌜ Serves x (card (length (now (table .entry)))) (cardSaid (r .printed) (r .visits) (now (table .exit))) (r .state) ⌝ }
+// The card or the keep card: "Card writes to a lent byte table and returns lines and visits."
+pub fn card_of(x: State, table: &mut [u8], yes: bool) -> Shown
+    ensures { λ r. ⌜ Serves x (cardOf yes (length (now (table .entry)))) (cardSaid (r .printed) (r .visits) (now (table .exit))) (r .state) ⌝ }
 {
     let mut learned_clauses = x.learned_clauses;
     let mut learned_clause_sizes = x.learned_clause_sizes;
     let mut learned_cubes = x.learned_cubes;
     let mut learned_cube_sizes = x.learned_cube_sizes;
-    let found = in_place::card(
+    let found = in_place::card_of(
         &x.numbers,
         &x.levels,
         &x.kinds,
@@ -137,6 +137,7 @@ pub fn card(x: State, table: &mut [u8]) -> Shown
         &mut learned_cubes,
         &mut learned_cube_sizes,
         table,
+        yes,
     );
     let mut next = x;
     next.learned_clauses = learned_clauses;
@@ -149,4 +150,18 @@ pub fn card(x: State, table: &mut [u8]) -> Shown
         visits: found.visits,
         state: next,
     }
+}
+
+// The card: Yes nodes.
+pub fn card(x: State, table: &mut [u8]) -> Shown
+    ensures { λ r. ⌜ Serves x (card (length (now (table .entry)))) (cardSaid (r .printed) (r .visits) (now (table .exit))) (r .state) ⌝ }
+{
+    card_of(x, table, true)
+}
+
+// The keep card: No nodes.
+pub fn keep_card(x: State, table: &mut [u8]) -> Shown
+    ensures { λ r. ⌜ Serves x (keepCard (length (now (table .entry)))) (cardSaid (r .printed) (r .visits) (now (table .exit))) (r .state) ⌝ }
+{
+    card_of(x, table, false)
 }

@@ -1,11 +1,11 @@
-// The four calls on a state by value. A refusal of 0 is none; a verdict is 1 for keep and 2 for swap, 0 where the call is no query.
+// The five calls on a state by value. A refusal of 0 is none; a verdict is 1 for keep and 2 for swap, 0 where the call is no query.
 use answers::Ruling;
 use rules::Changed;
 use state::State;
 ghost use mathlib.Core.Path.{_≡_};
 ghost use mathlib.Core.List.{[]};
 ghost use lib.ListN.{length};
-ghost use Rattle.qbf.specs.Calls.{rule, query, card, forget};
+ghost use Rattle.qbf.specs.Calls.{rule, query, card, keepCard, cardOf, forget};
 ghost use Rattle.serving.specs.Serves.{number, told, Serves};
 ghost use Rattle.rules.specs.Rules.{changeSaid};
 ghost use Rattle.answers.specs.Answers.{rulingSaid};
@@ -91,11 +91,11 @@ pub extern "C" fn bullacetop_query(x: State, on: &[i16]) -> Answer
     }
 }
 
-#[no_mangle]
-pub extern "C" fn bullacetop_card(x: State, table: &mut [u8]) -> Answer
-    ensures { λ r. ⌜ Serves x (card (length (now (table .entry)))) (answerSaid r (now (table .exit))) (r .state) ⌝ }
+// The card, or the keep card.
+fn card_of(x: State, table: &mut [u8], yes: bool) -> Answer
+    ensures { λ r. ⌜ Serves x (cardOf yes (length (now (table .entry)))) (answerSaid r (now (table .exit))) (r .state) ⌝ }
 {
-    let shown = answers::card(x, table);
+    let shown = answers::card_of(x, table, yes);
     let printed = shown.printed;
     let visits = shown.visits;
     let next = shown.state;
@@ -106,4 +106,18 @@ pub extern "C" fn bullacetop_card(x: State, table: &mut [u8]) -> Answer
         visits: visits,
         state: next,
     }
+}
+
+#[no_mangle]
+pub extern "C" fn bullacetop_card(x: State, table: &mut [u8]) -> Answer
+    ensures { λ r. ⌜ Serves x (card (length (now (table .entry)))) (answerSaid r (now (table .exit))) (r .state) ⌝ }
+{
+    card_of(x, table, true)
+}
+
+#[no_mangle]
+pub extern "C" fn bullacetop_keep_card(x: State, table: &mut [u8]) -> Answer
+    ensures { λ r. ⌜ Serves x (keepCard (length (now (table .entry)))) (answerSaid r (now (table .exit))) (r .state) ⌝ }
+{
+    card_of(x, table, false)
 }

@@ -8,7 +8,7 @@ use rules::Change;
 ghost use mathlib.Core.Path.{_≡_};
 ghost use mathlib.Core.List.{[]};
 ghost use lib.ListN.{length};
-ghost use Rattle.qbf.specs.Calls.{rule, query, card, forget};
+ghost use Rattle.qbf.specs.Calls.{rule, query, card, keepCard, cardOf, forget};
 ghost use Rattle.state.specs.Reading.{stateOf};
 ghost use Rattle.serving.specs.Serves.{told, Serves};
 ghost use Rattle.book_writer.specs.Writes.{Writes};
@@ -201,6 +201,68 @@ pub extern "C" fn bullacetop_query_in_place<'a>(
     }
 }
 
+// The card, or the keep card.
+fn card_of<'a>(
+    numbers: &'a [u16; tables::BY_NUMBER],
+    levels: &'a [u16; tables::BY_NUMBER],
+    kinds: &'a [u16; tables::BY_NUMBER],
+    clauses: &'a [i16; tables::CLAUSE_CELLS],
+    clause_sizes: &'a [u16; tables::CLAUSE_SIZES],
+    learned_clauses: &mut [i16; tables::CONSTRAINT_CELLS],
+    learned_clause_sizes: &mut [u16; tables::LEARNED_CLAUSE_SIZES],
+    learned_cubes: &mut [i16; tables::CONSTRAINT_CELLS],
+    learned_cube_sizes: &mut [u16; tables::CONSTRAINT_SIZES],
+    table: &mut [u8],
+    yes: bool,
+) -> Reply
+    ensures { λ r. ⌜
+        Serves
+        (stateOf
+        (now (numbers .entry))
+        (now (levels .entry))
+        (now (kinds .entry))
+        (now (clauses .entry))
+        (now («clause_sizes» .entry))
+        (now («learned_clauses» .entry))
+        (now («learned_clause_sizes» .entry))
+        (now («learned_cubes» .entry))
+        (now («learned_cube_sizes» .entry)))
+        (cardOf yes (length (now (table .entry))))
+        (replySaid r (now (table .exit)))
+        (stateOf
+        (now (numbers .entry))
+        (now (levels .entry))
+        (now (kinds .entry))
+        (now (clauses .entry))
+        (now («clause_sizes» .entry))
+        (now («learned_clauses» .exit))
+        (now («learned_clause_sizes» .exit))
+        (now («learned_cubes» .exit))
+        (now («learned_cube_sizes» .exit)))
+        ⌝ }
+{
+    let shown = answers::in_place::card_of(
+        numbers,
+        levels,
+        kinds,
+        clauses,
+        clause_sizes,
+        learned_clauses,
+        learned_clause_sizes,
+        learned_cubes,
+        learned_cube_sizes,
+        table,
+        yes,
+    );
+    let printed = shown.printed;
+    Reply {
+        refusal: answers::refusal_of(printed),
+        verdict: NONE,
+        lines: answers::lines_of(printed),
+        visits: shown.visits,
+    }
+}
+
 #[no_mangle]
 pub extern "C" fn bullacetop_card_in_place<'a>(
     numbers: &'a [u16; tables::BY_NUMBER],
@@ -240,7 +302,7 @@ pub extern "C" fn bullacetop_card_in_place<'a>(
         (now («learned_cube_sizes» .exit)))
         ⌝ }
 {
-    let shown = answers::in_place::card(
+    card_of(
         numbers,
         levels,
         kinds,
@@ -251,14 +313,62 @@ pub extern "C" fn bullacetop_card_in_place<'a>(
         learned_cubes,
         learned_cube_sizes,
         table,
-    );
-    let printed = shown.printed;
-    Reply {
-        refusal: answers::refusal_of(printed),
-        verdict: NONE,
-        lines: answers::lines_of(printed),
-        visits: shown.visits,
-    }
+        true,
+    )
+}
+
+#[no_mangle]
+pub extern "C" fn bullacetop_keep_card_in_place<'a>(
+    numbers: &'a [u16; tables::BY_NUMBER],
+    levels: &'a [u16; tables::BY_NUMBER],
+    kinds: &'a [u16; tables::BY_NUMBER],
+    clauses: &'a [i16; tables::CLAUSE_CELLS],
+    clause_sizes: &'a [u16; tables::CLAUSE_SIZES],
+    learned_clauses: &mut [i16; tables::CONSTRAINT_CELLS],
+    learned_clause_sizes: &mut [u16; tables::LEARNED_CLAUSE_SIZES],
+    learned_cubes: &mut [i16; tables::CONSTRAINT_CELLS],
+    learned_cube_sizes: &mut [u16; tables::CONSTRAINT_SIZES],
+    table: &mut [u8],
+) -> Reply
+    ensures { λ r. ⌜
+        Serves
+        (stateOf
+        (now (numbers .entry))
+        (now (levels .entry))
+        (now (kinds .entry))
+        (now (clauses .entry))
+        (now («clause_sizes» .entry))
+        (now («learned_clauses» .entry))
+        (now («learned_clause_sizes» .entry))
+        (now («learned_cubes» .entry))
+        (now («learned_cube_sizes» .entry)))
+        (keepCard (length (now (table .entry))))
+        (replySaid r (now (table .exit)))
+        (stateOf
+        (now (numbers .entry))
+        (now (levels .entry))
+        (now (kinds .entry))
+        (now (clauses .entry))
+        (now («clause_sizes» .entry))
+        (now («learned_clauses» .exit))
+        (now («learned_clause_sizes» .exit))
+        (now («learned_cubes» .exit))
+        (now («learned_cube_sizes» .exit)))
+        ⌝ }
+{
+    card_of(
+        numbers,
+        levels,
+        kinds,
+        clauses,
+        clause_sizes,
+        learned_clauses,
+        learned_clause_sizes,
+        learned_cubes,
+        learned_cube_sizes,
+        table,
+        false,
+    )
 }
 
 // The book's text. Nothing of the state is written.

@@ -45,9 +45,14 @@ linesText D (s ∷ ss) = lineText D s ++ linesText D ss
 unfoldable pub visitsText : ℕ → Bytes
 visitsText n = ascii "(visits " ++ decimal n ++ ascii ")\n"
 
--- "The card's own edition, always 1", then the lines, "then visits"
-unfoldable pub cardText : Prefix → List Node → ℕ → Bytes
-cardText D ls n = ascii "(card 1)\n" ++ linesText D ls ++ visitsText n ++ ascii "(end)\n"
+-- "The card's own edition, always 1": of the card, and of the keep card
+abbrev pub cardHead : Bool → Bytes
+cardHead true = ascii "(card 1)\n"
+cardHead false = ascii "(keep-card 1)\n"
+
+-- then the lines, "then visits"
+unfoldable pub cardText : Bool → Prefix → List Node → ℕ → Bytes
+cardText p D ls n = cardHead p ++ linesText D ls ++ visitsText n ++ ascii "(end)\n"
 
 -- ---- refusals
 -- "A refused text prints only `(refused N L)`"

@@ -18,7 +18,7 @@ tableBytes = 65536
 
 -- "a card too large prints only `(refused 21 0)`"; the other replies are no card's
 abbrev pub cardPrinted : Prefix → Reply → ℕ → Bytes
-cardPrinted D (lines ls table) visits = cardText D ls visits
+cardPrinted D (lines ls table) visits = cardText true D ls visits
 cardPrinted D (cardRefused n table) visits = refusalText n 0
 cardPrinted D done visits = []
 cardPrinted D (refused n) visits = []

@@ -1,13 +1,13 @@
 -- The book of a session, the call of a line, and the answer of a call. Paper 01, "Text and program". What a whole session prints is in the crate
 -- `sessions`.
 use Prim.Native.Nat.{ℕ, suc}
-use mathlib.Core.Bool.{true, false, cond}
+use mathlib.Core.Bool.{true, false, cond, Bool}
 use mathlib.Core.List.{List, [], _∷_, _++_}
 use mathlib.Core.Option.{Option, none, some}
 use lib.ListN.{length}
 use lib.Dec.{leb, ltb, eqb}
 use Rattle.qbf.specs.Formula.{Prefix, Literal, numberOf}
-use Rattle.qbf.specs.Calls.{Call, rule, query, card, forget, withdraw, Reply, done, refused, swap, keep, lines, cardRefused, Answer}
+use Rattle.qbf.specs.Calls.{Call, rule, query, card, forget, withdraw, Reply, done, refused, swap, keep, lines, cardRefused, Answer, keepCard, cardOf}
 use Rattle.layout.specs.Words.{Bytes, ascii, newline, space, split, same, inside}
 use Rattle.layout.specs.Forms.{then, items, ruleWord}
 use Rattle.layout.specs.Output.{cardText, refusalText, overflowText, queryText, acceptedText, forgottenText, withdrawnText}
@@ -20,6 +20,9 @@ queryWord = ascii "query"
 
 abbrev pub cardWord : Bytes
 cardWord = ascii "card"
+
+abbrev pub keepCardWord : Bytes
+keepCardWord = ascii "keep-card"
 
 abbrev pub forgetWord : Bytes
 forgetWord = ascii "forget"
@@ -36,9 +39,9 @@ sizedBy whole part [] = some whole
 sizedBy whole part (l ∷ []) = cond (leb (numberOf l) tableBytes) (some (part (numberOf l))) none
 sizedBy whole part (l ∷ m ∷ ls) = none
 
--- `(card)` with the whole table, `(card 4)` with a table of so many bytes
-abbrev pub cardCall : List Literal → Option Call
-cardCall ls = sizedBy (card tableBytes) card ls
+-- `(card)` with the whole table, `(card 4)` with a table of so many bytes; in the same way `(keep-card)`
+abbrev pub cardCall : Bool → List Literal → Option Call
+cardCall p ls = sizedBy (cardOf p tableBytes) (cardOf p) ls
 
 abbrev pub forgetCall : List Literal → Option Call
 forgetCall [] = some forget
@@ -50,9 +53,10 @@ callFrom [] = none
 callFrom (w ∷ ws) =
     cond (same w ruleWord) (then (items true ws) ruleCall)
     (cond (same w queryWord) (then (items false ws) queryCall)
-    (cond (same w cardWord) (then (items false ws) cardCall)
+    (cond (same w cardWord) (then (items false ws) (cardCall true))
+    (cond (same w keepCardWord) (then (items false ws) (cardCall false))
     (cond (same w forgetWord) (then (items false ws) forgetCall)
-    none)))
+    none))))
 
 -- the call of a line without its byte 10; a line longer than a text may be is none
 unfoldable pub callOf : Bytes → Option Call
@@ -66,6 +70,16 @@ doneText forget = forgottenText
 doneText withdraw = withdrawnText
 doneText (query ls) = []
 doneText (card size) = []
+doneText (keepCard size) = []
+
+-- the verdict of a card's lines, which its text begins with; the other calls have none
+abbrev pub listsYes : Call → Bool
+listsYes (rule ls) = true
+listsYes (query ls) = true
+listsYes (card size) = true
+listsYes forget = true
+listsYes withdraw = true
+listsYes (keepCard size) = false
 
 -- a card too large tells its visits
 abbrev pub cardRefusalText : ℕ → ℕ → ℕ → Bytes
@@ -77,7 +91,7 @@ replyPrinted D c line done visits = doneText c
 replyPrinted D c line (refused n) visits = refusalText n line
 replyPrinted D c line swap visits = queryText true visits
 replyPrinted D c line keep visits = queryText false visits
-replyPrinted D c line (lines ls table) visits = cardText D ls visits
+replyPrinted D c line (lines ls table) visits = cardText (listsYes c) D ls visits
 replyPrinted D c line (cardRefused n table) visits = cardRefusalText n line visits
 
 unfoldable pub answerText : Prefix → Call → ℕ → Answer → Bytes

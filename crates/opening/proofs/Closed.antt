@@ -7,7 +7,7 @@ use mathlib.Core.Bool.{Bool, false}
 use mathlib.Core.List.{List, [], _∷_, map}
 use mathlib.Core.Option.{Option, none, some}
 use Rattle.qbf.specs.Formula.{paper}
-use Rattle.qbf.specs.Calls.{Call, rule, query, card, forget, withdraw, answer, refusal, guarded, State as Read}
+use Rattle.qbf.specs.Calls.{Call, rule, query, card, forget, withdraw, answer, refusal, guarded, State as Read, keepCard}
 use Rattle.qbf.specs.Demands.{refusalOf}
 use Rattle.layout.specs.Words.{Bytes}
 use Rattle.layout.specs.Opening.{refused, openText}
@@ -26,6 +26,7 @@ refusal-22 : (c : Call) → refusalOf (refusal 22 c) ≡ some 22
 refusal-22 (rule ls) = refl
 refusal-22 (query ls) = refl
 refusal-22 (card size) = refl
+refusal-22 (keepCard size) = refl
 refusal-22 forget = refl
 refusal-22 withdraw = refl
 

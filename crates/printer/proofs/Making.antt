@@ -53,7 +53,7 @@ module _ (x : State) (b : Formula) (e : readState x ≡ some (fresh b)) (ok : fo
     a = learningCard true b emptyStore size .out
 
     abbrev shown : Reply
-    shown = lines (cardLines (fresh b)) (tableOf (freeVariables (b .prefix)) size (cardLines (fresh b)))
+    shown = lines (cardLines (fresh b) true) (tableOf (freeVariables (b .prefix)) size (cardLines (fresh b) true))
 
     out-is : outOf (readState x) (card size) ≡ a
     out-is = ap (λ (o : Option Read). outOf o (card size)) e ∙ ap (λ (g : Bool). guarded g (fresh b) (card size) .out) (opened-formed b ok)
@@ -63,9 +63,9 @@ module _ (x : State) (b : Formula) (e : readState x ≡ some (fresh b)) (ok : fo
 
     pub card-made : (r : Made) → r .refusal ≡ number (cardSaid p 0 [] .refusal) → r .line ≡ 0 → r .lines ≡ cardSaid p 0 [] .lines → r .free ≡ freeVariables (b .prefix)
         → CardMade size (opened b) r tb
-    card-made r refusal line count free = by (formed-cases size (fresh b))
+    card-made r refusal line count free = by (formed-cases true size (fresh b))
       where
-        by : Refused size (a .reply) ⊎ Listed size (fresh b) (a .reply) → ReplyMade (b .prefix) (a .reply) r tb
+        by : Refused (a .reply) ⊎ Listed true size (fresh b) (a .reply) → ReplyMade (b .prefix) (a .reply) r tb
         by (inl (m, tb′, z)) =
             let w = said-is (cardRefused (suc m) tb′) z in
             subst (λ (q : Reply). ReplyMade (b .prefix) q r tb) (sym z) (refusal ∙ ap (λ (q : Said). number (q .refusal)) w, line, ap (λ (q : Said). q .table) w)

@@ -77,7 +77,7 @@ module _ (size : ℕ) (r : Made) (t : Bytes) (ds : List Bytes) (p : PagesOf r t 
       ∙ (λ i. pagesText (q i) (c i) (g i))
 
   of-reply : (b : Formula) → formulaOk b ≡ true → CardMade size (opened b) r t → printedBy r ds ≡ openedPages size (opened b)
-  of-reply b ok h = by (formed-cases size (fresh b))
+  of-reply b ok h = by (formed-cases true size (fresh b))
     where
       a : Reply
       a = learningCard true b emptyStore size .out .reply
@@ -85,11 +85,11 @@ module _ (size : ℕ) (r : Made) (t : Bytes) (ds : List Bytes) (p : PagesOf r t 
       D : Prefix
       D = b .prefix
 
-      by : Refused size a ⊎ Listed size (fresh b) a → printedBy r ds ≡ pagesPrinted D a
+      by : Refused a ⊎ Listed true size (fresh b) a → printedBy r ds ≡ pagesPrinted D a
       by (inl (m, tb, z)) = let w = subst (λ (q : Reply). ReplyMade D q r t) z h in told m 0 (w .0) (w .1) ∙ ap (pagesPrinted D) (sym z)
       by (inr (z, fits)) =
           let w = subst (λ (q : Reply). ReplyMade D q r t) z h in
-          listed (cardLines (fresh b)) (tableOf (freeVariables D) size (cardLines (fresh b))) (freeVariables D) (w .0) (w .1) (w .2) (w .3) ∙ ap (pagesPrinted D) (sym z)
+          listed (cardLines (fresh b) true) (tableOf (freeVariables D) size (cardLines (fresh b) true)) (freeVariables D) (w .0) (w .1) (w .2) (w .3) ∙ ap (pagesPrinted D) (sym z)
 
 -- Whatever makes the card of a text and writes each of its pages as their contracts say: all that is printed is what the program `pages` prints.
 pub printed-pages : (s : Bytes) (size : ℕ) (r : Made) (t : Bytes) (ds : List Bytes) → MakesCard s size r t → PagesOf r t ds → printedBy r ds ≡ pagesProgram paper size s
@@ -109,7 +109,7 @@ few-lines n (suc f) h one = let k : n ≤ n * suc f = le-mul-of-pos-right n (ome
 -- The card that the program makes can be printed whatever its book: its lines are few, stand in the table, and have no byte above 2.
 pub program-printable : (s : Bytes) (b : Formula) → openText paper s ≡ opened b → (ls : List Node) (tb : Bytes) → learningCard true b emptyStore tableBytes .out .reply ≡ lines ls tb
     → noCard tb (length ls) (freeVariables (b .prefix)) ≡ false
-program-printable s b i ls tb e = by (formed-cases tableBytes (fresh b))
+program-printable s b i ls tb e = by (formed-cases true tableBytes (fresh b))
   where
     a : Reply
     a = learningCard true b emptyStore tableBytes .out .reply
@@ -120,8 +120,8 @@ program-printable s b i ls tb e = by (formed-cases tableBytes (fresh b))
     f : ℕ
     f = freeVariables (b .prefix)
 
-    by : Refused tableBytes a ⊎ Listed tableBytes (fresh b) a → noCard tb (length ls) f ≡ false
+    by : Refused a ⊎ Listed true tableBytes (fresh b) a → noCard tb (length ls) f ≡ false
     by (inl (m, tb′, z)) = absurd (omega (arith, ap (λ (q : Said). number (q .refusal)) (ap (λ (q : Reply). saidReply q 0) (sym e ∙ z))))
     by (inr (z, fits)) =
         ap (λ (q : Said). noCard (q .table) (q .lines) f) (ap (λ (q : Reply). saidReply q 0) (sym e ∙ z))
-        ∙ table-printable f tableBytes (cardLines (fresh b)) (lines-within (fresh b) formed) fits (few-lines (length (cardLines (fresh b))) f fits (one-line (fresh b) formed))
+        ∙ table-printable f tableBytes (cardLines (fresh b) true) (lines-within (fresh b) formed true) fits (few-lines (length (cardLines (fresh b) true)) f fits (one-line (fresh b) formed true))

@@ -4,4 +4,5 @@ pub mod Bench
 pub mod Cases
 pub mod Finder
 pub mod Withdrawals
+pub mod KeepCards
 pub mod Ones

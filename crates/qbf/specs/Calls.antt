@@ -1,5 +1,5 @@
--- The calls rule, query, card, forget and withdraw on a state, with every refusal, and the exactly-one form. Paper 01, "Calls and card" and both
--- lists of refusals; paper 02, wishes 4 and 10.
+-- The calls rule, query, card, forget, withdraw and keep card on a state, with every refusal, and the exactly-one form. Paper 01, "Calls and
+-- card" and both lists of refusals; paper 02, wishes 4, 7 and 10.
 use Prim.Native.Nat.{ℕ, _+_, _*_, _-_}
 use mathlib.Core.Bool.{Bool, true, false, cond, not, _&&_, _||_}
 use mathlib.Core.List.{List, [], _∷_, _++_, map}
@@ -19,6 +19,12 @@ pub data Call : Type 0 where
   card : ℕ → Call
   forget : Call
   withdraw : Call
+  keepCard : ℕ → Call
+
+-- "Make the keep card in the same way, with topmost No nodes": the card of the lines with the verdict p
+abbrev pub cardOf : Verdict → ℕ → Call
+cardOf true size = card size
+cardOf false size = keepCard size
 
 -- What a call answers but for its visits; `done` is an accepted rule, a rule withdrawn, or a store emptied. A card has its lines and the
 -- bytes of its table, and a refused card the bytes too.
@@ -145,7 +151,7 @@ queryReply (mixed ds) = keep
 abbrev pub cardReply : ℕ → ℕ → List Node → Reply
 cardReply f size ls = cond (leb (length ls * f) size) (lines ls (tableOf f size ls)) (cardRefused 21 (zeroTable size))
 
--- the lines have the verdict p: Yes for a card
+-- the lines have the verdict p: Yes for a card, No for a keep card
 abbrev pub cardReplyOf : Verdict → Prefix → ℕ → Outcome (Unit {0}) → Reply
 cardReplyOf p D size o = cardReply (freeVariables D) size (select p (decidedNodes [] o))
 
@@ -172,6 +178,7 @@ abbrev pub learningCall : Formula → Store → Call → Called
 learningCall b st (rule ls) = record { store = storeAfterRule (ruleFault b ls) st; out = answer (ruleReply (ruleFault b ls)) 0 }
 learningCall b st (query ls) = learningQuery (queryFault b [] ls) b st ls
 learningCall b st (card size) = learningCard true b st size
+learningCall b st (keepCard size) = learningCard false b st size
 learningCall b st forget = record { store = emptyStore; out = answer done 0 }
 learningCall b st withdraw =
     record { store = storeAfterWithdraw (withdrawFault b) (length (b .clauses) - 1) st; out = answer (ruleReply (withdrawFault b)) 0 }
@@ -180,6 +187,7 @@ abbrev pub nextFormula : Formula → Call → Formula
 nextFormula b (rule ls) = withRule (ruleFault b ls) b ls
 nextFormula b (query ls) = b
 nextFormula b (card size) = b
+nextFormula b (keepCard size) = b
 nextFormula b forget = b
 nextFormula b withdraw = withoutLast (withdrawFault b) b
 
@@ -255,6 +263,7 @@ abbrev pub refusal : ℕ → Call → Reply
 refusal n (rule ls) = refused n
 refusal n (query ls) = refused n
 refusal n (card size) = cardRefused n (zeroTable size)
+refusal n (keepCard size) = cardRefused n (zeroTable size)
 refusal n forget = refused n
 refusal n withdraw = refused n
 

@@ -7,5 +7,6 @@ pub mod Finder
 pub mod One
 pub mod Calls
 pub mod OneAdds
+pub mod Partition
 pub mod Runs
 pub mod Demands

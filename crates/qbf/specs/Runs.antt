@@ -1,13 +1,13 @@
 -- Lists of calls: the plain run, which has no store, and the learning run. Paper 01, "Lists of calls and the plain run".
 use Prim.Native.Nat.{ℕ}
-use mathlib.Core.Bool.{true}
+use mathlib.Core.Bool.{true, false}
 use mathlib.Core.List.{List, [], _∷_}
 use mathlib.Core.Option.{Option, none, some}
 use Rattle.qbf.specs.Formula.{quantifiers, Literal, Formula}
 use Rattle.qbf.specs.Truth.{Verdict, Outcome, bound}
 use Rattle.qbf.specs.Plain.{PlainResult, plainSearch}
 use Rattle.qbf.specs.Learning.{emptyStore}
-use Rattle.qbf.specs.Calls.{Call, rule, query, card, forget, withdraw, Reply, done, refused, Answer, answer, ruleFault, withdrawFault, queryFault, ruleReply, startNode, queryReply, cardReplyOf, nextFormula, State, step}
+use Rattle.qbf.specs.Calls.{Call, rule, query, card, forget, withdraw, keepCard, Reply, done, refused, Answer, answer, ruleFault, withdrawFault, queryFault, ruleReply, startNode, queryReply, cardReplyOf, nextFormula, State, step}
 
 -- ---- the plain run
 abbrev pub plainAnswer : (Outcome (Unit {0}) → Reply) → PlainResult → Answer
@@ -26,6 +26,7 @@ abbrev pub plainCall : Formula → Call → Answer
 plainCall b (rule ls) = answer (ruleReply (ruleFault b ls)) 0
 plainCall b (query ls) = plainQuery (queryFault b [] ls) b ls
 plainCall b (card size) = plainCard true b size
+plainCall b (keepCard size) = plainCard false b size
 plainCall b forget = answer done 0
 plainCall b withdraw = answer (ruleReply (withdrawFault b)) 0
 

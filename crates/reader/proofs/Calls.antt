@@ -11,16 +11,16 @@ use lib.Dec.{leb, eqb}
 use lib.IntN.{ℤ, pos}
 use lib.ListN.{length, getD, take, drop}
 use Rattle.qbf.specs.Formula.{Literal, numberOf}
-use Rattle.qbf.specs.Calls.{Call, query, card, forget}
+use Rattle.qbf.specs.Calls.{Call, query, cardOf, forget}
 use Rattle.layout.specs.Words.{Bytes, same, onFirst, split, space, isDigit, digits, number, inside}
 use Rattle.layout.specs.Forms.{then, consed, items, ruleWord}
 use Rattle.layout.specs.Opening.{textBytes}
 use Rattle.layout.specs.Program.{tableBytes}
-use Rattle.layout.specs.Session.{queryWord, cardWord, forgetWord, sizedBy, ruleCall, queryCall, cardCall, forgetCall, callFrom, callOf}
+use Rattle.layout.specs.Session.{queryWord, cardWord, keepCardWord, forgetWord, sizedBy, ruleCall, queryCall, cardCall, forgetCall, callFrom, callOf}
 use Rattle.reader.specs.Pieces.{piecesFrom, Piece}
 use Rattle.reader.specs.Numbers.{numOf}
 use Rattle.reader.specs.Items.{Kept, Filled}
-use Rattle.reader.specs.Calls.{callWordOf, callSigns, callWith, cardSize, cardLine, CallRead}
+use Rattle.reader.specs.Calls.{callWordOf, callSigns, callWith, cardSize, cardSized, cardLine, CallRead}
 use Rattle.reader.specs.declared.items.Count.{Count}
 use Rattle.reader.specs.declared.items.Count.the-variants.{Items, NotItems}
 use Rattle.reader.specs.declared.number.Num.{Num}
@@ -47,33 +47,39 @@ module _ (w : Bytes) where
   unfolding callWordOf
   call-3 e0 e1 e2 = rw (e0, e1, e2)
 
-  pub call-4 : same w ruleWord ≡ false → same w queryWord ≡ false → same w cardWord ≡ false → same w forgetWord ≡ true → word.Forget ≡ callWordOf w
+  pub call-4 : same w ruleWord ≡ false → same w queryWord ≡ false → same w cardWord ≡ false → same w keepCardWord ≡ true → word.KeepCard ≡ callWordOf w
   unfolding callWordOf
   call-4 e0 e1 e2 e3 = rw (e0, e1, e2, e3)
 
-  pub call-5 : same w ruleWord ≡ false → same w queryWord ≡ false → same w cardWord ≡ false → same w forgetWord ≡ false → word.NotWord ≡ callWordOf w
+  pub call-5 : same w ruleWord ≡ false → same w queryWord ≡ false → same w cardWord ≡ false → same w keepCardWord ≡ false → same w forgetWord ≡ true → word.Forget ≡ callWordOf w
   unfolding callWordOf
-  call-5 e0 e1 e2 e3 = rw (e0, e1, e2, e3)
+  call-5 e0 e1 e2 e3 e4 = rw (e0, e1, e2, e3, e4)
 
-chosen : Bool → Bool → Bool → Bool → CallWord
-chosen a b c d = cond a word.Rule (cond b word.Query (cond c word.Card (cond d word.Forget word.NotWord)))
+  pub call-6 : same w ruleWord ≡ false → same w queryWord ≡ false → same w cardWord ≡ false → same w keepCardWord ≡ false → same w forgetWord ≡ false → word.NotWord ≡ callWordOf w
+  unfolding callWordOf
+  call-6 e0 e1 e2 e3 e4 = rw (e0, e1, e2, e3, e4)
+
+chosen : Bool → Bool → Bool → Bool → Bool → CallWord
+chosen a b c d e = cond a word.Rule (cond b word.Query (cond c word.Card (cond d word.KeepCard (cond e word.Forget word.NotWord))))
 
 by-word : (w : Bytes) (ws : List Bytes) → callFrom (w ∷ ws) ≡ then (items (callSigns (callWordOf w)) ws) (callWith (callWordOf w))
 unfolding callFrom callWordOf chosen
-by-word w ws = go (same w ruleWord) (same w queryWord) (same w cardWord) (same w forgetWord)
+by-word w ws = go (same w ruleWord) (same w queryWord) (same w cardWord) (same w keepCardWord) (same w forgetWord)
   where
-    go : (a b c d : Bool) →
+    go : (a b c d e : Bool) →
         cond a (then (items true ws) ruleCall)
         (cond b (then (items false ws) queryCall)
-        (cond c (then (items false ws) cardCall)
-        (cond d (then (items false ws) forgetCall)
-        none)))
-        ≡ then (items (callSigns (chosen a b c d)) ws) (callWith (chosen a b c d))
-    go true b c d = refl
-    go false true c d = refl
-    go false false true d = refl
-    go false false false true = refl
-    go false false false false = then-none (items false ws)
+        (cond c (then (items false ws) (cardCall true))
+        (cond d (then (items false ws) (cardCall false))
+        (cond e (then (items false ws) forgetCall)
+        none))))
+        ≡ then (items (callSigns (chosen a b c d e)) ws) (callWith (chosen a b c d e))
+    go true b c d e = refl
+    go false true c d e = refl
+    go false false true d e = refl
+    go false false false true e = refl
+    go false false false false true = refl
+    go false false false false false = then-none (items false ws)
 
 -- ---- the size of a card's table
 cond-none : (x : Bool) (o : Option ℕ) → o ≡ none → cond x o none ≡ none
@@ -145,19 +151,21 @@ pub size-is : {A : Type 0} (whole : A) (part : ℕ → A) (w : Bytes) (ws : List
 unfolding sized
 size-is whole part w ws = one-item (sizedBy whole part) (sized part) (λ n. refl) (λ l m ls. refl) w ws
 
-card-is : (ws : List Bytes) → then (items false ws) cardCall ≡ then (cardSize ws) (sized card)
+-- the card, or the keep card
+card-is : (p : Bool) (ws : List Bytes) → then (items false ws) (cardCall p) ≡ then (cardSize ws) (sized (cardOf p))
 unfolding items sized
-card-is [] = refl
-card-is (w ∷ ws) = size-is (card tableBytes) card w ws
+card-is p [] = refl
+card-is p (w ∷ ws) = size-is (cardOf p tableBytes) (cardOf p) w ws
 
-sized-line : (z : Num) (out : List ℤ) → CallRead (then (numOf z) (sized card)) (cardLine z) out
+sized-line : (p : Bool) (z : Num) (out : List ℤ) → CallRead (then (numOf z) (sized (cardOf p))) (cardLine p z) out
 unfolding sized
-sized-line NotNumber out = refl
-sized-line (Value n) out = by (leb n tableBytes)
+sized-line p NotNumber out = refl
+sized-line p (Value n) out = by p (leb n tableBytes)
   where
-    by : (x : Bool) → CallRead (cond x (some (card n)) none) (cond x (line.Card n) line.NotCall) out
-    by true = refl
-    by false = refl
+    by : (p x : Bool) → CallRead (cond x (some (cardOf p n)) none) (cond x (cardSized p n) line.NotCall) out
+    by true true = refl
+    by false true = refl
+    by p false = refl
 
 -- ---- the call of a word with its items
 forget-alone : (ls : List Literal) → length ls ≡ 0 → forgetCall ls ≡ some forget
@@ -195,16 +203,21 @@ module _ {s : Bytes} {e : ℕ} (p : Piece space s 0 e) (w : CallWord) (g : Bool)
         let u = unsigned (piecesFrom space s (e + 1)) (read .0) (no-signs word.Query h refl) in
         (map numberOf (read .0), with-items word.Query h ∙ ap (λ (xs : List Literal). some (query xs)) u, subst (Kept n out) u (read .2))
 
-    pub card-read : w ≡ word.Card → (z : Num) → numOf z ≡ cardSize (piecesFrom space s (e + 1)) → {a : CallLine} → a ≡ cardLine z → CallRead (callFrom (split space s)) a out
-    card-read h z t b =
+    -- a card's word, by the verdict of its lines
+    sized-read : (q : Bool) → callFrom (split space s) ≡ then (items false (piecesFrom space s (e + 1))) (cardCall q)
+        → (z : Num) → numOf z ≡ cardSize (piecesFrom space s (e + 1)) → {a : CallLine} → a ≡ cardLine q z → CallRead (callFrom (split space s)) a out
+    sized-read q h z t b =
         subst (λ (x : CallLine). CallRead (callFrom (split space s)) x out) (sym b)
-        (subst (λ (o : Option Call). CallRead o (cardLine z) out) (sym is) (sized-line z out))
+        (subst (λ (o : Option Call). CallRead o (cardLine q z) out) (sym is) (sized-line q z out))
       where
-        is : callFrom (split space s) ≡ then (numOf z) (sized card)
-        is = with-items word.Card h
-            ∙ ap (λ (o : Option (List Literal)). then o cardCall) (sym (no-signs word.Card h refl))
-            ∙ card-is (piecesFrom space s (e + 1))
-            ∙ ap (λ (o : Option ℕ). then o (sized card)) (sym t)
+        is : callFrom (split space s) ≡ then (numOf z) (sized (cardOf q))
+        is = h ∙ card-is q (piecesFrom space s (e + 1)) ∙ ap (λ (o : Option ℕ). then o (sized (cardOf q))) (sym t)
+
+    pub card-read : w ≡ word.Card → (z : Num) → numOf z ≡ cardSize (piecesFrom space s (e + 1)) → {a : CallLine} → a ≡ cardLine true z → CallRead (callFrom (split space s)) a out
+    card-read h = sized-read true (with-items word.Card h ∙ ap (λ (o : Option (List Literal)). then o (cardCall true)) (sym (no-signs word.Card h refl)))
+
+    pub keep-card-read : w ≡ word.KeepCard → (z : Num) → numOf z ≡ cardSize (piecesFrom space s (e + 1)) → {a : CallLine} → a ≡ cardLine false z → CallRead (callFrom (split space s)) a out
+    keep-card-read h = sized-read false (with-items word.KeepCard h ∙ ap (λ (o : Option (List Literal)). then o (cardCall false)) (sym (no-signs word.KeepCard h refl)))
 
     pub forget-read : w ≡ word.Forget → n ≡ 0 → callFrom (split space s) ≡ some forget
     forget-read h z = with-items word.Forget h ∙ forget-alone (read .0) (sym (read .2 .count) ∙ z)

@@ -12,7 +12,7 @@ use Rattle.qbf.specs.Calls as call
 use Rattle.layout.specs.Words.{Bytes, same, number}
 use Rattle.layout.specs.Forms.{ruleWord}
 use Rattle.layout.specs.Program.{tableBytes}
-use Rattle.layout.specs.Session.{queryWord, cardWord, forgetWord, ruleCall, queryCall, cardCall, forgetCall}
+use Rattle.layout.specs.Session.{queryWord, cardWord, keepCardWord, forgetWord, ruleCall, queryCall, cardCall, forgetCall}
 use Rattle.reader.specs.Items.{Kept}
 use Rattle.reader.specs.declared.number.Num.{Num}
 use Rattle.reader.specs.declared.number.Num.the-variants.{Value, NotNumber}
@@ -27,13 +27,15 @@ callWordOf w =
     cond (same w ruleWord) word.Rule
     (cond (same w queryWord) word.Query
     (cond (same w cardWord) word.Card
+    (cond (same w keepCardWord) word.KeepCard
     (cond (same w forgetWord) word.Forget
-    word.NotWord)))
+    word.NotWord))))
 
 abbrev pub callSigns : CallWord → Bool
 callSigns word.Rule = true
 callSigns word.Query = false
 callSigns word.Card = false
+callSigns word.KeepCard = false
 callSigns word.Forget = false
 callSigns word.NotWord = false
 
@@ -41,20 +43,26 @@ callSigns word.NotWord = false
 abbrev pub callWith : CallWord → List Literal → Option Call
 callWith word.Rule ls = ruleCall ls
 callWith word.Query ls = queryCall ls
-callWith word.Card ls = cardCall ls
+callWith word.Card ls = cardCall true ls
+callWith word.KeepCard ls = cardCall false ls
 callWith word.Forget ls = forgetCall ls
 callWith word.NotWord ls = none
 
 -- ---- cards
--- the size that the words after `card` give
+-- the size that the words after `card` or `keep-card` give
 abbrev pub cardSize : List Bytes → Option ℕ
 cardSize [] = some tableBytes
 cardSize (w ∷ []) = number w
 cardSize (w ∷ v ∷ ws) = none
 
-abbrev pub cardLine : Num → CallLine
-cardLine (Value n) = cond (leb n tableBytes) (line.Card n) line.NotCall
-cardLine NotNumber = line.NotCall
+-- the card of that size, or the keep card
+abbrev pub cardSized : Bool → ℕ → CallLine
+cardSized true n = line.Card n
+cardSized false n = line.KeepCard n
+
+abbrev pub cardLine : Bool → Num → CallLine
+cardLine p (Value n) = cond (leb n tableBytes) (cardSized p n) line.NotCall
+cardLine p NotNumber = line.NotCall
 
 -- ---- calls
 -- What an answer says of a line's call. The literals of a rule and the numbers of a query stand in the table.
@@ -63,4 +71,5 @@ CallRead o line.NotCall out = o ≡ none
 CallRead o (line.Rule n) out = (ls : List Literal) × (o ≡ some (call.rule ls)) × Kept n out ls
 CallRead o (line.Query n) out = (ns : List ℕ) × (o ≡ some (call.query (map pos ns))) × Kept n out (map pos ns)
 CallRead o (line.Card size) out = o ≡ some (call.card size)
+CallRead o (line.KeepCard size) out = o ≡ some (call.keepCard size)
 CallRead o line.Forget out = o ≡ some call.forget

@@ -1,4 +1,4 @@
-// A call of a session on one line, without its byte 10: `(rule ..)`, `(query ..)`, `(card)`, `(card 4)` or `(forget)`.
+// A call of a session on one line, without its byte 10: `(rule ..)`, `(query ..)`, `(card)`, `(card 4)`, `(keep-card)`, `(keep-card 4)` or `(forget)`.
 use crate::brackets::has_brackets;
 use crate::items::Count;
 use crate::items::rest;
@@ -15,7 +15,7 @@ ghost use Rattle.layout.specs.Words.{space, split};
 ghost use Rattle.layout.specs.Session.{callFrom, callOf};
 ghost use Rattle.reader.specs.Numbers.{numOf};
 ghost use Rattle.reader.specs.Pieces.{piecesFrom};
-ghost use Rattle.reader.specs.Calls.{callWordOf, callSigns, cardSize, cardLine, CallRead};
+ghost use Rattle.reader.specs.Calls.{callWordOf, callSigns, cardSize, cardSized, cardLine, CallRead};
 
 // "The program's card table has 65,536 bytes"
 pub const TABLE: usize = 65536;
@@ -26,6 +26,7 @@ pub enum CallLine {
     Rule(usize),
     Query(usize),
     Card(usize),
+    KeepCard(usize),
     Forget,
     NotCall,
 }
@@ -34,6 +35,7 @@ enum CallWord {
     Rule,
     Query,
     Card,
+    KeepCard,
     Forget,
     NotWord,
 }
@@ -50,6 +52,9 @@ fn call_word(w: &[u8]) -> CallWord
     if same_word(w, b"card") {
         return CallWord::Card;
     }
+    if same_word(w, b"keep-card") {
+        return CallWord::KeepCard;
+    }
     if same_word(w, b"forget") {
         return CallWord::Forget;
     }
@@ -64,6 +69,7 @@ fn call_signs(w: CallWord) -> bool
         CallWord::Rule => true,
         CallWord::Query => false,
         CallWord::Card => false,
+        CallWord::KeepCard => false,
         CallWord::Forget => false,
         CallWord::NotWord => false,
     }
@@ -81,12 +87,22 @@ fn card_size(s: &[u8], e: usize) -> Num
     read_number(&s[e + 1..])
 }
 
-fn card_of(size: Num) -> CallLine
-    ensures { λ r. ⌜ r ≡ cardLine size ⌝ }
+// The card, or the keep card.
+fn card_sized(size: usize, yes: bool) -> CallLine
+    ensures { λ r. ⌜ r ≡ cardSized yes size ⌝ }
+{
+    if yes {
+        return CallLine::Card(size);
+    }
+    CallLine::KeepCard(size)
+}
+
+fn card_of(size: Num, yes: bool) -> CallLine
+    ensures { λ r. ⌜ r ≡ cardLine yes size ⌝ }
 {
     match size {
         Num::Value(n) => if n <= TABLE as u32 {
-            CallLine::Card(n as usize)
+            card_sized(n as usize, yes)
         } else {
             CallLine::NotCall
         },
@@ -107,7 +123,8 @@ fn read_words(s: &[u8], out: &mut [i16]) -> CallLine
     match w {
         CallWord::Rule => CallLine::Rule(n),
         CallWord::Query => CallLine::Query(n),
-        CallWord::Card => card_of(card_size(s, e)),
+        CallWord::Card => card_of(card_size(s, e), true),
+        CallWord::KeepCard => card_of(card_size(s, e), false),
         CallWord::Forget => if n == 0 {
             CallLine::Forget
         } else {

@@ -60,7 +60,7 @@ module _ (x : State) (size : ℕ) (p : Printed) (k : ℕ) (tb : List ℕ) (x′ 
   a = learningCard true b emptyStore size .out
 
   abbrev shown : Reply
-  shown = lines (cardLines (fresh b)) (tableOf (freeVariables (b .prefix)) size (cardLines (fresh b)))
+  shown = lines (cardLines (fresh b) true) (tableOf (freeVariables (b .prefix)) size (cardLines (fresh b) true))
 
   formed : wellFormed (fresh b) ≡ true
   formed = fresh-formed b (formula-facts b ok)
@@ -75,17 +75,17 @@ module _ (x : State) (size : ℕ) (p : Printed) (k : ℕ) (tb : List ℕ) (x′ 
   printed-by reply z = ap (λ (w : Reply). cardPrinted (b .prefix) w (a .visits)) z
 
   pub refused-printed : (r ≡ 0 → ⊥) → refusalText r 0 ≡ answerPrinted (b .prefix) a
-  refused-printed h = by (formed-cases size (fresh b))
+  refused-printed h = by (formed-cases true size (fresh b))
     where
-      by : Refused size (a .reply) ⊎ Listed size (fresh b) (a .reply) → refusalText r 0 ≡ answerPrinted (b .prefix) a
+      by : Refused (a .reply) ⊎ Listed true size (fresh b) (a .reply) → refusalText r 0 ≡ answerPrinted (b .prefix) a
       by (inl (m, tb′, z)) = ap (λ (n : ℕ). refusalText n 0) (refusal-is (cardRefused (suc m) tb′) z) ∙ sym (printed-by (cardRefused (suc m) tb′) z)
       by (inr (z, fits)) = absurd (h (refusal-is shown z))
 
   -- the line does not matter
   pub shown-printed : r ≡ 0 → (line : ℕ) → lineAnswer (readState x) line (some (card size)) ≡ answerPrinted (b .prefix) a
-  shown-printed h line = by (formed-cases size (fresh b))
+  shown-printed h line = by (formed-cases true size (fresh b))
     where
-      by : Refused size (a .reply) ⊎ Listed size (fresh b) (a .reply) → lineAnswer (readState x) line (some (card size)) ≡ answerPrinted (b .prefix) a
+      by : Refused (a .reply) ⊎ Listed true size (fresh b) (a .reply) → lineAnswer (readState x) line (some (card size)) ≡ answerPrinted (b .prefix) a
       by (inl (m, tb′, z)) = absurd (omega (arith, h, refusal-is (cardRefused (suc m) tb′) z))
       by (inr (z, fits)) =
           ap (λ (o : Option Read). answerText (prefixRead o) (card size) line (outOf o (card size))) e

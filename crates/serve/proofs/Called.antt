@@ -10,13 +10,13 @@ use lib.IntN.{ℤ, pos}
 use lib.ListN.{length, take}
 use lib.Dec.{leb, ltb}
 use Rattle.qbf.specs.Formula.{paper, Literal, numberOf}
-use Rattle.qbf.specs.Calls.{Call, rule, query, card, forget, withdraw}
+use Rattle.qbf.specs.Calls.{Call, rule, query, card, forget, withdraw, keepCard, cardOf}
 use Rattle.layout.specs.Words.{Bytes, space, split, same, inside}
 use Rattle.layout.specs.Forms.{then, items, ruleWord}
 use Rattle.layout.specs.Output.{refusalText}
 use Rattle.layout.specs.Opening as opening
 use Rattle.layout.specs.Program.{tableBytes}
-use Rattle.layout.specs.Session.{queryWord, cardWord, forgetWord, ruleCall, queryCall, cardCall, forgetCall, callFrom, callOf}
+use Rattle.layout.specs.Session.{queryWord, cardWord, keepCardWord, forgetWord, ruleCall, queryCall, cardCall, forgetCall, callFrom, callOf}
 use Rattle.state.specs.declared.State.{State}
 use Rattle.reader.specs.Items.{Kept}
 use Rattle.reader.specs.Calls.{CallRead}
@@ -35,6 +35,7 @@ Fits none = Unit {0}
 Fits (some (rule ls)) = Unit {0}
 Fits (some (query ls)) = Unit {0}
 Fits (some (card size)) = size ≤ tableBytes
+Fits (some (keepCard size)) = size ≤ tableBytes
 Fits (some forget) = Unit {0}
 Fits (some withdraw) = Unit {0}
 
@@ -46,14 +47,18 @@ fits-cond : (t : Bool) (a c : Option Call) → Fits a → Fits c → Fits (cond 
 fits-cond true a c h k = h
 fits-cond false a c h k = k
 
-fits-card : (ls : List Literal) → Fits (cardCall ls)
-fits-card [] = omega arith
-fits-card (l ∷ []) = by (leb (numberOf l) tableBytes) refl
+fits-size : (p : Bool) (size : ℕ) → size ≤ tableBytes → Fits (some (cardOf p size))
+fits-size true size h = h
+fits-size false size h = h
+
+fits-card : (p : Bool) (ls : List Literal) → Fits (cardCall p ls)
+fits-card p [] = fits-size p tableBytes (omega arith)
+fits-card p (l ∷ []) = by (leb (numberOf l) tableBytes) refl
   where
-    by : (t : Bool) → leb (numberOf l) tableBytes ≡ t → Fits (cond t (some (card (numberOf l))) none)
-    by true e = leb-true (numberOf l) tableBytes e
+    by : (t : Bool) → leb (numberOf l) tableBytes ≡ t → Fits (cond t (some (cardOf p (numberOf l))) none)
+    by true e = fits-size p (numberOf l) (leb-true (numberOf l) tableBytes e)
     by false e = tt
-fits-card (l ∷ m ∷ ls) = tt
+fits-card p (l ∷ m ∷ ls) = tt
 
 fits-forget : (ls : List Literal) → Fits (forgetCall ls)
 fits-forget [] = tt
@@ -65,8 +70,9 @@ fits-from [] = tt
 fits-from (w ∷ ws) =
     fits-cond (same w ruleWord) _ _ (fits-then (items true ws) ruleCall (λ ls. tt))
     (fits-cond (same w queryWord) _ _ (fits-then (items false ws) queryCall (λ ls. tt))
-    (fits-cond (same w cardWord) _ _ (fits-then (items false ws) cardCall fits-card)
-    (fits-cond (same w forgetWord) _ none (fits-then (items false ws) forgetCall fits-forget) tt)))
+    (fits-cond (same w cardWord) _ _ (fits-then (items false ws) (cardCall true) (fits-card true))
+    (fits-cond (same w keepCardWord) _ _ (fits-then (items false ws) (cardCall false) (fits-card false))
+    (fits-cond (same w forgetWord) _ none (fits-then (items false ws) forgetCall fits-forget) tt))))
 
 fits-call : (l : Bytes) → Fits (callOf l)
 unfolding callOf
@@ -76,6 +82,7 @@ pub small-call : (l : Bytes) (q : CallLine) (out : List ℤ) → CallRead (callO
 small-call l (line.Rule n) out h = tt
 small-call l (line.Query n) out h = tt
 small-call l (line.Card size) out h = subst Fits h (fits-call l)
+small-call l (line.KeepCard size) out h = subst Fits h (fits-call l)
 small-call l line.Forget out h = tt
 small-call l line.NotCall out h = tt
 
@@ -118,6 +125,9 @@ module _ {x : State} {number : ℕ} {s₀ : Shown} {t₀ : Bytes} {r : Turn} {t 
 
     pub called-card : (size : ℕ) → q ≡ line.Card size → Turned x (some (card size)) number s₀ t₀ r t d → Turned x c number s₀ t₀ r t d
     called-card size e u = meant c (some (card size)) (subst (λ (z : CallLine). CallRead c z lits) e h) u
+
+    pub called-keep-card : (size : ℕ) → q ≡ line.KeepCard size → Turned x (some (keepCard size)) number s₀ t₀ r t d → Turned x c number s₀ t₀ r t d
+    called-keep-card size e u = meant c (some (keepCard size)) (subst (λ (z : CallLine). CallRead c z lits) e h) u
 
     pub called-forget : q ≡ line.Forget → Turned x (some forget) number s₀ t₀ r t d → Turned x c number s₀ t₀ r t d
     called-forget e u = meant c (some forget) (subst (λ (z : CallLine). CallRead c z lits) e h) u

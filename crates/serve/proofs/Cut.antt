@@ -13,7 +13,8 @@ use Rattle.qbf.specs.Calls.{Call, rule, query, Reply, done, refused, swap, keep
 use Rattle.qbf.specs.Demands.{refusalOf}
 use Rattle.theory.proofs.WellFormed.{state-facts, numbers-ok}
 use Rattle.layout.specs.Words.{Bytes}
-use Rattle.layout.specs.Session.{doneText, answerText}
+use Rattle.layout.specs.Output.{cardText}
+use Rattle.layout.specs.Session.{doneText, listsYes, answerText}
 use Rattle.state.specs.declared.State.{State}
 use Rattle.state.specs.Reading.{fits, stateIn, readState}
 use Rattle.serving.specs.Serves.{outOf, nextOf}
@@ -80,17 +81,17 @@ module _ (y : Read) (is-paper : y .formula .limits ≡ paper) (n : ℕ) (out : L
             ∙ query-same (y .formula) (fine w) [] ns e
 
 -- ---- a call as served
--- the text of an answer names the call only where nothing else is said
-answer-same : (D : Prefix) (c c′ : Call) (n : ℕ) (a : Answer) → doneText c ≡ doneText c′ → answerText D c n a ≡ answerText D c′ n a
+-- the text of an answer names the call only where nothing else is said, and where lines are listed
+answer-same : (D : Prefix) (c c′ : Call) (n : ℕ) (a : Answer) → doneText c ≡ doneText c′ → listsYes c ≡ listsYes c′ → answerText D c n a ≡ answerText D c′ n a
 unfolding answerText
-answer-same D c c′ n a e = by (a .reply) (a .visits)
+answer-same D c c′ n a e lists = by (a .reply) (a .visits)
   where
     by : (r : Reply) (v : ℕ) → answerText D c n (answer r v) ≡ answerText D c′ n (answer r v)
     by done v = e
     by (refused m) v = refl
     by swap v = refl
     by keep v = refl
-    by (lines ls tb) v = refl
+    by (lines ls tb) v = ap (λ (p : Bool). cardText p D ls v) lists
     by (cardRefused m tb) v = refl
 
 abbrev pub Papered : Option Read → Type 0
@@ -106,7 +107,7 @@ papered x = by (fits x)
     by false = tt
 
 -- two calls whose steps are the same
-module _ (c c′ : Call) (word : doneText c ≡ doneText c′) (malformed : outOf none c ≡ outOf none c′) (same : (y : Read) → y .formula .limits ≡ paper → step y c ≡ step y c′) where
+module _ (c c′ : Call) (word : doneText c ≡ doneText c′) (lists : listsYes c ≡ listsYes c′) (malformed : outOf none c ≡ outOf none c′) (same : (y : Read) → y .formula .limits ≡ paper → step y c ≡ step y c′) where
   same-out : (o : Option Read) → Papered o → outOf o c ≡ outOf o c′
   same-out none h = malformed
   same-out (some y) h = ap (λ (s : Stepped). s .out) (same y h)
@@ -118,7 +119,7 @@ module _ (c c′ : Call) (word : doneText c ≡ doneText c′) (malformed : outO
   served-as : (x : State) (n : ℕ) (t : Bytes) (x′ : State) → CallServed x (some c) n t x′ → CallServed x (some c′) n t x′
   served-as x n t x′ s =
       record {
-        text = s .text ∙ answer-same D c c′ n (outOf (readState x) c) word ∙ ap (answerText D c′ n) (same-out (readState x) (papered x));
+        text = s .text ∙ answer-same D c c′ n (outOf (readState x) c) word lists ∙ ap (answerText D c′ n) (same-out (readState x) (papered x));
         next = s .next ∙ same-next (readState x) (papered x);
         kept = λ k e. s .kept k (ap (λ (a : Answer). refusalOf (a .reply)) (same-out (readState x) (papered x)) ∙ e);
       }
@@ -130,13 +131,13 @@ module _ (c c′ : Call) (word : doneText c ≡ doneText c′) (malformed : outO
 pub rule-card : (x : State) (n : ℕ) (out : List ℤ) → length out ≡ suc (paper .numbers) → (ls : List Literal) → Kept n out ls → (z : Option Card)
     → lineCard (readState x) (some (rule (take (min n (suc (paper .numbers))) out))) z ≡ lineCard (readState x) (some (rule ls)) z
 rule-card x n out room ls k z =
-    ap (λ (a : Answer). cardAfterRule (a .reply) z) (same-out (rule (take (min n (suc (paper .numbers))) out)) (rule ls) refl refl (λ y p. rule-same-step y p n out room ls k) (readState x) (papered x))
+    ap (λ (a : Answer). cardAfterRule (a .reply) z) (same-out (rule (take (min n (suc (paper .numbers))) out)) (rule ls) refl refl refl (λ y p. rule-same-step y p n out room ls k) (readState x) (papered x))
 
 module _ (x : State) (n : ℕ) (out : List ℤ) (room : length out ≡ suc (paper .numbers)) (line : ℕ) (t : Bytes) (x′ : State) where
   -- a rule by what stands in the table
   pub rule-served : (ls : List Literal) → Kept n out ls → CallServed x (some (rule (take (min n (suc (paper .numbers))) out))) line t x′ → CallServed x (some (rule ls)) line t x′
-  rule-served ls k s = served-as (rule (take (min n (suc (paper .numbers))) out)) (rule ls) refl refl (λ y p. rule-same-step y p n out room ls k) x line t x′ s
+  rule-served ls k s = served-as (rule (take (min n (suc (paper .numbers))) out)) (rule ls) refl refl refl (λ y p. rule-same-step y p n out room ls k) x line t x′ s
 
   -- a query likewise
   pub query-served : (ns : List ℕ) → Kept n out (map pos ns) → CallServed x (some (query (take (min n (suc (paper .numbers))) out))) line t x′ → CallServed x (some (query (map pos ns))) line t x′
-  query-served ns k s = served-as (query (take (min n (suc (paper .numbers))) out)) (query (map pos ns)) refl refl (λ y p. query-cut y p n out room ns k) x line t x′ s
+  query-served ns k s = served-as (query (take (min n (suc (paper .numbers))) out)) (query (map pos ns)) refl refl refl (λ y p. query-cut y p n out room ns k) x line t x′ s

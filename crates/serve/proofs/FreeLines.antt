@@ -3,7 +3,7 @@ use Prim.Native.Nat.{ℕ, suc, _+_, _≤_}
 use native.Mathlib.Omega.{arith}
 use mathlib.Core.Path.{_≡_, refl, sym, ap, subst}
 use mathlib.Core.Logic.{_⊎_, inl, inr}
-use mathlib.Core.Bool.{Bool, true, false}
+use mathlib.Core.Bool.{Bool, true, false, cond, Bool·beq}
 use mathlib.Core.List.{List, [], _∷_, _++_}
 use lib.ListN.{length}
 use lib.Dec.{eqb, leb}
@@ -100,8 +100,9 @@ module _ (y : State) where
   abbrev found : Outcome Constraint
   found = learningSearch (b .limits) (b .prefix) (b .clauses) (quantifiers (b .prefix)) [] (y .store) .outcome
 
-  abbrev pub cardLines : List Node
-  cardLines = select true (decidedNodes [] (outline found))
+  -- those with the verdict p
+  abbrev pub cardLines : Bool → List Node
+  cardLines p = select p (decidedNodes [] (outline found))
 
   module _ (w : wellFormed y ≡ true) where
     facts : StateFacts y
@@ -112,20 +113,26 @@ module _ (y : State) where
         lined-visit (b .limits) (capacity b (facts .formula-ok)) (b .prefix) (b .clauses) (clauses-rising b (facts .formula-ok)) leb (quantifiers (b .prefix)) [] (y .store) refl (free-before b (facts .formula-ok)) (facts .store-ok) .answer-ok
 
     -- each line has at most as many places as there are free variables
-    pub lines-within : (s : Node) → Mem s cardLines → length s ≤ freeVariables (b .prefix)
-    lines-within s m = by found (lined .1) (select-mem true (decidedNodes [] (outline found)) s m)
+    pub lines-within : (p : Bool) (s : Node) → Mem s (cardLines p) → length s ≤ freeVariables (b .prefix)
+    lines-within p s m = by found (lined .1) (select-mem p (decidedNodes [] (outline found)) s m)
       where
-        by : (o : Outcome Constraint) → Near (quantifiers (b .prefix)) [] o → Mem (mark s true) (decidedNodes [] (outline o)) → length s ≤ freeVariables (b .prefix)
+        by : (o : Outcome Constraint) → Near (quantifiers (b .prefix)) [] o → Mem (mark s p) (decidedNodes [] (outline o)) → length s ≤ freeVariables (b .prefix)
         by (decided v E) h (inl e) = omega (arith, ap (λ (d : DecidedNode). length (d .node)) e)
         by (decided v E) h (inr n) = absurd n
-        by (mixed ds) h n = omega (arith, h (mark s true) n)
+        by (mixed ds) h n = omega (arith, h (mark s p) n)
 
     -- with no free variable there is at most one
-    pub one-line : freeVariables (b .prefix) ≡ 0 → length cardLines ≤ 1
-    one-line e =
+    pub one-line : (p : Bool) → freeVariables (b .prefix) ≡ 0 → length (cardLines p) ≤ 1
+    one-line p e =
         by found (unmixed-visit (b .limits) (capacity b (facts .formula-ok)) (b .prefix) (b .clauses) (clauses-rising b (facts .formula-ok)) leb (quantifiers (b .prefix)) [] (y .store) refl (facts .store-ok))
       where
-        by : (o : Outcome Constraint) → Unmixed (quantifiers (b .prefix)) o → length (select true (decidedNodes [] (outline o))) ≤ 1
-        by (decided true E) u = omega arith
-        by (decided false E) u = omega arith
+        by : (o : Outcome Constraint) → Unmixed (quantifiers (b .prefix)) o → length (select p (decidedNodes [] (outline o))) ≤ 1
+        by (decided v E) u = own (Bool·beq p v)
+          where
+            one : Bool → List Node
+            one x = cond x ([] ∷ []) []
+
+            own : (x : Bool) → length (one x) ≤ 1
+            own true = omega arith
+            own false = omega arith
         by (mixed ds) u = absurd (u (none-free (quantifiers (b .prefix)) (free-before b (facts .formula-ok)) e))

@@ -12,9 +12,9 @@ use native.Mathlib.Omega.{arith}
 use lib.Dec.{eqb}
 use Rattle.qbf.specs.Truth.{freeVariables}
 use Rattle.qbf.specs.Card.{tableOf}
-use Rattle.qbf.specs.Calls.{Call, card, Reply, done, refused, swap, keep, lines, cardRefused, Answer, State as Read, wellFormed}
+use Rattle.qbf.specs.Calls.{Call, cardOf, Reply, done, refused, swap, keep, lines, cardRefused, Answer, State as Read, wellFormed}
 use Rattle.layout.specs.Words.{Bytes}
-use Rattle.sessions.specs.Session.{Card, cardOf, cardAfterRule}
+use Rattle.sessions.specs.Session.{Card, cardOf as shownOf, cardAfterRule, cardAfter}
 use Rattle.state.specs.declared.State.{State}
 use Rattle.state.specs.Reading.{readState, valid, wellFormedRead, prefixIn}
 use Rattle.state.proofs.Valid.{valid-facts, valid-numbers, valid-quantified}
@@ -29,7 +29,7 @@ use Rattle.serve.specs.Shown.{cardIn, noCard, CardTold}
 use Rattle.serve.specs.Line.{prefixRead, lineCard}
 use Rattle.serve.proofs.Answered.{Changing}
 use Rattle.serve.proofs.FreeLines.{cardLines}
-use Rattle.serve.proofs.CardTexts.{Listed, Refused, card-cases, said-by}
+use Rattle.serve.proofs.CardTexts.{ListedBy, Refused, card-cases, said-by}
 
 -- a refusal has a number
 some-number : (n : ℕ) → eqb (suc n) 0 ≡ false
@@ -57,9 +57,9 @@ readable : (x : State) (y : Read) → readState x ≡ some y → wellFormed y �
 unfolding valid
 readable x y i g = ap wellFormedRead i ∙ g
 
-module _ (x : State) (size : ℕ) (p : Printed) (k : ℕ) (tb : Bytes) (x′ : State) (w : Serves x (card size) (cardSaid p k tb) x′) (r : Shown) (told : CardTold x p (length tb) r) (after : Bytes) where
+module _ (v : Bool) (x : State) (size : ℕ) (p : Printed) (k : ℕ) (tb : Bytes) (x′ : State) (w : Serves x (cardOf v size) (cardSaid p k tb) x′) (r : Shown) (told : CardTold x p (length tb) r) (after : Bytes) where
   abbrev a : Answer
-  a = outOf (readState x) (card size)
+  a = outOf (readState x) (cardOf v size)
 
   said-is : (reply : Reply) → a .reply ≡ reply → said (cardSaid p 0 [] .refusal) 0 (cardSaid p 0 [] .lines) k tb ≡ saidReply reply (a .visits)
   said-is reply z = sym (card-said p k tb) ∙ w .answered ∙ said-by a reply z
@@ -68,32 +68,36 @@ module _ (x : State) (size : ℕ) (p : Printed) (k : ℕ) (tb : Bytes) (x′ : S
   front = take-append-le (r .size) tb after (omega (arith, told .size)) ∙ take-all (r .size) tb (omega (arith, told .size))
 
   -- the card that the table shows is the answer's
-  pub card-left : (z : Option Card) → cardIn r (tb ++ after) ≡ lineCard (readState x) (some (card size)) z
-  card-left z = by (card-cases size (readState x))
+  pub card-left : (z : Option Card) → cardIn r (tb ++ after) ≡ lineCard (readState x) (some (cardOf v size)) z
+  card-left z = by (card-cases v size (readState x)) ∙ sym (after-card v)
     where
+      after-card : (q : Bool) → cardAfter (prefixRead (readState x)) (cardOf q size) (a .reply) z ≡ shownOf (prefixRead (readState x)) (a .reply)
+      after-card true = refl
+      after-card false = refl
+
       held : Option Card
       held = some (record { table = take (r .size) (tb ++ after); lines = r .lines; free = r .free })
 
-      by : Refused size (a .reply) ⊎ ((y : Read) × (readState x ≡ some y) × (wellFormed y ≡ true) × Listed size y (a .reply)) → cardIn r (tb ++ after) ≡ cardOf (prefixRead (readState x)) (a .reply)
+      by : Refused (a .reply) ⊎ ListedBy v size (readState x) (a .reply) → cardIn r (tb ++ after) ≡ shownOf (prefixRead (readState x)) (a .reply)
       by (inl (m, tb′, e)) =
           let q = said-is (cardRefused (suc m) tb′) e in
           ap (λ (n : ℕ). cond (eqb n 0) held none) (told .refusal ∙ ap (λ (v : Said). number (v .refusal)) q)
           ∙ ap (λ (b : Bool). cond b held none) (some-number m)
-          ∙ sym (ap (cardOf (prefixRead (readState x))) e)
+          ∙ sym (ap (shownOf (prefixRead (readState x))) e)
       by (inr (y, i, g, l)) =
           (λ j. cond (eqb (refusal j) 0) (some (record { table = table j; lines = count j; free = free j })) none)
-          ∙ sym (ap (cardOf (prefixRead (readState x))) (l .0))
+          ∙ sym (ap (shownOf (prefixRead (readState x))) (l .0))
         where
-          q : said (cardSaid p 0 [] .refusal) 0 (cardSaid p 0 [] .lines) k tb ≡ said none 0 (length (cardLines y)) (a .visits) (tableOf (freeVariables (y .formula .prefix)) size (cardLines y))
-          q = said-is (lines (cardLines y) (tableOf (freeVariables (y .formula .prefix)) size (cardLines y))) (l .0)
+          q : said (cardSaid p 0 [] .refusal) 0 (cardSaid p 0 [] .lines) k tb ≡ said none 0 (length (cardLines y v)) (a .visits) (tableOf (freeVariables (y .formula .prefix)) size (cardLines y v))
+          q = said-is (lines (cardLines y v) (tableOf (freeVariables (y .formula .prefix)) size (cardLines y v))) (l .0)
 
           refusal : r .refusal ≡ 0
           refusal = told .refusal ∙ ap (λ (v : Said). number (v .refusal)) q
 
-          table : take (r .size) (tb ++ after) ≡ tableOf (freeVariables (y .formula .prefix)) size (cardLines y)
+          table : take (r .size) (tb ++ after) ≡ tableOf (freeVariables (y .formula .prefix)) size (cardLines y v)
           table = front ∙ ap (λ (v : Said). v .table) q
 
-          count : r .lines ≡ length (cardLines y)
+          count : r .lines ≡ length (cardLines y v)
           count = told .lines ∙ ap (λ (v : Said). v .lines) q
 
           is-valid : valid x ≡ true

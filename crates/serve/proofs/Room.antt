@@ -5,7 +5,7 @@ use mathlib.Core.Path.{_≡_, refl, ap, subst, _∙_}
 use mathlib.Core.Bool.{Bool}
 use mathlib.Core.Option.{Option, some}
 use lib.ListN.{length, take, length-take}
-use Rattle.qbf.specs.Calls.{Call, card}
+use Rattle.qbf.specs.Calls.{Call, cardOf}
 use Rattle.layout.specs.Words.{Bytes}
 use Rattle.layout.specs.Output.{decimal, refusalText, overflowText, queryText}
 use Rattle.layout_laws.proofs.Decimal.{decimal-length}
@@ -64,5 +64,5 @@ pub prints-short : (t d₀ : Bytes) {d : Bytes} {r : Written} → length d₀ < 
 prints-short t d₀ h s = record { short = λ q. s; printed = λ q. absurd (omega (arith, h, q)) }
 
 -- a card in a part of a table
-pub card-sized : {x : State} {line : ℕ} {s₀ : Shown} {t₀ : Bytes} {r : Turn} {t d : Bytes} (m size : ℕ) → m ≡ size → Turned x (some (card m)) line s₀ t₀ r t d → Turned x (some (card size)) line s₀ t₀ r t d
-card-sized {x} {line} {s₀} {t₀} {r} {t} {d} m size e h = subst (λ (k : ℕ). Turned x (some (card k)) line s₀ t₀ r t d) e h
+pub card-sized : {x : State} {line : ℕ} {s₀ : Shown} {t₀ : Bytes} {r : Turn} {t d : Bytes} (v : Bool) (m size : ℕ) → m ≡ size → Turned x (some (cardOf v m)) line s₀ t₀ r t d → Turned x (some (cardOf v size)) line s₀ t₀ r t d
+card-sized {x} {line} {s₀} {t₀} {r} {t} {d} v m size e h = subst (λ (k : ℕ). Turned x (some (cardOf v k)) line s₀ t₀ r t d) e h

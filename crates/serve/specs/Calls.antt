@@ -1,12 +1,13 @@
--- A card that was read from a line asks for no more bytes than the table has.
+-- A card or keep card that was read from a line asks for no more bytes than the table has.
 use Prim.Native.Nat.{_≤_}
 use Rattle.layout.specs.Program.{tableBytes}
 use Rattle.reader.specs.declared.call.CallLine.{CallLine}
-use Rattle.reader.specs.declared.call.CallLine.the-variants.{Rule, Query, Card, Forget, NotCall}
+use Rattle.reader.specs.declared.call.CallLine.the-variants.{Rule, Query, Card, KeepCard, Forget, NotCall}
 
 abbrev pub Small : CallLine → Type 0
 Small (Rule n) = Unit {0}
 Small (Query n) = Unit {0}
 Small (Card size) = size ≤ tableBytes
+Small (KeepCard size) = size ≤ tableBytes
 Small Forget = Unit {0}
 Small NotCall = Unit {0}

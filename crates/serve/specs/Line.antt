@@ -64,9 +64,9 @@ lineCard o (some c) z = cardAfter (prefixRead o) c (outOf o c .reply) z
 
 -- ---- the lent table
 -- No answer is longer. All lines of a card together have no more places than its table has bytes, and there are no more lines than
--- that; a line has at most 8 bytes for each of its places and 7 more, what is no line at most 45.
+-- that; a line has at most 8 bytes for each of its places and 7 more, what is no line at most 50.
 abbrev pub answerBytes : ℕ
-answerBytes = 15 * tableBytes + 45
+answerBytes = 15 * tableBytes + 50
 
 -- the answer stands at the start of the table d; the card answered last was told by s₀ and t₀, and is by the turn and t
 pub record Turned (x : State) (c : Option Call) (n : ℕ) (s₀ : Shown) (t₀ : Bytes) (r : Turn) (t d : Bytes) : Type 0 where

@@ -62,7 +62,7 @@ fn print_in(x: State, table: &mut [u8], out: &mut [u8]) -> usize
         return refuse(out, refusal, NO_LINE);
     }
     let lines = lines_of(printed);
-    put_shown(out, x, table, lines, visits)
+    put_shown(out, x, table, lines, visits, true)
 }
 
 // "The program's card table has 65,536 bytes"

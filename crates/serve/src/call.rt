@@ -83,7 +83,8 @@ fn serve_call(
     match call {
         CallLine::Rule(n) => rule_of(x, lits, n, line, shown, out),
         CallLine::Query(n) => query_of(x, lits, n, line, shown, out),
-        CallLine::Card(size) => serve_card(x, size, line, cards, out),
+        CallLine::Card(size) => serve_card(x, size, true, line, cards, out),
+        CallLine::KeepCard(size) => serve_card(x, size, false, line, cards, out),
         CallLine::Forget => serve_forget(x, line, shown, out),
         CallLine::NotCall => no_call(x, line, shown, out),
     }

@@ -1,4 +1,4 @@
-// The line of a card: its lines and visits, or refused.
+// The line of a card or keep card: its lines and visits, or refused.
 use crate::Turn;
 use crate::refusal::refuse;
 use crate::shown::card_of;
@@ -13,7 +13,7 @@ ghost use mathlib.Core.List.{_++_};
 ghost use mathlib.Core.Option.{none, some};
 ghost use Prim.Native.Nat.{ℕ, _≤_};
 ghost use lib.ListN.{length};
-ghost use Rattle.qbf.specs.Calls.{card};
+ghost use Rattle.qbf.specs.Calls.{cardOf};
 ghost use Rattle.layout.specs.Words.{Bytes};
 ghost use Rattle.layout.specs.Program.{tableBytes};
 ghost use Rattle.layout.specs.Session.{cardRefusalText};
@@ -35,28 +35,35 @@ fn put_card_refusal(out: &mut [u8], refusal: u16, visits: u64, line: u64) -> usi
 }
 
 // The card whose lines stand in the table.
-pub fn put_shown(out: &mut [u8], x: State, table: &[u8], lines: usize, visits: u64) -> usize
+pub fn put_shown(
+    out: &mut [u8],
+    x: State,
+    table: &[u8],
+    lines: usize,
+    visits: u64,
+    yes: bool,
+) -> usize
     requires { ⌜ length (now table) ≤ tableBytes ⌝ }
-    requires { ⌜ said none 0 lines visits (now table) ≡ saidOf (outOf (readState x) (card (length (now table)))) ⌝ }
+    requires { ⌜ said none 0 lines visits (now table) ≡ saidOf (outOf (readState x) (cardOf yes (length (now table)))) ⌝ }
     requires { ⌜ answerBytes ≤ length (now out) ⌝ }
     ensures { λ r. ⌜ ((n : ℕ)
-        → Wrote (now (out .entry)) 0 (lineAnswer (readState x) n (some (card (length (now (table .entry)))))) (now (out .exit)) r) ⌝ }
+        → Wrote (now (out .entry)) 0 (lineAnswer (readState x) n (some (cardOf yes (length (now (table .entry)))))) (now (out .exit)) r) ⌝ }
 {
     let numbers = x.numbers;
     let levels = x.levels;
     let kinds = x.kinds;
     let free = state::kinds::free_count(&numbers, &levels, &kinds);
-    put_card(out, 0, &numbers, table, free, lines, visits)
+    put_card(out, 0, yes, &numbers, table, free, lines, visits)
 }
 
 // A card in a lent table.
-fn serve_in(x: State, table: &mut [u8], line: u64, out: &mut [u8]) -> Turn
+fn serve_in(x: State, table: &mut [u8], line: u64, out: &mut [u8], yes: bool) -> Turn
     requires { ⌜ length (now table) ≤ tableBytes ⌝ }
     requires { ⌜ answerBytes ≤ length (now out) ⌝ }
     ensures { λ r. ⌜ ((s : Shown) (t after : Bytes)
-        → Turned x (some (card (length (now (table .entry))))) line s t r (now (table .exit) ++ after) (now (out .exit))) ⌝ }
+        → Turned x (some (cardOf yes (length (now (table .entry))))) line s t r (now (table .exit) ++ after) (now (out .exit))) ⌝ }
 {
-    let shown = answers::card(x, table);
+    let shown = answers::card_of(x, table, yes);
     let printed = shown.printed;
     let visits = shown.visits;
     let next = shown.state;
@@ -71,7 +78,7 @@ fn serve_in(x: State, table: &mut [u8], line: u64, out: &mut [u8]) -> Turn
         };
     }
     let lines = lines_of(printed);
-    let length = put_shown(out, x, table, lines, visits);
+    let length = put_shown(out, x, table, lines, visits, yes);
     Turn {
         state: next,
         length: length,
@@ -80,18 +87,25 @@ fn serve_in(x: State, table: &mut [u8], line: u64, out: &mut [u8]) -> Turn
 }
 
 // The first bytes of the table of cards, as many as the call asks for.
-fn serve_part(x: State, cards: &mut [u8], size: usize, line: u64, out: &mut [u8]) -> Turn
+fn serve_part(x: State, cards: &mut [u8], size: usize, line: u64, out: &mut [u8], yes: bool) -> Turn
     requires { ⌜ (size ≤ tableBytes) × (size ≤ length (now cards)) ⌝ }
     requires { ⌜ answerBytes ≤ length (now out) ⌝ }
-    ensures { λ r. ⌜ ((s : Shown) (t : Bytes) → Turned x (some (card size)) line s t r (now (cards .exit)) (now (out .exit))) ⌝ }
+    ensures { λ r. ⌜ ((s : Shown) (t : Bytes) → Turned x (some (cardOf yes size)) line s t r (now (cards .exit)) (now (out .exit))) ⌝ }
 {
-    serve_in(x, &mut cards[..size], line, out)
+    serve_in(x, &mut cards[..size], line, out, yes)
 }
 
-pub fn serve_card(x: State, size: usize, line: u64, cards: &mut [u8; TABLE], out: &mut [u8]) -> Turn
+pub fn serve_card(
+    x: State,
+    size: usize,
+    yes: bool,
+    line: u64,
+    cards: &mut [u8; TABLE],
+    out: &mut [u8],
+) -> Turn
     requires { ⌜ size ≤ tableBytes ⌝ }
     requires { ⌜ answerBytes ≤ length (now out) ⌝ }
-    ensures { λ r. ⌜ ((s : Shown) (t : Bytes) → Turned x (some (card size)) line s t r (now (cards .exit)) (now (out .exit))) ⌝ }
+    ensures { λ r. ⌜ ((s : Shown) (t : Bytes) → Turned x (some (cardOf yes size)) line s t r (now (cards .exit)) (now (out .exit))) ⌝ }
 {
-    serve_part(x, cards, size, line, out)
+    serve_part(x, cards, size, line, out, yes)
 }

@@ -12,8 +12,8 @@ pub mod shown; // the card answered last
 pub mod write; // the book's text
 
 // No answer is longer: all lines of a card together have no more places than its table has bytes. A line has up to 8 bytes for each of
-// its places and 7 more, what is no line up to 45.
-pub const ANSWER: usize = 15 * reader::call::TABLE + 45;
+// its places and 7 more, what is no line up to 50.
+pub const ANSWER: usize = 15 * reader::call::TABLE + 50;
 
 // The answer stands in the first bytes of the lent table, which is long enough.
 pub struct Turn {

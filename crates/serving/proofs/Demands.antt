@@ -1,20 +1,23 @@
 -- The three demands of the code, over every list of calls: whatever functions serve them, if each meets `Serves`.
 use Prim.Native.Nat.{ℕ, _≤_}
 use mathlib.Core.Path.{_≡_, refl, sym, ap, _∙_, subst}
-use mathlib.Core.Bool.{true}
+use mathlib.Core.Bool.{Bool, true, false, not}
 use mathlib.Core.List.{List, [], _∷_, map}
-use mathlib.Core.Option.{Option, some}
-use Rattle.qbf.specs.Formula.{Formula}
-use Rattle.qbf.specs.Calls.{Call, rule, query, card, forget, withdraw, Reply, done, refused, swap, keep, lines, cardRefused, Answer, nextFormula, State as Read, formulaOk, step}
+use mathlib.Core.Option.{Option, none, some}
+use Rattle.qbf.specs.Formula.{Formula, Node}
+use Rattle.qbf.specs.Calls.{Call, rule, query, card, forget, withdraw, keepCard, cardOf, Reply, done, refused, swap, keep, lines, cardRefused, Answer, nextFormula, State as Read, formulaOk, step}
+use Rattle.qbf.specs.Partition.{keepsClauses}
 use Rattle.qbf.specs.Runs.{fresh, learningRun, plainRun}
 use Rattle.qbf.specs.Demands.{Agree, AllAgree, CardOwed}
+use Rattle.theory.proofs.AcceptedRule.{some-none}
 use Rattle.theory.proofs.Runs.{Reached, fresh-reached, step-ok}
 use Rattle.theory.proofs.Cards.{card-owed}
+use Rattle.theory.proofs.Partition.{cards-partition, same-clauses}
 use Rattle.theory.proofs.Demands.{demand-3}
 use Rattle.state.specs.declared.State.{State}
 use Rattle.state.specs.Reading.{readState}
 use Rattle.serving.specs.Serves.{Said, said, saidReply, saidOf, outOf, nextOf, Served}
-use Rattle.serving.specs.Demands.{LeavesIfRefused, Each, CardBy, RightIfCard, CardsRight, SaidAgrees, AllSaid, AnswersPlain, Demands}
+use Rattle.serving.specs.Demands.{LeavesIfRefused, Each, CardBy, IfCard, RightIfCard, CardsRight, Shows, Together, LaterTogether, CardsTogether, SaidAgrees, AllSaid, AnswersPlain, Demands}
 use Rattle.serving.proofs.Refused.{refused-leaves}
 
 -- ---- DEMAND 1 of the code, on every state, opened or not: each call that is refused has one of the paper's numbers, and answers and
@@ -41,13 +44,13 @@ served-learning (c ∷ cs) x y e (a ∷ qs) s = λ i. first i ∷ rest (s .0) (s
 
 -- ---- cards
 -- the reply to a card, in numbers
-card-by : (b : Formula) (size : ℕ) (r : Reply) (k : ℕ) → CardOwed true (b .prefix) (b .clauses) size r → CardBy b size (saidReply r k) (saidReply r k .refusal)
-card-by b size done k h = absurd h
-card-by b size (refused n) k h = absurd h
-card-by b size swap k h = absurd h
-card-by b size keep k h = absurd h
-card-by b size (lines ls tb) k h = record { them = ls; right = h .right; count = refl; bytes = h .table; whole = h .whole }
-card-by b size (cardRefused n tb) k h = record { number = h .number; them = h .them; right = h .right; over = h .over }
+card-by : (p : Bool) (b : Formula) (size : ℕ) (r : Reply) (k : ℕ) → CardOwed p (b .prefix) (b .clauses) size r → CardBy p b size (saidReply r k) (saidReply r k .refusal)
+card-by p b size done k h = absurd h
+card-by p b size (refused n) k h = absurd h
+card-by p b size swap k h = absurd h
+card-by p b size keep k h = absurd h
+card-by p b size (lines ls tb) k h = record { them = ls; right = h .right; count = refl; bytes = h .table; whole = h .whole }
+card-by p b size (cardRefused n tb) k h = record { number = h .number; them = h .them; right = h .right; over = h .over }
 
 cards-right : (cs : List Call) (y : Read) → Reached y → (b : Formula) → y .formula ≡ b → CardsRight b cs (map saidOf (learningRun y cs))
 cards-right [] y h b e = tt
@@ -60,9 +63,80 @@ cards-right (c ∷ cs) y h b e =
     right : (c : Call) → RightIfCard (y .formula) c (saidOf (step y c .out))
     right (rule ls) = tt
     right (query ls) = tt
-    right (card size) = card-by (y .formula) size (step y (card size) .out .reply) (step y (card size) .out .visits) (card-owed y h size)
+    right (card size) = card-by true (y .formula) size (step y (card size) .out .reply) (step y (card size) .out .visits) (card-owed y h true size)
     right forget = tt
     right withdraw = tt
+    right (keepCard size) = card-by false (y .formula) size (step y (keepCard size) .out .reply) (step y (keepCard size) .out .visits) (card-owed y h false size)
+
+-- ---- both cards
+-- a card that is not refused shows its lines
+shows : (p : Bool) (b : Formula) (size : ℕ) (r : Reply) (k : ℕ) → CardOwed p (b .prefix) (b .clauses) size r → saidReply r k .refusal ≡ none
+    → (ls : List Node) × (tb : List ℕ) × (r ≡ lines ls tb) × Shows b size (saidReply r k) ls
+shows p b size done k h e = absurd h
+shows p b size (refused n) k h e = absurd h
+shows p b size swap k h e = absurd h
+shows p b size keep k h e = absurd h
+shows p b size (lines ls tb) k h e = (ls, tb, refl, record { count = refl; bytes = h .table })
+shows p b size (cardRefused n tb) k h e = absurd (some-none e)
+
+-- a card of the verdict p made on a reached state
+module _ (x : Read) (h : Reached x) (p : Bool) (size : ℕ) where
+  abbrev a : Said
+  a = saidOf (step x (cardOf p size) .out)
+
+  -- and one of the other verdict, made on a reached state with the same formula
+  pair : (y : Read) → Reached y → y .formula ≡ x .formula → (size′ : ℕ) → a .refusal ≡ none → saidOf (step y (cardOf (not p) size′) .out) .refusal ≡ none
+      → Together (x .formula) size size′ a (saidOf (step y (cardOf (not p) size′) .out))
+  pair y g same size′ e e′ =
+      let one = shows p (x .formula) size (step x (cardOf p size) .out .reply) (step x (cardOf p size) .out .visits) (card-owed x h p size) e in
+      let other = shows (not p) (y .formula) size′ (step y (cardOf (not p) size′) .out .reply) (step y (cardOf (not p) size′) .out .visits) (card-owed y g (not p) size′) e′ in
+      record {
+        ones = one .0;
+        others = other .0;
+        shown = one .3;
+        shown-later = subst (λ (f : Formula). Shows f size′ (saidOf (step y (cardOf (not p) size′) .out)) (other .0)) same (other .3);
+        parted = cards-partition x y h g same p size size′ (one .0) (other .0) (one .1) (other .1) (one .2) (other .2);
+      }
+
+  abbrev With : Read → Call → Type 0
+  With y c = IfCard (λ q size′. q ≡ not p → a .refusal ≡ none → saidOf (step y c .out) .refusal ≡ none → Together (x .formula) size size′ a (saidOf (step y c .out))) c
+
+  with-card : (y : Read) → Reached y → y .formula ≡ x .formula → (q : Bool) (size′ : ℕ) → q ≡ not p → a .refusal ≡ none
+      → saidOf (step y (cardOf q size′) .out) .refusal ≡ none → Together (x .formula) size size′ a (saidOf (step y (cardOf q size′) .out))
+  with-card y g same q size′ e =
+      subst (λ (z : Bool). a .refusal ≡ none → saidOf (step y (cardOf z size′) .out) .refusal ≡ none → Together (x .formula) size size′ a (saidOf (step y (cardOf z size′) .out))) (sym e) (pair y g same size′)
+
+  with-call : (y : Read) → Reached y → y .formula ≡ x .formula → (c : Call) → With y c
+  with-call y g same (rule ls) = tt
+  with-call y g same (query ls) = tt
+  with-call y g same (card size′) = with-card y g same true size′
+  with-call y g same forget = tt
+  with-call y g same withdraw = tt
+  with-call y g same (keepCard size′) = with-card y g same false size′
+
+  later-together : (cs : List Call) (y : Read) → Reached y → y .formula ≡ x .formula → LaterTogether (x .formula) p size a cs (map saidOf (learningRun y cs))
+  later-together [] y g same = tt
+  later-together (c ∷ cs) y g same = (
+    with-call y g same c,
+    λ quiet. let w = step-ok y g c in
+        later-together cs (step y c .state) (w .next) (w .same-formula ∙ same-clauses (y .formula) c (subst (λ (f : Formula). keepsClauses f c ≡ true) (sym same) quiet) ∙ same),
+  )
+
+cards-together : (cs : List Call) (y : Read) → Reached y → (b : Formula) → y .formula ≡ b → CardsTogether b cs (map saidOf (learningRun y cs))
+cards-together [] y h b e = tt
+cards-together (c ∷ cs) y h b e =
+    let w = step-ok y h c in (
+      subst (λ (f : Formula). IfCard (λ p size. LaterTogether f p size (saidOf (step y c .out)) cs (map saidOf (learningRun (step y c .state) cs))) c) e (first c),
+      cards-together cs (step y c .state) (w .next) (nextFormula b c) (w .same-formula ∙ ap (λ (f : Formula). nextFormula f c) e),
+    )
+  where
+    first : (c : Call) → IfCard (λ p size. LaterTogether (y .formula) p size (saidOf (step y c .out)) cs (map saidOf (learningRun (step y c .state) cs))) c
+    first (rule ls) = tt
+    first (query ls) = tt
+    first (card size) = later-together y h true size cs (step y (card size) .state) (step-ok y h (card size) .next) (step-ok y h (card size) .same-formula)
+    first forget = tt
+    first withdraw = tt
+    first (keepCard size) = later-together y h false size cs (step y (keepCard size) .state) (step-ok y h (keepCard size) .next) (step-ok y h (keepCard size) .same-formula)
 
 -- ---- the plain run
 -- an answer in numbers but for its visits does not depend on them
@@ -110,6 +184,11 @@ module _ (b : Formula) (ok : formulaOk b ≡ true) (x : State) (e : readState x 
   demand-3-served =
       record { plain = subst (λ (l : List Said). AllSaid l (plainRun b cs)) (sym learnt) (all-said (learningRun (fresh b) cs) (plainRun b cs) (demand-3 b ok cs)); learning = learnt }
 
-  -- all three
+  -- WISH 7 of the code. Two cards, one of each verdict and in either order, that are not refused, with no accepted rule and no withdrawn one
+  -- between them: each reading lies on exactly one line of one of them, and the readings covered add up to 2 ^ f.
+  pub together-served : CardsTogether b cs qs
+  together-served = subst (CardsTogether b cs) (sym learnt) (cards-together cs (fresh b) (fresh-reached b ok) b refl)
+
+  -- all three, and both cards
   pub demands-served : Demands b x cs qs s
-  demands-served = record { demand-1 = demand-1-served x cs qs s; demand-2 = demand-2-served; demand-3 = demand-3-served }
+  demands-served = record { demand-1 = demand-1-served x cs qs s; demand-2 = demand-2-served; demand-3 = demand-3-served; together = together-served }

@@ -6,7 +6,7 @@ use lib.Dec.{ltb}
 use Rattle.qbf.specs.Formula.{all}
 use mathlib.Core.Option.{Option, none, some}
 use Rattle.qbf.specs.Card.{Mem}
-use Rattle.qbf.specs.Calls.{Call, rule, query, card, forget, withdraw, Reply, done, refused, swap, keep, lines, cardRefused, Answer, State as Read, step}
+use Rattle.qbf.specs.Calls.{Call, rule, query, card, forget, withdraw, keepCard, Reply, done, refused, swap, keep, lines, cardRefused, Answer, State as Read, step}
 use Rattle.qbf.specs.Demands.{refusalOf}
 use Rattle.theory.proofs.Basics.{all→}
 use Rattle.theory.proofs.Refusals.{refusals}
@@ -32,6 +32,7 @@ above-zero (query ls) = refl
 above-zero (card size) = refl
 above-zero forget = refl
 above-zero withdraw = refl
+above-zero (keepCard size) = refl
 
 known-numbered : (c : Call) (o : Option ℕ) → ((n : ℕ) → o ≡ some n → Mem n (refusals c)) → Numbered o
 known-numbered c none h = tt
@@ -53,6 +54,7 @@ malformed-numbered (query ls) = tt
 malformed-numbered (card size) = tt
 malformed-numbered forget = tt
 malformed-numbered withdraw = tt
+malformed-numbered (keepCard size) = tt
 
 pub out-numbered : (o : Option Read) (c : Call) → Numbered (refusalOf (outOf o c .reply))
 out-numbered none c = malformed-numbered c

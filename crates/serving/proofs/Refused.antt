@@ -11,7 +11,7 @@ use Rattle.qbf.specs.Formula.{Formula, Node, Literal, quantifiers}
 use Rattle.qbf.specs.Truth.{Outcome, decided, mixed, outline, bound, select, decidedNodes, freeVariables}
 use Rattle.qbf.specs.Learning.{learningSearch}
 use Rattle.qbf.specs.Card.{Mem, tableOf, zeroTable}
-use Rattle.qbf.specs.Calls.{Call, rule, query, card, forget, withdraw, Reply, done, refused, swap, keep, lines, cardRefused, Answer, answer, refusal, ruleFault, ruleReply, withdrawFault, queryFault, queryReply, learningQuery, startNode, guarded, wellFormed, State as Read, step}
+use Rattle.qbf.specs.Calls.{Call, rule, query, card, forget, withdraw, keepCard, cardOf, Reply, done, refused, swap, keep, lines, cardRefused, Answer, answer, refusal, ruleFault, ruleReply, withdrawFault, queryFault, queryReply, cardReplyOf, learningQuery, startNode, guarded, wellFormed, State as Read, step}
 use Rattle.qbf.specs.Demands.{refusalOf}
 use Rattle.theory.proofs.AcceptedRule.{some-none}
 use Rattle.theory.proofs.Refusals.{refusals}
@@ -35,6 +35,7 @@ refusal-number (query ls) k = refl
 refusal-number (card size) k = refl
 refusal-number forget k = refl
 refusal-number withdraw k = refl
+refusal-number (keepCard size) k = refl
 
 module _ (n : ℕ) where
   -- the reply to c is the refusal with n, if it is refused with n
@@ -66,23 +67,28 @@ module _ (n : ℕ) where
         verdict (mixed ds) q = absurd (some-none (sym q))
     as-query ls (some k) e = refused-as (query ls) (same-number e)
 
-    as-card : (size : ℕ) → AsRefused (card size) (guarded true y (card size) .out .reply)
-    as-card size e = by (leb (length them * freeVariables (b .prefix)) size) e
+    as-card : (p : Bool) (size : ℕ) → AsRefused (cardOf p size) (cardReplyOf p (b .prefix) size (outline (learningSearch (b .limits) (b .prefix) (b .clauses) (quantifiers (b .prefix)) [] (y .store) .outcome)))
+    as-card p size e = by (leb (length them * freeVariables (b .prefix)) size) e
       where
         them : List Node
-        them = select true (decidedNodes [] (outline (learningSearch (b .limits) (b .prefix) (b .clauses) (quantifiers (b .prefix)) [] (y .store) .outcome)))
+        them = select p (decidedNodes [] (outline (learningSearch (b .limits) (b .prefix) (b .clauses) (quantifiers (b .prefix)) [] (y .store) .outcome)))
 
-        by : (t : Bool) → AsRefused (card size) (cond t (lines them (tableOf (freeVariables (b .prefix)) size them)) (cardRefused 21 (zeroTable size)))
+        zeroed-card : (p : Bool) → cardRefused 21 (zeroTable size) ≡ refusal 21 (cardOf p size)
+        zeroed-card true = refl
+        zeroed-card false = refl
+
+        by : (t : Bool) → AsRefused (cardOf p size) (cond t (lines them (tableOf (freeVariables (b .prefix)) size them)) (cardRefused 21 (zeroTable size)))
         by true q = absurd (some-none (sym q))
-        by false q = refused-as (card size) (same-number q)
+        by false q = zeroed-card p ∙ refused-as (cardOf p size) (same-number q)
 
     as-guarded : (g : Bool) (c : Call) → AsRefused c (guarded g y c .out .reply)
     as-guarded false c e = as-malformed c e
     as-guarded true (rule ls) e = as-rule ls (ruleFault b ls) e
     as-guarded true (query ls) e = as-query ls (queryFault b [] ls) e
-    as-guarded true (card size) e = as-card size e
+    as-guarded true (card size) e = as-card true size e
     as-guarded true forget e = absurd (some-none (sym e))
     as-guarded true withdraw e = as-withdraw (withdrawFault b) e
+    as-guarded true (keepCard size) e = as-card false size e
 
   as-refused : (o : Option Read) (c : Call) → AsRefused c (outOf o c .reply)
   as-refused none c e = as-malformed c e
@@ -95,6 +101,7 @@ refusal-said (query ls) n k = refl
 refusal-said (card size) n k = refl
 refusal-said forget n k = refl
 refusal-said withdraw n k = refl
+refusal-said (keepCard size) n k = refl
 
 known : (n : ℕ) (o : Option Read) (c : Call) → refusalOf (outOf o c .reply) ≡ some n → Mem n (refusals c)
 known n none c e = subst (λ (k : ℕ). Mem k (refusals c)) (same-number (sym (refusal-number c 22) ∙ e)) (first c)
@@ -105,6 +112,7 @@ known n none c e = subst (λ (k : ℕ). Mem k (refusals c)) (same-number (sym (r
     first (card size) = inl refl
     first forget = inl refl
     first withdraw = inl refl
+    first (keepCard size) = inl refl
 known n (some y) c e = refusal-known y c n e
 
 no-visits : (n : ℕ) (o : Option Read) (c : Call) → refusalOf (outOf o c .reply) ≡ some n → (n ≡ 21 → ⊥) → outOf o c .visits ≡ 0

@@ -1,14 +1,15 @@
 -- What the three demands say of the code, over a list of calls that were served, each on the state that the last one returned.
 use Prim.Native.Nat.{ℕ, _*_, _≤_, _<_}
 use mathlib.Core.Path.{_≡_}
-use mathlib.Core.Bool.{true}
+use mathlib.Core.Bool.{true, false, not}
 use mathlib.Core.List.{List, [], _∷_, map}
 use mathlib.Core.Option.{Option, none, some}
 use lib.ListN.{length}
 use Rattle.qbf.specs.Formula.{Formula, Node}
-use Rattle.qbf.specs.Truth.{freeVariables}
+use Rattle.qbf.specs.Truth.{Verdict, freeVariables}
 use Rattle.qbf.specs.Card.{Mem, tableOf, zeroTable}
-use Rattle.qbf.specs.Calls.{Call, rule, query, card, forget, withdraw, Answer, nextFormula, State as Read}
+use Rattle.qbf.specs.Calls.{Call, rule, query, card, forget, withdraw, keepCard, Answer, nextFormula, State as Read}
+use Rattle.qbf.specs.Partition.{Partition, keepsClauses}
 use Rattle.qbf.specs.Runs.{fresh, learningRun, plainRun}
 use Rattle.qbf.specs.Demands.{CardRight}
 use Rattle.theory.proofs.Refusals.{refusals}
@@ -30,6 +31,7 @@ zeroed (query ls) = []
 zeroed (card size) = zeroTable size
 zeroed forget = []
 zeroed withdraw = []
+zeroed (keepCard size) = zeroTable size
 
 -- the call c on the state x was refused with n: a is its answer, x′ the state that it left
 pub record Refused (x : State) (c : Call) (n : ℕ) (a : Said) (x′ : State) : Type 0 where
@@ -55,31 +57,37 @@ Each P x (c ∷ cs) (a ∷ qs) s = P x c a (s .0) × Each P (s .0) cs qs (s .2)
 
 -- ---- demand 2: "On every card of an opened book that is not refused, a reading lies on a line exactly when the quantified rules are
 -- true for it. The lines are the topmost ones, each once, in the fixed order, and no reading lies on two."
--- a card of the formula b that is not refused: the answer has the count of the right lines, and the table their bytes and then zeros
-pub record CardListed (b : Formula) (size : ℕ) (a : Said) : Type 0 where
+-- a card of the formula b, its lines of the verdict p, that is not refused: the answer has the count of the right lines, and the table their
+-- bytes and then zeros
+pub record CardListed (p : Verdict) (b : Formula) (size : ℕ) (a : Said) : Type 0 where
   pub them : List Node
-  pub right : CardRight true (b .prefix) (b .clauses) them
+  pub right : CardRight p (b .prefix) (b .clauses) them
   pub count : a .lines ≡ length them
   pub bytes : a .table ≡ tableOf (freeVariables (b .prefix)) size them
   pub whole : length (a .table) ≡ size
 
 -- one that is refused: with 21, for the right lines are more than the table holds
-pub record CardOver (b : Formula) (size n : ℕ) : Type 0 where
+pub record CardOver (p : Verdict) (b : Formula) (size n : ℕ) : Type 0 where
   pub number : n ≡ 21
   pub them : List Node
-  pub right : CardRight true (b .prefix) (b .clauses) them
+  pub right : CardRight p (b .prefix) (b .clauses) them
   pub over : size < length them * freeVariables (b .prefix)
 
-abbrev pub CardBy : Formula → ℕ → Said → Option ℕ → Type 0
-CardBy b size a none = CardListed b size a
-CardBy b size a (some n) = CardOver b size n
+abbrev pub CardBy : Verdict → Formula → ℕ → Said → Option ℕ → Type 0
+CardBy p b size a none = CardListed p b size a
+CardBy p b size a (some n) = CardOver p b size n
+
+-- what is said of a call if it is a card, by the verdict of its lines and the size of its table
+abbrev pub IfCard : (Verdict → ℕ → Type 0) → Call → Type 0
+IfCard P (rule ls) = Unit {0}
+IfCard P (query ls) = Unit {0}
+IfCard P (card size) = P true size
+IfCard P forget = Unit {0}
+IfCard P withdraw = Unit {0}
+IfCard P (keepCard size) = P false size
 
 abbrev pub RightIfCard : Formula → Call → Said → Type 0
-RightIfCard b (rule ls) a = Unit {0}
-RightIfCard b (query ls) a = Unit {0}
-RightIfCard b (card size) a = CardBy b size a (a .refusal)
-RightIfCard b forget a = Unit {0}
-RightIfCard b withdraw a = Unit {0}
+RightIfCard b c a = IfCard (λ p size. CardBy p b size a (a .refusal)) c
 
 -- each card of a list, by the rules that stand there: those of the opened book and the accepted ones behind them, without those that were withdrawn
 abbrev pub CardsRight : Formula → List Call → List Said → Type 0
@@ -87,6 +95,36 @@ CardsRight b [] [] = Unit {0}
 CardsRight b [] (a ∷ qs) = ⊥
 CardsRight b (c ∷ cs) [] = ⊥
 CardsRight b (c ∷ cs) (a ∷ qs) = RightIfCard b c a × CardsRight (nextFormula b c) cs qs
+
+-- ---- wish 7: "For every reached book, where neither card is refused, each reading lies on exactly one line of one of the two. The readings
+-- covered by a line number 2 to the power of its open flags. Added over both cards these give 2 to the power f. Show this for cards made in
+-- either order with queries, but no added or withdrawn rule, between them."
+-- the answer shows exactly these lines: it has their count, and the table their bytes and then zeros
+pub record Shows (b : Formula) (size : ℕ) (a : Said) (them : List Node) : Type 0 where
+  pub count : a .lines ≡ length them
+  pub bytes : a .table ≡ tableOf (freeVariables (b .prefix)) size them
+
+-- the answers a and a′ of two cards of the formula b
+pub record Together (b : Formula) (size size′ : ℕ) (a a′ : Said) : Type 0 where
+  pub ones : List Node
+  pub others : List Node
+  pub shown : Shows b size a ones
+  pub shown-later : Shows b size′ a′ others
+  pub parted : Partition (freeVariables (b .prefix)) ones others
+
+-- a card of the verdict p and the answer a, with each later one of the other verdict, as long as the calls between them leave the clauses
+abbrev pub LaterTogether : Formula → Verdict → ℕ → Said → List Call → List Said → Type 0
+LaterTogether b p size a [] qs = Unit {0}
+LaterTogether b p size a (c ∷ cs) [] = ⊥
+LaterTogether b p size a (c ∷ cs) (a′ ∷ qs) =
+    IfCard (λ q size′. q ≡ not p → a .refusal ≡ none → a′ .refusal ≡ none → Together b size size′ a a′) c × (keepsClauses b c ≡ true → LaterTogether b p size a cs qs)
+
+-- each card of a list
+abbrev pub CardsTogether : Formula → List Call → List Said → Type 0
+CardsTogether b [] [] = Unit {0}
+CardsTogether b [] (a ∷ qs) = ⊥
+CardsTogether b (c ∷ cs) [] = ⊥
+CardsTogether b (c ∷ cs) (a ∷ qs) = IfCard (λ p size. LaterTogether b p size a cs qs) c × CardsTogether (nextFormula b c) cs qs
 
 -- ---- demand 3: "every call gives the answer of the plain run"
 -- the answer a is the plain run's answer p but for the visits, which are no more
@@ -109,8 +147,9 @@ pub record AnswersPlain (b : Formula) (cs : List Call) (qs : List Said) : Type 0
   pub plain : AllSaid qs (plainRun b cs)
   pub learning : qs ≡ map saidOf (learningRun (fresh b) cs)
 
--- ---- all three, of the calls cs served on a state x of the opened formula b, with the answers qs
+-- ---- all three, and what wish 7 promises of both cards, of the calls cs served on a state x of the opened formula b, with the answers qs
 pub record Demands (b : Formula) (x : State) (cs : List Call) (qs : List Said) (s : Served x cs qs) : Type 0 where
   pub demand-1 : Each LeavesIfRefused x cs qs s
   pub demand-2 : CardsRight b cs qs
   pub demand-3 : AnswersPlain b cs qs
+  pub together : CardsTogether b cs qs

@@ -1,11 +1,11 @@
 -- The card answered last is one of the rules that stand, after every list of lines.
 use Prim.Native.Nat.{ℕ, suc}
 use mathlib.Core.Path.{_≡_, refl, sym, subst}
-use mathlib.Core.Bool.{true}
+use mathlib.Core.Bool.{Bool, true, false}
 use mathlib.Core.List.{List, [], _∷_}
 use mathlib.Core.Option.{Option, none, some}
 use Rattle.qbf.specs.Formula.{Formula, Literal}
-use Rattle.qbf.specs.Calls.{Call, rule, query, card, forget, withdraw, Reply, done, refused, swap, keep, lines, cardRefused, State, Stepped, step, guarded, formulaOk, ruleFault, ruleReply, withRule, withdrawFault, withoutLast}
+use Rattle.qbf.specs.Calls.{Call, rule, query, card, forget, withdraw, Reply, done, refused, swap, keep, lines, cardRefused, State, Stepped, step, guarded, formulaOk, ruleFault, ruleReply, withRule, withdrawFault, withoutLast, keepCard}
 use Rattle.qbf.specs.Runs.{fresh}
 use Rattle.qbf.specs.Demands.{CardOwed}
 use Rattle.theory.proofs.Runs.{Reached, fresh-reached, reached-formed, call-ok}
@@ -25,13 +25,13 @@ withdraw-holds : (b : Formula) (z : Option Card) → Holds b z → (o : Option �
 withdraw-holds b z h none = tt
 withdraw-holds b z h (some n) = h
 
-card-holds : (b : Formula) (size : ℕ) (r : Reply) → CardOwed true (b .prefix) (b .clauses) size r → Holds b (cardOf (b .prefix) r)
-card-holds b size (lines ls tb) h = record { size = size; them = ls; shown = h; lines = refl; free = refl }
-card-holds b size (cardRefused n tb) h = tt
-card-holds b size done h = absurd h
-card-holds b size (refused n) h = absurd h
-card-holds b size swap h = absurd h
-card-holds b size keep h = absurd h
+card-holds : (p : Bool) (b : Formula) (size : ℕ) (r : Reply) → CardOwed p (b .prefix) (b .clauses) size r → Holds b (cardOf (b .prefix) r)
+card-holds p b size (lines ls tb) h = record { verdict = p; size = size; them = ls; shown = h; lines = refl; free = refl }
+card-holds p b size (cardRefused n tb) h = tt
+card-holds p b size done h = absurd h
+card-holds p b size (refused n) h = absurd h
+card-holds p b size swap h = absurd h
+card-holds p b size keep h = absurd h
 
 module _ (x : State) (reached : Reached x) (z : Option Card) (h : Holds (x .formula) z) where
   abbrev Kept : Call → Stepped → Type 0
@@ -48,7 +48,10 @@ module _ (x : State) (reached : Reached x) (z : Option Card) (h : Holds (x .form
   call-holds (query ls) = as-step (query ls) (call-ok x reached (query ls) .next, h)
   call-holds (card size) =
       as-step (card size)
-      (call-ok x reached (card size) .next, card-holds (x .formula) size (guarded true x (card size) .out .reply) (subst (λ (f : Call → Stepped). CardOwed true (x .formula .prefix) (x .formula .clauses) size (f (card size) .out .reply)) stepped (card-owed x reached size)))
+      (call-ok x reached (card size) .next, card-holds true (x .formula) size (guarded true x (card size) .out .reply) (subst (λ (f : Call → Stepped). CardOwed true (x .formula .prefix) (x .formula .clauses) size (f (card size) .out .reply)) stepped (card-owed x reached true size)))
+  call-holds (keepCard size) =
+      as-step (keepCard size)
+      (call-ok x reached (keepCard size) .next, card-holds false (x .formula) size (guarded true x (keepCard size) .out .reply) (subst (λ (f : Call → Stepped). CardOwed false (x .formula .prefix) (x .formula .clauses) size (f (keepCard size) .out .reply)) stepped (card-owed x reached false size)))
   call-holds forget = as-step forget (call-ok x reached forget .next, h)
   call-holds withdraw = as-step withdraw (call-ok x reached withdraw .next, withdraw-holds (x .formula) z h (withdrawFault (x .formula)))
 

@@ -40,6 +40,11 @@ rows =
     row "" ""
     ∷ row "(card 4)\n(forget)\n(card 3)\n(card 4)\n"
     "(card 1)\n(line (no 1) 2)\n(line 1 2)\n(visits 11)\n(end)\n(forgotten)\n(refused 21 11 (visits 11))\n(card 1)\n(line (no 1) 2)\n(line 1 2)\n(visits 9)\n(end)\n"
+    -- the keep card before the card, and after it, where 21 is judged on its own lines
+    ∷ row "(keep-card)\n(card 4)\n"
+    "(keep-card 1)\n(line (no 1) (no 2))\n(line 1 (no 2))\n(visits 11)\n(end)\n(card 1)\n(line (no 1) 2)\n(line 1 2)\n(visits 9)\n(end)\n"
+    ∷ row "(card 4)\n(keep-card 3)\n" "(card 1)\n(line (no 1) 2)\n(line 1 2)\n(visits 11)\n(end)\n(refused 21 10 (visits 9))\n"
+    ∷ row "(keep-card 65537)\n(keep-card 04)\n(keep-card 1 2)\n(keep-card (no 1))\n(keepcard)\n" "(refused 1 9)\n(refused 1 10)\n(refused 1 11)\n(refused 1 12)\n(refused 1 13)\n"
     ∷ row "(rule 1 (no 2))\n(rule)\n(rule 1 41)\n(rule 1 5)\n(rule (no 1) 1)\n" "(accepted)\n(refused 7 10)\n(refused 3 11)\n(refused 5 12)\n(refused 6 13)\n"
     ∷ row "(query 3)\n(query 1 1)\n(query 0)\n(query 99999)\n(query (no 1))\n" "(refused 8 9)\n(refused 8 10)\n(refused 8 11)\n(refused 8 12)\n(refused 1 13)\n"
     ∷ row "\n(card 65537)\n(card 04)\n(card 1 2)\n(forget 1)\n(end)\n(forget)" "(refused 1 9)\n(refused 1 10)\n(refused 1 11)\n(refused 1 12)\n(refused 1 13)\n(refused 1 14)\n(refused 1 15)\n"
@@ -69,6 +74,9 @@ pageA = wide "CARD                                                              
 abbrev pageA1 : Bytes
 pageA1 = wide "CARD                                                                  1" ++ (wide "    1  11" ++ blank 22)
 
+abbrev pageKeepA : Bytes
+pageKeepA = wide "CARD                                                                  1" ++ (wide "    1  00" ++ (wide "    2  10" ++ blank 21))
+
 abbrev cardA : String
 cardA = "(card 1)\n(line (no 1) 2)\n(line 1 2)\n(visits 11)\n(end)\n"
 
@@ -96,6 +104,8 @@ pages =
     -- calls that change no rule leave it
     ∷ paged "(card)\n(rule 5)\n(query 3)\n(query 2)\n(forget)\n(write 0)\n(card 65537)\n(page 1)\n(page 1)\n"
     (ascii cardA ++ (ascii "(refused 5 10)\n(refused 8 11)\n(swap (visits 1))\n(forgotten)\n(refused 31 14)\n(refused 1 15)\n" ++ (pageA ++ pageA)))
+    -- a keep card has its pages too
+    ∷ paged "(card)\n(keep-card)\n(page 1)\n" (ascii cardA ++ (ascii "(keep-card 1)\n(line (no 1) (no 2))\n(line 1 (no 2))\n(visits 9)\n(end)\n" ++ pageKeepA))
     -- an accepted rule does not
     ∷ paged "(card)\n(rule 1)\n(page 1)\n(card)\n(page 1)\n"
     (ascii cardA ++ (ascii "(accepted)\n(refused 36 11)\n(card 1)\n(line 1 2)\n(visits 7)\n(end)\n" ++ pageA1))

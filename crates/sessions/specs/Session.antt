@@ -7,7 +7,7 @@ use lib.ListN.{length, take}
 use lib.Dec.{ltb}
 use Rattle.qbf.specs.Formula.{Limits, Prefix, Literal, numberOf}
 use Rattle.qbf.specs.Truth.{freeVariables}
-use Rattle.qbf.specs.Calls.{Call, rule, query, card, forget, withdraw, Reply, done, refused, swap, keep, lines, cardRefused, State, step}
+use Rattle.qbf.specs.Calls.{Call, rule, query, card, forget, withdraw, Reply, done, refused, swap, keep, lines, cardRefused, State, step, keepCard}
 use Rattle.qbf.specs.Runs.{fresh}
 use Rattle.layout.specs.Words.{Bytes, ascii, newline, space, split, same, inside, joined}
 use Rattle.layout.specs.Forms.{then, items}
@@ -19,7 +19,7 @@ use Rattle.booktext.specs.Books.{Written, written, writeRefused, writeCall, tex
 
 -- ---- the request of a line
 -- a call; or writing the book into a table of so many bytes, or of as many as every text under the book's limits needs; or a page of the
--- card answered last
+-- card or keep card answered last
 pub data Request : Type 0 where
   call : Call → Request
   write : Option ℕ → Request
@@ -95,6 +95,7 @@ abbrev pub cardAfter : Prefix → Call → Reply → Option Card → Option Card
 cardAfter D (rule ls) r z = cardAfterRule r z
 cardAfter D (query ls) r z = z
 cardAfter D (card size) r z = cardOf D r
+cardAfter D (keepCard size) r z = cardOf D r
 cardAfter D forget r z = z
 cardAfter D withdraw r z = cardAfterRule r z
 

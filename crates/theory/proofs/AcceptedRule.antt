@@ -13,7 +13,7 @@ use borrow.Author.Tests.{le-leb}
 use Rattle.qbf.specs.Formula.{Clause, Formula, Limits, Literal, Prefix, all, any, numberOf, place}
 use Rattle.qbf.specs.Learning.{Constraint, insert, union}
 use Rattle.qbf.specs.Card.{Mem}
-use Rattle.qbf.specs.Calls.{Call, _orElse_, card, clauseOf, clauseOk, forget, given, inOrder, literalFault, nextFormula, query, rule, ruleFault, withRule, withdraw, withdrawFault}
+use Rattle.qbf.specs.Calls.{Call, _orElse_, card, clauseOf, clauseOk, forget, given, inOrder, keepCard, literalFault, nextFormula, query, rule, ruleFault, withRule, withdraw, withdrawFault}
 use Rattle.theory.proofs.Basics.{≡→T, false-eqb, and-both, or-false-right, all→, →all}
 use Rattle.theory.proofs.Sets.{union-rising}
 use Rattle.theory.proofs.Stores.{mem-append}
@@ -124,4 +124,5 @@ next-formula b h (rule ls) = rule-formula b ls h (ruleFault b ls) refl
 next-formula b h (query ls) = h
 next-formula b h (card size) = h
 next-formula b h forget = h
+next-formula b h (keepCard size) = h
 next-formula b h withdraw = withdraw-formula b h (withdrawFault b)

@@ -10,7 +10,7 @@ use lib.Dec.{leb, leb→le, nleb→lt}
 use Rattle.qbf.specs.Formula.{Clause, Node, Prefix, quantifiers}
 use Rattle.qbf.specs.Truth.{freeVariables, outline, select, verdictOf}
 use Rattle.qbf.specs.Card.{Mem, byteOf, bytesOf, lineBytes, tableOf, zeroTable}
-use Rattle.qbf.specs.Calls.{Call, State, card, cardRefused, cardReply, cardReplyOf, guarded, lines, step}
+use Rattle.qbf.specs.Calls.{Call, State, cardOf, cardRefused, cardReply, cardReplyOf, guarded, lines, step}
 use Rattle.qbf.specs.Runs.{after}
 use Rattle.qbf.specs.Demands.{CardOwed, CardRight}
 use Rattle.theory.proofs.Basics.{≡→T}
@@ -50,13 +50,18 @@ after-reached x h [] = h
 after-reached x h (c ∷ cs) = after-reached (step x c .state) (step-ok x h c .next) cs
 
 -- the reply to a card, by truth
-pub card-reply : (x : State) → Reached x → (len : ℕ)
-    → step x (card len) .out .reply ≡ cardReply (freeVariables (x .formula .prefix)) len (select true (tops (x .formula .prefix) (x .formula .clauses) (quantifiers (x .formula .prefix)) []))
-card-reply x h len = ap (λ (g : Bool). guarded g x (card len) .out .reply) (reached-formed x h) ∙ ap (cardReplyOf true (x .formula .prefix) len) (search-true x h)
+pub card-reply : (x : State) → Reached x → (p : Bool) (len : ℕ)
+    → step x (cardOf p len) .out .reply ≡ cardReply (freeVariables (x .formula .prefix)) len (select p (tops (x .formula .prefix) (x .formula .clauses) (quantifiers (x .formula .prefix)) []))
+card-reply x h p len = ap (λ (g : Bool). guarded g x (cardOf p len) .out .reply) (reached-formed x h) ∙ by p
+  where
+    by : (p : Bool)
+        → guarded true x (cardOf p len) .out .reply ≡ cardReply (freeVariables (x .formula .prefix)) len (select p (tops (x .formula .prefix) (x .formula .clauses) (quantifiers (x .formula .prefix)) []))
+    by true = ap (cardReplyOf true (x .formula .prefix) len) (search-true x h)
+    by false = ap (cardReplyOf false (x .formula .prefix) len) (search-true x h)
 
-pub card-owed : (x : State) → Reached x → (len : ℕ) → CardOwed true (x .formula .prefix) (x .formula .clauses) len (step x (card len) .out .reply)
-card-owed x h len =
-    subst (CardOwed true D R len) (sym (card-reply x h len)) (owed true D R len (select true (tops D R (quantifiers D) [])) (card-right D R (free-before (x .formula) (h .formula-ok)) true))
+pub card-owed : (x : State) → Reached x → (p : Bool) (len : ℕ) → CardOwed p (x .formula .prefix) (x .formula .clauses) len (step x (cardOf p len) .out .reply)
+card-owed x h p len =
+    subst (CardOwed p D R len) (sym (card-reply x h p len)) (owed p D R len (select p (tops D R (quantifiers D) [])) (card-right D R (free-before (x .formula) (h .formula-ok)) p))
   where
     D : Prefix
     D = x .formula .prefix

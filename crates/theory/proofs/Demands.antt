@@ -2,17 +2,18 @@
 -- opened formula; `after (fresh b) cs` is such a state, and `formulaOk b ≡ true` says that no refusal stops the opening.
 use Prim.Native.Nat.{ℕ, suc, _^_, _≤_, _<_}
 use mathlib.Core.Path.{_≡_, refl}
-use mathlib.Core.Bool.{Bool, true}
+use mathlib.Core.Bool.{Bool, true, not}
 use mathlib.Core.List.{List}
 use mathlib.Core.Option.{some}
 use lib.ListN.{length}
-use Rattle.qbf.specs.Formula.{Clause, Formula, Limits, Literal, Node, Prefix, Quantifier}
-use Rattle.qbf.specs.Truth.{outline, verdictOf}
+use Rattle.qbf.specs.Formula.{Clause, Formula, Limits, Literal, Node, Prefix, Quantifier, all}
+use Rattle.qbf.specs.Truth.{freeVariables, outline, verdictOf}
 use Rattle.qbf.specs.Plain.{plainSearch}
 use Rattle.qbf.specs.Learning.{Constraint, Store, constraints, learningSearch}
 use Rattle.qbf.specs.Card.{Mem}
-use Rattle.qbf.specs.Calls.{Call, State, card, formulaOk, query, startNode, step, wellFormed}
+use Rattle.qbf.specs.Calls.{Call, State, cardOf, formulaOk, lines, query, startNode, step, wellFormed}
 use Rattle.qbf.specs.Runs.{after, fresh, learningRun, plainRun}
+use Rattle.qbf.specs.Partition.{Partition, keepsClauses}
 use Rattle.qbf.specs.Demands.{AllAgree, CardOwed, Leaves, QueryOwed, refusalOf}
 use Rattle.theory.proofs.Leaves.{ByFirst, Valid}
 use Rattle.theory.proofs.Stores.{RecordedStore}
@@ -21,6 +22,7 @@ use Rattle.theory.proofs.Refusals.{refusals, refused-leaves, refused-kn
 use Rattle.theory.proofs.Runs.{Reached, fresh-reached, reached-formed, run-agrees}
 use Rattle.theory.proofs.Preserved.{step-formed}
 use Rattle.theory.proofs.Cards.{after-reached, card-owed}
+use Rattle.theory.proofs.Partition.{both-cards}
 use Rattle.theory.proofs.Queries.{query-owed}
 use Rattle.theory.proofs.Bound.{search-bound, plain-bound}
 
@@ -80,8 +82,17 @@ module _ (b : Formula) (e : formulaOk b ≡ true) (cs : List Call) where
 
   -- ---- demand 2: "On every card of an opened book that is not refused, a reading lies on a line exactly when the quantified rules are
   -- true for it. The lines are the topmost ones, each once, in the fixed order, and no reading lies on two." The only refusal is 21.
-  pub demand-2 : (size : ℕ) → CardOwed true (state .formula .prefix) (state .formula .clauses) size (step state (card size) .out .reply)
-  demand-2 size = card-owed state reached size
+  -- The lines are those of the verdict p: Yes for a card, No for a keep card.
+  pub demand-2 : (p : Bool) (size : ℕ) → CardOwed p (state .formula .prefix) (state .formula .clauses) size (step state (cardOf p size) .out .reply)
+  demand-2 p size = card-owed state reached p size
+
+  -- "For every reached book, where neither card is refused, each reading lies on exactly one line of one of the two. .. Show this for cards
+  -- made in either order with queries, but no added or withdrawn rule, between them."
+  pub cards-together : (between : List Call) → all (keepsClauses (state .formula)) between ≡ true → (p : Bool) (size size′ : ℕ) (ls ks : List Node) (tb tc : List ℕ)
+      → step state (cardOf p size) .out .reply ≡ lines ls tb
+      → step (after (step state (cardOf p size) .state) between) (cardOf (not p) size′) .out .reply ≡ lines ks tc
+      → Partition (freeVariables (state .formula .prefix)) ls ks
+  cards-together = both-cards b e cs
 
 -- ---- demand 3: "Take every list of these calls .. on one freshly opened book, its store empty. .. every call gives the answer of the
 -- plain run", visits never more than the plain search's. One claim about the whole list.

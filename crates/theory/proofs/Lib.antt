@@ -39,6 +39,7 @@ pub mod Refusals
 pub mod Runs
 pub mod Topmost
 pub mod Cards
+pub mod Partition
 pub mod Queries
 pub mod Widths
 pub mod Levels

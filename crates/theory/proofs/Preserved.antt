@@ -12,7 +12,7 @@ use Rattle.qbf.specs.Formula.{Clause, Formula, Limits, Literal, Node, Prefix, Q
 use Rattle.qbf.specs.Truth.{bound}
 use Rattle.qbf.specs.Learning.{Store, below, emptyStore, learningSearch}
 use Rattle.qbf.specs.Card.{Mem}
-use Rattle.qbf.specs.Calls.{Call, State, card, clauseOf, forget, guarded, learningQuery, nextFormula, query, queryFault, rule, ruleFault, startNode, step, storeAfterRule, storeAfterWithdraw, wellFormed, withRule, withdraw, withdrawFault, withoutLast}
+use Rattle.qbf.specs.Calls.{Call, State, card, clauseOf, forget, guarded, keepCard, learningQuery, nextFormula, query, queryFault, rule, ruleFault, startNode, step, storeAfterRule, storeAfterWithdraw, wellFormed, withRule, withdraw, withdrawFault, withoutLast}
 use Rattle.theory.proofs.Rest.{Rest}
 use Rattle.theory.proofs.Game.{Rising}
 use Rattle.theory.proofs.Shape.{Formed}
@@ -107,6 +107,7 @@ call-facts x h c = let w = by c in record { formula-ok = next-formula b f c; sto
     by (rule ls) = rule-store b f (x .store) g (ruleFault b ls) ls
     by (query ls) = query-store b f (x .store) g (queryFault b [] ls) ls
     by (card size) = search-store b f (x .store) g (quantifiers (b .prefix)) [] refl
+    by (keepCard size) = search-store b f (x .store) g (quantifiers (b .prefix)) [] refl
     by forget = empty-store b
     by withdraw = withdraw-store b f (x .store) g (withdrawFault b)
 

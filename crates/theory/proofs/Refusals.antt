@@ -1,7 +1,7 @@
 -- Demand 1, of the definitions: a refused call leaves the state as the paper says, and its number is one of the paper's for that call.
 use Prim.Native.Nat.{ℕ, _*_, _-_}
 use native.Mathlib.Omega.{arith}
-use mathlib.Core.Path.{_≡_, refl, sym, ap, subst}
+use mathlib.Core.Path.{_≡_, refl, sym, ap, _∙_, subst}
 use mathlib.Core.Logic.{_⊎_, inl, inr}
 use mathlib.Core.Bool.{Bool, true, false, cond, not, _||_}
 use mathlib.Core.List.{List, [], _∷_}
@@ -11,7 +11,7 @@ use lib.Dec.{eqb, leb, ltb}
 use Rattle.qbf.specs.Formula.{Formula, Limits, Literal, Node, Prefix, any, numberOf, place, placeOf, positive, quantifiers}
 use Rattle.qbf.specs.Truth.{Outcome, bound, decided, decidedNodes, freeVariables, mixed, outline, select}
 use Rattle.qbf.specs.Card.{Mem, tableOf, zeroTable}
-use Rattle.qbf.specs.Calls.{Call, Reply, State, Stepped, _orElse_, answer, card, cardRefused, forget, given, guarded, learningQuery, lines, literalFault, query, queryFault, queryReply, rule, ruleFault, ruleReply, startNode, step, storeAfterRule, storeAfterWithdraw, wellFormed, withRule, withdraw, withoutLast}
+use Rattle.qbf.specs.Calls.{Answer, Call, Reply, State, Stepped, _orElse_, answer, card, cardRefused, cardOf, forget, given, guarded, keepCard, learningCard, learningQuery, lines, literalFault, query, queryFault, queryReply, rule, ruleFault, ruleReply, startNode, step, storeAfterRule, storeAfterWithdraw, wellFormed, withRule, withdraw, withoutLast}
 use Rattle.qbf.specs.Demands.{Leaves, refusalOf}
 use Rattle.theory.proofs.Basics.{dichotomy}
 use Rattle.theory.proofs.Starting.{learning}
@@ -22,6 +22,7 @@ abbrev pub refusals : Call → List ℕ
 refusals (rule ls) = 22 ∷ 20 ∷ 7 ∷ 3 ∷ 5 ∷ 6 ∷ []
 refusals (query ls) = 22 ∷ 8 ∷ []
 refusals (card size) = 22 ∷ 21 ∷ []
+refusals (keepCard size) = 22 ∷ 21 ∷ []
 refusals forget = 22 ∷ []
 refusals withdraw = 22 ∷ 32 ∷ []
 
@@ -105,6 +106,7 @@ malformed : (x : State) (c : Call) → Refusing x c (guarded false x c)
 malformed x (rule ls) = unchanged x (rule ls) (guarded false x (rule ls)) 22 (inl refl) refl refl refl
 malformed x (query ls) = unchanged x (query ls) (guarded false x (query ls)) 22 (inl refl) refl refl refl
 malformed x (card size) = unchanged x (card size) (guarded false x (card size)) 22 (inl refl) refl refl refl
+malformed x (keepCard size) = unchanged x (keepCard size) (guarded false x (keepCard size)) 22 (inl refl) refl refl refl
 malformed x forget = unchanged x forget (guarded false x forget) 22 (inl refl) refl refl refl
 malformed x withdraw = unchanged x withdraw (guarded false x withdraw) 22 (inl refl) refl refl refl
 
@@ -134,21 +136,22 @@ module _ (x : State) where
       by none m = accepted x (query ls) (after none) (told (outline (learning (x .formula) (x .store) (bound (quantifiers (x .formula .prefix))) (startNode ls (x .formula .prefix)) .outcome)))
       by (some k) m = unchanged x (query ls) (after (some k)) k (inr m) refl refl refl
 
-  card-refuses : (size : ℕ) → Refusing x (card size) (guarded true x (card size))
-  card-refuses size = by (dichotomy (leb (length ls * freeVariables (x .formula .prefix)) size))
+  card-refuses : (p : Bool) (size : ℕ) → Mem 21 (refusals (cardOf p size)) → guarded true x (cardOf p size) .state .formula ≡ x .formula
+      → guarded true x (cardOf p size) .out ≡ learningCard p (x .formula) (x .store) size .out → Refusing x (cardOf p size) (guarded true x (cardOf p size))
+  card-refuses p size known same told = by (dichotomy (leb (length ls * freeVariables (x .formula .prefix)) size))
     where
       r : Stepped
-      r = guarded true x (card size)
+      r = guarded true x (cardOf p size)
 
       ls : List Node
-      ls = select true (decidedNodes [] (outline (learning (x .formula) (x .store) (quantifiers (x .formula .prefix)) [] .outcome)))
+      ls = select p (decidedNodes [] (outline (learning (x .formula) (x .store) (quantifiers (x .formula .prefix)) [] .outcome)))
 
       replies : Bool → Reply
       replies b = cond b (lines ls (tableOf (freeVariables (x .formula .prefix)) size ls)) (cardRefused 21 (zeroTable size))
 
-      by : (leb (length ls * freeVariables (x .formula .prefix)) size ≡ true) ⊎ (leb (length ls * freeVariables (x .formula .prefix)) size ≡ false) → Refusing x (card size) r
-      by (inl e) = accepted x (card size) r (ap (λ (b : Bool). refusalOf (replies b)) e)
-      by (inr e) = overfull x (card size) r (inr (inl refl)) (ap (λ (b : Bool). refusalOf (replies b)) e) refl
+      by : (leb (length ls * freeVariables (x .formula .prefix)) size ≡ true) ⊎ (leb (length ls * freeVariables (x .formula .prefix)) size ≡ false) → Refusing x (cardOf p size) r
+      by (inl e) = accepted x (cardOf p size) r (ap (λ (a : Answer). refusalOf (a .reply)) told ∙ ap (λ (b : Bool). refusalOf (replies b)) e)
+      by (inr e) = overfull x (cardOf p size) r known (ap (λ (a : Answer). refusalOf (a .reply)) told ∙ ap (λ (b : Bool). refusalOf (replies b)) e) same
 
   withdraw-refuses : Refusing x withdraw (guarded true x withdraw)
   withdraw-refuses = by (eqb (length (x .formula .clauses)) 0)
@@ -164,7 +167,8 @@ module _ (x : State) where
   refuses false c = malformed x c
   refuses true (rule ls) = rule-refuses ls
   refuses true (query ls) = query-refuses ls
-  refuses true (card size) = card-refuses size
+  refuses true (card size) = card-refuses true size (inr (inl refl)) refl refl
+  refuses true (keepCard size) = card-refuses false size (inr (inl refl)) refl refl
   refuses true forget = accepted x forget (guarded true x forget) refl
   refuses true withdraw = withdraw-refuses
 
@@ -176,15 +180,21 @@ pub refused-known : (x : State) (c : Call) (n : ℕ) → refusalOf (step x c .ou
 refused-known x c n e = refuses x (wellFormed x) c n e .known
 
 -- "A refusal .. zeroes the card table."
-pub refused-table : (x : State) (size n : ℕ) (tb : List ℕ) → step x (card size) .out .reply ≡ cardRefused n tb → tb ≡ zeroTable size
-refused-table x size n tb e = by (wellFormed x) e
+pub refused-table : (x : State) (p : Bool) (size n : ℕ) (tb : List ℕ) → step x (cardOf p size) .out .reply ≡ cardRefused n tb → tb ≡ zeroTable size
+refused-table x p size n tb e = by p (wellFormed x) e
   where
-    told : (f : ℕ) (ls : List Node) (b : Bool) → cond b (lines ls (tableOf f size ls)) (cardRefused 21 (zeroTable size)) ≡ cardRefused n tb → tb ≡ zeroTable size
-    told f ls true q = cc
-    told f ls false q = cc
+    told : (p : Bool) → learningCard p (x .formula) (x .store) size .out .reply ≡ cardRefused n tb → tb ≡ zeroTable size
+    told p q = go (leb (length ls * freeVariables (x .formula .prefix)) size) q
+      where
+        ls : List Node
+        ls = select p (decidedNodes [] (outline (learning (x .formula) (x .store) (quantifiers (x .formula .prefix)) [] .outcome)))
 
-    by : (g : Bool) → guarded g x (card size) .out .reply ≡ cardRefused n tb → tb ≡ zeroTable size
-    by false q = cc
-    by true q =
-        let ls : List Node = select true (decidedNodes [] (outline (learning (x .formula) (x .store) (quantifiers (x .formula .prefix)) [] .outcome))) in
-        told (freeVariables (x .formula .prefix)) ls (leb (length ls * freeVariables (x .formula .prefix)) size) q
+        go : (b : Bool) → cond b (lines ls (tableOf (freeVariables (x .formula .prefix)) size ls)) (cardRefused 21 (zeroTable size)) ≡ cardRefused n tb → tb ≡ zeroTable size
+        go true q = cc
+        go false q = cc
+
+    by : (p g : Bool) → guarded g x (cardOf p size) .out .reply ≡ cardRefused n tb → tb ≡ zeroTable size
+    by true false q = cc
+    by false false q = cc
+    by true true q = told true q
+    by false true q = told false q

@@ -3,14 +3,14 @@ use Prim.Native.Nat.{ℕ, _-_}
 use native.Mathlib.Nat.{le-refl}
 use native.Mathlib.Omega.{arith}
 use mathlib.Core.Path.{_≡_, refl, sym, ap, _∙_, subst}
-use mathlib.Core.Bool.{Bool, true}
+use mathlib.Core.Bool.{Bool, true, false}
 use mathlib.Core.List.{List, [], _∷_}
 use mathlib.Core.Option.{Option, none, some}
 use lib.ListN.{length}
 use Rattle.qbf.specs.Formula.{Clause, Formula, Limits, Literal, Node, Prefix, Quantifier, quantifiers}
 use Rattle.qbf.specs.Truth.{Outcome, bound}
 use Rattle.qbf.specs.Learning.{Store, emptyStore}
-use Rattle.qbf.specs.Calls.{Call, Reply, State, Stepped, card, cardReplyOf, clauseOf, forget, formulaOk, guarded, learningAnswer, learningCard, learningQuery, nextFormula, query, queryFault, queryReply, rule, ruleFault, startNode, step, storeAfterRule, storeAfterWithdraw, wellFormed, withRule, withdraw, withdrawFault, withoutLast}
+use Rattle.qbf.specs.Calls.{Call, Reply, State, Stepped, card, cardReplyOf, clauseOf, forget, formulaOk, guarded, keepCard, learningAnswer, learningCard, learningQuery, nextFormula, query, queryFault, queryReply, rule, ruleFault, startNode, step, storeAfterRule, storeAfterWithdraw, wellFormed, withRule, withdraw, withdrawFault, withoutLast}
 use Rattle.qbf.specs.Runs.{fresh, learningRun, plainAnswer, plainCall, plainCard, plainQuery, plainRun}
 use Rattle.qbf.specs.Demands.{Agree, AllAgree}
 use Rattle.theory.proofs.Shape.{Formed}
@@ -86,6 +86,9 @@ call-ok x h (query ns) =
     record { next = record { formula-ok = h .formula-ok; sound = w .0 }; same-formula = refl; agree = w .1 }
 call-ok x h (card len) =
     let w = card-ok (x .formula) (h .formula-ok) (x .store) (h .sound) true len in
+    record { next = record { formula-ok = h .formula-ok; sound = w .0 }; same-formula = refl; agree = w .1 }
+call-ok x h (keepCard len) =
+    let w = card-ok (x .formula) (h .formula-ok) (x .store) (h .sound) false len in
     record { next = record { formula-ok = h .formula-ok; sound = w .0 }; same-formula = refl; agree = w .1 }
 call-ok x h withdraw =
     record {

@@ -1,12 +1,14 @@
 -- Appending: nothing, a byte, one text after another, and a word byte by byte.
 use Prim.Native.Nat.{ℕ, _+_, _<_, _≤_, zero-le}
 use mathlib.Core.Path.{_≡_, refl, sym, ap, subst, _∙_}
+use mathlib.Core.Bool.{Bool}
 use mathlib.Core.List.{[], _∷_, _++_, append-assoc, append-nil}
 use native.Mathlib.Omega.{arith}
 use native.Mathlib.Numerals.{add-one}
 use lib.ListN.{length, getD, take, set, length-set, length-append}
 use lib.Seq.{take-suc-set, take-suc, take-all}
 use Rattle.layout.specs.Words.{Bytes}
+use Rattle.layout.specs.Output.{cardHead}
 use Rattle.writer.specs.Wrote.{Wrote}
 
 pub wrote-none : (d : Bytes) (at : ℕ) → Wrote d at [] d at
@@ -50,3 +52,7 @@ module _ {d₀ : Bytes} {at : ℕ} {w d : Bytes} {j : ℕ} (p : Copied d₀ at w
 
   pub copy-end : length w ≤ j → Wrote d₀ at w d (at + j)
   copy-end h = subst (λ (t : Bytes). Wrote d₀ at t d (at + j)) (take-all j w h) (p .is)
+
+-- the head of a card, by the verdict of its lines
+pub wrote-head : {d₀ : Bytes} {at : ℕ} {p q : Bool} {d : Bytes} {r : ℕ} → p ≡ q → Wrote d₀ at (cardHead q) d r → Wrote d₀ at (cardHead p) d r
+wrote-head {d₀} {at} {p} {q} {d} {r} e w = subst (λ (z : Bool). Wrote d₀ at (cardHead z) d r) (sym e) w

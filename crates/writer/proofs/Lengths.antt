@@ -1,12 +1,12 @@
 -- How long the texts are, by the lengths of their numbers and rows.
-use Prim.Native.Nat.{ℕ, _+_}
+use Prim.Native.Nat.{ℕ, _+_, _≤_}
 use mathlib.Core.Path.{_≡_, refl}
 use mathlib.Core.Bool.{Bool, true, false}
 use mathlib.Core.List.{List, _++_}
 use native.Mathlib.Omega.{arith}
 use lib.ListN.{length, length-append}
 use Rattle.layout.specs.Words.{ascii}
-use Rattle.layout.specs.Output.{decimal, visitsText, refusalText, overflowText, replyText, queryText}
+use Rattle.layout.specs.Output.{decimal, visitsText, cardHead, refusalText, overflowText, replyText, queryText}
 use Rattle.writer.specs.Rows.{rowsText, cardRows}
 
 -- ---- numbers in words
@@ -35,6 +35,11 @@ pub off-length : (n : ℕ) → length (ascii " (no " ++ decimal n ++ ascii ")") 
 off-length n = simp length-append (omega arith)
 
 -- ---- a card
-pub card-length : (f : ℕ) (numbers table : List ℕ) (n visits : ℕ) → length (cardRows f numbers table n visits) ≡ length (rowsText f numbers table n) + length (visitsText visits) + 15
+pub head-length : (p : Bool) → length (cardHead p) ≤ 14
+head-length true = omega arith
+head-length false = omega arith
+
+pub card-length : (p : Bool) (f : ℕ) (numbers table : List ℕ) (n visits : ℕ)
+    → length (cardRows p f numbers table n visits) ≡ length (cardHead p) + length (rowsText f numbers table n) + length (visitsText visits) + 6
 unfolding cardRows
-card-length f numbers table n visits = simp length-append (omega arith)
+card-length p f numbers table n visits = simp length-append (omega arith)

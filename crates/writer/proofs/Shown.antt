@@ -19,10 +19,10 @@ use Rattle.theory.proofs.Cards.{line-length}
 use Rattle.tables.specs.Views.{Numbers}
 use Rattle.layout.specs.Words.{Bytes, ascii, space}
 use Rattle.layout.specs.Forms.{off}
-use Rattle.layout.specs.Output.{decimal, literalText, setLiterals, itemsText, lineText, linesText, visitsText, cardText}
+use Rattle.layout.specs.Output.{decimal, literalText, setLiterals, itemsText, lineText, linesText, visitsText, cardHead, cardText}
 use Rattle.layout_laws.proofs.Decimal.{decimal-length}
 use Rattle.writer.specs.Rows.{itemText, itemsFrom, rowText, rowsText, cardRows}
-use Rattle.writer.proofs.Lengths.{visits-length}
+use Rattle.writer.proofs.Lengths.{visits-length, head-length}
 
 -- ---- one item
 item-set : (n : ℕ) (v : Bool) → 1 ≤ n → itemText n (byteOf v) ≡ space ∷ literalText (cond v (pos n) (off n))
@@ -109,10 +109,10 @@ module _ (L : Limits) (D : Prefix) (numbers : List ℕ) (f : ℕ) (fine : number
       width = line-length f s (within s (inl refl))
 
   -- the whole card
-  pub card-shown : (ls : List Node) (size visits : ℕ) → Within f ls → cardRows f numbers (tableOf f size ls) (length ls) visits ≡ cardText D ls visits
+  pub card-shown : (p : Bool) (ls : List Node) (size visits : ℕ) → Within f ls → cardRows p f numbers (tableOf f size ls) (length ls) visits ≡ cardText p D ls visits
   unfolding cardRows cardText
-  card-shown ls size visits within =
-      ap (λ (t : Bytes). ascii "(card 1)\n" ++ t ++ visitsText visits ++ ascii "(end)\n") (rows-shown ls (replicate (size - length ls * f) 0) within)
+  card-shown p ls size visits within =
+      ap (λ (t : Bytes). cardHead p ++ t ++ visitsText visits ++ ascii "(end)\n") (rows-shown ls (replicate (size - length ls * f) 0) within)
 
 -- ---- how long a card is at most
 two-digits : (seen : List ℕ) (d : Variable) (D : Prefix) → numbersOk paper seen (d ∷ D) ≡ true → d .number < 100
@@ -145,7 +145,16 @@ module _ (D : Prefix) (fine : numbersOk paper [] D ≡ true) where
       omega (arith, line-most s, within s (inl refl), length-append (lineText D s) (linesText D ls), lines-most f ls (λ r m. within r (inr m)), suc-mul (length ls) (8 * f + 7))
 
   -- visits have at most 20 digits
-  pub card-most : (f : ℕ) (ls : List Node) (visits : ℕ) → Within f ls → visits < 10 ^ 20 → length (cardText D ls visits) ≤ length ls * (8 * f + 7) + 45
+  pub card-most : (p : Bool) (f : ℕ) (ls : List Node) (visits : ℕ) → Within f ls → visits < 10 ^ 20 → length (cardText p D ls visits) ≤ length ls * (8 * f + 7) + 50
   unfolding cardText
-  card-most f ls visits within small =
-      omega (arith, lines-most f ls within, visits-length visits, decimal-length 19 visits small, length-append (ascii "(card 1)\n" ++ linesText D ls ++ visitsText visits) (ascii "(end)\n"), length-append (ascii "(card 1)\n" ++ linesText D ls) (visitsText visits))
+  card-most p f ls visits within small =
+      omega (
+        arith,
+        lines-most f ls within,
+        visits-length visits,
+        decimal-length 19 visits small,
+        head-length p,
+        length-append (cardHead p ++ linesText D ls ++ visitsText visits) (ascii "(end)\n"),
+        length-append (cardHead p ++ linesText D ls) (visitsText visits),
+        length-append (cardHead p) (linesText D ls),
+      )

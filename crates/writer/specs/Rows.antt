@@ -1,11 +1,11 @@
 -- The text of a card by its tables: the numbers of the places, and the rows of values.
 use Prim.Native.Nat.{ℕ, zero, suc}
-use mathlib.Core.Bool.{cond}
+use mathlib.Core.Bool.{Bool, cond}
 use mathlib.Core.List.{List, [], _∷_, _++_}
 use lib.ListN.{getD, take, drop}
 use lib.Dec.{eqb}
 use Rattle.layout.specs.Words.{Bytes, ascii}
-use Rattle.layout.specs.Output.{decimal, visitsText}
+use Rattle.layout.specs.Output.{decimal, visitsText, cardHead}
 
 -- ` 3` for a variable that is on (2), ` (no 3)` for one that is off (1), nothing for one that is open
 unfoldable pub itemText : ℕ → ℕ → Bytes
@@ -25,5 +25,5 @@ unfoldable pub rowsText : ℕ → List ℕ → List ℕ → ℕ → Bytes
 rowsText f numbers table zero = []
 rowsText f numbers table (suc n) = rowText numbers (take f table) ++ rowsText f numbers (drop f table) n
 
-unfoldable pub cardRows : ℕ → List ℕ → List ℕ → ℕ → ℕ → Bytes
-cardRows f numbers table n visits = ascii "(card 1)\n" ++ rowsText f numbers table n ++ visitsText visits ++ ascii "(end)\n"
+unfoldable pub cardRows : Bool → ℕ → List ℕ → List ℕ → ℕ → ℕ → Bytes
+cardRows p f numbers table n visits = cardHead p ++ rowsText f numbers table n ++ visitsText visits ++ ascii "(end)\n"

@@ -1,10 +1,10 @@
-// The whole card: its edition, its lines, its visits.
+// The whole card or keep card: its edition, its lines, its visits.
 use crate::bytes::put_word;
 use crate::line::put_line;
 use crate::number::put_number;
 ghost use Prim.Native.Nat.{_+_, _*_, _≤_, _<_};
 ghost use lib.ListN.{length};
-ghost use Rattle.layout.specs.Output.{visitsText};
+ghost use Rattle.layout.specs.Output.{visitsText, cardHead};
 ghost use Rattle.writer.specs.Rows.{rowsText, cardRows};
 ghost use Rattle.writer.specs.Wrote.{Wrote};
 
@@ -42,9 +42,21 @@ pub fn put_visits(d: &mut [u8], at: usize, visits: u64) -> usize
     put_word(d, q, b")\n")
 }
 
+// What it begins with: of the card, or of the keep card.
+fn put_head(d: &mut [u8], at: usize, yes: bool) -> usize
+    requires { ⌜ at + length (cardHead yes) ≤ length (now d) ⌝ }
+    ensures { λ r. ⌜ Wrote (now (d .entry)) at (cardHead yes) (now (d .exit)) r ⌝ }
+{
+    if yes {
+        return put_word(d, at, b"(card 1)\n");
+    }
+    put_word(d, at, b"(keep-card 1)\n")
+}
+
 pub fn put_card<'a>(
     d: &mut [u8],
     at: usize,
+    yes: bool,
     numbers: &'a [u16],
     table: &'a [u8],
     f: usize,
@@ -52,10 +64,10 @@ pub fn put_card<'a>(
     visits: u64,
 ) -> usize
     requires { ⌜ (f < length (now numbers)) × (n * f ≤ length (now table)) ⌝ }
-    requires { ⌜ at + length (cardRows f (now numbers) (now table) n visits) ≤ length (now d) ⌝ }
-    ensures { λ r. ⌜ Wrote (now (d .entry)) at (cardRows f (now (numbers .entry)) (now (table .entry)) n visits) (now (d .exit)) r ⌝ }
+    requires { ⌜ at + length (cardRows yes f (now numbers) (now table) n visits) ≤ length (now d) ⌝ }
+    ensures { λ r. ⌜ Wrote (now (d .entry)) at (cardRows yes f (now (numbers .entry)) (now (table .entry)) n visits) (now (d .exit)) r ⌝ }
 {
-    let p = put_word(d, at, b"(card 1)\n");
+    let p = put_head(d, at, yes);
     let q = put_lines(d, p, numbers, table, f, n);
     let s = put_visits(d, q, visits);
     put_word(d, s, b"(end)\n")

@@ -1,10 +1,10 @@
 -- `read_words` meets its contract: the call by the first word.
-use native.Mathlib.Omega.{arith}
 use borrow.Author.Needs.{needs}
-use lib.ListN.{length-take}
 use Rattle.reader.proofs.call.read_words.Statement.{statement}
-use Rattle.reader.proofs.Calls.{call-none, rule-read, query-read, card-read, forget-read, forget-none, no-word}
 use Rattle.reader.proofs.call.read_words.Tie as tie
+use native.Mathlib.Omega.{arith}
+use lib.ListN.{length-take}
+use Rattle.reader.proofs.Calls.{call-none, rule-read, query-read, card-read, keep-card-read, forget-read, forget-none, no-word}
 
 find-requires : tie.Need-find-requires
 find-requires c κs = search needs
@@ -31,12 +31,7 @@ same-length : tie.Need-same-length
 same-length c = search needs
 
 returns : tie.Need-returns
-returns c =
-    let found = c .before .before .before .before .before .before .before .before .find in
-    let word = c .before .before .before .before .before .before .call-word in
-    let signed = c .before .before .before .before .before .call-signs in
-    let items = c .before .before .before .rest in
-    call-none (found .ensures) (word .result) (signed .result) (word .ensures) (signed .ensures) (items .result) (items .last .1 .1 .1 .0) (items .ensures) (c .enum-told .given .1)
+returns c = call-none (c .before .before .before .before .before .before .before .before .find .ensures) (c .before .before .before .before .before .before .call-word .result) (c .before .before .before .before .before .call-signs .result) (c .before .before .before .before .before .before .call-word .ensures) (c .before .before .before .before .before .call-signs .ensures) (c .before .before .before .rest .result) (c .before .before .before .rest .last .1 .1 .1 .0) (c .before .before .before .rest .ensures) (c .enum-told .given .1)
 
 enum-told-2 : tie.Need-enum-told-2
 enum-told-2 c = search needs
@@ -56,74 +51,59 @@ card-of-requires c κs = search needs
 enum-told-5 : tie.Need-enum-told-5
 enum-told-5 c = search needs
 
+card-size-requires-2 : tie.Need-card-size-requires-2
+card-size-requires-2 c κs = search needs
+
+card-of-requires-2 : tie.Need-card-of-requires-2
+card-of-requires-2 c κs = search needs
+
 enum-told-6 : tie.Need-enum-told-6
 enum-told-6 c = search needs
+
+enum-told-7 : tie.Need-enum-told-7
+enum-told-7 c = search needs
 
 same-length-2 : tie.Need-same-length-2
 same-length-2 c = search needs
 
 returns-2 : tie.Need-returns-2
-returns-2 c =
-    let found = c .before .before .before .before .before .before .before .before .before .before .before .find in
-    let word = c .before .before .before .before .before .before .before .before .before .call-word in
-    let signed = c .before .before .before .before .before .before .before .before .call-signs in
-    let items = c .before .before .before .before .before .before .rest in
-    rule-read (found .ensures) (word .result) (signed .result) (word .ensures) (signed .ensures) (items .result) (items .last .1 .1 .1 .0) (items .ensures) (c .before .before .before .n .given .1) (c .enum-told2 .given .1)
+returns-2 c = rule-read (c .before .before .before .before .before .before .before .before .before .before .before .find .ensures) (c .before .before .before .before .before .before .before .before .before .call-word .result) (c .before .before .before .before .before .before .before .before .call-signs .result) (c .before .before .before .before .before .before .before .before .before .call-word .ensures) (c .before .before .before .before .before .before .before .before .call-signs .ensures) (c .before .before .before .before .before .before .rest .result) (c .before .before .before .before .before .before .rest .last .1 .1 .1 .0) (c .before .before .before .before .before .before .rest .ensures) (c .before .before .before .n .given .1) (c .enum-told2 .given .1)
 
 same-length-3 : tie.Need-same-length-3
 same-length-3 c = search needs
 
 returns-3 : tie.Need-returns-3
-returns-3 c =
-    let found = c .before .before .before .before .before .before .before .before .before .before .before .find in
-    let word = c .before .before .before .before .before .before .before .before .before .call-word in
-    let signed = c .before .before .before .before .before .before .before .before .call-signs in
-    let items = c .before .before .before .before .before .before .rest in
-    query-read (found .ensures) (word .result) (signed .result) (word .ensures) (signed .ensures) (items .result) (items .last .1 .1 .1 .0) (items .ensures) (c .before .before .before .n .given .1) (c .enum-told3 .given .1)
+returns-3 c = query-read (c .before .before .before .before .before .before .before .before .before .before .before .find .ensures) (c .before .before .before .before .before .before .before .before .before .call-word .result) (c .before .before .before .before .before .before .before .before .call-signs .result) (c .before .before .before .before .before .before .before .before .before .call-word .ensures) (c .before .before .before .before .before .before .before .before .call-signs .ensures) (c .before .before .before .before .before .before .rest .result) (c .before .before .before .before .before .before .rest .last .1 .1 .1 .0) (c .before .before .before .before .before .before .rest .ensures) (c .before .before .before .n .given .1) (c .enum-told3 .given .1)
 
 same-length-4 : tie.Need-same-length-4
 same-length-4 c = search needs
 
 returns-4 : tie.Need-returns-4
-returns-4 c =
-    let found = c .before .before .before .before .before .before .before .before .before .before .before .before .before .find in
-    let word = c .before .before .before .before .before .before .before .before .before .before .before .call-word in
-    let signed = c .before .before .before .before .before .before .before .before .before .before .call-signs in
-    let items = c .before .before .before .before .before .before .before .before .rest in
-    card-read (found .ensures) (word .result) (signed .result) (word .ensures) (signed .ensures) (items .result) (items .last .1 .1 .1 .0) (items .ensures) (c .before .before .before .before .before .n .given .1) (c .before .before .enum-told4 .given .1) (c .before .card-size .result) (c .before .card-size .ensures) (c .card-of .ensures)
+returns-4 c = card-read (c .before .before .before .before .before .before .before .before .before .before .before .before .before .find .ensures) (c .before .before .before .before .before .before .before .before .before .before .before .call-word .result) (c .before .before .before .before .before .before .before .before .before .before .call-signs .result) (c .before .before .before .before .before .before .before .before .before .before .before .call-word .ensures) (c .before .before .before .before .before .before .before .before .before .before .call-signs .ensures) (c .before .before .before .before .before .before .before .before .rest .result) (c .before .before .before .before .before .before .before .before .rest .last .1 .1 .1 .0) (c .before .before .before .before .before .before .before .before .rest .ensures) (c .before .before .before .before .before .n .given .1) (c .before .before .enum-told4 .given .1) (c .before .card-size .result) (c .before .card-size .ensures) (c .card-of .ensures)
 
 same-length-5 : tie.Need-same-length-5
 same-length-5 c = search needs
 
 returns-5 : tie.Need-returns-5
-returns-5 c =
-    let found = c .before .before .before .before .before .before .before .before .before .before .before .before .find in
-    let word = c .before .before .before .before .before .before .before .before .before .before .call-word in
-    let signed = c .before .before .before .before .before .before .before .before .before .call-signs in
-    let items = c .before .before .before .before .before .before .before .rest in
-    forget-read (found .ensures) (word .result) (signed .result) (word .ensures) (signed .ensures) (items .result) (items .last .1 .1 .1 .0) (items .ensures) (c .before .before .before .before .n .given .1) (c .before .enum-told5 .given .1) (c .if1 .taken)
+returns-5 c = keep-card-read (c .before .before .before .before .before .before .before .before .before .before .before .before .before .find .ensures) (c .before .before .before .before .before .before .before .before .before .before .before .call-word .result) (c .before .before .before .before .before .before .before .before .before .before .call-signs .result) (c .before .before .before .before .before .before .before .before .before .before .before .call-word .ensures) (c .before .before .before .before .before .before .before .before .before .before .call-signs .ensures) (c .before .before .before .before .before .before .before .before .rest .result) (c .before .before .before .before .before .before .before .before .rest .last .1 .1 .1 .0) (c .before .before .before .before .before .before .before .before .rest .ensures) (c .before .before .before .before .before .n .given .1) (c .before .before .enum-told5 .given .1) (c .before .card-size2 .result) (c .before .card-size2 .ensures) (c .card-of2 .ensures)
 
 same-length-6 : tie.Need-same-length-6
 same-length-6 c = search needs
 
 returns-6 : tie.Need-returns-6
-returns-6 c =
-    let found = c .before .before .before .before .before .before .before .before .before .before .before .before .find in
-    let word = c .before .before .before .before .before .before .before .before .before .before .call-word in
-    let signed = c .before .before .before .before .before .before .before .before .before .call-signs in
-    let items = c .before .before .before .before .before .before .before .rest in
-    forget-none (found .ensures) (word .result) (signed .result) (word .ensures) (signed .ensures) (items .result) (items .last .1 .1 .1 .0) (items .ensures) (c .before .before .before .before .n .given .1) (c .before .enum-told5 .given .1) (c .if1 .left)
+returns-6 c = forget-read (c .before .before .before .before .before .before .before .before .before .before .before .before .find .ensures) (c .before .before .before .before .before .before .before .before .before .before .call-word .result) (c .before .before .before .before .before .before .before .before .before .call-signs .result) (c .before .before .before .before .before .before .before .before .before .before .call-word .ensures) (c .before .before .before .before .before .before .before .before .before .call-signs .ensures) (c .before .before .before .before .before .before .before .rest .result) (c .before .before .before .before .before .before .before .rest .last .1 .1 .1 .0) (c .before .before .before .before .before .before .before .rest .ensures) (c .before .before .before .before .n .given .1) (c .before .enum-told6 .given .1) (c .if1 .taken)
 
 same-length-7 : tie.Need-same-length-7
 same-length-7 c = search needs
 
 returns-7 : tie.Need-returns-7
-returns-7 c =
-    let found = c .before .before .before .before .before .before .before .before .before .before .before .find in
-    let word = c .before .before .before .before .before .before .before .before .before .call-word in
-    let signed = c .before .before .before .before .before .before .before .before .call-signs in
-    let items = c .before .before .before .before .before .before .rest in
-    no-word (found .ensures) (word .result) (signed .result) (word .ensures) (signed .ensures) (items .result) (items .last .1 .1 .1 .0) (items .ensures) (c .before .before .before .n .given .1) (c .enum-told6 .given .1)
+returns-7 c = forget-none (c .before .before .before .before .before .before .before .before .before .before .before .before .find .ensures) (c .before .before .before .before .before .before .before .before .before .before .call-word .result) (c .before .before .before .before .before .before .before .before .before .call-signs .result) (c .before .before .before .before .before .before .before .before .before .before .call-word .ensures) (c .before .before .before .before .before .before .before .before .before .call-signs .ensures) (c .before .before .before .before .before .before .before .rest .result) (c .before .before .before .before .before .before .before .rest .last .1 .1 .1 .0) (c .before .before .before .before .before .before .before .rest .ensures) (c .before .before .before .before .n .given .1) (c .before .enum-told6 .given .1) (c .if1 .left)
+
+same-length-8 : tie.Need-same-length-8
+same-length-8 c = search needs
+
+returns-8 : tie.Need-returns-8
+returns-8 c = no-word (c .before .before .before .before .before .before .before .before .before .before .before .find .ensures) (c .before .before .before .before .before .before .before .before .before .call-word .result) (c .before .before .before .before .before .before .before .before .call-signs .result) (c .before .before .before .before .before .before .before .before .before .call-word .ensures) (c .before .before .before .before .before .before .before .before .call-signs .ensures) (c .before .before .before .before .before .before .rest .result) (c .before .before .before .before .before .before .rest .last .1 .1 .1 .0) (c .before .before .before .before .before .before .rest .ensures) (c .before .before .before .n .given .1) (c .enum-told7 .given .1)
 
 pub read-words-spec : {M : Type 1} → statement M
 read-words-spec =
@@ -144,7 +124,10 @@ read-words-spec =
     card-size-requires
     card-of-requires
     enum-told-5
+    card-size-requires-2
+    card-of-requires-2
     enum-told-6
+    enum-told-7
     same-length-2
     returns-2
     same-length-3
@@ -156,4 +139,6 @@ read-words-spec =
     same-length-6
     returns-6
     same-length-7
-    returns-7)
+    returns-7
+    same-length-8
+    returns-8)

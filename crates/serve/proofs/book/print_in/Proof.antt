@@ -3,6 +3,7 @@ use borrow.Author.Needs.{needs}
 use Rattle.serve.proofs.book.print_in.Statement.{statement}
 use Rattle.serve.proofs.book.print_in.Tie as tie
 use native.Mathlib.Omega.{arith}
+use mathlib.Core.Bool.{true}
 use mathlib.Core.Path.{_≡_, _∙_, ap}
 use mathlib.Core.Option.{some}
 use denote.Ref.{now}
@@ -39,7 +40,7 @@ put-shown-requires : tie.Need-put-shown-requires
 put-shown-requires c κs = (
   (let q : length (c .before .before .before .before .before .before .before .card .last .1 .0) ≡ length (now (c .before .before .before .before .before .before .before .before .before .before .before .args .table)) = search needs in omega (arith, q, c .before .before .before .before .before .before .before .before .before .before .before .pre .0)),
   (
-    shown-said (c .before .before .before .before .before .before .before .before .before .before .before .args .x) (length (now (c .before .before .before .before .before .before .before .before .before .before .before .args .table))) (c .before .before .before .before .refusal-of .result) (c .before .before .lines-of .result) (c .before .before .before .before .before .before .before .card .result .printed) (c .before .before .before .before .before .before .before .card .result .visits) (c .before .before .before .before .before .before .before .card .last .1 .0) (c .before .before .before .before .before .before .before .card .result .state) (search needs) (c .before .before .before .before .before .before .before .card .ensures) (c .before .before .before .before .refusal-of .ensures) (c .before .before .before .if1 .left) (c .before .before .lines-of .ensures),
+    shown-said true (c .before .before .before .before .before .before .before .before .before .before .before .args .x) (length (now (c .before .before .before .before .before .before .before .before .before .before .before .args .table))) (c .before .before .before .before .refusal-of .result) (c .before .before .lines-of .result) (c .before .before .before .before .before .before .before .card .result .printed) (c .before .before .before .before .before .before .before .card .result .visits) (c .before .before .before .before .before .before .before .card .last .1 .0) (c .before .before .before .before .before .before .before .card .result .state) (search needs) (c .before .before .before .before .before .before .before .card .ensures) (c .before .before .before .before .refusal-of .ensures) (c .before .before .before .if1 .left) (c .before .before .lines-of .ensures),
     omega arith,
   ),
 )

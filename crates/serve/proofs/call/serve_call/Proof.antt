@@ -6,7 +6,7 @@ use native.Mathlib.Omega.{arith}
 use mathlib.Core.Path.{subst}
 use denote.Ref.{now}
 use Rattle.serve.specs.Calls.{Small}
-use Rattle.serve.proofs.Called.{called-rule, called-query, called-card, called-forget, called-none}
+use Rattle.serve.proofs.Called.{called-rule, called-query, called-card, called-keep-card, called-forget, called-none}
 
 enum-known-call : tie.Need-enum-known-call
 enum-known-call c = search needs
@@ -25,6 +25,12 @@ enum-known-call-3 c = search needs
 
 serve-card-requires : tie.Need-serve-card-requires
 serve-card-requires c κs = (subst Small (c .before .before .before .call3 .given .1) (c .before .before .before .before .before .before .pre .0), omega (arith, c .before .before .before .before .before .before .pre .1 .1))
+
+enum-known-call-4 : tie.Need-enum-known-call-4
+enum-known-call-4 c = search needs
+
+serve-card-requires-2 : tie.Need-serve-card-requires-2
+serve-card-requires-2 c κs = (subst Small (c .before .before .before .call4 .given .1) (c .before .before .before .before .before .before .pre .0), omega (arith, c .before .before .before .before .before .before .pre .1 .1))
 
 enum-told : tie.Need-enum-told
 enum-told c = search needs
@@ -67,14 +73,22 @@ same-length-4 c = search needs
 
 returns-4 : tie.Need-returns-4
 returns-4 c = λ o h.
-    let args = c .before .before .before .before .before .before .before .args in
-    called-forget (now (args .lits)) (args .call) o h (c .before .before .before .before .enum-told .given .1) (c .before .before .serve-forget .ensures (now (args .cards)))
+    let args = c .before .before .before .before .before .before .before .before .before .args in
+    called-keep-card (now (args .lits)) (args .call) o h (c .before .before .before .before .before .before .call4 .given .0 .0) (c .before .before .before .before .before .before .call4 .given .1) (c .before .before .serve-card2 .ensures (args .shown) (now (args .cards)))
 
 same-length-5 : tie.Need-same-length-5
 same-length-5 c = search needs
 
 returns-5 : tie.Need-returns-5
 returns-5 c = λ o h.
+    let args = c .before .before .before .before .before .before .before .args in
+    called-forget (now (args .lits)) (args .call) o h (c .before .before .before .before .enum-told .given .1) (c .before .before .serve-forget .ensures (now (args .cards)))
+
+same-length-6 : tie.Need-same-length-6
+same-length-6 c = search needs
+
+returns-6 : tie.Need-returns-6
+returns-6 c = λ o h.
     let args = c .before .before .before .before .before .before .before .args in
     called-none (now (args .lits)) (args .call) o h (c .before .before .before .before .enum-told2 .given .1) (c .before .before .no-call .ensures (now (args .cards)))
 
@@ -88,6 +102,8 @@ serve-call-spec =
     query-of-requires
     enum-known-call-3
     serve-card-requires
+    enum-known-call-4
+    serve-card-requires-2
     enum-told
     serve-forget-requires
     enum-told-2
@@ -101,4 +117,6 @@ serve-call-spec =
     same-length-4
     returns-4
     same-length-5
-    returns-5)
+    returns-5
+    same-length-6
+    returns-6)

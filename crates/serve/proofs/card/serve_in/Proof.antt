@@ -8,7 +8,7 @@ use mathlib.Core.List.{_++_}
 use mathlib.Core.Option.{some}
 use denote.Ref.{now}
 use lib.ListN.{length}
-use Rattle.qbf.specs.Calls.{card}
+use Rattle.qbf.specs.Calls.{cardOf}
 use Rattle.state.specs.Reading.{readState}
 use Rattle.answers.specs.Answers.{cardSaid}
 use Rattle.serve.specs.Shown.{cardIn}
@@ -17,14 +17,14 @@ use Rattle.serve.proofs.Room.{turned}
 use Rattle.serve.proofs.CardTexts.{refused-served, shown-served, shown-said}
 use Rattle.serve.proofs.LastCard.{card-left}
 
-card-requires : tie.Need-card-requires
-card-requires c κs = search needs
+card-of-requires : tie.Need-card-of-requires
+card-of-requires c κs = search needs
 
 refusal-of-requires : tie.Need-refusal-of-requires
 refusal-of-requires c κs = search needs
 
-card-of-requires : tie.Need-card-of-requires
-card-of-requires c κs = search needs
+card-of-requires-2 : tie.Need-card-of-requires-2
+card-of-requires-2 c κs = search needs
 
 put-card-refusal-requires : tie.Need-put-card-refusal-requires
 put-card-refusal-requires c κs = search needs
@@ -39,11 +39,11 @@ returns : tie.Need-returns
 returns c = λ s t after.
     let args = c .before .before .before .before .before .before .before .before .before .before .before .before .before .before .args in
     let size = length (now (c .before .before .before .before .before .before .before .before .before .before .before .before .before .before .args .table)) in
-    let made = c .before .before .before .before .before .before .before .before .before .before .card in
-    turned (args .x) (some (card size)) (args .line) (made .result .state) s (c .before .before .before .before .before .card-of .result) (c .before .before .put-card-refusal .ensures)
-    (λ u e. refused-served (args .x) size (args .line) (c .before .before .before .before .before .before .refusal-of .result) (made .result .printed) (made .result .visits) (made .last .1 .0) (made .result .state) u (made .ensures) (c .before .before .before .before .before .before .refusal-of .ensures) (c .before .before .before .before .if1 .taken) e)
+    let made = c .before .before .before .before .before .before .before .before .before .before .card-of in
+    turned (args .x) (some (cardOf (args .yes) size)) (args .line) (made .result .state) s (c .before .before .before .before .before .card-of2 .result) (c .before .before .put-card-refusal .ensures)
+    (λ u e. refused-served (args .yes) (args .x) size (args .line) (c .before .before .before .before .before .before .refusal-of .result) (made .result .printed) (made .result .visits) (made .last .1 .0) (made .result .state) u (made .ensures) (c .before .before .before .before .before .before .refusal-of .ensures) (c .before .before .before .before .if1 .taken) e)
     t (made .last .1 .0 ++ after)
-    (card-left (args .x) size (made .result .printed) (made .result .visits) (made .last .1 .0) (made .result .state) (made .ensures) (c .before .before .before .before .before .card-of .result) (c .before .before .before .before .before .card-of .ensures) after (cardIn s t))
+    (card-left (args .yes) (args .x) size (made .result .printed) (made .result .visits) (made .last .1 .0) (made .result .state) (made .ensures) (c .before .before .before .before .before .card-of2 .result) (c .before .before .before .before .before .card-of2 .ensures) after (cardIn s t))
 
 lines-of-requires : tie.Need-lines-of-requires
 lines-of-requires c κs = search needs
@@ -52,11 +52,11 @@ put-shown-requires : tie.Need-put-shown-requires
 put-shown-requires c κs =
     let args = c .before .before .before .before .before .before .before .before .before .before .before .before .before .args in
     let size = length (now (c .before .before .before .before .before .before .before .before .before .before .before .before .before .args .table)) in
-    let made = c .before .before .before .before .before .before .before .before .before .card in
-    let long : length (c .before .before .before .before .before .before .before .before .before .card .last .1 .0) ≡ length (now (c .before .before .before .before .before .before .before .before .before .before .before .before .before .args .table)) = search needs in (
+    let made = c .before .before .before .before .before .before .before .before .before .card-of in
+    let long : length (c .before .before .before .before .before .before .before .before .before .card-of .last .1 .0) ≡ length (now (c .before .before .before .before .before .before .before .before .before .before .before .before .before .args .table)) = search needs in (
       omega (arith, long, c .before .before .before .before .before .before .before .before .before .before .before .before .before .pre .0),
       (
-        shown-said (args .x) size (c .before .before .before .before .before .refusal-of .result) (c .before .before .lines-of .result) (made .result .printed) (made .result .visits) (made .last .1 .0) (made .result .state) long (made .ensures) (c .before .before .before .before .before .refusal-of .ensures) (c .before .before .before .if1 .left) (c .before .before .lines-of .ensures),
+        shown-said (args .yes) (args .x) size (c .before .before .before .before .before .refusal-of .result) (c .before .before .lines-of .result) (made .result .printed) (made .result .visits) (made .last .1 .0) (made .result .state) long (made .ensures) (c .before .before .before .before .before .refusal-of .ensures) (c .before .before .before .if1 .left) (c .before .before .lines-of .ensures),
         c .before .before .before .before .before .before .before .before .before .before .before .before .before .pre .1,
       ),
     )
@@ -71,20 +71,20 @@ returns-2 : tie.Need-returns-2
 returns-2 c = λ s t after.
     let args = c .before .before .before .before .before .before .before .before .before .before .before .before .before .before .before .before .args in
     let size = length (now (c .before .before .before .before .before .before .before .before .before .before .before .before .before .before .before .before .args .table)) in
-    let made = c .before .before .before .before .before .before .before .before .before .before .before .before .card in
-    let long : length (c .before .before .before .before .before .before .before .before .before .before .before .before .card .last .1 .0) ≡ length (now (c .before .before .before .before .before .before .before .before .before .before .before .before .before .before .before .before .args .table)) = search needs in
-    turned (args .x) (some (card size)) (args .line) (made .result .state) s (c .before .before .before .before .before .before .before .card-of .result) (c .before .before .put-shown .ensures (args .line))
-    (λ u e. shown-served (args .x) size (args .line) (cardSaid (made .result .printed) (made .result .visits) (made .last .1 .0)) (made .result .state) u (made .ensures) (e ∙ ap (λ m. lineAnswer (readState (args .x)) (args .line) (some (card m))) long))
+    let made = c .before .before .before .before .before .before .before .before .before .before .before .before .card-of in
+    let long : length (c .before .before .before .before .before .before .before .before .before .before .before .before .card-of .last .1 .0) ≡ length (now (c .before .before .before .before .before .before .before .before .before .before .before .before .before .before .before .before .args .table)) = search needs in
+    turned (args .x) (some (cardOf (args .yes) size)) (args .line) (made .result .state) s (c .before .before .before .before .before .before .before .card-of2 .result) (c .before .before .put-shown .ensures (args .line))
+    (λ u e. shown-served (args .yes) (args .x) size (args .line) (cardSaid (made .result .printed) (made .result .visits) (made .last .1 .0)) (made .result .state) u (made .ensures) (e ∙ ap (λ m. lineAnswer (readState (args .x)) (args .line) (some (cardOf (args .yes) m))) long))
     t (made .last .1 .0 ++ after)
-    (card-left (args .x) size (made .result .printed) (made .result .visits) (made .last .1 .0) (made .result .state) (made .ensures) (c .before .before .before .before .before .before .before .card-of .result) (c .before .before .before .before .before .before .before .card-of .ensures) after (cardIn s t))
+    (card-left (args .yes) (args .x) size (made .result .printed) (made .result .visits) (made .last .1 .0) (made .result .state) (made .ensures) (c .before .before .before .before .before .before .before .card-of2 .result) (c .before .before .before .before .before .before .before .card-of2 .ensures) after (cardIn s t))
 
 pub serve-in-spec : {M : Type 1} → statement M
 serve-in-spec =
     tie.close
     (tie.spec
-    card-requires
-    refusal-of-requires
     card-of-requires
+    refusal-of-requires
+    card-of-requires-2
     put-card-refusal-requires
     same-length
     same-length-2

@@ -1,7 +1,7 @@
--- `answers::in_place::card` meets its contract.
+-- `answers::in_place::card_of` meets its contract.
 use borrow.Author.Needs.{needs}
-use Rattle.answers.proofs.in_place.card.Statement.{statement}
-use Rattle.answers.proofs.in_place.card.Tie as tie
+use Rattle.answers.proofs.in_place.card_of.Statement.{statement}
+use Rattle.answers.proofs.in_place.card_of.Tie as tie
 use native.Mathlib.Omega.{arith}
 use borrow.Author.Tests.{not-true, not-false}
 use mathlib.Core.Path.{_∙_, sym, ap, refl}
@@ -10,7 +10,7 @@ use lib.Dec.{leb}
 use Prim.Native.Nat.{_*_}
 use denote.Ref.{now}
 use lib.ListN.{length}
-use Rattle.qbf.specs.Calls.{card}
+use Rattle.qbf.specs.Calls.{cardOf}
 use Rattle.qbf.specs.Card.{zeroTable}
 use Rattle.cover.proofs.Laws.{covers-none}
 use Rattle.state.proofs.Valid.{valid-numbers, valid-quantified}
@@ -30,7 +30,7 @@ same-length : tie.Need-same-length
 same-length c = search needs
 
 returns : tie.Need-returns
-returns c = served-as _ (card _) (c .not-listed .ensures _) (malformed-card _ _ _ (c .before .before .before .before .before .before .before .before .before .clear .ensures) (sym (c .before .before .check-tables .ensures .said) ∙ not-true _ (c .before .if1 .taken)))
+returns c = served-as _ (cardOf (c .before .before .before .before .before .before .before .before .before .before .before .before .args .yes) _) (c .not-listed .ensures _) (malformed-card _ (c .before .before .before .before .before .before .before .before .before .before .before .before .args .yes) _ _ (c .before .before .before .before .before .before .before .before .before .clear .ensures) (sym (c .before .before .check-tables .ensures .said) ∙ not-true _ (c .before .if1 .taken)))
 
 free-count-requires : tie.Need-free-count-requires
 free-count-requires c κs = search needs
@@ -57,8 +57,8 @@ returns-2 c =
     let v = sym (c .before .before .before .before .before .before .before .before .before .before .before .before .before .before .before .before .before .before .before .before .before .check-tables .ensures .said) ∙ not-false _ (c .before .before .before .before .before .before .before .before .before .before .before .before .before .before .before .before .before .before .before .before .if1 .left) in
     let frees = c .before .before .before .before .before .before .before .before .before .before .before .before .before .before .before .before .free-count .ensures _ (valid-numbers _ v) (valid-quantified _ v) in
     let sized = c .before .before .before .before .before .before .run .ensures .0 .0 ∙ cleared-length (length (now (c .before .before .before .before .before .before .before .before .before .before .before .before .before .before .before .before .before .before .before .before .before .before .before .before .before .before .before .before .before .before .before .args .table))) (c .before .before .before .before .before .before .before .before .before .before .before .before .before .before .before .before .before .before .before .before .before .before .before .before .before .before .before .before .clear .ensures) in
-    served-as _ (card _) (c .with-lines .ensures _)
-    (shown-card _ v _ (c .before .before .before .before .before .before .before .before .before .before .before .before .before .before .before .before .free-count .result) (c .before .before .before .before .before .before .run .result) _ _ frees sized
+    served-as _ (cardOf (c .before .before .before .before .before .before .before .before .before .before .before .before .before .before .before .before .before .before .before .before .before .before .before .before .before .before .before .before .before .before .before .args .yes) _) (c .with-lines .ensures _)
+    (shown-card _ v (c .before .before .before .before .before .before .before .before .before .before .before .before .before .before .before .before .before .before .before .before .before .before .before .before .before .before .before .before .before .before .before .args .yes) _ (c .before .before .before .before .before .before .before .before .before .before .before .before .before .before .before .before .free-count .result) (c .before .before .before .before .before .before .run .result) _ _ frees sized
     (c .before .before .before .before .before .before .run .ensures .1 _ _ v .found [] (c .before .before .before .before .before .before .before .before .before .before .before .before .before .before .before .before .before .before .before .before .before .check-tables .ensures .placed v) (c .before .before .before .before .before .before .before .before .before .before .before .before .before .before .before .before .before .before .before .before .before .check-tables .ensures .kinded v) (open-values _) refl frees (covers-none (c .before .before .before .before .before .before .before .before .before .before .before .before .before .before .before .before .free-count .result) (length (now (c .before .before .before .before .before .before .before .before .before .before .before .before .before .before .before .before .before .before .before .before .before .before .before .before .before .before .before .before .before .before .before .args .table))) _ (c .before .before .before .before .before .before .before .before .before .before .before .before .before .before .before .before .before .before .before .before .before .before .before .before .before .before .before .before .clear .ensures)))
     (c .before .before .before .total-lines .result) (c .before .before .before .total-lines .ensures) (ap (λ k. leb (c .before .before .before .total-lines .result * c .before .before .before .before .before .before .before .before .before .before .before .before .before .before .before .before .free-count .result) k) (sym sized) ∙ sym (c .before .before .fits2 .ensures) ∙ c .before .if2 .taken))
 
@@ -76,13 +76,13 @@ returns-3 c =
     let v = sym (c .before .before .before .before .before .before .before .before .before .before .before .before .before .before .before .before .before .before .before .before .before .before .before .before .before .check-tables .ensures .said) ∙ not-false _ (c .before .before .before .before .before .before .before .before .before .before .before .before .before .before .before .before .before .before .before .before .before .before .before .before .if1 .left) in
     let frees = c .before .before .before .before .before .before .before .before .before .before .before .before .before .before .before .before .before .before .before .before .free-count .ensures _ (valid-numbers _ v) (valid-quantified _ v) in
     let sized = c .before .before .before .before .before .before .before .before .before .before .run .ensures .0 .0 ∙ cleared-length (length (now (c .before .before .before .before .before .before .before .before .before .before .before .before .before .before .before .before .before .before .before .before .before .before .before .before .before .before .before .before .before .before .before .before .before .before .before .args .table))) (c .before .before .before .before .before .before .before .before .before .before .before .before .before .before .before .before .before .before .before .before .before .before .before .before .before .before .before .before .before .before .before .before .clear .ensures) in
-    served-as _ (card _) (c .not-listed2 .ensures (c .before .before .before .clear2 .last .0))
-    (full-card _ v _ (c .before .before .before .before .before .before .before .before .before .before .before .before .before .before .before .before .before .before .before .before .free-count .result) (c .before .before .before .before .before .before .before .before .before .before .run .result) _ _ frees sized
+    served-as _ (cardOf (c .before .before .before .before .before .before .before .before .before .before .before .before .before .before .before .before .before .before .before .before .before .before .before .before .before .before .before .before .before .before .before .before .before .before .before .args .yes) _) (c .not-listed2 .ensures (c .before .before .before .clear2 .last .0))
+    (full-card _ v (c .before .before .before .before .before .before .before .before .before .before .before .before .before .before .before .before .before .before .before .before .before .before .before .before .before .before .before .before .before .before .before .before .before .before .before .args .yes) _ (c .before .before .before .before .before .before .before .before .before .before .before .before .before .before .before .before .before .before .before .before .free-count .result) (c .before .before .before .before .before .before .before .before .before .before .run .result) _ _ frees sized
     (c .before .before .before .before .before .before .before .before .before .before .run .ensures .1 _ _ v .found [] (c .before .before .before .before .before .before .before .before .before .before .before .before .before .before .before .before .before .before .before .before .before .before .before .before .before .check-tables .ensures .placed v) (c .before .before .before .before .before .before .before .before .before .before .before .before .before .before .before .before .before .before .before .before .before .before .before .before .before .check-tables .ensures .kinded v) (open-values _) refl frees (covers-none (c .before .before .before .before .before .before .before .before .before .before .before .before .before .before .before .before .before .before .before .before .free-count .result) (length (now (c .before .before .before .before .before .before .before .before .before .before .before .before .before .before .before .before .before .before .before .before .before .before .before .before .before .before .before .before .before .before .before .before .before .before .before .args .table))) _ (c .before .before .before .before .before .before .before .before .before .before .before .before .before .before .before .before .before .before .before .before .before .before .before .before .before .before .before .before .before .before .before .before .clear .ensures)))
     (c .before .before .before .before .before .before .before .total-lines .result) (c .before .before .before .before .before .before .before .total-lines .ensures) _ (c .before .before .before .clear2 .ensures ∙ ap zeroTable sized) (ap (λ k. leb (c .before .before .before .before .before .before .before .total-lines .result * c .before .before .before .before .before .before .before .before .before .before .before .before .before .before .before .before .before .before .before .before .free-count .result) k) (sym sized) ∙ sym (c .before .before .before .before .before .before .fits2 .ensures) ∙ c .before .before .before .before .before .if2 .left))
 
-pub card-spec : {M : Type 1} → statement M
-card-spec =
+pub card-of-spec : {M : Type 1} → statement M
+card-of-spec =
     tie.close
     (tie.spec
     clear-requires
