@@ -3,3 +3,5 @@ pub mod Emptied
 pub mod Refusing
 pub mod Adding
 pub mod Told
+pub mod Kept
+pub mod Withdrawn

@@ -41,7 +41,7 @@ module _ {A : Type 0} where
 
 -- ---- tables that have the same rows
 module _ (w : ℕ) (f : List ℤ) (l : List ℕ) (f′ : List ℤ) (l′ : List ℕ) where
-  same-rows : (n : ℕ) → ((k : ℕ) → k < n → row w f′ l′ k ≡ row w f l k) → rows w f′ l′ n ≡ rows w f l n
+  pub same-rows : (n : ℕ) → ((k : ℕ) → k < n → row w f′ l′ k ≡ row w f l k) → rows w f′ l′ n ≡ rows w f l n
   same-rows zero h = rows-zero w f′ l′ ∙ sym (rows-zero w f l)
   same-rows (suc n) h =
       rows-suc w f′ l′ n

@@ -1,11 +1,12 @@
-// The calls rule and forget, open to outsiders: they change what a state holds, and ask for no search.
+// The calls rule, withdraw and forget, open to outsiders: they change what a state holds, and ask for no search.
 ghost use mathlib.Core.Path.{_≡_};
-ghost use Rattle.qbf.specs.Calls.{rule, forget};
+ghost use Rattle.qbf.specs.Calls.{rule, forget, withdraw};
 ghost use Rattle.serving.specs.Serves.{number, Serves};
 ghost use Rattle.rules.specs.Rules.{changeSaid};
 
 mod cells; // what they write into the state's tables
 mod clauses; // an accepted rule
+mod learned; // what a withdrawal leaves
 mod refusals; // the refusals of a rule
 pub mod in_place; // the calls on lent tables
 
@@ -80,6 +81,34 @@ pub fn rule(x: State, lits: &[i16]) -> Changed
     y.clauses = clauses;
     y.clause_sizes = clause_sizes;
     y.learned_cube_sizes = cube_sizes;
+    Changed {
+        change: change,
+        state: y,
+    }
+}
+
+// "Add a call that withdraws the rule added last. .. Passes remain valid and are kept."
+pub fn withdraw(x: State) -> Changed
+    ensures { λ r. ⌜ Serves x withdraw (changeSaid (r .change)) (r .state) ⌝ }
+{
+    let mut sizes = x.clause_sizes;
+    let mut learned = x.learned_clauses;
+    let mut learned_sizes = x.learned_clause_sizes;
+    let change = in_place::withdraw(
+        &x.numbers,
+        &x.levels,
+        &x.kinds,
+        &x.clauses,
+        &mut sizes,
+        &mut learned,
+        &mut learned_sizes,
+        &x.learned_cubes,
+        &x.learned_cube_sizes,
+    );
+    let mut y = x;
+    y.clause_sizes = sizes;
+    y.learned_clauses = learned;
+    y.learned_clause_sizes = learned_sizes;
     Changed {
         change: change,
         state: y,

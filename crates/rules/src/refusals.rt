@@ -29,6 +29,9 @@ const FULL: u16 = 20;
 // "22 the state is malformed"
 pub const MALFORMED: u16 = 22;
 
+// "Withdrawing from a book without rules is 32"
+pub const NO_RULE: u16 = 32;
+
 // Marks of a table by number: the numbers that a rule has named.
 const NEW: u8 = 0;
 
