@@ -1,5 +1,5 @@
 //! The rows that the definitions answer by computation (`crates/qbf/proofs/Bench.antt`,
-//! `Cases.antt`, `Withdrawals.antt` and `Finder.antt`), answered by this implementation.
+//! `Cases.antt`, `Withdrawals.antt`, `KeepCards.antt` and `Finder.antt`), answered by this implementation.
 
 use compare::check;
 use compare::dead::dead_clause;
@@ -8,23 +8,26 @@ use compare::slip::{Slip, ALL};
 use compare::{Answer, Call, Options, PlainRun, Said, Solver, Subject};
 
 /// Each table with how many rows it has at least.
-const TABLES: [(&str, &str, usize); 7] = [
+const TABLES: [(&str, &str, usize); 8] = [
     ("Bench.antt", "table", 10),
     ("Bench.antt", "others", 6),
     ("Cases.antt", "table", 28),
     ("Cases.antt", "on-states", 3),
     ("Withdrawals.antt", "table", 6),
     ("Withdrawals.antt", "on-states", 5),
+    ("KeepCards.antt", "table", 5),
     ("Cases.antt", "malformed", 16),
 ];
 
-/// What no row shows: records that move, where 64 learned clauses or several withdrawals are needed.
-const NOT_IN_ROWS: [Slip; 5] = [
+/// What no row shows: records that move, where 64 learned clauses or several withdrawals are needed, and
+/// the bytes of two No halves.
+const NOT_IN_ROWS: [Slip; 6] = [
     Slip::NewestFillsGap,
     Slip::RecordsCutNotFiltered,
     Slip::RecordsNotMoved,
     Slip::RecordOfDisplacedTaken,
     Slip::SearchRenewsRecords,
+    Slip::NoLineBytesLeft,
 ];
 
 fn rows(file: &str, name: &str) -> Vec<Row> {
@@ -60,8 +63,8 @@ fn changes(row: &Row, slip: Slip) -> bool {
     }
 }
 
-/// The rows are strong enough: every slip changes what one of them answers. No row writes a book or makes a
-/// keep card; their slips are shown by `slips` and the cases.
+/// The rows are strong enough: every slip changes what one of them answers. No row writes a book; its
+/// slips are shown by `slips` and the cases.
 /// The slips of the finder change one of its own rows.
 #[test]
 fn every_slip_changes_a_row() {
@@ -69,7 +72,7 @@ fn every_slip_changes_a_row() {
     let is_malformed = |row: &Row| check::malformed(&row.state, &Options::with(row.limits));
     let (malformed, sound): (Vec<Row>, Vec<Row>) = all.partition(is_malformed);
     let of_calls = |slip: Slip| {
-        let other = slip.is_of_writing() || slip.is_of_finder() || slip.is_of_keep_card();
+        let other = slip.is_of_writing() || slip.is_of_finder();
         !other && !NOT_IN_ROWS.contains(&slip)
     };
     for (slip, words) in ALL.iter().filter(|entry| of_calls(entry.0)) {
