@@ -319,7 +319,7 @@ fn query(formula: &Formula, random: &mut Random) -> Vec<i16> {
     on
 }
 
-/// Tables that hold few lines or many, and lengths that are no multiple of a line's.
+/// A card or keep card: tables that hold few lines or many, and lengths that are no multiple of a line's.
 fn card(formula: &Formula, random: &mut Random) -> Call {
     let free = formula.free_count();
     let length = match random.below(5) {
@@ -329,7 +329,10 @@ fn card(formula: &Formula, random: &mut Random) -> Call {
         3 => free * random.between(60, 600) + random.below(free + 1),
         _ => 65_536,
     };
-    Call::Card(length)
+    match random.one_in(3) {
+        true => Call::KeepCard(length),
+        false => Call::Card(length),
+    }
 }
 
 /// Tables near the length of the text, short ones and long ones.

@@ -53,6 +53,19 @@ extern "C" {
         table: *mut u8,
         length: usize,
     ) -> Reply;
+    fn bullacetop_keep_card_in_place(
+        numbers: *const u16,
+        levels: *const u16,
+        kinds: *const u16,
+        clauses: *const i16,
+        clause_sizes: *const u16,
+        learned_clauses: *mut i16,
+        learned_clause_sizes: *mut u16,
+        learned_cubes: *mut i16,
+        learned_cube_sizes: *mut u16,
+        table: *mut u8,
+        length: usize,
+    ) -> Reply;
     fn bullacetop_write_in_place(
         numbers: *const u16,
         levels: *const u16,
@@ -163,6 +176,25 @@ pub unsafe fn query(at: Tables, on: *const i16, count: usize) -> Reply {
 pub unsafe fn card(at: Tables, table: *mut u8, length: usize) -> Reply {
     let [numbers, levels, kinds, clauses, sizes, learned, learned_sizes, cubes, cube_sizes] = at;
     bullacetop_card_in_place(
+        numbers,
+        levels,
+        kinds,
+        clauses.cast(),
+        sizes,
+        learned.cast(),
+        learned_sizes,
+        cubes.cast(),
+        cube_sizes,
+        table,
+        length,
+    )
+}
+
+/// # Safety
+/// As for a card.
+pub unsafe fn keep_card(at: Tables, table: *mut u8, length: usize) -> Reply {
+    let [numbers, levels, kinds, clauses, sizes, learned, learned_sizes, cubes, cube_sizes] = at;
+    bullacetop_keep_card_in_place(
         numbers,
         levels,
         kinds,

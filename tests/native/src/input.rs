@@ -100,6 +100,9 @@ fn lengths(shape: Shape, random: &mut Random) -> Case {
             calls.push(Call::Forget);
         }
         calls.push(Call::Card(length));
+        if random.one_in(4) {
+            calls.push(Call::KeepCard(length));
+        }
     }
     let state = State { formula, store: Store::default() };
     Case { raw: reading::write(&state), calls, opened: true }

@@ -12,6 +12,7 @@ extern "C" {
     fn bullacetop_forget(x: Raw) -> Returned;
     fn bullacetop_query(x: Raw, on: *const i16, count: usize) -> Returned;
     fn bullacetop_card(x: Raw, table: *mut u8, length: usize) -> Returned;
+    fn bullacetop_keep_card(x: Raw, table: *mut u8, length: usize) -> Returned;
 }
 
 const GUARD: u8 = 0x5C;
@@ -54,21 +55,32 @@ impl Native {
                     in_place::lend(state, SEARCH, |at| unsafe { in_place::query(at, list, count) })
                 })?,
             ),
-            Call::Card(length) => {
+            Call::Card(length) | Call::KeepCard(length) => {
+                let keeps = matches!(call, Call::KeepCard(_));
                 table = vec![LENT_BYTE; *length];
                 let mut other = table.clone();
                 let by_value = lend_table(&mut table, |bytes, length| {
-                    Ok(unsafe { bullacetop_card(*state, bytes, length) })
+                    Ok(unsafe {
+                        match keeps {
+                            true => bullacetop_keep_card(*state, bytes, length),
+                            false => bullacetop_card(*state, bytes, length),
+                        }
+                    })
                 })?;
                 let in_place = lend_table(&mut other, |bytes, length| {
-                    in_place::lend(state, SEARCH, |at| unsafe { in_place::card(at, bytes, length) })
+                    in_place::lend(state, SEARCH, |at| unsafe {
+                        match keeps {
+                            true => in_place::keep_card(at, bytes, length),
+                            false => in_place::card(at, bytes, length),
+                        }
+                    })
                 })?;
                 if table != other {
                     return Err("the card tables by value and in place differ".into());
                 }
                 (by_value, in_place)
             }
-            Call::Withdraw | Call::KeepCard(_) => return Err(format!("the library has no {call}")),
+            Call::Withdraw => return Err(format!("the library has no {call}")),
             Call::Write(length) => {
                 // There is no such call by value: a call line is one, and is compared with the others.
                 table = vec![LENT_BYTE; *length];
@@ -186,13 +198,13 @@ fn lend_table(
 fn said(call: &Call, reply: &Reply) -> Result<Said, String> {
     let Reply { refusal, verdict, lines, visits } = *reply;
     let said = match (call, refusal, verdict, lines, visits) {
-        (Call::Card(_), 21, 0, 0, _) => Some(Said::Refused(21)),
+        (Call::Card(_) | Call::KeepCard(_), 21, 0, 0, _) => Some(Said::Refused(21)),
         (_, 1.., 0, 0, 0) => u8::try_from(refusal).ok().map(Said::Refused),
         (Call::Rule(_), 0, 0, 0, 0) => Some(Said::Added),
         (Call::Forget, 0, 0, 0, 0) => Some(Said::Forgotten),
         (Call::Query(_), 0, SWAP, 0, _) => Some(Said::Swap),
         (Call::Query(_), 0, KEEP, 0, _) => Some(Said::Keep),
-        (Call::Card(_), 0, 0, _, _) => Some(Said::Lines(lines)),
+        (Call::Card(_) | Call::KeepCard(_), 0, 0, _, _) => Some(Said::Lines(lines)),
         (Call::Write(_), 0, 0, _, 0) => Some(Said::Written(lines)),
         _ => None,
     };

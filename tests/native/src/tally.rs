@@ -62,14 +62,15 @@ impl Tally {
             }
             Said::Written(_) => self.written += 1,
         }
-        self.tables_of_no_byte += u64::from(*call == Call::Card(0));
+        self.tables_of_no_byte += u64::from(matches!(call, Call::Card(0) | Call::KeepCard(0)));
         self.visits += answer.visits;
         self.most_visits = self.most_visits.max(answer.visits);
     }
 
     pub fn searched(&mut self, call: &Call, formula: &Formula, before: &Store, after: &Store) {
         let free = formula.free_count().max(1);
-        let tail = matches!(call, Call::Card(length) if length % free != 0);
+        let tail =
+            matches!(call, Call::Card(length) | Call::KeepCard(length) if length % free != 0);
         self.tables_with_a_tail += u64::from(tail);
         let lists = [(&before.clauses, &after.clauses), (&before.cubes, &after.cubes)];
         for (count, (before, after)) in self.filled.iter_mut().zip(lists) {

@@ -59,9 +59,9 @@ const INPUTS: u64 = 8_000;
 fn every_slip_is_told_apart() {
     let seed = seed();
     let mut hidden = vec![];
-    // The library has neither call yet, but it has records.
+    // The library has no withdrawal yet, but it has records.
     let records = |slip: &Slip| slip.judges_state() || OF_RECORDS.contains(slip);
-    let later = |slip: &Slip| slip.is_of_withdrawal() && !records(slip) || slip.is_of_keep_card();
+    let later = |slip: &Slip| slip.is_of_withdrawal() && !records(slip);
     let shown_by_calls = |slip: &Slip| !COUNTS.contains(slip) && !slip.is_hidden() && !later(slip);
     for (slip, words) in ALL.iter().filter(|(slip, _)| shown_by_calls(slip)) {
         let indices = (0..INPUTS).flat_map(|index| sources(*slip).iter().map(move |s| (*s, index)));

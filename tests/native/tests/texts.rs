@@ -72,11 +72,12 @@ fn hold_text(input: &[u8], page: &mut Page) -> Option<Formula> {
 
 /// "22 the state is malformed", for every call, by value and in place.
 fn no_book(state: &Raw) {
-    let calls = [Call::Rule(vec![1]), Call::Query(vec![]), Call::Card(3), Call::Forget];
-    for call in calls {
+    let cards = [Call::Card(3), Call::KeepCard(3)];
+    let calls = [Call::Rule(vec![1]), Call::Query(vec![]), Call::Forget];
+    for call in calls.iter().chain(&cards) {
         let mut native = Native::new(Box::new(*state));
-        let answer = native.answer(&call).unwrap();
-        let table = vec![0; if call == Call::Card(3) { 3 } else { 0 }];
+        let answer = native.answer(call).unwrap();
+        let table = vec![0; if cards.contains(call) { 3 } else { 0 }];
         assert_eq!(answer, Answer { said: Said::Refused(22), table, visits: 0 }, "{call}");
         assert!(*native.state == *state, "{call}");
     }
@@ -131,7 +132,8 @@ impl Both {
         if matches!(said, Said::Refused(number) if number != 21) {
             assert!(found.state == self.state, "the state is not the given one: {}", shown(line));
         }
-        if !line.starts_with(b"(card") {
+        let cards: [&[u8]; 2] = [b"(card", b"(keep-card"];
+        if !cards.iter().any(|card| line.starts_with(card)) {
             assert!(self.cards.table() == before.table(), "cards are written: {}", shown(line));
         }
         if let Some(solver) = &self.solver {
@@ -290,6 +292,7 @@ fn given(input: native::input::Input) -> (Box<Raw>, Vec<Call>, bool) {
 fn narrowed(call: Call) -> Call {
     match call {
         Call::Card(length) => Call::Card(length.min(65_536)),
+        Call::KeepCard(length) => Call::KeepCard(length.min(65_536)),
         // Now and then without a size: then the whole text is written.
         Call::Write(length) if length % 3 == 0 => Call::Write(compare::write::WHOLE),
         Call::Write(length) => Call::Write(length.min(65_536)),
@@ -312,7 +315,7 @@ fn kind(said: Said) -> String {
 fn short_pages() {
     let case = draw(Source::Opened, seed(), 3).case;
     let books: [&[u8]; 2] = [b"(book 1)\n(flags 1)\n(rule 1)\n(end)\n", b"(book 2)\n"];
-    let lines: [&[u8]; 4] = [b"(forget)", b"(rule)", b"(card)", b"x"];
+    let lines: [&[u8]; 5] = [b"(forget)", b"(rule)", b"(card)", b"(keep-card)", b"x"];
     for length in [0, 1, 15, 1_000, room() - 1, room()] {
         let fits = length == room();
         for book in books {
