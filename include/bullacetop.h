@@ -370,7 +370,7 @@ struct bullacetop_opened bullacetop_open(const uint8_t *text, size_t n);
 struct bullacetop_opened bullacetop_open_qdimacs(const uint8_t *text, size_t n);
 
 /* The arrays follow one another without a gap. */
-typedef char bullacetop_state_has_no_gap[sizeof(struct bullacetop_state) == 19418 ? 1 : -1];
+typedef char bullacetop_state_has_no_gap[sizeof(struct bullacetop_state) == 19546 ? 1 : -1];
 
 #ifdef __cplusplus
 }
