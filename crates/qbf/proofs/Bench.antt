@@ -5,8 +5,8 @@ use mathlib.Core.Bool.{true, false}
 use mathlib.Core.List.{List, [], _∷_, _++_, map}
 use lib.ListN.{replicate}
 use Rattle.qbf.specs.Formula.{paper, exists, forall, free, Literal, Formula, placeOf}
-use Rattle.qbf.specs.Calls.{card, cardRefused, done, forget, keep, lines, query, refused, rule, swap}
-use Rattle.qbf.proofs.Rows.{y, n, dec, under, opened, Row, row, ran, expected}
+use Rattle.qbf.specs.Calls.{cardRefused, done, forget, keep, lines, refused, rule, swap}
+use Rattle.qbf.proofs.Rows.{y, n, dec, under, opened, Row, row, ran, expected, card, query}
 use Rattle.qbf.proofs.Books.{A, A′, A-rules, B, C, D, D-rules}
 
 table : List Row
@@ -45,10 +45,10 @@ others =
     ∷ []
 
 other-cases : map ran others ≡ map expected others
-unfolding placeOf ran expected row others many wide all-on A A′ A-rules B C D D-rules opened under dec y n
+unfolding placeOf ran expected row others many wide all-on A A′ A-rules B C D D-rules opened under dec y n card query
 other-cases = refl
 
 -- each row of the table gives its replies, in both runs, and its visits
 bench : map ran table ≡ map expected table
-unfolding placeOf ran expected row table A A′ A-rules B C D D-rules opened under dec y n
+unfolding placeOf ran expected row table A A′ A-rules B C D D-rules opened under dec y n card query
 bench = refl

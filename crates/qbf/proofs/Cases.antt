@@ -5,8 +5,8 @@ use mathlib.Core.List.{List, [], _∷_, _++_, map}
 use lib.ListN.{length, replicate}
 use Rattle.qbf.specs.Formula.{paper, exists, forall, free, Formula, placeOf, levels}
 use Rattle.qbf.specs.Learning.{Constraint, Store, constraints, learn}
-use Rattle.qbf.specs.Calls.{card, cardRefused, done, forget, keep, lines, query, refused, rule, swap}
-use Rattle.qbf.proofs.Rows.{y, n, dec, under, held, opened, Row, row, ran, expected, Given, given, gave, wanted}
+use Rattle.qbf.specs.Calls.{cardRefused, done, forget, keep, lines, refused, rule, swap}
+use Rattle.qbf.proofs.Rows.{y, n, dec, under, held, opened, Row, row, ran, expected, Given, given, gave, wanted, card, query}
 
 -- a learned clause for each list, stored when no rule stood, and a cube for each
 store : List Constraint → List Constraint → Store
@@ -217,15 +217,15 @@ malformed =
 
 -- ---- the theorems
 cases : map ran table ≡ map expected table
-unfolding placeOf ran expected table row opened under dec y n
+unfolding placeOf ran expected table row opened under dec y n card query
 cases = refl
 
 cases-on-states : map gave on-states ≡ map wanted on-states
-unfolding placeOf gave wanted on-states given store opened under dec y n
+unfolding placeOf gave wanted on-states given store opened under dec y n card query
 cases-on-states = refl
 
 cases-malformed : map gave malformed ≡ map wanted malformed
-unfolding placeOf gave wanted malformed broken given store held dec y n
+unfolding placeOf gave wanted malformed broken given store held dec y n card query
 cases-malformed = refl
 
 -- 64 of each polarity stand, and a 65th displaces the first

@@ -3,8 +3,8 @@ use mathlib.Core.Path.{_≡_, refl}
 use mathlib.Core.Bool.{true, false}
 use mathlib.Core.List.{List, [], _∷_, map}
 use Rattle.qbf.specs.Formula.{exists, forall, placeOf}
-use Rattle.qbf.specs.Calls.{card, cardRefused, forget, done, keep, keepCard, lines, query}
-use Rattle.qbf.proofs.Rows.{y, n, dec, under, opened, Row, row, ran, expected}
+use Rattle.qbf.specs.Calls.{cardRefused, forget, done, keep, lines}
+use Rattle.qbf.proofs.Rows.{y, n, dec, under, opened, Row, row, ran, expected, card, keepCard, query}
 use Rattle.qbf.proofs.Books.{A, A′, A-rules, B}
 
 table : List Row
@@ -23,5 +23,5 @@ table =
     ∷ []
 
 keep-cards : map ran table ≡ map expected table
-unfolding placeOf ran expected row table A A′ A-rules B opened under dec y n
+unfolding placeOf ran expected row table A A′ A-rules B opened under dec y n card keepCard query
 keep-cards = refl

@@ -6,3 +6,4 @@ pub mod Finder
 pub mod Withdrawals
 pub mod KeepCards
 pub mod Ones
+pub mod Ceilings

@@ -4,6 +4,7 @@ use mathlib.Core.List.{List, map}
 use lib.IntN.{pos, negℤ}
 use Rattle.qbf.specs.Formula.{Limits, paper, Quantifier, Prefix, Literal, Clause, Formula}
 use Rattle.qbf.specs.Learning.{Store}
+use Rattle.qbf.specs.Ceiling.{highestCeiling}
 use Rattle.qbf.specs.Calls.{Call, Reply, clauseOf}
 use Rattle.qbf.specs.Runs.{plainRun, learningRun, fresh}
 
@@ -27,6 +28,16 @@ under L ds rs = record { limits = L; prefix = ds; clauses = map (clauseOf ds) rs
 
 unfoldable pub opened : Prefix → List (List Literal) → Formula
 opened ds rs = under paper ds rs
+
+-- calls under the highest ceiling, which no row's search needs
+unfoldable pub query : List Literal → Call
+query ls = Call.query highestCeiling ls
+
+unfoldable pub card : ℕ → Call
+card size = Call.card highestCeiling size
+
+unfoldable pub keepCard : ℕ → Call
+keepCard size = Call.keepCard highestCeiling size
 
 -- calls on a freshly opened formula: the replies of both runs, and the visits of each
 pub record Row : Type 0 where

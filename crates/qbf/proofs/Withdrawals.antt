@@ -5,9 +5,9 @@ use mathlib.Core.Bool.{true, false}
 use mathlib.Core.List.{List, [], _∷_, map}
 use Rattle.qbf.specs.Formula.{free, placeOf}
 use Rattle.qbf.specs.Learning.{Constraint, Store}
-use Rattle.qbf.specs.Calls.{card, done, forget, keep, lines, query, refused, rule, withdraw}
+use Rattle.qbf.specs.Calls.{done, forget, keep, lines, refused, rule, withdraw}
 use Rattle.qbf.specs.Runs.{after, fresh}
-use Rattle.qbf.proofs.Rows.{y, n, dec, under, opened, Row, row, ran, expected, Given, given, gave, wanted}
+use Rattle.qbf.proofs.Rows.{y, n, dec, under, opened, Row, row, ran, expected, Given, given, gave, wanted, card, query}
 use Rattle.qbf.proofs.Books.{A, A-rules, B, D, D-rules}
 
 recorded : List Constraint → List ℕ → List Constraint → Store
@@ -62,18 +62,18 @@ on-states =
     ∷ []
 
 withdrawals : map ran table ≡ map expected table
-unfolding placeOf ran expected row table A A-rules B D D-rules opened under dec y n
+unfolding placeOf ran expected row table A A-rules B D D-rules opened under dec y n card query
 withdrawals = refl
 
 withdrawals-on-states : map gave on-states ≡ map wanted on-states
-unfolding placeOf gave wanted on-states given recorded opened under dec y n
+unfolding placeOf gave wanted on-states given recorded opened under dec y n card query
 withdrawals-on-states = refl
 
 -- B's card stores the empty clause, with the record 2; withdrawing drops it
 one-record : after (fresh B) (card 2 ∷ []) .store ≡ recorded ([] ∷ []) (2 ∷ []) []
-unfolding placeOf recorded B opened under dec y n
+unfolding placeOf recorded B opened under dec y n card query
 one-record = refl
 
 no-record : after (fresh B) (card 2 ∷ withdraw ∷ []) .store ≡ recorded [] [] []
-unfolding placeOf recorded B opened under dec y n
+unfolding placeOf recorded B opened under dec y n card query
 no-record = refl

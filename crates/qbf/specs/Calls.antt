@@ -1,30 +1,40 @@
 -- The calls rule, query, card, forget, withdraw and keep card on a state, with every refusal, and the exactly-one form. Paper 01, "Calls and
--- card" and both lists of refusals; paper 02, wishes 4, 7 and 10.
+-- card" and both lists of refusals; paper 02, wishes 4, 7, 8 and 10.
 use Prim.Native.Nat.{ℕ, _+_, _*_, _-_}
 use mathlib.Core.Bool.{Bool, true, false, cond, not, _&&_, _||_}
 use mathlib.Core.List.{List, [], _∷_, _++_, map}
 use mathlib.Core.Option.{Option, none, some}
 use lib.ListN.{length, take}
 use lib.Dec.{leb, ltb, eqb}
-use Rattle.qbf.specs.Formula.{Limits, Quantifier, free, exists, forall, isFree, Prefix, quantifiers, Literal, numberOf, positive, Clause, Node, Formula, any, all, placeOf, place, quantifierAt}
+use Rattle.qbf.specs.Formula.{Limits, highest, mostFree, Quantifier, free, exists, forall, isFree, Prefix, quantifiers, Literal, numberOf, positive, Clause, Node, Formula, any, all, placeOf, place, quantifierAt}
 use Rattle.qbf.specs.Truth.{Verdict, Outcome, decided, mixed, outline, decidedNodes, select, bound, freeVariables}
-use Rattle.qbf.specs.Learning.{Polarity, Constraint, Store, constraints, emptyStore, union, lastPlace, dropped, LearningResult, learningSearch}
+use Rattle.qbf.specs.Learning.{Polarity, Constraint, Store, constraints, emptyStore, union, lastPlace, dropped, LearningResult}
+use Rattle.qbf.specs.Ceiling.{Attempt, finished, stopped, searchWithin}
 use Rattle.qbf.specs.Card.{tableOf, zeroTable}
 use Rattle.qbf.specs.One.{oneForms, oneCount}
 
--- A call with its arguments as a caller may give them: any signed numbers; of a card's table its length.
+-- A call with its arguments as a caller may give them: any signed numbers; of a card's table its length. "query and either card take a
+-- ceiling on visits", their first argument.
 pub data Call : Type 0 where
   rule : List Literal → Call
-  query : List Literal → Call
-  card : ℕ → Call
+  query : ℕ → List Literal → Call
+  card : ℕ → ℕ → Call
   forget : Call
   withdraw : Call
-  keepCard : ℕ → Call
+  keepCard : ℕ → ℕ → Call
 
 -- "Make the keep card in the same way, with topmost No nodes": the card of the lines with the verdict p
-abbrev pub cardOf : Verdict → ℕ → Call
-cardOf true size = card size
-cardOf false size = keepCard size
+abbrev pub cardOf : Verdict → ℕ → ℕ → Call
+cardOf true ceiling size = card ceiling size
+cardOf false ceiling size = keepCard ceiling size
+
+abbrev pub ceilingOf : Call → Option ℕ
+ceilingOf (rule ls) = none
+ceilingOf (query ceiling ls) = some ceiling
+ceilingOf (card ceiling size) = some ceiling
+ceilingOf forget = none
+ceilingOf withdraw = none
+ceilingOf (keepCard ceiling size) = some ceiling
 
 -- What a call answers but for its visits; `done` is an accepted rule, a rule withdrawn, or a store emptied. A card has its lines and the
 -- bytes of its table, and a refused card the bytes too.
@@ -41,6 +51,15 @@ pub record Answer : Type 0 where
 
 abbrev pub answer : Reply → ℕ → Answer
 answer r n = record { reply = r; visits = n }
+
+-- "A refusal returns its number .. and zeroes the card table."
+abbrev pub refusal : ℕ → Call → Reply
+refusal n (rule ls) = refused n
+refusal n (query ceiling ls) = refused n
+refusal n (card ceiling size) = cardRefused n (zeroTable size)
+refusal n (keepCard ceiling size) = cardRefused n (zeroTable size)
+refusal n forget = refused n
+refusal n withdraw = refused n
 
 -- ---- refusals of the arguments. "The first fault decides."
 abbrev pub _orElse_ : Option ℕ → Option ℕ → Option ℕ
@@ -163,31 +182,38 @@ pub record Called : Type 0 where
 abbrev pub learningAnswer : (Outcome (Unit {0}) → Reply) → LearningResult → Called
 learningAnswer tell w = record { store = w .store; out = answer (tell (outline (w .outcome))) (w .visits) }
 
-abbrev pub learningQuery : Option ℕ → Formula → Store → List Literal → Called
-learningQuery (some n) b st ls = record { store = st; out = answer (refused n) 0 }
-learningQuery none b st ls =
-    learningAnswer queryReply (learningSearch (b .limits) (b .prefix) (b .clauses) (bound (quantifiers (b .prefix))) (startNode ls (b .prefix)) st)
+-- "a stopped walk returns 34, never 21, with visits equal to the ceiling and a zeroed card": the reply to a stopped call is the one given
+abbrev pub attemptAnswer : Reply → ℕ → (Outcome (Unit {0}) → Reply) → Attempt → Called
+attemptAnswer over ceiling tell (finished w) = learningAnswer tell w
+attemptAnswer over ceiling tell (stopped st) = record { store = st; out = answer over ceiling }
+
+abbrev pub learningQuery : Option ℕ → Formula → Store → ℕ → List Literal → Called
+learningQuery (some n) b st ceiling ls = record { store = st; out = answer (refused n) 0 }
+learningQuery none b st ceiling ls =
+    attemptAnswer (refused 34) ceiling queryReply
+    (searchWithin (b .limits) (b .prefix) (b .clauses) ceiling (bound (quantifiers (b .prefix))) (startNode ls (b .prefix)) st)
 
 -- "A card starts at the empty node."
-abbrev pub learningCard : Verdict → Formula → Store → ℕ → Called
-learningCard p b st size =
-    learningAnswer (cardReplyOf p (b .prefix) size) (learningSearch (b .limits) (b .prefix) (b .clauses) (quantifiers (b .prefix)) [] st)
+abbrev pub learningCard : Verdict → Formula → Store → ℕ → ℕ → Called
+learningCard p b st ceiling size =
+    attemptAnswer (cardRefused 34 (zeroTable size)) ceiling (cardReplyOf p (b .prefix) size)
+    (searchWithin (b .limits) (b .prefix) (b .clauses) ceiling (quantifiers (b .prefix)) [] st)
 
 -- "Forget empties the store."
 abbrev pub learningCall : Formula → Store → Call → Called
 learningCall b st (rule ls) = record { store = storeAfterRule (ruleFault b ls) st; out = answer (ruleReply (ruleFault b ls)) 0 }
-learningCall b st (query ls) = learningQuery (queryFault b [] ls) b st ls
-learningCall b st (card size) = learningCard true b st size
-learningCall b st (keepCard size) = learningCard false b st size
+learningCall b st (query ceiling ls) = learningQuery (queryFault b [] ls) b st ceiling ls
+learningCall b st (card ceiling size) = learningCard true b st ceiling size
+learningCall b st (keepCard ceiling size) = learningCard false b st ceiling size
 learningCall b st forget = record { store = emptyStore; out = answer done 0 }
 learningCall b st withdraw =
     record { store = storeAfterWithdraw (withdrawFault b) (length (b .clauses) - 1) st; out = answer (ruleReply (withdrawFault b)) 0 }
 
 abbrev pub nextFormula : Formula → Call → Formula
 nextFormula b (rule ls) = withRule (ruleFault b ls) b ls
-nextFormula b (query ls) = b
-nextFormula b (card size) = b
-nextFormula b (keepCard size) = b
+nextFormula b (query ceiling ls) = b
+nextFormula b (card ceiling size) = b
+nextFormula b (keepCard ceiling size) = b
 nextFormula b forget = b
 nextFormula b withdraw = withoutLast (withdrawFault b) b
 
@@ -225,12 +251,17 @@ clauseOk L D r = leb 1 (length r) && leb (length r) (L .literals) && inOrder D 0
 abbrev pub clausesOk : Limits → Prefix → List Clause → Bool
 clausesOk L D R = leb (length R) (L .clauses) && all (clauseOk L D) R
 
--- a store has room for one constraint of each polarity
+-- a store has room for one constraint of each polarity; "a state with higher ones is 22"
 abbrev pub limitsOk : Limits → Bool
-limitsOk L = leb 1 (L .constraints)
+limitsOk L = leb 1 (L .constraints) && (leb (L .numbers) (highest .numbers) && leb (L .clauses) (highest .clauses))
+
+-- "flags stay at most 40"
+abbrev pub freeOk : Prefix → Bool
+freeOk D = leb (freeVariables D) mostFree
 
 abbrev pub formulaOk : Formula → Bool
-formulaOk b = limitsOk (b .limits) && (prefixOk (b .limits) (b .prefix) && clausesOk (b .limits) (b .prefix) (b .clauses))
+formulaOk b =
+    limitsOk (b .limits) && (freeOk (b .prefix) && (prefixOk (b .limits) (b .prefix) && clausesOk (b .limits) (b .prefix) (b .clauses)))
 
 -- in place order and reduced
 abbrev pub constraintOk : Prefix → Polarity → Constraint → Bool
@@ -257,15 +288,6 @@ wellFormed x =
 pub record Stepped : Type 0 where
   pub state : State
   pub out : Answer
-
--- "A refusal returns its number .. and zeroes the card table."
-abbrev pub refusal : ℕ → Call → Reply
-refusal n (rule ls) = refused n
-refusal n (query ls) = refused n
-refusal n (card size) = cardRefused n (zeroTable size)
-refusal n (keepCard size) = cardRefused n (zeroTable size)
-refusal n forget = refused n
-refusal n withdraw = refused n
 
 -- "Order: 22, ..": a malformed state is refused first, and stays as it is
 abbrev pub guarded : Bool → State → Call → Stepped

@@ -1,7 +1,7 @@
 -- What the three demands say of the definitions: the statements of the theorems in proofs/Demands.antt.
 use Prim.Native.Nat.{ℕ, _*_, _≤_, _<_}
 use mathlib.Core.Path.{_≡_}
-use mathlib.Core.Logic.{_↔_}
+use mathlib.Core.Logic.{_↔_, _⊎_}
 use mathlib.Core.Bool.{true, false}
 use mathlib.Core.List.{List, [], _∷_}
 use mathlib.Core.Option.{Option, none, some}
@@ -9,7 +9,7 @@ use lib.ListN.{length}
 use Rattle.qbf.specs.Formula.{Prefix, Clause, Node}
 use Rattle.qbf.specs.Truth.{Verdict, truth, freeVariables}
 use Rattle.qbf.specs.Card.{Mem, IsLine, liesOn, Rises, tableOf, zeroTable}
-use Rattle.qbf.specs.Calls.{Reply, done, refused, swap, keep, lines, cardRefused, Answer, State, Stepped}
+use Rattle.qbf.specs.Calls.{Call, ceilingOf, Reply, done, refused, swap, keep, lines, cardRefused, Answer, refusal, State, Stepped}
 
 -- ---- demand 1: refusals
 -- the number of a refusal
@@ -21,11 +21,17 @@ refusalOf keep = none
 refusalOf (lines ls tb) = none
 refusalOf (cardRefused n tb) = some n
 
--- "A refused call leaves declarations and rules as they were." "A refusal returns .. 0 visits and the state as given .. Only 21 differs."
-pub record Leaves (n : ℕ) (x : State) (r : Stepped) : Type 0 where
+-- a refusal that comes after a search, whose visits are returned and whose store is kept: of a full table, or of a search that stopped
+abbrev pub AfterSearch : ℕ → Type 0
+AfterSearch n = (n ≡ 21) ⊎ (n ≡ 34)
+
+-- "A refused call leaves declarations and rules as they were." "A refusal returns .. 0 visits and the state as given .. Only 21 differs",
+-- and 34, "with visits equal to the ceiling".
+pub record Leaves (n : ℕ) (x : State) (c : Call) (r : Stepped) : Type 0 where
   pub formula : r .state .formula ≡ x .formula
-  pub state : (n ≡ 21 → ⊥) → r .state ≡ x
-  pub visits : (n ≡ 21 → ⊥) → r .out .visits ≡ 0
+  pub state : (AfterSearch n → ⊥) → r .state ≡ x
+  pub visits : (AfterSearch n → ⊥) → r .out .visits ≡ 0
+  pub stopped : n ≡ 34 → ceilingOf c ≡ some (r .out .visits)
 
 -- ---- demand 2: cards
 -- The lines of a card (p true: Yes lines). "A reading lies on a line exactly when the quantified rules are true for it. The lines are
@@ -50,18 +56,23 @@ pub record CardFull (p : Verdict) (D : Prefix) (R : List Clause) (size n : ℕ) 
   pub right : CardRight p D R them
   pub over : size < length them * freeVariables D
 
+-- a card that is stopped: 34, and the table is all zero
+pub record CardStopped (size n : ℕ) (tb : List ℕ) : Type 0 where
+  pub number : n ≡ 34
+  pub zeros : tb ≡ zeroTable size
+
 abbrev pub CardOwed : Verdict → Prefix → List Clause → ℕ → Reply → Type 0
 CardOwed p D R size done = ⊥
 CardOwed p D R size (refused n) = ⊥
 CardOwed p D R size swap = ⊥
 CardOwed p D R size keep = ⊥
 CardOwed p D R size (lines ls tb) = CardShown p D R size ls tb
-CardOwed p D R size (cardRefused n tb) = CardFull p D R size n tb
+CardOwed p D R size (cardRefused n tb) = CardFull p D R size n tb ⊎ CardStopped size n tb
 
--- what the reply to a query owes: the truth of its reading t
+-- what the reply to a query owes: the truth of its reading t, or a refusal of its numbers or of a search that stopped
 abbrev pub QueryOwed : Prefix → List Clause → Node → Reply → Type 0
 QueryOwed D R t done = ⊥
-QueryOwed D R t (refused n) = n ≡ 8
+QueryOwed D R t (refused n) = (n ≡ 8) ⊎ (n ≡ 34)
 QueryOwed D R t swap = truth D R t ≡ true
 QueryOwed D R t keep = truth D R t ≡ false
 QueryOwed D R t (lines ls tb) = ⊥
@@ -74,8 +85,21 @@ pub record Agree (l p : Answer) : Type 0 where
   pub reply : l .reply ≡ p .reply
   pub visits : l .visits ≤ p .visits
 
-abbrev pub AllAgree : List Answer → List Answer → Type 0
-AllAgree [] [] = Unit {0}
-AllAgree [] (p ∷ ps) = ⊥
-AllAgree (l ∷ ls) [] = ⊥
-AllAgree (l ∷ ls) (p ∷ ps) = Agree l p × AllAgree ls ps
+-- "only a stopped call's answer is not compared with it, its visits still are": they are the ceiling. "It stops only when the call's full
+-- walk would need more", and so would the plain one.
+pub record Stopped (c : Call) (l p : Answer) : Type 0 where
+  pub reply : l .reply ≡ refusal 34 c
+  pub ceiling : ceilingOf c ≡ some (l .visits)
+  pub needed : l .visits < p .visits
+
+abbrev pub Agrees : Call → Answer → Answer → Type 0
+Agrees c l p = Agree l p ⊎ Stopped c l p
+
+-- the answers to the calls of a list
+abbrev pub AllAgree : List Call → List Answer → List Answer → Type 0
+AllAgree [] [] [] = Unit {0}
+AllAgree [] [] (p ∷ ps) = ⊥
+AllAgree [] (l ∷ ls) ps = ⊥
+AllAgree (c ∷ cs) [] ps = ⊥
+AllAgree (c ∷ cs) (l ∷ ls) [] = ⊥
+AllAgree (c ∷ cs) (l ∷ ls) (p ∷ ps) = Agrees c l p × AllAgree cs ls ps

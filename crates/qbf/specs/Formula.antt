@@ -1,6 +1,6 @@
 -- The formula (the paper's book): prefix and clauses; nodes of the search tree; satisfied and dead clauses.
 -- Paper 01, "Book". A variable's number, its place and its level are three counters that never stand in for one another.
-use Prim.Native.Nat.{ℕ, zero, suc}
+use Prim.Native.Nat.{ℕ, zero, suc, min}
 use mathlib.Core.Bool.{Bool, true, false, cond, _&&_, _||_, Bool·beq}
 use mathlib.Core.List.{List, [], _∷_, _++_, map}
 use mathlib.Core.Option.{Option, none, some}
@@ -16,9 +16,22 @@ pub record Limits : Type 0 where
   pub literals : ℕ
   pub constraints : ℕ
 
--- "1 to 40", "At most 255 rules", "1 to 16 literals", "64 bars and 64 passes"
+-- "1 to 40", "At most 255 rules", "1 to 16 literals", "64 bars and 64 passes": the limits that the program uses
 abbrev pub paper : Limits
 paper = record { numbers = 40; clauses = 255; literals = 16; constraints = 64 }
+
+-- "Variable numbers run to 1,000, rules to 4,000"
+abbrev pub highest : Limits
+highest = record { numbers = 1000; clauses = 4000; literals = paper .literals; constraints = paper .constraints }
+
+-- "A book is opened with its own limits for numbers and rules, capped at these". Those of a clause's literals and of the store are fixed;
+-- "its limit for the literals of a stored entry is that for numbers", as a constraint names each variable once.
+abbrev pub capped : ℕ → ℕ → Limits
+capped n m = record { numbers = min n (highest .numbers); clauses = min m (highest .clauses); literals = highest .literals; constraints = highest .constraints }
+
+-- "flags stay at most 40"
+abbrev pub mostFree : ℕ
+mostFree = 40
 
 -- ---- the prefix
 -- "A book declares flags (the free variables), then groups marked exists or forall." A flag is a free variable.

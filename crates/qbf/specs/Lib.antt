@@ -2,6 +2,7 @@ pub mod Formula
 pub mod Truth
 pub mod Plain
 pub mod Learning
+pub mod Ceiling
 pub mod Card
 pub mod Finder
 pub mod One

@@ -45,8 +45,8 @@ isRefused (some n) = true
 
 abbrev pub keepsClauses : Formula → Call → Bool
 keepsClauses b (rule ls) = isRefused (ruleFault b ls)
-keepsClauses b (query ls) = true
-keepsClauses b (card size) = true
+keepsClauses b (query ceiling ls) = true
+keepsClauses b (card ceiling size) = true
 keepsClauses b forget = true
 keepsClauses b withdraw = isRefused (withdrawFault b)
-keepsClauses b (keepCard size) = true
+keepsClauses b (keepCard ceiling size) = true

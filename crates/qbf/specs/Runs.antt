@@ -22,11 +22,12 @@ plainQuery none b ls = plainAnswer queryReply (plainSearch (b .prefix) (b .claus
 abbrev pub plainCard : Verdict → Formula → ℕ → Answer
 plainCard p b size = plainAnswer (cardReplyOf p (b .prefix) size) (plainSearch (b .prefix) (b .clauses) (quantifiers (b .prefix)) [])
 
+-- "the plain run has the same limits and no ceiling"
 abbrev pub plainCall : Formula → Call → Answer
 plainCall b (rule ls) = answer (ruleReply (ruleFault b ls)) 0
-plainCall b (query ls) = plainQuery (queryFault b [] ls) b ls
-plainCall b (card size) = plainCard true b size
-plainCall b (keepCard size) = plainCard false b size
+plainCall b (query ceiling ls) = plainQuery (queryFault b [] ls) b ls
+plainCall b (card ceiling size) = plainCard true b size
+plainCall b (keepCard ceiling size) = plainCard false b size
 plainCall b forget = answer done 0
 plainCall b withdraw = answer (ruleReply (withdrawFault b)) 0
 

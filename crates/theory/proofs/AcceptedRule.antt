@@ -80,6 +80,7 @@ rule-formula b ls h (some n) e = h
 rule-formula b ls h none e =
     record {
       limits-ok = h .limits-ok;
+      free-ok = h .free-ok;
       prefix-ok = h .prefix-ok;
       clauses-ok =
           and-both (leb (length R′) (L .clauses)) (all (clauseOk L D) R′)
@@ -121,8 +122,8 @@ rule-formula b ls h none e =
 -- the next formula of a call is well formed
 pub next-formula : (b : Formula) → FormulaFacts b → (c : Call) → FormulaFacts (nextFormula b c)
 next-formula b h (rule ls) = rule-formula b ls h (ruleFault b ls) refl
-next-formula b h (query ls) = h
-next-formula b h (card size) = h
+next-formula b h (query ceiling ls) = h
+next-formula b h (card ceiling size) = h
 next-formula b h forget = h
-next-formula b h (keepCard size) = h
+next-formula b h (keepCard ceiling size) = h
 next-formula b h withdraw = withdraw-formula b h (withdrawFault b)

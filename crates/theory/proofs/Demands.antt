@@ -10,25 +10,27 @@ use Rattle.qbf.specs.Formula.{Clause, Formula, Limits, Literal, Node, Prefix, Q
 use Rattle.qbf.specs.Truth.{freeVariables, outline, verdictOf}
 use Rattle.qbf.specs.Plain.{plainSearch}
 use Rattle.qbf.specs.Learning.{Constraint, Store, constraints, learningSearch}
+use Rattle.qbf.specs.Ceiling.{searchWithin}
 use Rattle.qbf.specs.Card.{Mem}
-use Rattle.qbf.specs.Calls.{Call, State, cardOf, formulaOk, lines, query, startNode, step, wellFormed}
+use Rattle.qbf.specs.Calls.{Answer, Call, State, cardOf, ceilingOf, formulaOk, lines, query, startNode, step, wellFormed}
 use Rattle.qbf.specs.Runs.{after, fresh, learningRun, plainRun}
 use Rattle.qbf.specs.Partition.{Partition, keepsClauses}
-use Rattle.qbf.specs.Demands.{AllAgree, CardOwed, Leaves, QueryOwed, refusalOf}
+use Rattle.qbf.specs.Demands.{Agree, Agrees, AllAgree, CardOwed, Leaves, QueryOwed, refusalOf}
 use Rattle.theory.proofs.Leaves.{ByFirst, Valid}
 use Rattle.theory.proofs.Stores.{RecordedStore}
 use Rattle.theory.proofs.Starting.{Starts, learning, plainly, searched}
-use Rattle.theory.proofs.Refusals.{refusals, refused-leaves, refused-known}
-use Rattle.theory.proofs.Runs.{Reached, fresh-reached, reached-formed, run-agrees}
+use Rattle.theory.proofs.Refusals.{refusals, refused-leaves, refused-known, under-ceiling}
+use Rattle.theory.proofs.Runs.{Reached, fits-agree, fresh-reached, reached-formed, run-agrees}
 use Rattle.theory.proofs.Preserved.{step-formed}
 use Rattle.theory.proofs.Cards.{after-reached, card-owed}
 use Rattle.theory.proofs.Partition.{both-cards}
 use Rattle.theory.proofs.Queries.{query-owed}
 use Rattle.theory.proofs.Bound.{search-bound, plain-bound}
+use Rattle.theory.proofs.Ceiling.{Any, Within, search-within-any}
 
 -- ---- demand 1: "Nothing refused changes the book's declarations or rules, and every refusal has its number and leaves what the
 -- paper says." On any state, well formed or not.
-pub demand-1 : (x : State) (c : Call) (n : ℕ) → refusalOf (step x c .out .reply) ≡ some n → Leaves n x (step x c)
+pub demand-1 : (x : State) (c : Call) (n : ℕ) → refusalOf (step x c .out .reply) ≡ some n → Leaves n x c (step x c)
 demand-1 = refused-leaves
 
 -- the number is one of the paper's for that call
@@ -38,6 +40,14 @@ refusal-known = refused-known
 -- "no .. state makes the box .. run without end": with the places of ks left a search makes fewer than 2 ^ (length ks + 1) visits
 pub visits-bounded : (L : Limits) (D : Prefix) (R : List Clause) (ks : List Quantifier) (s : Node) (st : Store) → learningSearch L D R ks s st .visits < 2 ^ suc (length ks)
 visits-bounded = search-bound
+
+-- under a ceiling no call makes more visits than that, on any state; "It stops only when the call's full walk would need more", and else is
+-- that walk
+pub visits-under-ceiling : (x : State) (c : Call) (n : ℕ) → ceilingOf c ≡ some n → step x c .out .visits ≤ n
+visits-under-ceiling = under-ceiling
+
+pub stops-only-over : (L : Limits) (D : Prefix) (R : List Clause) (n : ℕ) (ks : List Quantifier) (s : Node) (st : Store) → Within Any n (learningSearch L D R ks s st) (searchWithin L D R n ks s st)
+stops-only-over = search-within-any
 
 pub plain-visits-bounded : (D : Prefix) (R : List Clause) (ks : List Quantifier) (s : Node) → plainSearch D R ks s .visits < 2 ^ suc (length ks)
 plain-visits-bounded = plain-bound
@@ -76,25 +86,30 @@ module _ (b : Formula) (e : formulaOk b ≡ true) (cs : List Call) where
     pub search-visits-fewer : learning (state .formula) (state .store) ks s .visits ≤ plainly (state .formula) (state .store) ks s .visits
     search-visits-fewer = searched (state .formula) (state .store) ks s (reached .formula-ok) (reached .sound) start .fewer
 
-  -- the answer to a query is the truth of its reading, or refusal 8
-  pub query-true : (ls : List Literal) → QueryOwed (state .formula .prefix) (state .formula .clauses) (startNode ls (state .formula .prefix)) (step state (query ls) .out .reply)
-  query-true ls = query-owed state reached ls
+  -- the answer to a query is the truth of its reading, or refusal 8, or 34 where its search stopped
+  pub query-true : (n : ℕ) (ls : List Literal) → QueryOwed (state .formula .prefix) (state .formula .clauses) (startNode ls (state .formula .prefix)) (step state (query n ls) .out .reply)
+  query-true n ls = query-owed state reached n ls
 
   -- ---- demand 2: "On every card of an opened book that is not refused, a reading lies on a line exactly when the quantified rules are
-  -- true for it. The lines are the topmost ones, each once, in the fixed order, and no reading lies on two." The only refusal is 21.
+  -- true for it. The lines are the topmost ones, each once, in the fixed order, and no reading lies on two." The only refusals are 21 and 34.
   -- The lines are those of the verdict p: Yes for a card, No for a keep card.
-  pub demand-2 : (p : Bool) (size : ℕ) → CardOwed p (state .formula .prefix) (state .formula .clauses) size (step state (cardOf p size) .out .reply)
-  demand-2 p size = card-owed state reached p size
+  pub demand-2 : (p : Bool) (n size : ℕ) → CardOwed p (state .formula .prefix) (state .formula .clauses) size (step state (cardOf p n size) .out .reply)
+  demand-2 p n size = card-owed state reached p n size
 
   -- "For every reached book, where neither card is refused, each reading lies on exactly one line of one of the two. .. Show this for cards
   -- made in either order with queries, but no added or withdrawn rule, between them."
-  pub cards-together : (between : List Call) → all (keepsClauses (state .formula)) between ≡ true → (p : Bool) (size size′ : ℕ) (ls ks : List Node) (tb tc : List ℕ)
-      → step state (cardOf p size) .out .reply ≡ lines ls tb
-      → step (after (step state (cardOf p size) .state) between) (cardOf (not p) size′) .out .reply ≡ lines ks tc
+  pub cards-together : (between : List Call) → all (keepsClauses (state .formula)) between ≡ true → (p : Bool) (n n′ size size′ : ℕ) (ls ks : List Node) (tb tc : List ℕ)
+      → step state (cardOf p n size) .out .reply ≡ lines ls tb
+      → step (after (step state (cardOf p n size) .state) between) (cardOf (not p) n′ size′) .out .reply ≡ lines ks tc
       → Partition (freeVariables (state .formula .prefix)) ls ks
   cards-together = both-cards b e cs
 
 -- ---- demand 3: "Take every list of these calls .. on one freshly opened book, its store empty. .. every call gives the answer of the
--- plain run", visits never more than the plain search's. One claim about the whole list.
-pub demand-3 : (b : Formula) → formulaOk b ≡ true → (cs : List Call) → AllAgree (learningRun (fresh b) cs) (plainRun b cs)
+-- plain run", visits never more than the plain search's; "only a stopped call's answer is not compared with it". One claim about the whole
+-- list.
+pub demand-3 : (b : Formula) → formulaOk b ≡ true → (cs : List Call) → AllAgree cs (learningRun (fresh b) cs) (plainRun b cs)
 demand-3 b e cs = run-agrees cs (fresh b) (fresh-reached b e) b refl
+
+-- "A call whose plain walk fits the ceiling is therefore always finished, in any list."
+pub finished-if-fits : (c : Call) (n : ℕ) → ceilingOf c ≡ some n → (l p : Answer) → Agrees c l p → p .visits ≤ n → Agree l p
+finished-if-fits = fits-agree

@@ -24,6 +24,9 @@ pub mod Unmixed
 pub mod Start
 pub mod PlainSearch
 pub mod Visits
+pub mod Bound
+pub mod Ceiling
+pub mod CeilingLaws
 pub mod WellFormed
 pub mod Withdrawn
 pub mod AcceptedRule
@@ -43,5 +46,4 @@ pub mod Partition
 pub mod Queries
 pub mod Widths
 pub mod Levels
-pub mod Bound
 pub mod Demands

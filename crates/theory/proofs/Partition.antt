@@ -181,15 +181,15 @@ same-clauses b (rule ls) e = by (ruleFault b ls) e
     by : (o : Option ℕ) → isRefused o ≡ true → withRule o b ls ≡ b
     by none q = absurd (false≢true q)
     by (some n) q = refl
-same-clauses b (query ls) e = refl
-same-clauses b (card size) e = refl
+same-clauses b (query n ls) e = refl
+same-clauses b (card n size) e = refl
 same-clauses b forget e = refl
 same-clauses b withdraw e = by (withdrawFault b) e
   where
     by : (o : Option ℕ) → isRefused o ≡ true → withoutLast o b ≡ b
     by none q = absurd (false≢true q)
     by (some n) q = refl
-same-clauses b (keepCard size) e = refl
+same-clauses b (keepCard n size) e = refl
 
 pub same-formula : (x : State) → Reached x → (cs : List Call) → all (keepsClauses (x .formula)) cs ≡ true → after x cs .formula ≡ x .formula
 same-formula x h [] e = refl
@@ -202,26 +202,40 @@ same-formula x h (c ∷ cs) e = same-formula (step x c .state) (w .next) cs (sub
     stays = w .same-formula ∙ same-clauses (x .formula) c (and-left (keepsClauses (x .formula) c) (all (keepsClauses (x .formula)) cs) e)
 
 -- a card that is not refused shows its lines
+not-refused : (n : ℕ) (tb tc : List ℕ) (ks : List Node) → cardRefused n tb ≡ lines ks tc → ⊥
+not-refused n tb tc ks q = subst is-refused q tt
+  where
+    is-refused : Reply → Type 0
+    is-refused Reply.done = ⊥
+    is-refused (Reply.refused k) = ⊥
+    is-refused Reply.swap = ⊥
+    is-refused Reply.keep = ⊥
+    is-refused (lines xs t) = ⊥
+    is-refused (cardRefused k t) = Unit {0}
+
 shown : (f size : ℕ) (ls ks : List Node) (tb : List ℕ) → cardReply f size ls ≡ lines ks tb → ls ≡ ks
 shown f size ls ks tb e = by (leb (length ls * f) size) e
   where
     by : (x : Bool) → cond x (lines ls (tableOf f size ls)) (cardRefused 21 (zeroTable size)) ≡ lines ks tb → ls ≡ ks
     by true q = cc
-    by false q = absurd (subst is-lines (sym q) tt)
-      where
-        is-lines : Reply → Type 0
-        is-lines Reply.done = Unit {0}
-        is-lines (Reply.refused n) = Unit {0}
-        is-lines Reply.swap = Unit {0}
-        is-lines Reply.keep = Unit {0}
-        is-lines (lines xs t) = Unit {0}
-        is-lines (cardRefused n t) = ⊥
+    by false q = absurd (not-refused 21 (zeroTable size) tb ks q)
+
+card-shows : (x : State) → Reached x → (p : Bool) (n size : ℕ) (ls : List Node) (tb : List ℕ) → step x (cardOf p n size) .out .reply ≡ lines ls tb
+    → select p (tops (x .formula .prefix) (x .formula .clauses) (quantifiers (x .formula .prefix)) []) ≡ ls
+card-shows x h p n size ls tb q = by (card-reply x h p n size)
+  where
+    right : List Node
+    right = select p (tops (x .formula .prefix) (x .formula .clauses) (quantifiers (x .formula .prefix)) [])
+
+    by : (step x (cardOf p n size) .out .reply ≡ cardReply (freeVariables (x .formula .prefix)) size right) ⊎ (step x (cardOf p n size) .out .reply ≡ cardRefused 34 (zeroTable size)) → right ≡ ls
+    by (inl e) = shown (freeVariables (x .formula .prefix)) size right ls tb (sym e ∙ q)
+    by (inr e) = absurd (not-refused 34 (zeroTable size) tb ls (sym e ∙ q))
 
 -- WISH 7: two reached states with the same formula, a card of each verdict made at one of them and not refused
-pub cards-partition : (x y : State) → Reached x → Reached y → y .formula ≡ x .formula → (p : Bool) (size size′ : ℕ) (ls ks : List Node) (tb tc : List ℕ)
-    → step x (cardOf p size) .out .reply ≡ lines ls tb → step y (cardOf (not p) size′) .out .reply ≡ lines ks tc
+pub cards-partition : (x y : State) → Reached x → Reached y → y .formula ≡ x .formula → (p : Bool) (n n′ size size′ : ℕ) (ls ks : List Node) (tb tc : List ℕ)
+    → step x (cardOf p n size) .out .reply ≡ lines ls tb → step y (cardOf (not p) n′ size′) .out .reply ≡ lines ks tc
     → Partition (freeVariables (x .formula .prefix)) ls ks
-cards-partition x y h g same p size size′ ls ks tb tc q r =
+cards-partition x y h g same p n n′ size size′ ls ks tb tc q r =
     subst (λ (l : List Node). Partition (freeVariables D) l ks) l₀
     (subst (λ (l : List Node). Partition (freeVariables D) (select p (tops D R (quantifiers D) [])) l) l₁ (partition D R (free-before (x .formula) (h .formula-ok)) p))
   where
@@ -232,20 +246,20 @@ cards-partition x y h g same p size size′ ls ks tb tc q r =
     R = x .formula .clauses
 
     l₀ : select p (tops D R (quantifiers D) []) ≡ ls
-    l₀ = shown (freeVariables D) size (select p (tops D R (quantifiers D) [])) ls tb (sym (card-reply x h p size) ∙ q)
+    l₀ = card-shows x h p n size ls tb q
 
     l₁ : select (not p) (tops D R (quantifiers D) []) ≡ ks
     l₁ =
         ap (λ (c : Formula). select (not p) (tops (c .prefix) (c .clauses) (quantifiers (c .prefix)) [])) (sym same)
-        ∙ shown (freeVariables (y .formula .prefix)) size′ (select (not p) (tops (y .formula .prefix) (y .formula .clauses) (quantifiers (y .formula .prefix)) [])) ks tc (sym (card-reply y g (not p) size′) ∙ r)
+        ∙ card-shows y g (not p) n′ size′ ks tc r
 
 -- in either order, after any calls, with calls between that leave the clauses
 pub both-cards : (b : Formula) → formulaOk b ≡ true → (cs between : List Call) → all (keepsClauses (after (fresh b) cs .formula)) between ≡ true
-    → (p : Bool) (size size′ : ℕ) (ls ks : List Node) (tb tc : List ℕ)
-    → step (after (fresh b) cs) (cardOf p size) .out .reply ≡ lines ls tb
-    → step (after (step (after (fresh b) cs) (cardOf p size) .state) between) (cardOf (not p) size′) .out .reply ≡ lines ks tc
+    → (p : Bool) (n n′ size size′ : ℕ) (ls ks : List Node) (tb tc : List ℕ)
+    → step (after (fresh b) cs) (cardOf p n size) .out .reply ≡ lines ls tb
+    → step (after (step (after (fresh b) cs) (cardOf p n size) .state) between) (cardOf (not p) n′ size′) .out .reply ≡ lines ks tc
     → Partition (freeVariables (after (fresh b) cs .formula .prefix)) ls ks
-both-cards b e cs between quiet p size size′ ls ks tb tc q r = cards-partition x (after z between) h (after-reached z (w .next) between) same p size size′ ls ks tb tc q r
+both-cards b e cs between quiet p n n′ size size′ ls ks tb tc q r = cards-partition x (after z between) h (after-reached z (w .next) between) same p n n′ size size′ ls ks tb tc q r
   where
     x : State
     x = after (fresh b) cs
@@ -254,12 +268,12 @@ both-cards b e cs between quiet p size size′ ls ks tb tc q r = cards-partition
     h = after-reached (fresh b) (fresh-reached b e) cs
 
     z : State
-    z = step x (cardOf p size) .state
+    z = step x (cardOf p n size) .state
 
-    w : CallOk x (cardOf p size) (step x (cardOf p size))
-    w = step-ok x h (cardOf p size)
+    w : CallOk x (cardOf p n size) (step x (cardOf p n size))
+    w = step-ok x h (cardOf p n size)
 
-    quiet-card : (p : Bool) → nextFormula (x .formula) (cardOf p size) ≡ x .formula
+    quiet-card : (p : Bool) → nextFormula (x .formula) (cardOf p n size) ≡ x .formula
     quiet-card true = refl
     quiet-card false = refl
 

@@ -3,17 +3,18 @@ use Prim.Native.Nat.{ℕ, _-_, _≤_}
 use native.Mathlib.Nat.{le-refl}
 use native.Mathlib.Omega.{arith}
 use mathlib.Core.Path.{_≡_, refl, sym, subst}
-use mathlib.Core.Bool.{Bool, true}
+use mathlib.Core.Bool.{Bool, true, false}
 use mathlib.Core.List.{List, [], _∷_, _++_}
 use mathlib.Core.Option.{Option, none, some}
 use lib.ListN.{length, take, length-append}
-use lib.Dec.{leb}
+use lib.Dec.{eqb, leb}
 use Rattle.qbf.specs.Formula.{Clause, Formula, Limits, Literal, Node, Prefix, Quantifier, _▹_, quantifiers}
-use Rattle.qbf.specs.Truth.{bound}
-use Rattle.qbf.specs.Learning.{Store, below, emptyStore, learningSearch}
-use Rattle.qbf.specs.Card.{Mem}
-use Rattle.qbf.specs.Calls.{Call, State, card, clauseOf, forget, guarded, keepCard, learningQuery, nextFormula, query, queryFault, rule, ruleFault, startNode, step, storeAfterRule, storeAfterWithdraw, wellFormed, withRule, withdraw, withdrawFault, withoutLast}
-use Rattle.theory.proofs.Rest.{Rest}
+use Rattle.qbf.specs.Truth.{Outcome, bound}
+use Rattle.qbf.specs.Learning.{Store, below, emptyStore, learningSearch, visit}
+use Rattle.qbf.specs.Ceiling.{searchWithin}
+use Rattle.qbf.specs.Card.{Mem, zeroTable}
+use Rattle.qbf.specs.Calls.{Call, Reply, State, attemptAnswer, card, cardRefused, cardReplyOf, clauseOf, forget, guarded, keepCard, learningCard, learningQuery, nextFormula, query, queryFault, queryReply, refused, rule, ruleFault, startNode, step, storeAfterRule, storeAfterWithdraw, wellFormed, withRule, withdraw, withdrawFault, withoutLast}
+use Rattle.theory.proofs.Rest.{Rest, rest-up}
 use Rattle.theory.proofs.Game.{Rising}
 use Rattle.theory.proofs.Shape.{Formed}
 use Rattle.theory.proofs.Stores.{ShapedStore, recorded-empty, recorded-learn, recorded-weaker, recorded-withdraw, stored-empty, stored-rule, stored-withdraw}
@@ -23,6 +24,7 @@ use Rattle.theory.proofs.ShapedSearch.{ShapedOutcome, shaped-branches, 
 use Rattle.theory.proofs.AcceptedRule.{next-formula}
 use Rattle.theory.proofs.Withdrawn.{take-short}
 use Rattle.theory.proofs.WellFormed.{FitStore, Fits, FormulaFacts, StateFacts, capacity, clauses-rising, facts-state, state-facts}
+use Rattle.theory.proofs.Ceiling.{attempt-store, search-within}
 use Rattle.theory.proofs.Starting.{start-rest}
 
 -- the store is shaped, and its records fit the clauses that stand
@@ -50,10 +52,16 @@ module _ (L : Limits) (one : 1 ≤ L .constraints) (D : Prefix) (R : List Clause
       let c = shaped-search L one D R ok in
       record { side = c .side; leaves = λ ks s st rest h. c .leaves ks s st rest (h .0); branches = fit-branches; ends = c .ends; raised = c .raised }
 
-  fit-found : (ks : List Quantifier) (s : Node) (st : Store) → Rest D s ks → Kept st → Kept (learningSearch L D R ks s st .store)
-  fit-found ks s st rest h =
-      visit-by D R s Kept (ShapedOutcome D s) leb (below L D R ks) st (shaped-leaves D R ok L s st (h .0) leb) h
+  fit-visit : (eligible : ℕ → ℕ → Bool) (ks : List Quantifier) (s : Node) (st : Store) → Rest D s ks → Kept st → Kept (visit D R eligible (below L D R ks) s st .store)
+  fit-visit eligible ks s st rest h =
+      visit-by D R s Kept (ShapedOutcome D s) eligible (below L D R ks) st (shaped-leaves D R ok L s st (h .0) eligible) h
       (λ nd ns. below-by L D R (λ qs t. Rest D t qs) Kept (λ qs t o. ShapedOutcome D t o) fit-cases ks s st rest h nd ns) .store-ok
+
+  -- under a ceiling
+  pub fit-attempt : (n : ℕ) (over : Reply) (tell : Outcome (Unit {0}) → Reply) (ks : List Quantifier) (s : Node) (st : Store) → Rest D s ks → Kept st → Kept (attemptAnswer over n tell (searchWithin L D R n ks s st) .store)
+  fit-attempt n over tell ks s st rest h =
+      attempt-store Kept n (learningSearch L D R ks s st) over tell (searchWithin L D R n ks s st)
+      (search-within L D R Kept (λ qs t. Rest D t qs) (λ κ qs t c k. rest-up D t c κ qs k) (fit-visit eqb) n ks s st rest h) (fit-visit leb ks s st rest h)
 
 -- ---- the calls
 module _ (b : Formula) (f : FormulaFacts b) (st : Store) (h : ShapedFor b st) where
@@ -79,14 +87,18 @@ module _ (b : Formula) (f : FormulaFacts b) (st : Store) (h : ShapedFor b st) wh
       n = length (b .clauses) - 1
   withdraw-store (some k) = h
 
-  search-store : (ks : List Quantifier) (s : Node) → Rest (b .prefix) s ks → ShapedFor b (learningSearch (b .limits) (b .prefix) (b .clauses) ks s st .store)
-  search-store ks s rest =
-      let w = fit-found (b .limits) (capacity b f) (b .prefix) (b .clauses) (clauses-rising b f) ks s st rest (h .shaped, h .fit) in
+  search-store : (n : ℕ) (over : Reply) (tell : Outcome (Unit {0}) → Reply) (ks : List Quantifier) (s : Node) → Rest (b .prefix) s ks
+      → ShapedFor b (attemptAnswer over n tell (searchWithin (b .limits) (b .prefix) (b .clauses) n ks s st) .store)
+  search-store n over tell ks s rest =
+      let w = fit-attempt (b .limits) (capacity b f) (b .prefix) (b .clauses) (clauses-rising b f) n over tell ks s st rest (h .shaped, h .fit) in
       record { shaped = w .0; fit = w .1 }
 
-  query-store : (o : Option ℕ) (ls : List Literal) → ShapedFor b (learningQuery o b st ls .store)
-  query-store none ls = search-store (bound (quantifiers (b .prefix))) (startNode ls (b .prefix)) (start-rest ls (b .prefix))
-  query-store (some n) ls = h
+  query-store : (n : ℕ) (o : Option ℕ) (ls : List Literal) → ShapedFor b (learningQuery o b st n ls .store)
+  query-store n none ls = search-store n (refused 34) queryReply (bound (quantifiers (b .prefix))) (startNode ls (b .prefix)) (start-rest ls (b .prefix))
+  query-store n (some k) ls = h
+
+  card-store : (p : Bool) (n size : ℕ) → ShapedFor b (learningCard p b st n size .store)
+  card-store p n size = search-store n (cardRefused 34 (zeroTable size)) (cardReplyOf p (b .prefix) size) (quantifiers (b .prefix)) [] refl
 
 empty-store : (b : Formula) → ShapedFor b emptyStore
 empty-store b = record { shaped = stored-empty (Formed (b .prefix)) (b .limits); fit = recorded-empty (Fits (length (b .clauses))) }
@@ -105,9 +117,9 @@ call-facts x h c = let w = by c in record { formula-ok = next-formula b f c; sto
 
     by : (c : Call) → ShapedFor (nextFormula b c) (guarded true x c .state .store)
     by (rule ls) = rule-store b f (x .store) g (ruleFault b ls) ls
-    by (query ls) = query-store b f (x .store) g (queryFault b [] ls) ls
-    by (card size) = search-store b f (x .store) g (quantifiers (b .prefix)) [] refl
-    by (keepCard size) = search-store b f (x .store) g (quantifiers (b .prefix)) [] refl
+    by (query n ls) = query-store b f (x .store) g n (queryFault b [] ls) ls
+    by (card n size) = card-store b f (x .store) g true n size
+    by (keepCard n size) = card-store b f (x .store) g false n size
     by forget = empty-store b
     by withdraw = withdraw-store b f (x .store) g (withdrawFault b)
 

@@ -1,5 +1,5 @@
 -- Demand 1, of the definitions: a refused call leaves the state as the paper says, and its number is one of the paper's for that call.
-use Prim.Native.Nat.{ℕ, _*_, _-_}
+use Prim.Native.Nat.{ℕ, _*_, _-_, _≤_, zero-le}
 use native.Mathlib.Omega.{arith}
 use mathlib.Core.Path.{_≡_, refl, sym, ap, _∙_, subst}
 use mathlib.Core.Logic.{_⊎_, inl, inr}
@@ -10,19 +10,22 @@ use lib.ListN.{length}
 use lib.Dec.{eqb, leb, ltb}
 use Rattle.qbf.specs.Formula.{Formula, Limits, Literal, Node, Prefix, any, numberOf, place, placeOf, positive, quantifiers}
 use Rattle.qbf.specs.Truth.{Outcome, bound, decided, decidedNodes, freeVariables, mixed, outline, select}
+use Rattle.qbf.specs.Learning.{LearningResult}
+use Rattle.qbf.specs.Ceiling.{Attempt, finished, searchWithin, stopped}
 use Rattle.qbf.specs.Card.{Mem, tableOf, zeroTable}
-use Rattle.qbf.specs.Calls.{Answer, Call, Reply, State, Stepped, _orElse_, answer, card, cardRefused, cardOf, forget, given, guarded, keepCard, learningCard, learningQuery, lines, literalFault, query, queryFault, queryReply, rule, ruleFault, ruleReply, startNode, step, storeAfterRule, storeAfterWithdraw, wellFormed, withRule, withdraw, withoutLast}
+use Rattle.qbf.specs.Calls.{Call, Called, Reply, State, Stepped, _orElse_, answer, attemptAnswer, card, cardRefused, cardReplyOf, ceilingOf, cardOf, forget, given, guarded, keepCard, learningAnswer, learningCard, learningQuery, lines, literalFault, query, queryFault, queryReply, refused, rule, ruleFault, ruleReply, startNode, step, storeAfterRule, storeAfterWithdraw, wellFormed, withRule, withdraw, withoutLast}
 use Rattle.qbf.specs.Demands.{Leaves, refusalOf}
 use Rattle.theory.proofs.Basics.{dichotomy}
+use Rattle.theory.proofs.Ceiling.{Any, attempt-visits, search-within-any}
 use Rattle.theory.proofs.Starting.{learning}
 
 -- ---- the numbers
 -- the refusals of a call, in the paper's order
 abbrev pub refusals : Call → List ℕ
 refusals (rule ls) = 22 ∷ 20 ∷ 7 ∷ 3 ∷ 5 ∷ 6 ∷ []
-refusals (query ls) = 22 ∷ 8 ∷ []
-refusals (card size) = 22 ∷ 21 ∷ []
-refusals (keepCard size) = 22 ∷ 21 ∷ []
+refusals (query n ls) = 22 ∷ 8 ∷ 34 ∷ []
+refusals (card n size) = 22 ∷ 34 ∷ 21 ∷ []
+refusals (keepCard n size) = 22 ∷ 34 ∷ 21 ∷ []
 refusals forget = 22 ∷ []
 refusals withdraw = 22 ∷ 32 ∷ []
 
@@ -82,7 +85,7 @@ eight b ls n e = by (subst (Among (8 ∷ [])) e (query-faults b [] ls))
 -- ---- the state after a refusal
 -- what a call owes if it refuses with n
 pub record Refuses (n : ℕ) (x : State) (c : Call) (r : Stepped) : Type 0 where
-  pub leaves : Leaves n x r
+  pub leaves : Leaves n x c r
   pub known : Mem n (refusals c)
 
 abbrev Refusing : State → Call → Stepped → Type 0
@@ -93,22 +96,39 @@ module _ (x : State) (c : Call) (r : Stepped) where
   accepted h n e = absurd (let z : _≡_ {A = ℕ} 0 1 = cc in omega arith)
 
   -- the state as it was, and no visit
-  unchanged : (k : ℕ) → Mem k (refusals c) → refusalOf (r .out .reply) ≡ some k → r .state ≡ x → r .out .visits ≡ 0 → Refusing x c r
-  unchanged k m h p q n e = record { leaves = record { formula = ap (λ (y : State). y .formula) p; state = λ _. p; visits = λ _. q }; known = subst (λ (i : ℕ). Mem i (refusals c)) (cc) m }
+  unchanged : (k : ℕ) → Mem k (refusals c) → (k ≡ 34 → ⊥) → refusalOf (r .out .reply) ≡ some k → r .state ≡ x → r .out .visits ≡ 0 → Refusing x c r
+  unchanged k m other h p q n e =
+      let same : n ≡ k = cc in
+      record {
+        leaves = record { formula = ap (λ (y : State). y .formula) p; state = λ _. p; visits = λ _. q; stopped = λ z. absurd (other (sym same ∙ z)) };
+        known = subst (λ (i : ℕ). Mem i (refusals c)) (sym same) m;
+      }
 
   -- a full table, with its visits
   overfull : Mem 21 (refusals c) → refusalOf (r .out .reply) ≡ some 21 → r .state .formula ≡ x .formula → Refusing x c r
   overfull m h p n e =
       let q : n ≡ 21 = cc in
-      record { leaves = record { formula = p; state = λ d. absurd (d q); visits = λ d. absurd (d q) }; known = subst (λ (i : ℕ). Mem i (refusals c)) (sym q) m }
+      record {
+        leaves = record { formula = p; state = λ d. absurd (d (inl q)); visits = λ d. absurd (d (inl q)); stopped = λ z. absurd (omega (arith, q, z)) };
+        known = subst (λ (i : ℕ). Mem i (refusals c)) (sym q) m;
+      }
+
+  -- a search that stopped, at its ceiling
+  ended : Mem 34 (refusals c) → refusalOf (r .out .reply) ≡ some 34 → r .state .formula ≡ x .formula → ceilingOf c ≡ some (r .out .visits) → Refusing x c r
+  ended m h p top n e =
+      let q : n ≡ 34 = cc in
+      record {
+        leaves = record { formula = p; state = λ d. absurd (d (inr q)); visits = λ d. absurd (d (inr q)); stopped = λ z. top };
+        known = subst (λ (i : ℕ). Mem i (refusals c)) (sym q) m;
+      }
 
 malformed : (x : State) (c : Call) → Refusing x c (guarded false x c)
-malformed x (rule ls) = unchanged x (rule ls) (guarded false x (rule ls)) 22 (inl refl) refl refl refl
-malformed x (query ls) = unchanged x (query ls) (guarded false x (query ls)) 22 (inl refl) refl refl refl
-malformed x (card size) = unchanged x (card size) (guarded false x (card size)) 22 (inl refl) refl refl refl
-malformed x (keepCard size) = unchanged x (keepCard size) (guarded false x (keepCard size)) 22 (inl refl) refl refl refl
-malformed x forget = unchanged x forget (guarded false x forget) 22 (inl refl) refl refl refl
-malformed x withdraw = unchanged x withdraw (guarded false x withdraw) 22 (inl refl) refl refl refl
+malformed x (rule ls) = unchanged x (rule ls) (guarded false x (rule ls)) 22 (inl refl) (λ z. omega (arith, z)) refl refl refl
+malformed x (query n ls) = unchanged x (query n ls) (guarded false x (query n ls)) 22 (inl refl) (λ z. omega (arith, z)) refl refl refl
+malformed x (card n size) = unchanged x (card n size) (guarded false x (card n size)) 22 (inl refl) (λ z. omega (arith, z)) refl refl refl
+malformed x (keepCard n size) = unchanged x (keepCard n size) (guarded false x (keepCard n size)) 22 (inl refl) (λ z. omega (arith, z)) refl refl refl
+malformed x forget = unchanged x forget (guarded false x forget) 22 (inl refl) (λ z. omega (arith, z)) refl refl refl
+malformed x withdraw = unchanged x withdraw (guarded false x withdraw) 22 (inl refl) (λ z. omega (arith, z)) refl refl refl
 
 module _ (x : State) where
   rule-refuses : (ls : List Literal) → Refusing x (rule ls) (guarded true x (rule ls))
@@ -117,41 +137,73 @@ module _ (x : State) where
       after : Option ℕ → Stepped
       after o = record { state = record { formula = withRule o (x .formula) ls; store = storeAfterRule o (x .store) }; out = answer (ruleReply o) 0 }
 
+      before : (k : ℕ) → Mem k (20 ∷ 7 ∷ 3 ∷ 5 ∷ 6 ∷ []) → k ≡ 34 → ⊥
+      before k (inl p) z = omega (arith, p, z)
+      before k (inr (inl p)) z = omega (arith, p, z)
+      before k (inr (inr (inl p))) z = omega (arith, p, z)
+      before k (inr (inr (inr (inl p)))) z = omega (arith, p, z)
+      before k (inr (inr (inr (inr (inl p))))) z = omega (arith, p, z)
+      before k (inr (inr (inr (inr (inr m))))) z = m
+
       by : (o : Option ℕ) → Among (20 ∷ 7 ∷ 3 ∷ 5 ∷ 6 ∷ []) o → Refusing x (rule ls) (after o)
       by none m = accepted x (rule ls) (after none) refl
-      by (some k) m = unchanged x (rule ls) (after (some k)) k (inr m) refl refl refl
+      by (some k) m = unchanged x (rule ls) (after (some k)) k (inr m) (before k m) refl refl refl
 
-  query-refuses : (ls : List Literal) → Refusing x (query ls) (guarded true x (query ls))
-  query-refuses ls = by (queryFault (x .formula) [] ls) (query-faults (x .formula) [] ls)
+  -- the state after a search, which came to its end or stopped
+  abbrev searchedBy : Called → Stepped
+  searchedBy a = record { state = record { formula = x .formula; store = a .store }; out = a .out }
+
+  attempt-refuses : (c : Call) (n : ℕ) → ceilingOf c ≡ some n → Mem 34 (refusals c) → (over : Reply) → refusalOf over ≡ some 34 → (tell : Outcome (Unit {0}) → Reply)
+      → ((w : LearningResult) → Refusing x c (searchedBy (learningAnswer tell w))) → (t : Attempt) → Refusing x c (searchedBy (attemptAnswer over n tell t))
+  attempt-refuses c n top m over is tell whole (finished w) = whole w
+  attempt-refuses c n top m over is tell whole (stopped st) = ended x c (searchedBy (attemptAnswer over n tell (stopped st))) m is refl top
+
+  query-refuses : (n : ℕ) (ls : List Literal) → Refusing x (query n ls) (guarded true x (query n ls))
+  query-refuses n ls = by (queryFault (x .formula) [] ls) (query-faults (x .formula) [] ls)
     where
-      after : Option ℕ → Stepped
-      after o = let r = learningQuery o (x .formula) (x .store) ls in record { state = record { formula = x .formula; store = r .store }; out = r .out }
-
       told : (o : Outcome (Unit {0})) → refusalOf (queryReply o) ≡ none
       told (decided true y) = refl
       told (decided false y) = refl
       told (mixed ds) = refl
 
-      by : (o : Option ℕ) → Among (8 ∷ []) o → Refusing x (query ls) (after o)
-      by none m = accepted x (query ls) (after none) (told (outline (learning (x .formula) (x .store) (bound (quantifiers (x .formula .prefix))) (startNode ls (x .formula .prefix)) .outcome)))
-      by (some k) m = unchanged x (query ls) (after (some k)) k (inr m) refl refl refl
+      by : (o : Option ℕ) → Among (8 ∷ []) o → Refusing x (query n ls) (searchedBy (learningQuery o (x .formula) (x .store) n ls))
+      by none m =
+          attempt-refuses (query n ls) n refl (inr (inr (inl refl))) (refused 34) refl queryReply (λ w. accepted x (query n ls) (searchedBy (learningAnswer queryReply w)) (told (outline (w .outcome))))
+          (searchWithin (x .formula .limits) (x .formula .prefix) (x .formula .clauses) n (bound (quantifiers (x .formula .prefix))) (startNode ls (x .formula .prefix)) (x .store))
+      by (some k) (inl p) = unchanged x (query n ls) (searchedBy (learningQuery (some k) (x .formula) (x .store) n ls)) k (inr (inl p)) (λ z. omega (arith, p, z)) refl refl refl
+      by (some k) (inr m) = absurd m
 
-  card-refuses : (p : Bool) (size : ℕ) → Mem 21 (refusals (cardOf p size)) → guarded true x (cardOf p size) .state .formula ≡ x .formula
-      → guarded true x (cardOf p size) .out ≡ learningCard p (x .formula) (x .store) size .out → Refusing x (cardOf p size) (guarded true x (cardOf p size))
-  card-refuses p size known same told = by (dichotomy (leb (length ls * freeVariables (x .formula .prefix)) size))
+  card-refuses : (p : Bool) (n size : ℕ) → Refusing x (cardOf p n size) (searchedBy (learningCard p (x .formula) (x .store) n size))
+  card-refuses p n size =
+      attempt-refuses (cardOf p n size) n (top p) (member p 34 (inl refl)) (cardRefused 34 (zeroTable size)) refl (cardReplyOf p D size) whole
+      (searchWithin (x .formula .limits) D (x .formula .clauses) n (quantifiers D) [] (x .store))
     where
-      r : Stepped
-      r = guarded true x (cardOf p size)
+      D : Prefix
+      D = x .formula .prefix
 
-      ls : List Node
-      ls = select p (decidedNodes [] (outline (learning (x .formula) (x .store) (quantifiers (x .formula .prefix)) [] .outcome)))
+      top : (q : Bool) → ceilingOf (cardOf q n size) ≡ some n
+      top true = refl
+      top false = refl
 
-      replies : Bool → Reply
-      replies b = cond b (lines ls (tableOf (freeVariables (x .formula .prefix)) size ls)) (cardRefused 21 (zeroTable size))
+      member : (q : Bool) (k : ℕ) → Mem k (34 ∷ 21 ∷ []) → Mem k (refusals (cardOf q n size))
+      member true k m = inr m
+      member false k m = inr m
 
-      by : (leb (length ls * freeVariables (x .formula .prefix)) size ≡ true) ⊎ (leb (length ls * freeVariables (x .formula .prefix)) size ≡ false) → Refusing x (cardOf p size) r
-      by (inl e) = accepted x (cardOf p size) r (ap (λ (a : Answer). refusalOf (a .reply)) told ∙ ap (λ (b : Bool). refusalOf (replies b)) e)
-      by (inr e) = overfull x (cardOf p size) r known (ap (λ (a : Answer). refusalOf (a .reply)) told ∙ ap (λ (b : Bool). refusalOf (replies b)) e) same
+      whole : (w : LearningResult) → Refusing x (cardOf p n size) (searchedBy (learningAnswer (cardReplyOf p D size) w))
+      whole w = by (dichotomy (leb (length ls * freeVariables D) size))
+        where
+          r : Stepped
+          r = searchedBy (learningAnswer (cardReplyOf p D size) w)
+
+          ls : List Node
+          ls = select p (decidedNodes [] (outline (w .outcome)))
+
+          replies : Bool → Reply
+          replies b = cond b (lines ls (tableOf (freeVariables D) size ls)) (cardRefused 21 (zeroTable size))
+
+          by : (leb (length ls * freeVariables D) size ≡ true) ⊎ (leb (length ls * freeVariables D) size ≡ false) → Refusing x (cardOf p n size) r
+          by (inl e) = accepted x (cardOf p n size) r (ap (λ (b : Bool). refusalOf (replies b)) e)
+          by (inr e) = overfull x (cardOf p n size) r (member p 21 (inr (inl refl))) (ap (λ (b : Bool). refusalOf (replies b)) e) refl
 
   withdraw-refuses : Refusing x withdraw (guarded true x withdraw)
   withdraw-refuses = by (eqb (length (x .formula .clauses)) 0)
@@ -160,41 +212,79 @@ module _ (x : State) where
       after o = record { state = record { formula = withoutLast o (x .formula); store = storeAfterWithdraw o (length (x .formula .clauses) - 1) (x .store) }; out = answer (ruleReply o) 0 }
 
       by : (b : Bool) → Refusing x withdraw (after (given b 32))
-      by true = unchanged x withdraw (after (some 32)) 32 (inr (inl refl)) refl refl refl
+      by true = unchanged x withdraw (after (some 32)) 32 (inr (inl refl)) (λ z. omega (arith, z)) refl refl refl
       by false = accepted x withdraw (after none) refl
 
   refuses : (g : Bool) (c : Call) → Refusing x c (guarded g x c)
   refuses false c = malformed x c
   refuses true (rule ls) = rule-refuses ls
-  refuses true (query ls) = query-refuses ls
-  refuses true (card size) = card-refuses true size (inr (inl refl)) refl refl
-  refuses true (keepCard size) = card-refuses false size (inr (inl refl)) refl refl
+  refuses true (query n ls) = query-refuses n ls
+  refuses true (card n size) = card-refuses true n size
+  refuses true (keepCard n size) = card-refuses false n size
   refuses true forget = accepted x forget (guarded true x forget) refl
   refuses true withdraw = withdraw-refuses
 
 -- DEMAND 1, of any state and call
-pub refused-leaves : (x : State) (c : Call) (n : ℕ) → refusalOf (step x c .out .reply) ≡ some n → Leaves n x (step x c)
+pub refused-leaves : (x : State) (c : Call) (n : ℕ) → refusalOf (step x c .out .reply) ≡ some n → Leaves n x c (step x c)
 refused-leaves x c n e = refuses x (wellFormed x) c n e .leaves
 
 pub refused-known : (x : State) (c : Call) (n : ℕ) → refusalOf (step x c .out .reply) ≡ some n → Mem n (refusals c)
 refused-known x c n e = refuses x (wellFormed x) c n e .known
 
 -- "A refusal .. zeroes the card table."
-pub refused-table : (x : State) (p : Bool) (size n : ℕ) (tb : List ℕ) → step x (cardOf p size) .out .reply ≡ cardRefused n tb → tb ≡ zeroTable size
-refused-table x p size n tb e = by p (wellFormed x) e
+pub refused-table : (x : State) (p : Bool) (top size n : ℕ) (tb : List ℕ) → step x (cardOf p top size) .out .reply ≡ cardRefused n tb → tb ≡ zeroTable size
+refused-table x p top size n tb e = by p (wellFormed x) e
   where
-    told : (p : Bool) → learningCard p (x .formula) (x .store) size .out .reply ≡ cardRefused n tb → tb ≡ zeroTable size
-    told p q = go (leb (length ls * freeVariables (x .formula .prefix)) size) q
+    D : Prefix
+    D = x .formula .prefix
+
+    told : (p : Bool) (t : Attempt) → attemptAnswer (cardRefused 34 (zeroTable size)) top (cardReplyOf p D size) t .out .reply ≡ cardRefused n tb → tb ≡ zeroTable size
+    told p (stopped st) q = cc
+    told p (finished w) q = go (leb (length ls * freeVariables D) size) q
       where
         ls : List Node
-        ls = select p (decidedNodes [] (outline (learning (x .formula) (x .store) (quantifiers (x .formula .prefix)) [] .outcome)))
+        ls = select p (decidedNodes [] (outline (w .outcome)))
 
-        go : (b : Bool) → cond b (lines ls (tableOf (freeVariables (x .formula .prefix)) size ls)) (cardRefused 21 (zeroTable size)) ≡ cardRefused n tb → tb ≡ zeroTable size
+        go : (b : Bool) → cond b (lines ls (tableOf (freeVariables D) size ls)) (cardRefused 21 (zeroTable size)) ≡ cardRefused n tb → tb ≡ zeroTable size
         go true q = cc
         go false q = cc
 
-    by : (p g : Bool) → guarded g x (cardOf p size) .out .reply ≡ cardRefused n tb → tb ≡ zeroTable size
+    search : Attempt
+    search = searchWithin (x .formula .limits) D (x .formula .clauses) top (quantifiers D) [] (x .store)
+
+    by : (p g : Bool) → guarded g x (cardOf p top size) .out .reply ≡ cardRefused n tb → tb ≡ zeroTable size
     by true false q = cc
     by false false q = cc
-    by true true q = told true q
-    by false true q = told false q
+    by true true q = told true search q
+    by false true q = told false search q
+
+-- ---- visits: no call makes more than its ceiling allows, on any state
+pub under-ceiling : (x : State) (c : Call) (n : ℕ) → ceilingOf c ≡ some n → step x c .out .visits ≤ n
+under-ceiling x c n top = by (wellFormed x) c top
+  where
+    b : Formula
+    b = x .formula
+
+    same : (k : ℕ) → _≡_ {A = Option ℕ} (some k) (some n) → k ≡ n
+    same k e = cc
+
+    asked : (o : Option ℕ) (k : ℕ) (ls : List Literal) → learningQuery o b (x .store) k ls .out .visits ≤ k
+    asked (some j) k ls = zero-le
+    asked none k ls =
+        attempt-visits Any k (learning b (x .store) (bound (quantifiers (b .prefix))) (startNode ls (b .prefix))) (refused 34) queryReply
+        (searchWithin (b .limits) (b .prefix) (b .clauses) k (bound (quantifiers (b .prefix))) (startNode ls (b .prefix)) (x .store))
+        (search-within-any (b .limits) (b .prefix) (b .clauses) k (bound (quantifiers (b .prefix))) (startNode ls (b .prefix)) (x .store))
+
+    made : (p : Bool) (k size : ℕ) → learningCard p b (x .store) k size .out .visits ≤ k
+    made p k size =
+        attempt-visits Any k (learning b (x .store) (quantifiers (b .prefix)) []) (cardRefused 34 (zeroTable size)) (cardReplyOf p (b .prefix) size)
+        (searchWithin (b .limits) (b .prefix) (b .clauses) k (quantifiers (b .prefix)) [] (x .store)) (search-within-any (b .limits) (b .prefix) (b .clauses) k (quantifiers (b .prefix)) [] (x .store))
+
+    by : (g : Bool) (c : Call) → ceilingOf c ≡ some n → guarded g x c .out .visits ≤ n
+    by false c e = zero-le
+    by true (rule ls) e = zero-le
+    by true (query k ls) e = subst (λ (i : ℕ). guarded true x (query k ls) .out .visits ≤ i) (same k e) (asked (queryFault b [] ls) k ls)
+    by true (card k size) e = subst (λ (i : ℕ). guarded true x (card k size) .out .visits ≤ i) (same k e) (made true k size)
+    by true (keepCard k size) e = subst (λ (i : ℕ). guarded true x (keepCard k size) .out .visits ≤ i) (same k e) (made false k size)
+    by true forget e = zero-le
+    by true withdraw e = zero-le

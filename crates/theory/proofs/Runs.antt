@@ -1,25 +1,29 @@
 -- Lists of calls: the learning run answers as the plain run does, and visits no more.
-use Prim.Native.Nat.{ℕ, _-_}
+use Prim.Native.Nat.{ℕ, _-_, _≤_}
 use native.Mathlib.Nat.{le-refl}
 use native.Mathlib.Omega.{arith}
 use mathlib.Core.Path.{_≡_, refl, sym, ap, _∙_, subst}
+use mathlib.Core.Logic.{inl, inr}
 use mathlib.Core.Bool.{Bool, true, false}
 use mathlib.Core.List.{List, [], _∷_}
 use mathlib.Core.Option.{Option, none, some}
 use lib.ListN.{length}
 use Rattle.qbf.specs.Formula.{Clause, Formula, Limits, Literal, Node, Prefix, Quantifier, quantifiers}
 use Rattle.qbf.specs.Truth.{Outcome, bound}
-use Rattle.qbf.specs.Learning.{Store, emptyStore}
-use Rattle.qbf.specs.Calls.{Call, Reply, State, Stepped, card, cardReplyOf, clauseOf, forget, formulaOk, guarded, keepCard, learningAnswer, learningCard, learningQuery, nextFormula, query, queryFault, queryReply, rule, ruleFault, startNode, step, storeAfterRule, storeAfterWithdraw, wellFormed, withRule, withdraw, withdrawFault, withoutLast}
+use Rattle.qbf.specs.Learning.{LearningResult, Store, emptyStore}
+use Rattle.qbf.specs.Ceiling.{Attempt, finished, searchWithin, stopped}
+use Rattle.qbf.specs.Card.{zeroTable}
+use Rattle.qbf.specs.Calls.{Answer, Call, Reply, State, Stepped, attemptAnswer, card, cardOf, cardRefused, cardReplyOf, ceilingOf, refusal, refused, clauseOf, forget, formulaOk, guarded, keepCard, learningAnswer, learningCard, learningQuery, nextFormula, query, queryFault, queryReply, rule, ruleFault, startNode, step, storeAfterRule, storeAfterWithdraw, wellFormed, withRule, withdraw, withdrawFault, withoutLast}
 use Rattle.qbf.specs.Runs.{fresh, learningRun, plainAnswer, plainCall, plainCard, plainQuery, plainRun}
-use Rattle.qbf.specs.Demands.{Agree, AllAgree}
+use Rattle.qbf.specs.Demands.{Agree, Agrees, AllAgree}
 use Rattle.theory.proofs.Shape.{Formed}
 use Rattle.theory.proofs.Stores.{recorded-weaker, stored-weaker}
 use Rattle.theory.proofs.AcceptedRule.{next-formula}
 use Rattle.theory.proofs.WellFormed.{Fits, FormulaFacts, formula-facts, facts-state}
 use Rattle.theory.proofs.Leaves.{ByFirst, Valid, SoundStore, sound-empty}
 use Rattle.theory.proofs.Validity.{sound-rule, sound-withdraw}
-use Rattle.theory.proofs.Starting.{SoundFor, Starts, start-length, starts-full, starts-empty, learning, plainly, searched}
+use Rattle.theory.proofs.Starting.{SoundFor, Starts, start-length, starts-full, starts-empty, attempted, learning, plainly, Searched, searched}
+use Rattle.theory.proofs.Ceiling.{Within}
 
 -- ---- what holds of each state that calls reach
 pub record Reached (x : State) : Type 0 where
@@ -54,16 +58,27 @@ withdraw-keeps-sound b st h none = sound-withdraw (b .limits) (b .prefix) (b .cl
 -- ---- one call
 module _ (b : Formula) (f : FormulaFacts b) (st : Store) (h : SoundFor b st) where
   -- a search from a start node, whatever is answered of its outcome
-  pub search-agrees : (ks : List Quantifier) (s : Node) → Starts b ks s → (tell : Outcome (Unit {0}) → Reply)
-      → SoundFor b (learningAnswer tell (learning b st ks s) .store) × Agree (learningAnswer tell (learning b st ks s) .out) (plainAnswer tell (plainly b st ks s))
-  search-agrees ks s g tell = let w = searched b st ks s f h g in (w .stays-sound, record { reply = ap tell (w .agree); visits = w .fewer })
+  pub search-agrees : (c : Call) (n : ℕ) → ceilingOf c ≡ some n → (over : Reply) → over ≡ refusal 34 c → (ks : List Quantifier) (s : Node) → Starts b ks s → (tell : Outcome (Unit {0}) → Reply)
+      → SoundFor b (attemptAnswer over n tell (searchWithin (b .limits) (b .prefix) (b .clauses) n ks s st) .store)
+      × Agrees c (attemptAnswer over n tell (searchWithin (b .limits) (b .prefix) (b .clauses) n ks s st) .out) (plainAnswer tell (plainly b st ks s))
+  search-agrees c n top over is ks s g tell = by (searchWithin (b .limits) (b .prefix) (b .clauses) n ks s st) (attempted b st ks s f h g n)
+    where
+      w : Searched b st ks s
+      w = searched b st ks s f h g
 
-  query-ok : (o : Option ℕ) (ls : List Literal) → SoundFor b (learningQuery o b st ls .store) × Agree (learningQuery o b st ls .out) (plainQuery o b ls)
-  query-ok (some n) ls = (h, record { reply = refl; visits = le-refl 0 })
-  query-ok none ls = search-agrees (bound (quantifiers (b .prefix))) (startNode ls (b .prefix)) (starts-full b f (startNode ls (b .prefix)) (start-length ls (b .prefix))) queryReply
+      by : (t : Attempt) → Within (SoundFor b) n (learning b st ks s) t → SoundFor b (attemptAnswer over n tell t .store) × Agrees c (attemptAnswer over n tell t .out) (plainAnswer tell (plainly b st ks s))
+      by (finished q) v =
+          subst (λ (r : LearningResult). SoundFor b (learningAnswer tell r .store) × Agrees c (learningAnswer tell r .out) (plainAnswer tell (plainly b st ks s))) (sym (v .0))
+          (w .stays-sound, inl (record { reply = ap tell (w .agree); visits = w .fewer }))
+      by (stopped z) v = (v .1, inr (record { reply = is; ceiling = top; needed = omega (arith, v .0, w .fewer) }))
 
-  card-ok : (p : Bool) (len : ℕ) → SoundFor b (learningCard p b st len .store) × Agree (learningCard p b st len .out) (plainCard p b len)
-  card-ok p len = search-agrees (quantifiers (b .prefix)) [] (starts-empty b f) (cardReplyOf p (b .prefix) len)
+  query-ok : (n : ℕ) (o : Option ℕ) (ls : List Literal) → SoundFor b (learningQuery o b st n ls .store) × Agrees (query n ls) (learningQuery o b st n ls .out) (plainQuery o b ls)
+  query-ok n (some k) ls = (h, inl (record { reply = refl; visits = le-refl 0 }))
+  query-ok n none ls = search-agrees (query n ls) n refl (refused 34) refl (bound (quantifiers (b .prefix))) (startNode ls (b .prefix)) (starts-full b f (startNode ls (b .prefix)) (start-length ls (b .prefix))) queryReply
+
+  card-ok : (p : Bool) (n size : ℕ) → SoundFor b (learningCard p b st n size .store) × Agrees (cardOf p n size) (learningCard p b st n size .out) (plainCard p b size)
+  card-ok true n size = search-agrees (card n size) n refl (cardRefused 34 (zeroTable size)) refl (quantifiers (b .prefix)) [] (starts-empty b f) (cardReplyOf true (b .prefix) size)
+  card-ok false n size = search-agrees (keepCard n size) n refl (cardRefused 34 (zeroTable size)) refl (quantifiers (b .prefix)) [] (starts-empty b f) (cardReplyOf false (b .prefix) size)
 
 none-stored : (b : Formula) → SoundFor b emptyStore
 none-stored b = sound-empty (b .limits) (b .prefix) (b .clauses)
@@ -72,43 +87,48 @@ none-stored b = sound-empty (b .limits) (b .prefix) (b .clauses)
 pub record CallOk (x : State) (c : Call) (r : Stepped) : Type 0 where
   pub next : Reached (r .state)
   pub same-formula : r .state .formula ≡ nextFormula (x .formula) c
-  pub agree : Agree (r .out) (plainCall (x .formula) c)
+  pub agree : Agrees c (r .out) (plainCall (x .formula) c)
 
 pub call-ok : (x : State) → Reached x → (c : Call) → CallOk x c (guarded true x c)
 call-ok x h (rule ls) =
     record {
       next = record { formula-ok = next-formula (x .formula) (h .formula-ok) (rule ls); sound = rule-keeps-sound (x .formula) ls (x .store) (h .sound) (ruleFault (x .formula) ls) };
       same-formula = refl;
-      agree = record { reply = refl; visits = le-refl 0 };
+      agree = inl (record { reply = refl; visits = le-refl 0 });
     }
-call-ok x h (query ns) =
-    let w = query-ok (x .formula) (h .formula-ok) (x .store) (h .sound) (queryFault (x .formula) [] ns) ns in
+call-ok x h (query n ls) =
+    let w = query-ok (x .formula) (h .formula-ok) (x .store) (h .sound) n (queryFault (x .formula) [] ls) ls in
     record { next = record { formula-ok = h .formula-ok; sound = w .0 }; same-formula = refl; agree = w .1 }
-call-ok x h (card len) =
-    let w = card-ok (x .formula) (h .formula-ok) (x .store) (h .sound) true len in
+call-ok x h (card n size) =
+    let w = card-ok (x .formula) (h .formula-ok) (x .store) (h .sound) true n size in
     record { next = record { formula-ok = h .formula-ok; sound = w .0 }; same-formula = refl; agree = w .1 }
-call-ok x h (keepCard len) =
-    let w = card-ok (x .formula) (h .formula-ok) (x .store) (h .sound) false len in
+call-ok x h (keepCard n size) =
+    let w = card-ok (x .formula) (h .formula-ok) (x .store) (h .sound) false n size in
     record { next = record { formula-ok = h .formula-ok; sound = w .0 }; same-formula = refl; agree = w .1 }
 call-ok x h withdraw =
     record {
       next = record { formula-ok = next-formula (x .formula) (h .formula-ok) withdraw; sound = withdraw-keeps-sound (x .formula) (x .store) (h .sound) (withdrawFault (x .formula)) };
       same-formula = refl;
-      agree = record { reply = refl; visits = le-refl 0 };
+      agree = inl (record { reply = refl; visits = le-refl 0 });
     }
 call-ok x h forget =
-    record { next = record { formula-ok = h .formula-ok; sound = none-stored (x .formula) }; same-formula = refl; agree = record { reply = refl; visits = le-refl 0 } }
+    record { next = record { formula-ok = h .formula-ok; sound = none-stored (x .formula) }; same-formula = refl; agree = inl (record { reply = refl; visits = le-refl 0 }) }
 
 pub step-ok : (x : State) → Reached x → (c : Call) → CallOk x c (step x c)
 step-ok x h c = subst (λ (g : Bool). CallOk x c (guarded g x c)) (sym (reached-formed x h)) (call-ok x h c)
 
-pub run-agrees : (cs : List Call) (x : State) → Reached x → (b : Formula) → x .formula ≡ b → AllAgree (learningRun x cs) (plainRun b cs)
+pub run-agrees : (cs : List Call) (x : State) → Reached x → (b : Formula) → x .formula ≡ b → AllAgree cs (learningRun x cs) (plainRun b cs)
 run-agrees [] x h b e = tt
 run-agrees (c ∷ cs) x h b e =
     let w = step-ok x h c in (
-      subst (λ (y : Formula). Agree (step x c .out) (plainCall y c)) e (w .agree),
+      subst (λ (y : Formula). Agrees c (step x c .out) (plainCall y c)) e (w .agree),
       run-agrees cs (step x c .state) (w .next) (nextFormula b c) (w .same-formula ∙ ap (λ (y : Formula). nextFormula y c) e),
     )
 
 pub fresh-reached : (b : Formula) → formulaOk b ≡ true → Reached (fresh b)
 fresh-reached b e = record { formula-ok = formula-facts b e; sound = none-stored b }
+
+-- "A call whose plain walk fits the ceiling is therefore always finished, in any list."
+pub fits-agree : (c : Call) (n : ℕ) → ceilingOf c ≡ some n → (l p : Answer) → Agrees c l p → p .visits ≤ n → Agree l p
+fits-agree c n top l p (inl a) le = a
+fits-agree c n top l p (inr w) le = let t = w .ceiling in let e : l .visits ≡ n = cc in absurd (omega (arith, e, le, w .needed))

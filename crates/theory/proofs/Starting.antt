@@ -7,20 +7,22 @@ use mathlib.Core.Bool.{cond}
 use mathlib.Core.List.{List, [], _∷_}
 use lib.ListN.{length, drop, getD}
 use lib.Dec.{eqb, leb}
-use Rattle.qbf.specs.Formula.{Clause, Formula, Limits, Literal, Node, Prefix, Quantifier, any, exists, forall, free, isFree, numberOf, quantifiers}
+use Rattle.qbf.specs.Formula.{Clause, Formula, Limits, Literal, Node, Prefix, Quantifier, any, exists, forall, free, isFree, numberOf, place, quantifiers}
 use Rattle.qbf.specs.Truth.{Outcome, bound, decided, freeCount, mixed, outline, verdictOf}
 use Rattle.qbf.specs.Plain.{PlainResult, plainSearch}
 use Rattle.qbf.specs.Learning.{LearningResult, Store, learningSearch}
+use Rattle.qbf.specs.Ceiling.{searchWithin}
 use Rattle.qbf.specs.Card.{Mem}
 use Rattle.qbf.specs.Calls.{startNode}
 use Rattle.theory.proofs.Rest.{Rest}
 use Rattle.theory.proofs.WellFormed.{FormulaFacts, clauses-rising, capacity, free-before, inside}
 use Rattle.theory.proofs.Game.{Rising}
-use Rattle.theory.proofs.Leaves.{SoundStore, Fair}
-use Rattle.theory.proofs.Search.{FreeFirst, search-ok, search-verdict}
+use Rattle.theory.proofs.Leaves.{SoundStore, Fair, fair-inner}
+use Rattle.theory.proofs.Search.{FreeFirst, Known, known-side, search-ok, search-verdict, visit-ok}
 use Rattle.theory.proofs.Start.{fair-start}
 use Rattle.theory.proofs.PlainSearch.{plain-verdict}
 use Rattle.theory.proofs.Visits.{search-le}
+use Rattle.theory.proofs.Ceiling.{Within, search-within}
 
 abbrev pub SoundFor : Formula → Store → Type 0
 SoundFor b st = SoundStore (b .limits) (b .prefix) (b .clauses) st
@@ -131,3 +133,27 @@ module _ (b : Formula) (st : Store) (ks : List Quantifier) (s : Node) where
 
       true-verdict : outline (learning .outcome) ≡ verdictOf D R ks s
       true-verdict = search-verdict L (capacity b f) D R up (λ r m l n. inside D l) ks (g .order) s st (g .rest) (g .small) (g .fair) h
+
+  -- under a ceiling: the same search, or a store as sound
+  pub attempted : FormulaFacts b → SoundFor b st → Starts b ks s → (n : ℕ) → Within (SoundFor b) n learning (searchWithin (b .limits) (b .prefix) (b .clauses) n ks s st)
+  attempted f h g n =
+      search-within L D R (SoundFor b) (Known L one D R up in-prefix) (known-side L one D R up in-prefix)
+      (λ qs t z k w. visit-ok L one D R up in-prefix eqb qs t z k (fair-inner D R t) w .store-ok) n ks s st (record { order = g .order; rest = g .rest; small = g .small }) h
+    where
+      L : Limits
+      L = b .limits
+
+      D : Prefix
+      D = b .prefix
+
+      R : List Clause
+      R = b .clauses
+
+      one : 1 ≤ L .constraints
+      one = capacity b f
+
+      up : (r : Clause) → Mem r R → Rising D 0 r
+      up = clauses-rising b f
+
+      in-prefix : (r : Clause) → Mem r R → (l : Literal) → Mem l r → place D l ≤ length (quantifiers D)
+      in-prefix r m l k = inside D l

@@ -9,10 +9,11 @@ use mathlib.Core.List.{List, [], _∷_}
 use lib.ListN.{length}
 use lib.Dec.{eqb, leb, ltb, ltb→lt, lt→ltb}
 use borrow.Author.Tests.{le-leb, leb-true}
-use Rattle.qbf.specs.Formula.{Clause, Formula, Limits, Literal, Prefix, Quantifier, all, exists, forall, free, numberOf, place, placeFrom, placeOf, quantifierAt, quantifiers}
+use Rattle.qbf.specs.Formula.{Clause, Formula, Limits, Literal, Prefix, Quantifier, all, exists, forall, free, highest, mostFree, numberOf, place, placeFrom, placeOf, quantifierAt, quantifiers}
+use Rattle.qbf.specs.Truth.{freeVariables}
 use Rattle.qbf.specs.Learning.{Constraint, Store, constraints, dropped, lastPlace}
 use Rattle.qbf.specs.Card.{Mem}
-use Rattle.qbf.specs.Calls.{State, clauseOk, clausesOk, constraintOk, formulaOk, freeFirst, inOrder, limitsOk, noFree, numbersOk, prefixOk, recordsOk, storeOk, wellFormed}
+use Rattle.qbf.specs.Calls.{State, clauseOk, clausesOk, constraintOk, formulaOk, freeFirst, freeOk, inOrder, limitsOk, noFree, numbersOk, prefixOk, recordsOk, storeOk, wellFormed}
 use Rattle.theory.proofs.Basics.{T→≡, ≡→T, and-left, and-right, and-both, all→, →all, eqb-true, not-true, true-eqb}
 use Rattle.theory.proofs.Game.{Rising}
 use Rattle.theory.proofs.Verdict.{NoFree}
@@ -66,12 +67,16 @@ inside D l = omega (arith, place-from 0 (numberOf l) D)
 -- ---- formulas
 pub record FormulaFacts (b : Formula) : Type 0 where
   pub limits-ok : limitsOk (b .limits) ≡ true
+  pub free-ok : freeOk (b .prefix) ≡ true
   pub prefix-ok : prefixOk (b .limits) (b .prefix) ≡ true
   pub clauses-ok : clausesOk (b .limits) (b .prefix) (b .clauses) ≡ true
 
 module _ (b : Formula) where
   abbrev lim : Bool
   lim = limitsOk (b .limits)
+
+  abbrev fre : Bool
+  fre = freeOk (b .prefix)
 
   abbrev dec : Bool
   dec = prefixOk (b .limits) (b .prefix)
@@ -81,14 +86,30 @@ module _ (b : Formula) where
 
   pub formula-facts : formulaOk b ≡ true → FormulaFacts b
   formula-facts e =
-      record { limits-ok = and-left lim (dec && rls) e; prefix-ok = and-left dec rls (and-right lim (dec && rls) e); clauses-ok = and-right dec rls (and-right lim (dec && rls) e) }
+      let more = and-right lim (fre && (dec && rls)) e in
+      let rest = and-right fre (dec && rls) more in
+      record { limits-ok = and-left lim (fre && (dec && rls)) e; free-ok = and-left fre (dec && rls) more; prefix-ok = and-left dec rls rest; clauses-ok = and-right dec rls rest }
 
   pub facts-formula : FormulaFacts b → formulaOk b ≡ true
-  facts-formula h = and-both lim (dec && rls) (h .limits-ok) (and-both dec rls (h .prefix-ok) (h .clauses-ok))
+  facts-formula h = and-both lim (fre && (dec && rls)) (h .limits-ok) (and-both fre (dec && rls) (h .free-ok) (and-both dec rls (h .prefix-ok) (h .clauses-ok)))
+
+  abbrev high : Bool
+  high = leb (b .limits .numbers) (highest .numbers) && leb (b .limits .clauses) (highest .clauses)
 
   module _ (h : FormulaFacts b) where
     pub capacity : 1 ≤ b .limits .constraints
-    capacity = leb-true 1 (b .limits .constraints) (h .limits-ok)
+    capacity = leb-true 1 (b .limits .constraints) (and-left (leb 1 (b .limits .constraints)) high (h .limits-ok))
+
+    -- "capped at these"
+    pub numbers-capped : b .limits .numbers ≤ highest .numbers
+    numbers-capped = leb-true (b .limits .numbers) (highest .numbers) (and-left (leb (b .limits .numbers) (highest .numbers)) (leb (b .limits .clauses) (highest .clauses)) (and-right (leb 1 (b .limits .constraints)) high (h .limits-ok)))
+
+    pub clauses-capped : b .limits .clauses ≤ highest .clauses
+    clauses-capped = leb-true (b .limits .clauses) (highest .clauses) (and-right (leb (b .limits .numbers) (highest .numbers)) (leb (b .limits .clauses) (highest .clauses)) (and-right (leb 1 (b .limits .constraints)) high (h .limits-ok)))
+
+    -- "flags stay at most 40"
+    pub free-few : freeVariables (b .prefix) ≤ mostFree
+    free-few = leb-true (freeVariables (b .prefix)) mostFree (h .free-ok)
 
     pub numbers-ok : numbersOk (b .limits) [] (b .prefix) ≡ true
     numbers-ok = and-left (numbersOk (b .limits) [] (b .prefix)) (freeFirst (quantifiers (b .prefix))) (h .prefix-ok)

@@ -1,19 +1,23 @@
 -- Widths, once over the limits: declarations, and the literals of a clause or constraint.
-use Prim.Native.Nat.{ℕ, zero, suc, _+_, _≤_, suc-le-suc, zero-le}
+use Prim.Native.Nat.{ℕ, zero, suc, _+_, _≤_, min, suc-le-suc, zero-le}
+use native.Mathlib.Nat.{min-le-right}
 use native.Mathlib.Omega.{arith}
 use mathlib.Core.Path.{_≡_, refl, sym, ap, _∙_}
 use mathlib.Core.Logic.{inl, inr}
 use mathlib.Core.Bool.{Bool, true, false, cond}
 use mathlib.Core.List.{List, [], _∷_}
 use lib.ListN.{length, length-map}
-use lib.Dec.{eqb}
-use Rattle.qbf.specs.Formula.{Limits, Literal, Prefix, paper, place, quantifiers}
+use lib.Dec.{eqb, leb}
+use borrow.Author.Tests.{le-leb}
+use Rattle.qbf.specs.Formula.{Limits, Literal, Prefix, capped, highest, mostFree, paper, place, quantifiers}
+use Rattle.qbf.specs.Truth.{freeVariables}
 use Rattle.qbf.specs.Card.{Mem}
-use Rattle.qbf.specs.Calls.{numbersOk}
-use Rattle.theory.proofs.Basics.{eqb-true, false-eqb}
+use Rattle.qbf.specs.Calls.{freeOk, limitsOk, numbersOk}
+use Rattle.theory.proofs.Basics.{and-both, eqb-true, false-eqb}
 use Rattle.theory.proofs.Game.{Rising}
 use Rattle.theory.proofs.WellFormed.{inside}
 use Rattle.theory.proofs.Prefixes.{Distinct, numbers, fine}
+use Rattle.theory.proofs.Starting.{free-fit}
 
 -- ---- distinct numbers from 1 to n are at most n
 remove : ℕ → List ℕ → List ℕ
@@ -84,6 +88,19 @@ from-width D d (l ∷ ls) h up = omega (arith, up .0, from-width D (place D l) l
 pub constraint-width : (L : Limits) (D : Prefix) (ls : List Literal) → numbersOk L [] D ≡ true → Rising D 0 ls → length ls ≤ L .numbers
 constraint-width L D ls e up = omega (arith, prefix-width L D e, from-width D 0 ls zero-le up)
 
--- the paper's instance
+-- the paper's instance, and that of the highest limits
 pub constraint-40 : (D : Prefix) (ls : List Literal) → numbersOk paper [] D ≡ true → Rising D 0 ls → length ls ≤ 40
 constraint-40 D ls e up = constraint-width paper D ls e up
+
+pub constraint-1000 : (L : Limits) → L .numbers ≤ highest .numbers → (D : Prefix) (ls : List Literal) → numbersOk L [] D ≡ true → Rising D 0 ls → length ls ≤ 1000
+constraint-1000 L h D ls e up = omega (arith, h, constraint-width L D ls e up)
+
+-- where numbers run to 40 at most, "flags stay at most 40" by themselves
+pub free-fits : (L : Limits) → L .numbers ≤ mostFree → (D : Prefix) → numbersOk L [] D ≡ true → freeOk D ≡ true
+free-fits L h D e = le-leb (freeVariables D) mostFree (omega (arith, h, prefix-width L D e, free-fit (quantifiers D)))
+
+-- a formula is opened with limits that are well formed: "capped at these"
+pub capped-ok : (n m : ℕ) → limitsOk (capped n m) ≡ true
+capped-ok n m =
+    and-both (leb (min n (highest .numbers)) (highest .numbers)) (leb (min m (highest .clauses)) (highest .clauses))
+    (le-leb (min n (highest .numbers)) (highest .numbers) (min-le-right n (highest .numbers))) (le-leb (min m (highest .clauses)) (highest .clauses) (min-le-right m (highest .clauses)))

@@ -50,6 +50,7 @@ withdraw-formula b h (some n) = h
 withdraw-formula b h none =
     record {
       limits-ok = h .limits-ok;
+      free-ok = h .free-ok;
       prefix-ok = h .prefix-ok;
       clauses-ok =
           and-both (leb (length R′) (b .limits .clauses)) (all (clauseOk (b .limits) (b .prefix)) R′)
