@@ -7,9 +7,10 @@ use mathlib.Core.Option.{none}
 use Rattle.qbf.specs.Formula.{paper, placeOf}
 use Rattle.layout.specs.Words.{Bytes, ascii, split, same, digits, number, closed, inside}
 use Rattle.layout.specs.Forms.{items, consed, formFrom, formOf}
+use Rattle.layout.specs.Ceilings.{ceiled}
 use Rattle.layout.specs.Opening.{readLines, openText}
 use Rattle.layout.specs.Output.{lastDigits, decimal, refusalText, queryText}
-use Rattle.layout.specs.Session.{callFrom, answerText}
+use Rattle.layout.specs.Session.{callFrom, ceiledCall, answerText}
 use Rattle.sessions.specs.Session.{requestFrom, requestOf}
 use Rattle.feeding.specs.Lines.{fed, grown}
 use Rattle.feeding.specs.Sessions.{Held, start, onByte, atEnd}
@@ -54,5 +55,5 @@ rows =
     ∷ []
 
 step-rows : allPrinted rows ≡ allExpected rows
-unfolding split same digits number items consed closed inside formFrom formOf readLines openText placeOf lastDigits decimal refusalText queryText callFrom answerText requestFrom requestOf fed grown
+unfolding split same digits number items consed closed inside formFrom formOf readLines openText placeOf lastDigits decimal refusalText queryText callFrom ceiled ceiledCall answerText requestFrom requestOf fed grown
 step-rows = refl

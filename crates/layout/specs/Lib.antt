@@ -1,5 +1,6 @@
 pub mod Words
 pub mod Forms
+pub mod Ceilings
 pub mod Opening
 pub mod Output
 pub mod Page

@@ -59,7 +59,7 @@ cardText p D ls n = cardHead p ++ linesText D ls ++ visitsText n ++ ascii "(end)
 unfoldable pub refusalText : ℕ → ℕ → Bytes
 refusalText n line = ascii "(refused " ++ decimal n ++ ascii " " ++ decimal line ++ ascii ")\n"
 
--- a card too large, in a session: its visits are told
+-- a card too large or a stopped call, in a session: its visits are told
 unfoldable pub overflowText : ℕ → ℕ → ℕ → Bytes
 overflowText n line visits = ascii "(refused " ++ decimal n ++ ascii " " ++ decimal line ++ ascii " (visits " ++ decimal visits ++ ascii "))\n"
 

@@ -1,14 +1,16 @@
 -- The book of a session, the call of a line, and the answer of a call. Paper 01, "Text and program". What a whole session prints is in the crate
 -- `sessions`.
 use Prim.Native.Nat.{ℕ, suc}
-use mathlib.Core.Bool.{true, false, cond, Bool}
+use mathlib.Core.Bool.{true, false, cond, Bool, _||_}
 use mathlib.Core.List.{List, [], _∷_, _++_}
 use mathlib.Core.Option.{Option, none, some}
 use lib.ListN.{length}
 use lib.Dec.{leb, ltb, eqb}
 use Rattle.qbf.specs.Formula.{Prefix, Literal, numberOf}
 use Rattle.qbf.specs.Calls.{Call, rule, query, card, forget, withdraw, Reply, done, refused, swap, keep, lines, cardRefused, Answer, keepCard, cardOf}
+use Rattle.qbf.specs.Ceiling.{highestCeiling}
 use Rattle.layout.specs.Words.{Bytes, ascii, newline, space, split, same, inside}
+use Rattle.layout.specs.Ceilings.{Ceiled, ceiled}
 use Rattle.layout.specs.Forms.{then, items, ruleWord}
 use Rattle.layout.specs.Output.{cardText, refusalText, overflowText, queryText, acceptedText, forgottenText, withdrawnText}
 use Rattle.layout.specs.Program.{tableBytes}
@@ -31,7 +33,7 @@ abbrev pub ruleCall : List Literal → Option Call
 ruleCall ls = some (rule ls)
 
 abbrev pub queryCall : List Literal → Option Call
-queryCall ls = some (query ls)
+queryCall ls = some (query highestCeiling ls)
 
 -- what a line says with no item, or with one that is the size of a table
 abbrev pub sizedBy : {A : Type 0} → A → (ℕ → A) → List Literal → Option A
@@ -41,13 +43,13 @@ sizedBy whole part (l ∷ m ∷ ls) = none
 
 -- `(card)` with the whole table, `(card 4)` with a table of so many bytes; in the same way `(keep-card)`
 abbrev pub cardCall : Bool → List Literal → Option Call
-cardCall p ls = sizedBy (cardOf p tableBytes) (cardOf p) ls
+cardCall p ls = sizedBy (cardOf p highestCeiling tableBytes) (cardOf p highestCeiling) ls
 
 abbrev pub forgetCall : List Literal → Option Call
 forgetCall [] = some forget
 forgetCall (l ∷ ls) = none
 
--- the call of a line's words; only a rule has signed items
+-- the call of a line's words before a ceiling, under the highest; only a rule has signed items
 unfoldable pub callFrom : List Bytes → Option Call
 callFrom [] = none
 callFrom (w ∷ ws) =
@@ -58,9 +60,26 @@ callFrom (w ∷ ws) =
     (cond (same w forgetWord) (then (items false ws) forgetCall)
     none))))
 
+-- "query and either card take a ceiling on visits": those calls under a ceiling; the others have none
+abbrev pub under : ℕ → Call → Option Call
+under n (query m ls) = some (query n ls)
+under n (card m size) = some (card n size)
+under n (keepCard m size) = some (keepCard n size)
+under n (rule ls) = none
+under n forget = none
+under n withdraw = none
+
+-- the call of a line's words: "Without it the ceiling is the highest"
+abbrev pub underGiven : Option ℕ → Option Call → Option Call
+underGiven none o = o
+underGiven (some n) o = then o (under n)
+
+unfoldable pub ceiledCall : List Bytes → Option Call
+ceiledCall ws = then (ceiled ws) (λ z. underGiven (z .ceiling) (callFrom (z .words)))
+
 -- the call of a line without its byte 10; a line longer than a text may be is none
 unfoldable pub callOf : Bytes → Option Call
-callOf l = cond (ltb opening.textBytes (length l)) none (then (inside l) (λ s. callFrom (split space s)))
+callOf l = cond (ltb opening.textBytes (length l)) none (then (inside l) (λ s. ceiledCall (split space s)))
 
 -- ---- the answer of a call
 -- an accepted rule, a store emptied, a rule withdrawn; the other calls are not answered so
@@ -68,31 +87,31 @@ abbrev pub doneText : Call → Bytes
 doneText (rule ls) = acceptedText
 doneText forget = forgottenText
 doneText withdraw = withdrawnText
-doneText (query ls) = []
-doneText (card size) = []
-doneText (keepCard size) = []
+doneText (query n ls) = []
+doneText (card n size) = []
+doneText (keepCard n size) = []
 
 -- the verdict of a card's lines, which its text begins with; the other calls have none
 abbrev pub listsYes : Call → Bool
 listsYes (rule ls) = true
-listsYes (query ls) = true
-listsYes (card size) = true
+listsYes (query n ls) = true
+listsYes (card n size) = true
 listsYes forget = true
 listsYes withdraw = true
-listsYes (keepCard size) = false
+listsYes (keepCard n size) = false
 
--- a card too large tells its visits
-abbrev pub cardRefusalText : ℕ → ℕ → ℕ → Bytes
-cardRefusalText n line visits = cond (eqb n 21) (overflowText n line visits) (refusalText n line)
+-- "Visits are returned .. with 21, 34": a card too large and a stopped call tell their visits
+abbrev pub searchRefusalText : ℕ → ℕ → ℕ → Bytes
+searchRefusalText n line visits = cond (eqb n 21 || eqb n 34) (overflowText n line visits) (refusalText n line)
 
 -- the reply to a call on some line
 abbrev pub replyPrinted : Prefix → Call → ℕ → Reply → ℕ → Bytes
 replyPrinted D c line done visits = doneText c
-replyPrinted D c line (refused n) visits = refusalText n line
+replyPrinted D c line (refused n) visits = searchRefusalText n line visits
 replyPrinted D c line swap visits = queryText true visits
 replyPrinted D c line keep visits = queryText false visits
 replyPrinted D c line (lines ls table) visits = cardText (listsYes c) D ls visits
-replyPrinted D c line (cardRefused n table) visits = cardRefusalText n line visits
+replyPrinted D c line (cardRefused n table) visits = searchRefusalText n line visits
 
 unfoldable pub answerText : Prefix → Call → ℕ → Answer → Bytes
 answerText D c line a = replyPrinted D c line (a .reply) (a .visits)

@@ -60,9 +60,13 @@ unfoldable pub digits : ℕ → Bytes → Option ℕ
 digits v [] = some v
 digits v (b ∷ w) = cond (isDigit b) (digits (v * 10 + (b - 48)) w) none
 
+-- a number of at most so many digits, with no leading zero
+abbrev pub numberWithin : ℕ → Bytes → Option ℕ
+numberWithin most w = cond (leb 1 (length w) && leb (length w) most && (eqb (length w) 1 || not (eqb (getD w 0 0) 48))) (digits 0 w) none
+
 -- "Numbers have 1 to 5 digits and no leading zero (0 alone is allowed)."
 unfoldable pub number : Bytes → Option ℕ
-number w = cond (leb 1 (length w) && leb (length w) 5 && (eqb (length w) 1 || not (eqb (getD w 0 0) 48))) (digits 0 w) none
+number w = numberWithin 5 w
 
 -- ---- brackets
 -- a word without its last byte, where that is a closing bracket

@@ -7,10 +7,11 @@ use lib.ListN.{length, replicate}
 use Rattle.qbf.specs.Formula.{paper, placeOf}
 use Rattle.layout.specs.Words.{Bytes, ascii, newline, space, split, same, digits, number, closed, inside}
 use Rattle.layout.specs.Forms.{items, consed, formFrom, formOf}
+use Rattle.layout.specs.Ceilings.{ceilingNumber, ceiled}
 use Rattle.layout.specs.Opening.{readLines, openText}
 use Rattle.layout.specs.Output.{lastDigits, decimal, literalText, itemsText, lineText, linesText, visitsText, cardText, refusalText, overflowText, queryText}
 use Rattle.layout.specs.Page.{aligned, signOf, pageOf, noPage}
-use Rattle.layout.specs.Session.{callFrom, answerText, parted}
+use Rattle.layout.specs.Session.{callFrom, ceiledCall, answerText, parted}
 use Rattle.booktext.specs.Texts.{bodyText, lineOf, formText, formsText}
 use Rattle.booktext.specs.Books.{bookForms, bookText, writeCall, textRoom}
 use Rattle.sessions.specs.Session.{requestFrom, requestOf, serveLines, sessionProgram}
@@ -45,6 +46,13 @@ rows =
     "(keep-card 1)\n(line (no 1) (no 2))\n(line 1 (no 2))\n(visits 11)\n(end)\n(card 1)\n(line (no 1) 2)\n(line 1 2)\n(visits 9)\n(end)\n"
     ∷ row "(card 4)\n(keep-card 3)\n" "(card 1)\n(line (no 1) 2)\n(line 1 2)\n(visits 11)\n(end)\n(refused 21 10 (visits 9))\n"
     ∷ row "(keep-card 65537)\n(keep-card 04)\n(keep-card 1 2)\n(keep-card (no 1))\n(keepcard)\n" "(refused 1 9)\n(refused 1 10)\n(refused 1 11)\n(refused 1 12)\n(refused 1 13)\n"
+    -- a ceiling stops the search before the visit that would exceed it, and the store is kept; exactly the needed visits are finished
+    ∷ row "(card (ceiling 10))\n(card 4 (ceiling 9))\n(keep-card 3 (ceiling 9))\n(keep-card (ceiling 8))\n"
+    "(refused 34 9 (visits 10))\n(card 1)\n(line (no 1) 2)\n(line 1 2)\n(visits 9)\n(end)\n(refused 21 11 (visits 9))\n(refused 34 12 (visits 8))\n"
+    ∷ row "(query 1 (ceiling 2))\n(query 2 (ceiling 0))\n(query 3 (ceiling 0))\n(query 2 (ceiling 4294967295))\n(query 2 (ceiling 1))\n" "(refused 34 9 (visits 2))\n(refused 34 10 (visits 0))\n(refused 8 11)\n(swap (visits 1))\n(swap (visits 1))\n"
+    -- what is no ceiling, or a ceiling that is not the last item, and calls that have none
+    ∷ row "(card (ceiling 4294967296))\n(card (ceiling 01))\n(card (ceiling 4) 4)\n(card (ceiling))\n(card (ceiling 1) (ceiling 1))\n" "(refused 1 9)\n(refused 1 10)\n(refused 1 11)\n(refused 1 12)\n(refused 1 13)\n"
+    ∷ row "(rule 1 (ceiling 4))\n(forget (ceiling 4))\n(write (ceiling 4))\n(page (ceiling 1))\n(ceiling 4)\n(card (ceiling 4 5))\n(card (ceiling 10000000000))\n" "(refused 1 9)\n(refused 1 10)\n(refused 1 11)\n(refused 1 12)\n(refused 1 13)\n(refused 1 14)\n(refused 1 15)\n"
     ∷ row "(rule 1 (no 2))\n(rule)\n(rule 1 41)\n(rule 1 5)\n(rule (no 1) 1)\n" "(accepted)\n(refused 7 10)\n(refused 3 11)\n(refused 5 12)\n(refused 6 13)\n"
     ∷ row "(query 3)\n(query 1 1)\n(query 0)\n(query 99999)\n(query (no 1))\n" "(refused 8 9)\n(refused 8 10)\n(refused 8 11)\n(refused 8 12)\n(refused 1 13)\n"
     ∷ row "\n(card 65537)\n(card 04)\n(card 1 2)\n(forget 1)\n(end)\n(forget)" "(refused 1 9)\n(refused 1 10)\n(refused 1 11)\n(refused 1 12)\n(refused 1 13)\n(refused 1 14)\n(refused 1 15)\n"
@@ -55,7 +63,7 @@ rows =
     ∷ []
 
 session-rows : printed rows ≡ expected rows
-unfolding split same digits number items consed closed inside formFrom formOf readLines openText placeOf lastDigits decimal literalText itemsText lineText linesText visitsText cardText refusalText overflowText queryText callFrom answerText requestFrom requestOf bodyText lineOf formText formsText bookForms bookText textRoom writeCall serveLines parted sessionProgram
+unfolding split same digits number items consed closed inside formFrom formOf readLines openText placeOf lastDigits decimal literalText itemsText lineText linesText visitsText cardText refusalText overflowText queryText callFrom ceilingNumber ceiled ceiledCall answerText requestFrom requestOf bodyText lineOf formText formsText bookForms bookText textRoom writeCall serveLines parted sessionProgram
 session-rows = refl
 
 -- ---- pages
@@ -111,10 +119,11 @@ pages =
     (ascii cardA ++ (ascii "(accepted)\n(refused 36 11)\n(card 1)\n(line 1 2)\n(visits 7)\n(end)\n" ++ pageA1))
     -- nor does a refused card
     ∷ paged "(card)\n(card 3)\n(page 1)\n" (ascii cardA ++ ascii "(refused 21 10 (visits 9))\n(refused 36 11)\n")
+    ∷ paged "(card)\n(card (ceiling 2))\n(page 1)\n" (ascii cardA ++ ascii "(refused 34 10 (visits 2))\n(refused 36 11)\n")
     ∷ paged "(card)\n(page)\n(page 01)\n(page 100000)\n(page (no 1))\n(page 1 2)\n"
     (ascii cardA ++ ascii "(refused 1 10)\n(refused 1 11)\n(refused 1 12)\n(refused 1 13)\n(refused 1 14)\n")
     ∷ []
 
 session-pages : shown pages ≡ outputs pages
-unfolding split same digits number items consed closed inside formFrom formOf readLines openText placeOf lastDigits decimal literalText itemsText lineText linesText visitsText cardText refusalText overflowText queryText callFrom answerText requestFrom requestOf bodyText lineOf formText formsText bookForms bookText textRoom writeCall serveLines parted sessionProgram aligned signOf pageOf noPage
+unfolding split same digits number items consed closed inside formFrom formOf readLines openText placeOf lastDigits decimal literalText itemsText lineText linesText visitsText cardText refusalText overflowText queryText callFrom ceilingNumber ceiled ceiledCall answerText requestFrom requestOf bodyText lineOf formText formsText bookForms bookText textRoom writeCall serveLines parted sessionProgram aligned signOf pageOf noPage
 session-pages = refl

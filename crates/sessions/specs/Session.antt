@@ -14,7 +14,7 @@ use Rattle.layout.specs.Forms.{then, items}
 use Rattle.layout.specs.Output.{refusalText}
 use Rattle.layout.specs.Page.{noPage, pageOf}
 use Rattle.layout.specs.Opening as opening
-use Rattle.layout.specs.Session.{sizedBy, callFrom, answerText, Parted, parted}
+use Rattle.layout.specs.Session.{sizedBy, ceiledCall, answerText, Parted, parted}
 use Rattle.booktext.specs.Books.{Written, written, writeRefused, writeCall, textRoom}
 
 -- ---- the request of a line
@@ -49,7 +49,7 @@ requestFrom [] = none
 requestFrom (w ∷ ws) =
     cond (same w writeWord) (then (items false ws) writeRequest)
     (cond (same w pageWord) (then (items false ws) pageRequest)
-    (then (callFrom (w ∷ ws)) callRequest))
+    (then (ceiledCall (w ∷ ws)) callRequest))
 
 -- the request of a line without its byte 10; a line longer than a text may be is none
 unfoldable pub requestOf : Bytes → Option Request
@@ -93,9 +93,9 @@ cardAfterRule keep z = z
 -- the card answered last, after a call: "36 also where no card has been answered yet, the last one was refused, or a rule .. was accepted or a rule withdrawn since"
 abbrev pub cardAfter : Prefix → Call → Reply → Option Card → Option Card
 cardAfter D (rule ls) r z = cardAfterRule r z
-cardAfter D (query ls) r z = z
-cardAfter D (card size) r z = cardOf D r
-cardAfter D (keepCard size) r z = cardOf D r
+cardAfter D (query n ls) r z = z
+cardAfter D (card n size) r z = cardOf D r
+cardAfter D (keepCard n size) r z = cardOf D r
 cardAfter D forget r z = z
 cardAfter D withdraw r z = cardAfterRule r z
 
