@@ -10,12 +10,12 @@ use borrow.Author.Tests.{le-leb, leb-true}
 use lib.IntN.{pos}
 use lib.ListN.{length, length-append}
 use lib.Dec.{eqb, leb}
-use Rattle.qbf.specs.Formula.{Limits, Quantifier, free, exists, forall, isFree, sameQuantifier, Prefix, quantifiers, numberOf, Clause, Formula, any, all, place}
+use Rattle.qbf.specs.Formula.{Limits, highest, Quantifier, free, exists, forall, isFree, sameQuantifier, Prefix, quantifiers, numberOf, Clause, Formula, any, all, place}
 use Rattle.qbf.specs.Card.{Mem}
 use Rattle.qbf.specs.Calls.{ruleFault, clauseOf, clauseOk, inOrder, numbersOk, noFree, freeFirst, formulaOk}
 use Rattle.theory.proofs.Basics.{and-left, and-right, and-both, all→, →all}
 use Rattle.theory.proofs.Game.{Rising}
-use Rattle.theory.proofs.WellFormed.{FormulaFacts, formula-facts, facts-formula, numbers-ok, clause-count, each-clause, clauses-rising}
+use Rattle.theory.proofs.WellFormed.{FormulaFacts, formula-facts, facts-formula, capacity, numbers-capped, clauses-capped, numbers-ok, clause-count, each-clause, clauses-rising}
 use Rattle.theory.proofs.Prefixes.{numbers, fine}
 use Rattle.layout.specs.Forms.{Form, book, block, clause, end}
 use Rattle.layout.specs.Opening.{textBytes, variable, declareFault, lineFault, Opened, opened, emptyFormula, openText}
@@ -221,6 +221,8 @@ record Within (L M : Limits) : Type 0 where
   clauses-within : L .clauses ≤ M .clauses
   literals-within : L .literals ≤ M .literals
   constraints-within : L .constraints ≤ M .constraints
+  numbers-capped-within : M .numbers ≤ highest .numbers
+  clauses-capped-within : M .clauses ≤ highest .clauses
 
 module _ (L M : Limits) (w : Within L M) where
   within-numbers : (seen : List ℕ) (D : Prefix) → numbersOk L seen D ≡ true → numbersOk M seen D ≡ true
@@ -255,7 +257,11 @@ module _ (L M : Limits) (w : Within L M) where
   within-formula : (D : Prefix) (R : List Clause) → FormulaFacts (formula L D R) → FormulaFacts (formula M D R)
   within-formula D R h =
       record {
-        limits-ok = le-leb 1 (M .constraints) (omega (arith, w .constraints-within, leb-true 1 (L .constraints) (h .limits-ok)));
+        limits-ok =
+            and-both (leb 1 (M .constraints)) (leb (M .numbers) (highest .numbers) && leb (M .clauses) (highest .clauses))
+            (le-leb 1 (M .constraints) (omega (arith, w .constraints-within, capacity (formula L D R) h)))
+            (and-both (leb (M .numbers) (highest .numbers)) (leb (M .clauses) (highest .clauses)) (le-leb (M .numbers) (highest .numbers) (w .numbers-capped-within)) (le-leb (M .clauses) (highest .clauses) (w .clauses-capped-within)));
+        free-ok = h .free-ok;
         prefix-ok = and-both (numbersOk M [] D) (freeFirst (quantifiers D)) (within-numbers [] D (and-left (numbersOk L [] D) (freeFirst (quantifiers D)) (h .prefix-ok))) (and-right (numbersOk L [] D) (freeFirst (quantifiers D)) (h .prefix-ok));
         clauses-ok =
             and-both (leb (length R) (M .clauses)) (all (clauseOk M D) R)
@@ -280,11 +286,17 @@ module _ (b c : Formula) (b-ok : formulaOk b ≡ true) (c-ok : formulaOk c ≡ t
       M : Limits
       M = higher (b .limits) (c .limits)
 
+      numbers-most : M .numbers ≤ highest .numbers
+      numbers-most = omega (arith, numbers-capped b (formula-facts b b-ok), numbers-capped c (formula-facts c c-ok))
+
+      clauses-most : M .clauses ≤ highest .clauses
+      clauses-most = omega (arith, clauses-capped b (formula-facts b b-ok), clauses-capped c (formula-facts c c-ok))
+
       both : opened (under M b) ≡ opened (under M c)
       both =
-          sym (under-read M b b-ok (record { numbers-within = omega arith; clauses-within = omega arith; literals-within = omega arith; constraints-within = omega arith }) (omega (arith, b-short, c-short)))
+          sym (under-read M b b-ok (record { numbers-within = omega arith; clauses-within = omega arith; literals-within = omega arith; constraints-within = omega arith; numbers-capped-within = numbers-most; clauses-capped-within = clauses-most }) (omega (arith, b-short, c-short)))
           ∙ ap (readText M) e
-          ∙ under-read M c c-ok (record { numbers-within = omega arith; clauses-within = omega arith; literals-within = omega arith; constraints-within = omega arith }) (omega (arith, b-short, c-short))
+          ∙ under-read M c c-ok (record { numbers-within = omega arith; clauses-within = omega arith; literals-within = omega arith; constraints-within = omega arith; numbers-capped-within = numbers-most; clauses-capped-within = clauses-most }) (omega (arith, b-short, c-short))
 
   same-text : SameBook b c → bookText b ≡ bookText c
   unfolding bookText bookForms

@@ -1,15 +1,19 @@
 -- Opening a text: the order of its lines, what each does, and every refusal with its line. Paper 01, "Refusals from the input",
 -- "Refusals from the state" and "Text and program".
 use Prim.Native.Nat.{ℕ, suc}
-use mathlib.Core.Bool.{Bool, cond, not, _||_}
+use mathlib.Core.Bool.{Bool, cond, not, _&&_, _||_}
 use mathlib.Core.List.{List, [], _∷_, _++_, map}
 use mathlib.Core.Option.{Option, none, some}
 use lib.ListN.{length}
 use lib.Dec.{leb, ltb, eqb}
-use Rattle.qbf.specs.Formula.{Limits, Quantifier, free, exists, forall, Variable, Prefix, Formula, placeOf}
-use Rattle.qbf.specs.Calls.{given, ruleFault, withRule, _orElse_}
+use Rattle.qbf.specs.Formula.{Limits, mostFree, Quantifier, free, exists, forall, Variable, Prefix, Formula, placeOf}
+use Rattle.qbf.specs.Calls.{given, ruleFault, withRule, limitsOk, _orElse_}
 use Rattle.layout.specs.Words.{Bytes, newline, split}
 use Rattle.layout.specs.Forms.{Form, book, block, clause, end, formOf}
+
+-- the limits under which a text is opened: as a state's, and so few numbers that no line can declare more flags than there may be
+abbrev pub openingOk : Limits → Bool
+openingOk L = limitsOk L && leb (L .numbers) mostFree
 
 -- "text over 65,536 bytes"
 abbrev pub textBytes : ℕ
