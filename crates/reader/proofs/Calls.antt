@@ -11,12 +11,13 @@ use lib.Dec.{leb, eqb}
 use lib.IntN.{ℤ, pos}
 use lib.ListN.{length, getD, take, drop}
 use Rattle.qbf.specs.Formula.{Literal, numberOf}
+use Rattle.qbf.specs.Ceiling.{highestCeiling}
 use Rattle.qbf.specs.Calls.{Call, query, cardOf, forget}
 use Rattle.layout.specs.Words.{Bytes, same, onFirst, split, space, isDigit, digits, number, inside}
 use Rattle.layout.specs.Forms.{then, consed, items, ruleWord}
 use Rattle.layout.specs.Opening.{textBytes}
 use Rattle.layout.specs.Program.{tableBytes}
-use Rattle.layout.specs.Session.{queryWord, cardWord, keepCardWord, forgetWord, sizedBy, ruleCall, queryCall, cardCall, forgetCall, callFrom, callOf}
+use Rattle.layout.specs.Session.{queryWord, cardWord, keepCardWord, forgetWord, sizedBy, ruleCall, queryCall, cardCall, forgetCall, callFrom, ceiledCall, callOf}
 use Rattle.reader.specs.Pieces.{piecesFrom, Piece}
 use Rattle.reader.specs.Numbers.{numOf}
 use Rattle.reader.specs.Items.{Kept, Filled}
@@ -152,17 +153,17 @@ unfolding sized
 size-is whole part w ws = one-item (sizedBy whole part) (sized part) (λ n. refl) (λ l m ls. refl) w ws
 
 -- the card, or the keep card
-card-is : (p : Bool) (ws : List Bytes) → then (items false ws) (cardCall p) ≡ then (cardSize ws) (sized (cardOf p))
+card-is : (p : Bool) (ws : List Bytes) → then (items false ws) (cardCall p) ≡ then (cardSize ws) (sized (cardOf p highestCeiling))
 unfolding items sized
 card-is p [] = refl
-card-is p (w ∷ ws) = size-is (cardOf p tableBytes) (cardOf p) w ws
+card-is p (w ∷ ws) = size-is (cardOf p highestCeiling tableBytes) (cardOf p highestCeiling) w ws
 
-sized-line : (p : Bool) (z : Num) (out : List ℤ) → CallRead (then (numOf z) (sized (cardOf p))) (cardLine p z) out
+sized-line : (p : Bool) (z : Num) (out : List ℤ) → CallRead (then (numOf z) (sized (cardOf p highestCeiling))) (cardLine p z) out
 unfolding sized
 sized-line p NotNumber out = refl
 sized-line p (Value n) out = by p (leb n tableBytes)
   where
-    by : (p x : Bool) → CallRead (cond x (some (cardOf p n)) none) (cond x (cardSized p n) line.NotCall) out
+    by : (p x : Bool) → CallRead (cond x (some (cardOf p highestCeiling n)) none) (cond x (cardSized p n) line.NotCall) out
     by true true = refl
     by false true = refl
     by p false = refl
@@ -201,7 +202,7 @@ module _ {s : Bytes} {e : ℕ} (p : Piece space s 0 e) (w : CallWord) (g : Bool)
     pub query-read : w ≡ word.Query → CallRead (callFrom (split space s)) (line.Query n) out
     query-read h =
         let u = unsigned (piecesFrom space s (e + 1)) (read .0) (no-signs word.Query h refl) in
-        (map numberOf (read .0), with-items word.Query h ∙ ap (λ (xs : List Literal). some (query xs)) u, subst (Kept n out) u (read .2))
+        (map numberOf (read .0), with-items word.Query h ∙ ap (λ (xs : List Literal). some (query highestCeiling xs)) u, subst (Kept n out) u (read .2))
 
     -- a card's word, by the verdict of its lines
     sized-read : (q : Bool) → callFrom (split space s) ≡ then (items false (piecesFrom space s (e + 1))) (cardCall q)
@@ -210,8 +211,8 @@ module _ {s : Bytes} {e : ℕ} (p : Piece space s 0 e) (w : CallWord) (g : Bool)
         subst (λ (x : CallLine). CallRead (callFrom (split space s)) x out) (sym b)
         (subst (λ (o : Option Call). CallRead o (cardLine q z) out) (sym is) (sized-line q z out))
       where
-        is : callFrom (split space s) ≡ then (numOf z) (sized (cardOf q))
-        is = h ∙ card-is q (piecesFrom space s (e + 1)) ∙ ap (λ (o : Option ℕ). then o (sized (cardOf q))) (sym t)
+        is : callFrom (split space s) ≡ then (numOf z) (sized (cardOf q highestCeiling))
+        is = h ∙ card-is q (piecesFrom space s (e + 1)) ∙ ap (λ (o : Option ℕ). then o (sized (cardOf q highestCeiling))) (sym t)
 
     pub card-read : w ≡ word.Card → (z : Num) → numOf z ≡ cardSize (piecesFrom space s (e + 1)) → {a : CallLine} → a ≡ cardLine true z → CallRead (callFrom (split space s)) a out
     card-read h = sized-read true (with-items word.Card h ∙ ap (λ (o : Option (List Literal)). then o (cardCall true)) (sym (no-signs word.Card h refl)))
@@ -239,6 +240,6 @@ module _ (l : Bytes) where
     unfolding callOf
     call-out h = rw (le-ltb textBytes (length l) short, h)
 
-    pub call-in : {s : Bytes} → inside l ≡ some s → callOf l ≡ callFrom (split space s)
+    pub call-in : {s : Bytes} → inside l ≡ some s → callOf l ≡ ceiledCall (split space s)
     unfolding callOf
     call-in h = rw (le-ltb textBytes (length l) short, h)

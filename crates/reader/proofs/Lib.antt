@@ -9,4 +9,5 @@ pub mod Calls
 pub mod Judged
 pub mod Texts
 pub mod Books
+pub mod Ceilings
 pub mod Requests

@@ -12,7 +12,7 @@ use Rattle.layout.specs.Words.{Bytes, same, split, space, number, inside}
 use Rattle.layout.specs.Forms.{then, items}
 use Rattle.layout.specs.Opening.{textBytes}
 use Rattle.layout.specs.Program.{tableBytes}
-use Rattle.layout.specs.Session.{callFrom, callOf}
+use Rattle.layout.specs.Session.{callFrom, ceiledCall, callOf}
 use Rattle.sessions.specs.Session.{Request, write, page, writeWord, pageWord, writeRequest, pageRequest, callRequest, requestFrom, requestOf}
 use Rattle.reader.specs.Pieces.{piecesFrom, Piece}
 use Rattle.reader.specs.Numbers.{numOf}
@@ -26,22 +26,31 @@ use Rattle.reader.proofs.Words.{same-true}
 use Rattle.reader.proofs.Literals.{past}
 use Rattle.reader.proofs.Texts.{split-some}
 use Rattle.reader.proofs.Lines.{rest-bytes, rest-some, first-word}
+use Rattle.reader.proofs.Ceilings.{word-none}
 use Rattle.reader.proofs.Calls.{sized, one-item, size-is, size-text}
 
 -- ---- the word
 module _ (w : Bytes) (ws : List Bytes) where
   -- the word `write` makes no call
+  write-none : ceiledCall (writeWord ∷ ws) ≡ none
+  unfolding callFrom same
+  write-none = word-none writeWord ws refl (λ vs. refl)
+
   pub write-word : same w writeWord ≡ true → fromWords (w ∷ ws) ≡ fromItems writeRequest ws
-  unfolding requestFrom callFrom same
-  write-word e = rw (same-true w writeWord e)
+  unfolding requestFrom same
+  write-word e = rw (same-true w writeWord e, write-none)
 
   -- and `page` makes none, and no writing
+  page-none-called : ceiledCall (pageWord ∷ ws) ≡ none
+  unfolding callFrom same
+  page-none-called = word-none pageWord ws refl (λ vs. refl)
+
   pub page-word : same w pageWord ≡ true → fromWords (w ∷ ws) ≡ fromItems pageRequest ws
-  unfolding requestFrom callFrom same
-  page-word e = rw (same-true w pageWord e)
+  unfolding requestFrom same
+  page-word e = rw (same-true w pageWord e, page-none-called)
 
   -- another word asks for neither
-  pub other-word : same w writeWord ≡ false → same w pageWord ≡ false → requestFrom (w ∷ ws) ≡ then (callFrom (w ∷ ws)) callRequest
+  pub other-word : same w writeWord ≡ false → same w pageWord ≡ false → requestFrom (w ∷ ws) ≡ then (ceiledCall (w ∷ ws)) callRequest
   unfolding requestFrom
   other-word e d = rw (e, d)
 

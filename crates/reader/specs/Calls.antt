@@ -7,6 +7,7 @@ use mathlib.Core.Option.{Option, none, some}
 use lib.IntN.{ℤ, pos}
 use lib.Dec.{leb}
 use Rattle.qbf.specs.Formula.{Literal}
+use Rattle.qbf.specs.Ceiling.{highestCeiling}
 use Rattle.qbf.specs.Calls.{Call}
 use Rattle.qbf.specs.Calls as call
 use Rattle.layout.specs.Words.{Bytes, same, number}
@@ -65,11 +66,15 @@ cardLine p (Value n) = cond (leb n tableBytes) (cardSized p n) line.NotCall
 cardLine p NotNumber = line.NotCall
 
 -- ---- calls
--- What an answer says of a line's call. The literals of a rule and the numbers of a query stand in the table.
+-- What an answer says of a line's call under a ceiling. The literals of a rule and the numbers of a query stand in the table.
+abbrev pub CallUnder : ℕ → Option Call → CallLine → List ℤ → Type 0
+CallUnder c o line.NotCall out = o ≡ none
+CallUnder c o (line.Rule n) out = (ls : List Literal) × (o ≡ some (call.rule ls)) × Kept n out ls
+CallUnder c o (line.Query n) out = (ns : List ℕ) × (o ≡ some (call.query c (map pos ns))) × Kept n out (map pos ns)
+CallUnder c o (line.Card size) out = o ≡ some (call.card c size)
+CallUnder c o (line.KeepCard size) out = o ≡ some (call.keepCard c size)
+CallUnder c o line.Forget out = o ≡ some call.forget
+
+-- .. under the highest
 abbrev pub CallRead : Option Call → CallLine → List ℤ → Type 0
-CallRead o line.NotCall out = o ≡ none
-CallRead o (line.Rule n) out = (ls : List Literal) × (o ≡ some (call.rule ls)) × Kept n out ls
-CallRead o (line.Query n) out = (ns : List ℕ) × (o ≡ some (call.query (map pos ns))) × Kept n out (map pos ns)
-CallRead o (line.Card size) out = o ≡ some (call.card size)
-CallRead o (line.KeepCard size) out = o ≡ some (call.keepCard size)
-CallRead o line.Forget out = o ≡ some call.forget
+CallRead o l out = CallUnder highestCeiling o l out

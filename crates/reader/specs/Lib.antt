@@ -5,3 +5,4 @@ pub mod Lines
 pub mod Calls
 pub mod Books
 pub mod Requests
+pub mod Ceilings

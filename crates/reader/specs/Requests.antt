@@ -10,7 +10,7 @@ use Rattle.qbf.specs.Calls.{Call}
 use Rattle.layout.specs.Words.{Bytes}
 use Rattle.layout.specs.Forms.{then, items}
 use Rattle.layout.specs.Program.{tableBytes}
-use Rattle.layout.specs.Session.{callFrom, callOf}
+use Rattle.layout.specs.Session.{ceiledCall, callOf}
 use Rattle.sessions.specs.Session.{Request, write, page, callRequest, requestFrom, requestOf}
 use Rattle.reader.specs.declared.number.Num.{Num}
 use Rattle.reader.specs.declared.number.Num.the-variants.{Value, NotNumber}
@@ -31,7 +31,7 @@ pub record Asked : Type 0 where
   pub called : Option Call
 
 abbrev pub fromWords : List Bytes → Asked
-fromWords ws = record { request = requestFrom ws; called = callFrom ws }
+fromWords ws = record { request = requestFrom ws; called = ceiledCall ws }
 
 abbrev pub fromLine : Bytes → Asked
 fromLine l = record { request = requestOf l; called = callOf l }

@@ -1,10 +1,8 @@
 // A call of a session on one line, without its byte 10: `(rule ..)`, `(query ..)`, `(card)`, `(card 4)`, `(keep-card)`, `(keep-card 4)` or `(forget)`.
-use crate::brackets::has_brackets;
 use crate::items::Count;
 use crate::items::rest;
 use crate::number::Num;
 use crate::number::read_number;
-use crate::text::TEXT;
 use crate::word::SPACE;
 use crate::word::find;
 use crate::word::same_word;
@@ -12,7 +10,7 @@ ghost use mathlib.Core.Path.{_≡_};
 ghost use Prim.Native.Nat.{_+_, _≤_};
 ghost use lib.ListN.{length};
 ghost use Rattle.layout.specs.Words.{space, split};
-ghost use Rattle.layout.specs.Session.{callFrom, callOf};
+ghost use Rattle.layout.specs.Session.{callFrom};
 ghost use Rattle.reader.specs.Numbers.{numOf};
 ghost use Rattle.reader.specs.Pieces.{piecesFrom};
 ghost use Rattle.reader.specs.Calls.{callWordOf, callSigns, cardSize, cardSized, cardLine, CallRead};
@@ -110,8 +108,8 @@ fn card_of(size: Num, yes: bool) -> CallLine
     }
 }
 
-// The call between a line's brackets.
-fn read_words(s: &[u8], out: &mut [i16]) -> CallLine
+// The call of the words before a ceiling, under the highest.
+pub fn read_words(s: &[u8], out: &mut [i16]) -> CallLine
     ensures { λ r. ⌜ CallRead (callFrom (split space (now (s .entry)))) r (now (out .exit)) ⌝ }
 {
     let e = find(s, 0, SPACE);
@@ -132,17 +130,4 @@ fn read_words(s: &[u8], out: &mut [i16]) -> CallLine
         },
         CallWord::NotWord => CallLine::NotCall,
     }
-}
-
-// A line longer than a text may be is no call.
-pub fn read_call(l: &[u8], out: &mut [i16]) -> CallLine
-    ensures { λ r. ⌜ CallRead (callOf (now (l .entry))) r (now (out .exit)) ⌝ }
-{
-    if TEXT < l.len() {
-        return CallLine::NotCall;
-    }
-    if !has_brackets(l) {
-        return CallLine::NotCall;
-    }
-    read_words(&l[1..l.len() - 1], out)
 }

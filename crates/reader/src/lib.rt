@@ -2,6 +2,7 @@
 // definition in layout, for every byte string.
 pub mod brackets;
 pub mod call;
+pub mod ceiling; // a call's line with its ceiling
 pub mod item;
 pub mod items;
 pub mod keyword;

@@ -1,11 +1,12 @@
-// "Numbers have 1 to 5 digits and no leading zero (0 alone is allowed)."
+// "Numbers have 1 to 5 digits and no leading zero (0 alone is allowed)." A ceiling has up to 10.
 use crate::word::CLOSING;
 ghost use mathlib.Core.Path.{_≡_};
 ghost use Prim.Native.Nat.{_≤_};
 ghost use lib.ListN.{length};
-ghost use Rattle.layout.specs.Words.{digits, number, closed};
+ghost use Rattle.layout.specs.Words.{digits, number, numberWithin, closed};
 ghost use Rattle.layout.specs.Forms.{then};
-ghost use Rattle.reader.specs.Numbers.{numOf};
+ghost use Rattle.layout.specs.Ceilings.{within, ceilingNumber};
+ghost use Rattle.reader.specs.Numbers.{numOf, UnclosedOf};
 
 // What a word says as a number.
 pub enum Num {
@@ -19,12 +20,14 @@ const NINE: u8 = b'9';
 
 const DIGITS: usize = 5;
 
-// The value of digits, few enough that it fits.
+const CEILING_DIGITS: usize = 10;
+
+// The value of digits that are not too many, where it is no higher than the highest ceiling.
 fn value(w: &[u8]) -> Num
-    requires { ⌜ length (now w) ≤ 5 ⌝ }
-    ensures { λ r. ⌜ numOf r ≡ digits 0 (now (w .entry)) ⌝ }
+    requires { ⌜ length (now w) ≤ 10 ⌝ }
+    ensures { λ r. ⌜ numOf r ≡ then (digits 0 (now (w .entry))) within ⌝ }
 {
-    let mut v: u32 = 0;
+    let mut v: u64 = 0;
     let mut i: usize = 0;
     while i < w.len() {
         let b = w[i];
@@ -34,20 +37,25 @@ fn value(w: &[u8]) -> Num
         if NINE < b {
             return Num::NotNumber;
         }
-        v = v * 10 + (b - ZERO) as u32;
+        v = v * 10 + (b - ZERO) as u64;
         i += 1;
     }
-    Num::Value(v)
+    if (tables::HIGHEST_CEILING as u64) < v {
+        return Num::NotNumber;
+    }
+    Num::Value(v as u32)
 }
 
-pub fn read_number(w: &[u8]) -> Num
-    ensures { λ r. ⌜ numOf r ≡ number (now (w .entry)) ⌝ }
+// A number of at most so many digits.
+fn read_within(w: &[u8], most: usize) -> Num
+    requires { ⌜ most ≤ 10 ⌝ }
+    ensures { λ r. ⌜ numOf r ≡ then (numberWithin most (now (w .entry))) within ⌝ }
 {
     let n = w.len();
     if n == 0 {
         return Num::NotNumber;
     }
-    if DIGITS < n {
+    if most < n {
         return Num::NotNumber;
     }
     if n == 1 {
@@ -59,17 +67,55 @@ pub fn read_number(w: &[u8]) -> Num
     value(w)
 }
 
+pub fn read_number(w: &[u8]) -> Num
+    ensures { λ r. ⌜ numOf r ≡ number (now (w .entry)) ⌝ }
+{
+    read_within(w, DIGITS)
+}
+
+// "N from 0 to 4294967295, 1 to 10 digits, no leading zero"
+fn read_ceiling(w: &[u8]) -> Num
+    ensures { λ r. ⌜ numOf r ≡ ceilingNumber (now (w .entry)) ⌝ }
+{
+    read_within(w, CEILING_DIGITS)
+}
+
+// How many bytes of a word stand before a closing bracket that ends it.
+pub enum Unclosed {
+    Bytes(usize),
+    NotClosed,
+}
+
+fn before_bracket(w: &[u8]) -> Unclosed
+    ensures { λ r. ⌜ UnclosedOf (now (w .entry)) r ⌝ }
+{
+    let n = w.len();
+    if n == 0 {
+        return Unclosed::NotClosed;
+    }
+    let e = n - 1;
+    if w[e] != CLOSING {
+        return Unclosed::NotClosed;
+    }
+    Unclosed::Bytes(e)
+}
+
 // The number of a word that ends with a closing bracket.
 pub fn closed_number(w: &[u8]) -> Num
     ensures { λ r. ⌜ numOf r ≡ then (closed (now (w .entry))) number ⌝ }
 {
-    let n = w.len();
-    if n == 0 {
+    let Unclosed::Bytes(e) = before_bracket(w) else {
         return Num::NotNumber;
-    }
-    let e = n - 1;
-    if w[e] != CLOSING {
-        return Num::NotNumber;
-    }
+    };
     read_number(&w[..e])
+}
+
+// .. as a ceiling
+pub fn closed_ceiling(w: &[u8]) -> Num
+    ensures { λ r. ⌜ numOf r ≡ then (closed (now (w .entry))) ceilingNumber ⌝ }
+{
+    let Unclosed::Bytes(e) = before_bracket(w) else {
+        return Num::NotNumber;
+    };
+    read_ceiling(&w[..e])
 }

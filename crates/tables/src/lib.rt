@@ -51,6 +51,9 @@ pub const CONSTRAINT_CODES: usize = CONSTRAINTS * (NUMBERS + 1);
 
 pub const CONSTRAINT_LINKS: usize = CODES + 1 + CONSTRAINTS;
 
+// "any unsigned 32-bit number": the highest ceiling on visits, which a call has where none is given.
+pub const HIGHEST_CEILING: u32 = 4294967295;
+
 // Values of a table by number.
 pub const OPEN: u8 = 0;
 

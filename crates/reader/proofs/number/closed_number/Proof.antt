@@ -1,41 +1,50 @@
--- `closed_number` meets its contract: a word without its closing bracket.
-use mathlib.Core.Path.{_∙_}
-use native.Mathlib.Omega.{arith}
 use borrow.Author.Needs.{needs}
-use lib.ListN.{length-take}
 use Rattle.reader.proofs.number.closed_number.Statement.{statement}
-use Rattle.reader.proofs.Digits.{closed-none, closed-other, closed-is}
 use Rattle.reader.proofs.number.closed_number.Tie as tie
+use Rattle.reader.proofs.number.closed_number.Reads as reads
+use Rattle.reader.proofs.number.closed_number.Lts as lts
+use Rattle.reader.proofs.number.before_bracket.Reads as before-bracket-reads
+use Rattle.reader.proofs.number.read_number.Reads as read-number-reads
+use mathlib.Core.Path.{sym, ap, subst, _∙_}
+use mathlib.Core.Option.{Option}
+use native.Mathlib.Omega.{arith}
+use lib.ListN.{length-take}
+use Rattle.layout.specs.Words.{Bytes}
+use Rattle.layout.specs.Forms.{then}
+use Rattle.layout.specs.Words.{number}
+use Rattle.reader.proofs.Digits.{unclosed, not-closed}
+
+-- `closed_number` meets its contract: a word without its closing bracket.
+
+before-bracket-requires : tie.Need-before-bracket-requires
+before-bracket-requires c κs = search needs
+
+enum-known-e : tie.Need-enum-known-e
+enum-known-e c = search needs
+
+enum-told : tie.Need-enum-told
+enum-told c = search needs
 
 returns : tie.Need-returns
-returns c = closed-none _ (c .if1 .taken)
-
-sub-e : tie.Need-sub-e
-sub-e c = search needs
-
-shared-slice-read-if2 : tie.Need-shared-slice-read-if2
-shared-slice-read-if2 c = search needs
-
-returns-2 : tie.Need-returns-2
-returns-2 c = closed-other _ (c .if2 .taken)
+returns c = sym (ap (λ (o : Option Bytes). then o number) (not-closed _ (c .before .before .before-bracket .result) (c .before .before .before-bracket .ensures) (c .enum-told .given .1)))
 
 slice-aggregate-read-number : tie.Need-slice-aggregate-read-number
-slice-aggregate-read-number c = simp length-take (omega arith)
+slice-aggregate-read-number c = simp length-take (omega (arith, unclosed _ (c .before .before .before .before .before-bracket .result) (c .before .before .before .before .before-bracket .ensures) (c .before .before .e .given .1) .0))
 
 read-number-requires : tie.Need-read-number-requires
 read-number-requires c κs = search needs
 
-returns-3 : tie.Need-returns-3
-returns-3 c = c .read-number .ensures ∙ closed-is _ (c .before .before .if2 .left)
+returns-2 : tie.Need-returns-2
+returns-2 c = c .read-number .ensures ∙ sym (ap (λ (o : Option Bytes). then o number) (unclosed _ (c .before .before .before .before .before .before-bracket .result) (c .before .before .before .before .before .before-bracket .ensures) (c .before .before .before .e .given .1) .1))
 
 pub closed-number-spec : {M : Type 1} → statement M
 closed-number-spec =
     tie.close
     (tie.spec
+    before-bracket-requires
+    enum-known-e
+    enum-told
     returns
-    sub-e
-    shared-slice-read-if2
-    returns-2
     slice-aggregate-read-number
     read-number-requires
-    returns-3)
+    returns-2)

@@ -1,11 +1,14 @@
--- `value` meets its contract: the loop has the value of the digits passed, below ten to the power of their count.
+use Rattle.reader.proofs.number.value.Statement.{statement}
+use borrow.Author.Needs.{needs}
+use Rattle.reader.proofs.number.value.Tie as tie
+use Rattle.reader.proofs.number.value.Reads as reads
+use Rattle.reader.proofs.number.value.Lts as lts
 use Prim.Native.Nat.{_-_}
 use native.Mathlib.Omega.{arith}
-use borrow.Author.Needs.{needs}
 use lib.ListN.{length}
-use Rattle.reader.proofs.number.value.Statement.{statement}
-use Rattle.reader.proofs.Digits.{Valued, value-none, value-small, value-more, value-low, value-high, value-end}
-use Rattle.reader.proofs.number.value.Tie as tie
+use Rattle.reader.proofs.Digits.{Valued, value-none, value-small, value-more, value-low, value-high, value-over, value-end}
+
+-- `value` meets its contract: the loop has the value of the digits passed, below ten to the power of their count.
 
 abbrev Inv-loop : tie.InvT-loop
 Inv-loop w v₀ i₀ v i = Valued w i v
@@ -43,8 +46,17 @@ loop-less c = search needs
 loop-again : tie.Need-loop-again Inv-loop μ-loop
 loop-again c = value-more (c .before .before .before .before .loop .inv) (search needs) (search needs) (search needs)
 
+cast-if3 : tie.Need-cast-if3 Inv-loop μ-loop
+cast-if3 c = search needs
+
 returns-3 : tie.Need-returns-3 Inv-loop μ-loop
-returns-3 c = value-end (c .before .loop .inv) (search needs)
+returns-3 c = value-over (c .before .before .loop .inv) (omega arith) (omega arith)
+
+cast-t13 : tie.Need-cast-t13 Inv-loop μ-loop
+cast-t13 c = search needs
+
+returns-4 : tie.Need-returns-4 Inv-loop μ-loop
+returns-4 c = value-end (c .before .before .loop .inv) (omega arith) (omega arith)
 
 pub value-spec : {M : Type 1} → statement M
 value-spec =
@@ -62,4 +74,7 @@ value-spec =
     add-i
     loop-less
     loop-again
-    returns-3)
+    cast-if3
+    returns-3
+    cast-t13
+    returns-4)

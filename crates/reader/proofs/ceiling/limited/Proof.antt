@@ -1,0 +1,60 @@
+use borrow.Author.Needs.{needs}
+use Rattle.reader.proofs.ceiling.limited.Statement.{statement}
+use Rattle.reader.proofs.ceiling.limited.Tie as tie
+use Rattle.reader.proofs.ceiling.limited.Reads as reads
+use Rattle.reader.proofs.ceiling.limited.Lts as lts
+
+-- `limited` meets its contract, call by call.
+
+enum-known-line : tie.Need-enum-known-line
+enum-known-line c = search needs
+
+enum-known-line-2 : tie.Need-enum-known-line-2
+enum-known-line-2 c = search needs
+
+enum-known-line-3 : tie.Need-enum-known-line-3
+enum-known-line-3 c = search needs
+
+enum-known-line-4 : tie.Need-enum-known-line-4
+enum-known-line-4 c = search needs
+
+enum-told : tie.Need-enum-told
+enum-told c = search needs
+
+enum-told-2 : tie.Need-enum-told-2
+enum-told-2 c = search needs
+
+returns : tie.Need-returns
+returns c = rw (c .before .line .given .1)
+
+returns-2 : tie.Need-returns-2
+returns-2 c = rw (c .before .line2 .given .1)
+
+returns-3 : tie.Need-returns-3
+returns-3 c = rw (c .before .line3 .given .1)
+
+returns-4 : tie.Need-returns-4
+returns-4 c = rw (c .before .line4 .given .1)
+
+returns-5 : tie.Need-returns-5
+returns-5 c = rw (c .enum-told .given .1)
+
+returns-6 : tie.Need-returns-6
+returns-6 c = rw (c .enum-told2 .given .1)
+
+pub limited-spec : {M : Type 1} → statement M
+limited-spec =
+    tie.close
+    (tie.spec
+    enum-known-line
+    enum-known-line-2
+    enum-known-line-3
+    enum-known-line-4
+    enum-told
+    enum-told-2
+    returns
+    returns-2
+    returns-3
+    returns-4
+    returns-5
+    returns-6)
