@@ -1,3 +1,4 @@
 pub mod Cases
 pub mod Cards
 pub mod Pages
+pub mod Ceilings
