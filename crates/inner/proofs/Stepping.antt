@@ -11,11 +11,14 @@ use mathlib.Core.Option.{Option, none, some}
 use lib.ListN.{length, getD, set, take, drop}
 use lib.Seq.{getD-set-other}
 use lib.Dec.{eqb}
-use Rattle.qbf.specs.Formula.{paper, Clause, Node, Prefix, all, satisfied, valueAt}
+use Rattle.qbf.specs.Formula.{paper, Clause, Formula, Node, Prefix, all, quantifiers, satisfied, valueAt}
 use Rattle.qbf.specs.Learning.{Store, lowestDead, implicant, reduce, reducedFound}
 use Rattle.qbf.specs.Card.{Mem}
+use Rattle.qbf.specs.Calls.{freeFirst, numbersOk}
 use Rattle.theory.proofs.Game.{Rising}
-use Rattle.theory.proofs.WellFormed.{clauses-rising}
+use Rattle.theory.proofs.Basics.{and-left}
+use Rattle.theory.proofs.WellFormed.{FormulaFacts, clauses-rising}
+use Rattle.theory.proofs.Widths.{free-fits}
 use Rattle.bitset.specs.Rows.{Unites, leastBelow, outside, someBelow, width}
 use Rattle.tables.specs.Codes.{codeAt, codes, sign, Statuses}
 use Rattle.tables.specs.Formed.{Formed}
@@ -28,10 +31,21 @@ use Rattle.clause_sets.proofs.Unions.{unites-step}
 use Rattle.inner.specs.Inner.{Entered, Inside, LastGiven}
 use Rattle.inner.proofs.LastLiteral.{last-value}
 
+-- the formula is well formed: with numbers to 40, no more variables can be free
+abbrev pub formulaOf : Prefix → List Clause → Formula
+formulaOf D R = record { limits = paper; prefix = D; clauses = R }
+
+pub facts : {D : Prefix} {R : List Clause} {st : Store} → Formed D R st → FormulaFacts (formulaOf D R)
+facts {D} h = record {
+  limits-ok = refl;
+  prefix-ok = h .prefix-ok;
+  free-ok = free-fits paper (omega arith) D (and-left (numbersOk paper [] D) (freeFirst (quantifiers D)) (h .prefix-ok));
+  clauses-ok = h .clauses-ok;
+}
+
 -- the clauses are in place order
 pub rising : {D : Prefix} {R : List Clause} {st : Store} → Formed D R st → (r : Clause) → Mem r R → Rising D 0 r
-rising {D} {R} h =
-    clauses-rising (record { limits = paper; prefix = D; clauses = R }) (record { limits-ok = refl; prefix-ok = h .prefix-ok; clauses-ok = h .clauses-ok })
+rising {D} {R} h = clauses-rising (formulaOf D R) (facts h)
 
 -- the value given last has that code
 pub last-given : {s : Node} {t : List ℕ} {at code : ℕ} → Statuses s t → length s ≡ at → 1 ≤ at

@@ -1,5 +1,6 @@
 -- One side at a node: whether its verdict is enough, whether its constraint names the next place, and whether it goes up.
 use Prim.Native.Nat.{ℕ, _≤_}
+use native.Mathlib.Omega.{arith}
 use mathlib.Core.Path.{_≡_, refl, sym, ap, _∙_}
 use mathlib.Core.Bool.{Bool, true, false, not, true≢false, false≢true}
 use mathlib.Core.List.{List}
@@ -10,6 +11,7 @@ use Rattle.qbf.specs.Plain.{decides}
 use Rattle.qbf.specs.Learning.{Constraint, lastPlace}
 use Rattle.tables.specs.Views.{quantifierCode}
 use Rattle.tables.specs.Codes.{codes}
+use Rattle.theory.proofs.Basics.{eqb-true}
 use Rattle.theory.proofs.Sets.{mentions-last}
 use Rattle.theory.proofs.WellFormed.{rising→}
 use Rattle.node.specs.declared.Verdict.{Verdict}
@@ -36,6 +38,20 @@ module _ {v : Verdict} (κ : Quantifier) {kind : ℕ} (h : quantifierCode κ ≡
   enough-no e = rw (e, ← h) (code-no κ)
 
 -- ---- the off side goes up
+-- a stop leaves no budget, and goes up
+pub budget-left : (n : ℕ) → 1 ≤ n → eqb n 0 ≡ false
+budget-left n h = by (eqb n 0) refl
+  where
+    by : (b : Bool) → eqb n 0 ≡ b → b ≡ false
+    by false e = refl
+    by true e = absurd (omega (arith, h, eqb-true n 0 e))
+
+pub budget-none : (n : ℕ) → n ≡ 0 → eqb n 0 ≡ true
+budget-none n e = ap (λ (x : ℕ). eqb x 0) e
+
+pub not-mixed : (v : Verdict) → isMixed v ≡ false → v ≡ Mixed → ⊥
+not-mixed v h e = true≢false (ap isMixed (sym e) ∙ h)
+
 module _ (D : Prefix) (κ : Quantifier) (p : ℕ) (cs : List ℕ) (o : Outcome Constraint) where
   -- Mixed does not go up
   pub up-mixed : (v : Verdict) → isMixed v ≡ true → Reads D v cs o → false ≡ goesUpOf D κ p o

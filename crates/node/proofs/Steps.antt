@@ -221,13 +221,13 @@ module _ (D : Prefix) (R : List Clause) (κ : Quantifier) (s : Node) (st : Store
 
 -- the counts are the on side's
 pub finished-mixed : (on : Answer) → Finished on (mixedOf on)
-finished-mixed on = record { bounded = record { short = zero-le; inside = zero-le }; visits = refl; lines = refl }
+finished-mixed on = record { bounded = record { short = zero-le; inside = zero-le }; budget = refl; lines = refl }
 
 pub side-same : (on : Answer) → Bounded (boundsOf on) → OfSide on on
-side-same on h = record { counts = record { bounded = h; visits = refl; lines = refl }; verdict = refl }
+side-same on h = record { counts = record { bounded = h; budget = refl; lines = refl }; verdict = refl }
 
 pub side-at : (on : Answer) (b : Bounds) → Bounded b → OfSide on (reboundOf on b)
-side-at on b h = record { counts = record { bounded = h; visits = refl; lines = refl }; verdict = refl }
+side-at on b h = record { counts = record { bounded = h; budget = refl; lines = refl }; verdict = refl }
 
 -- no row more
 pub grown-none : (cl ql : List ℕ) → Grown cl ql cl ql

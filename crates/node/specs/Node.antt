@@ -39,10 +39,10 @@ boundsOf r = record { source = r .source; start = r .start; len = r .len }
 
 -- the answer with other bounds; Mixed, which has no constraint
 abbrev pub reboundOf : Answer → Bounds → Answer
-reboundOf r b = record { verdict = r .verdict; source = b .source; start = b .start; len = b .len; visits = r .visits; lines = r .lines }
+reboundOf r b = record { verdict = r .verdict; source = b .source; start = b .start; len = b .len; budget = r .budget; lines = r .lines }
 
 abbrev pub mixedOf : Answer → Answer
-mixedOf r = record { verdict = Mixed; source = Area; start = 0; len = 0; visits = r .visits; lines = r .lines }
+mixedOf r = record { verdict = Mixed; source = Area; start = 0; len = 0; budget = r .budget; lines = r .lines }
 
 -- the learned constraints of a verdict's polarity
 abbrev pub storedBy : Verdict → List ℕ → List ℕ → List ℕ
@@ -108,7 +108,7 @@ Fits D e = (length e ≤ paper .numbers) × (lastCode (codes D e) < codeCount)
 -- both sides done: the counts are the on side's
 pub record Finished (on r : Answer) : Type 0 where
   pub bounded : Bounded (boundsOf r)
-  pub visits : r .visits ≡ on .visits
+  pub budget : r .budget ≡ on .budget
   pub lines : r .lines ≡ on .lines
 
 pub record Joined (D : Prefix) (g : Ledger) (o : LearningResult) (r : Answer) (clauses area cs cl qs ql : List ℕ) : Type 0 where

@@ -63,7 +63,7 @@ pub fn mixed(on: Answer) -> Answer
         source: Source::Area,
         start: 0,
         len: 0,
-        visits: on.visits,
+        budget: on.budget,
         lines: on.lines,
     }
 }

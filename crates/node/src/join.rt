@@ -128,7 +128,7 @@ fn with_bounds(on: Answer, b: Bounds) -> Answer
         source: source,
         start: b.start,
         len: b.len,
-        visits: on.visits,
+        budget: on.budget,
         lines: on.lines,
     }
 }

@@ -34,22 +34,23 @@ pub enum Verdict {
     Mixed,
 }
 
-// What a visit hands up: the verdict, the bounds of its constraint in the lent tables, and the visits and lines so far.
+// What a visit hands up: the verdict, the bounds of its constraint in the lent tables, the budget that is left, and the lines so far.
 pub struct Answer {
     pub verdict: Verdict,
     pub source: Source,
     pub start: usize,
     pub len: usize,
-    pub visits: u64,
+    pub budget: u64,
     pub lines: usize,
 }
 
-// Where a visit stands: the node's length, the count of the free variables, the visits and lines so far, and the words of a row of clauses; and
-// whether the lines are Yes nodes or No nodes.
+// Where a visit stands: the node's length, the count of the free variables, the budget, the lines so far, and the words of a row of clauses; and
+// whether the lines are Yes nodes or No nodes. The budget is one more than the visits that may still be made: a search that ends leaves 1 at least,
+// and one that was stopped leaves 0.
 pub struct Position {
     pub at: usize,
     pub free: usize,
-    pub visits: u64,
+    pub budget: u64,
     pub lines: usize,
     pub words: usize,
     pub yes: bool,
@@ -91,7 +92,7 @@ fn entry_of<'a>(
     entry(clauses, side::stored(v, learned, cubes), area, bounds_of(a))
 }
 
-// Whether the off side's outcome goes up without a further visit.
+// Whether the off side's outcome goes up without a further visit. A stop does.
 pub fn goes_up<'a>(
     off: Answer,
     kind: u16,
@@ -111,12 +112,14 @@ pub fn goes_up<'a>(
         (entryOf off (now (clauses .entry)) (now (learned .entry)) (now (cubes .entry)) (now (area .entry)))
         o
         → Ended D (suc at) o
+        → 1 ≤ off .budget
         → r ≡ goesUpOf D κ (suc at) o)
+        × (off .verdict ≡ Verdict.Mixed → off .budget ≡ 0 → r ≡ true)
         ⌝ }
 {
     let v = off.verdict;
     if side::is_mixed(v) {
-        return false;
+        return off.budget == 0;
     }
     if side::is_enough(v, kind) {
         return true;
@@ -309,27 +312,27 @@ pub fn settle_lines<'a>(
 
 // The position of the off side, where this visit is counted, and of the on side.
 pub fn to_off(p: Position) -> Position
-    requires { ⌜ (p .at < suc (paper .numbers)) × (p .visits < 2 ^ 62) ⌝ }
-    ensures { λ r. ⌜ r ≡ record { at = p .at + 1; free = p .free; visits = p .visits + 1; lines = p .lines; words = p .words; yes = p .yes } ⌝ }
+    requires { ⌜ (p .at < suc (paper .numbers)) × (1 ≤ p .budget) ⌝ }
+    ensures { λ r. ⌜ r ≡ record { at = p .at + 1; free = p .free; budget = p .budget - 1; lines = p .lines; words = p .words; yes = p .yes } ⌝ }
 {
     Position {
         at: p.at + 1,
         free: p.free,
-        visits: p.visits + 1,
+        budget: p.budget - 1,
         lines: p.lines,
         words: p.words,
         yes: p.yes,
     }
 }
 
-pub fn to_on(p: Position, visits: u64, lines: usize) -> Position
+pub fn to_on(p: Position, budget: u64, lines: usize) -> Position
     requires { ⌜ p .at < suc (paper .numbers) ⌝ }
-    ensures { λ r. ⌜ r ≡ record { at = p .at + 1; free = p .free; visits = visits; lines = lines; words = p .words; yes = p .yes } ⌝ }
+    ensures { λ r. ⌜ r ≡ record { at = p .at + 1; free = p .free; budget = budget; lines = lines; words = p .words; yes = p .yes } ⌝ }
 {
     Position {
         at: p.at + 1,
         free: p.free,
-        visits: visits,
+        budget: budget,
         lines: lines,
         words: p.words,
         yes: p.yes,
@@ -338,9 +341,9 @@ pub fn to_on(p: Position, visits: u64, lines: usize) -> Position
 
 // The answer of a visit that does not branch.
 pub fn settled(v: Verdict, b: Bounds, p: Position) -> Answer
-    requires { ⌜ p .visits < 2 ^ 62 ⌝ }
+    requires { ⌜ 1 ≤ p .budget ⌝ }
     ensures { λ r. ⌜
-        r ≡ record { verdict = v; source = b .source; start = b .start; len = b .len; visits = p .visits + 1; lines = p .lines }
+        r ≡ record { verdict = v; source = b .source; start = b .start; len = b .len; budget = p .budget - 1; lines = p .lines }
         ⌝ }
 {
     let source = b.source;
@@ -349,14 +352,30 @@ pub fn settled(v: Verdict, b: Bounds, p: Position) -> Answer
         source: source,
         start: b.start,
         len: b.len,
-        visits: p.visits + 1,
+        budget: p.budget - 1,
+        lines: p.lines,
+    }
+}
+
+// The answer of a visit that is not made.
+pub fn stopped(p: Position) -> Answer
+    ensures { λ r. ⌜
+        r ≡ record { verdict = Verdict.Mixed; source = Source.Area; start = 0; len = 0; budget = 0; lines = p .lines }
+        ⌝ }
+{
+    Answer {
+        verdict: Verdict::Mixed,
+        source: Source::Area,
+        start: 0,
+        len: 0,
+        budget: 0,
         lines: p.lines,
     }
 }
 
 pub fn with_lines(a: Answer, lines: usize) -> Answer
     ensures { λ r. ⌜
-        r ≡ record { verdict = a .verdict; source = a .source; start = a .start; len = a .len; visits = a .visits; lines = lines }
+        r ≡ record { verdict = a .verdict; source = a .source; start = a .start; len = a .len; budget = a .budget; lines = lines }
         ⌝ }
 {
     let v = a.verdict;
@@ -366,7 +385,7 @@ pub fn with_lines(a: Answer, lines: usize) -> Answer
         source: source,
         start: a.start,
         len: a.len,
-        visits: a.visits,
+        budget: a.budget,
         lines: lines,
     }
 }

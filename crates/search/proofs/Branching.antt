@@ -1,24 +1,28 @@
 -- A branch of the search by what its sides gave: the off side's result goes up, or both are finished.
-use Prim.Native.Nat.{ℕ, zero, suc, _+_, _≤_, _<_, suc-le-suc, zero-le}
+use Prim.Native.Nat.{ℕ, zero, suc, _+_, _-_, _≤_, _<_, suc-le-suc, zero-le}
 use native.Mathlib.Omega.{arith}
 use native.Mathlib.Numerals.{add-one}
 use mathlib.Core.Path.{_≡_, refl, sym, ap, _∙_, subst}
+use mathlib.Core.Logic.{_⊎_, inl, inr}
 use mathlib.Core.Bool.{Bool, true, false, false≢true}
 use mathlib.Core.List.{List, [], _∷_}
 use lib.ListN.{length, drop, length-map}
 use lib.Dec.{eqb}
-use Rattle.qbf.specs.Formula.{paper, Quantifier, exists, forall, free, Prefix, Clause, Formula, Node, _▹_, place, positive, quantifiers, quantifierAt}
+use Rattle.qbf.specs.Formula.{paper, Quantifier, exists, forall, free, Prefix, Clause, Node, _▹_, place, positive, quantifiers, quantifierAt}
 use Rattle.qbf.specs.Truth.{Outcome, decided, mixed, freeCount}
 use Rattle.qbf.specs.Learning.{Constraint, Store, LearningResult, visit, below, branch, resolvent, union, without}
+use Rattle.qbf.specs.Ceiling.{Attempt, finished, stopped, visitWithin, belowWithin, branchWithin}
 use Rattle.qbf.specs.Calls.{numbersOk}
 use Rattle.qbf.specs.Card.{Mem}
-use Rattle.theory.proofs.Laws.{branch-up, branch-on, branch-mixed}
+use Rattle.theory.proofs.Laws.{branch-on, branch-mixed}
+use Rattle.theory.proofs.CeilingLaws.{off-goes-up, on-ends, on-stops, mixed-ends, mixed-stops}
+use Rattle.theory.proofs.Ceiling.{Any, Within, visit-within-any}
 use Rattle.theory.proofs.Rest.{Rest, nil-cons, rest-up, drop-cons}
 use Rattle.theory.proofs.Game.{Rising, rising-above}
 use Rattle.theory.proofs.Stores.{ShapedStore}
 use Rattle.theory.proofs.Basics.{length-▹}
 use Rattle.theory.proofs.Shape.{last-held}
-use Rattle.theory.proofs.WellFormed.{FormulaFacts, inside, clauses-rising, free-before, store-shaped, shaped-store, →rising}
+use Rattle.theory.proofs.WellFormed.{inside, free-before, store-shaped, shaped-store, →rising}
 use Rattle.theory.proofs.ShapedSearch.{ShapedOutcome, shaped-visit}
 use Rattle.theory.proofs.Verdict.{NoFree}
 use Rattle.theory.proofs.Search.{Below, FreeFirst}
@@ -31,7 +35,8 @@ use Rattle.tables.specs.Codes.{codeAt, codeOf, codes, lastFrom}
 use Rattle.tables.specs.Shelves.{codeCount}
 use Rattle.tables.specs.Records.{Ledger}
 use Rattle.node.specs.Node.{Ended, goesUpOf, onwardOf, resolventOf, Fits}
-use Rattle.search.specs.Search.{Result, visitOf}
+use Rattle.inner.proofs.Stepping.{formulaOf, facts, rising}
+use Rattle.search.specs.Search.{Done, Halted, Says, Result, visitOf}
 use Rattle.node.specs.declared.Position.{Position}
 use Rattle.node.specs.declared.Answer.{Answer}
 
@@ -43,19 +48,58 @@ module _ (D : Prefix) (R : List Clause) (κ : Quantifier) (f : Node → Store �
   abbrev on : LearningResult
   on = f (s ▹ true) (off .store)
 
-  pub goes-up : goesUpOf D κ (suc (length s)) (off .outcome) ≡ true → branch paper D R κ f s st ≡ record { outcome = off .outcome; store = off .store; visits = suc (off .visits) }
-  goes-up g = by (off .outcome) refl g
-    where
-      by : (o : Outcome Constraint) → off .outcome ≡ o → goesUpOf D κ (suc (length s)) o ≡ true → branch paper D R κ f s st ≡ record { outcome = off .outcome; store = off .store; visits = suc (off .visits) }
-      by (decided b e) q h = branch-up paper D R κ f s st b e q h ∙ ap (λ (o : Outcome Constraint). record { outcome = o; store = off .store; visits = suc (off .visits) }) (sym q)
-      by (mixed ds) q h = absurd (false≢true h)
-
   pub goes-on : goesUpOf D κ (suc (length s)) (off .outcome) ≡ false → branch paper D R κ f s st ≡ onwardOf D R κ s (off .outcome) (on .outcome) (on .store) (suc (off .visits + on .visits))
   goes-on g = by (off .outcome) refl g
     where
       by : (o : Outcome Constraint) → off .outcome ≡ o → goesUpOf D κ (suc (length s)) o ≡ false → branch paper D R κ f s st ≡ onwardOf D R κ s (off .outcome) (on .outcome) (on .store) (suc (off .visits + on .visits))
       by (decided b e) q h = branch-on paper D R κ f s st b e q h ∙ ap (λ (o : Outcome Constraint). onwardOf D R κ s o (on .outcome) (on .store) (suc (off .visits + on .visits))) (sym q)
       by (mixed ds) q h = branch-mixed paper D R κ f s st ds q ∙ ap (λ (o : Outcome Constraint). onwardOf D R κ s o (on .outcome) (on .store) (suc (off .visits + on .visits))) (sym q)
+
+-- ---- under a budget of n visits: f is the search of a side, h the same within what is left
+module _ (D : Prefix) (R : List Clause) (κ : Quantifier) (h : ℕ → Node → Store → Attempt) (n : ℕ) (s : Node) (st : Store) (off : LearningResult) (end : h n (s ▹ false) st ≡ finished off) where
+  pub goes-up-within : goesUpOf D κ (suc (length s)) (off .outcome) ≡ true
+      → branchWithin paper D R κ h n s st ≡ finished (record { outcome = off .outcome; store = off .store; visits = suc (off .visits) })
+  goes-up-within g = by (off .outcome) refl g
+    where
+      by : (o : Outcome Constraint) → off .outcome ≡ o → goesUpOf D κ (suc (length s)) o ≡ true
+          → branchWithin paper D R κ h n s st ≡ finished (record { outcome = off .outcome; store = off .store; visits = suc (off .visits) })
+      by (decided b e) q x =
+          off-goes-up paper D R κ h n s st off end b e q x ∙ ap (λ (o : Outcome Constraint). finished (record { outcome = o; store = off .store; visits = suc (off .visits) })) (sym q)
+      by (mixed ds) q x = absurd (false≢true x)
+
+  pub goes-on-within : (on : LearningResult) → goesUpOf D κ (suc (length s)) (off .outcome) ≡ false → h (n - off .visits) (s ▹ true) (off .store) ≡ finished on
+      → branchWithin paper D R κ h n s st ≡ finished (onwardOf D R κ s (off .outcome) (on .outcome) (on .store) (suc (off .visits + on .visits)))
+  goes-on-within on g e₂ = by (off .outcome) refl g
+    where
+      by : (o : Outcome Constraint) → off .outcome ≡ o → goesUpOf D κ (suc (length s)) o ≡ false
+          → branchWithin paper D R κ h n s st ≡ finished (onwardOf D R κ s (off .outcome) (on .outcome) (on .store) (suc (off .visits + on .visits)))
+      by (decided b e) q x =
+          on-ends paper D R κ h n s st off end b e q on x e₂ ∙ ap (λ (o : Outcome Constraint). finished (onwardOf D R κ s o (on .outcome) (on .store) (suc (off .visits + on .visits)))) (sym q)
+      by (mixed ds) q x =
+          mixed-ends paper D R κ h n s st off end ds q on e₂ ∙ ap (λ (o : Outcome Constraint). finished (onwardOf D R κ s o (on .outcome) (on .store) (suc (off .visits + on .visits)))) (sym q)
+
+  pub stops-within : (z : Store) → goesUpOf D κ (suc (length s)) (off .outcome) ≡ false → h (n - off .visits) (s ▹ true) (off .store) ≡ stopped z → branchWithin paper D R κ h n s st ≡ stopped z
+  stops-within z g e₂ = by (off .outcome) refl g
+    where
+      by : (o : Outcome Constraint) → off .outcome ≡ o → goesUpOf D κ (suc (length s)) o ≡ false → branchWithin paper D R κ h n s st ≡ stopped z
+      by (decided b e) q x = on-stops paper D R κ h n s st off end b e q z x e₂
+      by (mixed ds) q x = mixed-stops paper D R κ h n s st off end ds q z e₂
+
+-- a visit within n came to the end of the full one, or was stopped
+abbrev pub Came : Prefix → List Clause → List Quantifier → ℕ → Node → Store → Ledger → List Node → Position → Answer → List ℕ → List ℕ → List ℕ → List ℕ → List ℕ → List ℕ → List ℕ → Type 0
+Came D R ks n s st g ls p r cls up cs cl qs ql tb =
+    ((visitWithin D R eqb (belowWithin paper D R ks) n s st ≡ finished (visit D R eqb (below paper D R ks) s st)) × Done D g ls (visit D R eqb (below paper D R ks) s st) p r cls up cs cl qs ql tb)
+    ⊎ ((z : Store) × (visitWithin D R eqb (belowWithin paper D R ks) n s st ≡ stopped z) × Halted D g z r cs cl qs ql)
+
+pub came : (D : Prefix) (R : List Clause) (ks : List Quantifier) (n : ℕ) (s : Node) (st : Store) {g : Ledger} {ls : List Node} {p : Position} {r : Answer} {cls up cs cl qs ql tb : List ℕ}
+    → Result D g ls (visitWithin D R eqb (belowWithin paper D R ks) n s st) p r cls up cs cl qs ql tb → Came D R ks n s st g ls p r cls up cs cl qs ql tb
+came D R ks n s st {g} {ls} {p} {r} {cls} {up} {cs} {cl} {qs} {ql} {tb} x =
+    by (visitWithin D R eqb (belowWithin paper D R ks) n s st) refl (visit-within-any paper D R eqb n ks s st) (x .says)
+  where
+    by : (t : Attempt) → visitWithin D R eqb (belowWithin paper D R ks) n s st ≡ t → Within Any n (visit D R eqb (below paper D R ks) s st) t → Says D g ls t p r cls up cs cl qs ql tb
+        → Came D R ks n s st g ls p r cls up cs cl qs ql tb
+    by (finished q) e w y = inl (e ∙ ap finished (w .0), subst (λ (o : LearningResult). Done D g ls o p r cls up cs cl qs ql tb) (w .0) y)
+    by (stopped z) e w y = inr (z, e, y)
 
 -- ---- a position below
 -- the result of a side at the position that the code made for it
@@ -64,15 +108,6 @@ pub side-at : {g : Ledger} {ls : List Node} (D : Prefix) (R : List Clause) (s : 
 side-at {g} {ls} D R s st {r} {cls} {up} {cs} {cl} {qs} {ql} {table} e w = subst (λ (x : Position). Result D g ls (visitOf D R x s st) x r cls up cs cl qs ql table) e w
 
 -- ---- what is well formed
-abbrev formulaOf : Prefix → List Clause → Formula
-formulaOf D R = record { limits = paper; prefix = D; clauses = R }
-
-pub facts : (D : Prefix) (R : List Clause) (st : Store) → Formed D R st → FormulaFacts (formulaOf D R)
-facts D R st h = record { limits-ok = refl; prefix-ok = h .prefix-ok; clauses-ok = h .clauses-ok }
-
-pub rising : (D : Prefix) (R : List Clause) (st : Store) → Formed D R st → (r : Clause) → Mem r R → Rising D 0 r
-rising D R st h = clauses-rising (formulaOf D R) (facts D R st h)
-
 pub one : 1 ≤ paper .constraints
 one = omega arith
 
@@ -155,17 +190,17 @@ module _ (D : Prefix) (R : List Clause) (κ : Quantifier) (s : Node) (k : ℕ) (
       record {
         prefix-ok = h .prefix-ok;
         clauses-ok = h .clauses-ok;
-        store-ok = shaped-store paper D (side (s ▹ false) st .store) (shaped-visit paper one D R (rising D R st h) eqb (drop (k + 1) (quantifiers D)) (s ▹ false) st (rest-side false) (shaped D R st h) .store-ok);
+        store-ok = shaped-store paper D (side (s ▹ false) st .store) (shaped-visit paper one D R (rising h) eqb (drop (k + 1) (quantifiers D)) (s ▹ false) st (rest-side false) (shaped D R st h) .store-ok);
       }
 
   pub shaped-side : (b : Bool) (st : Store) → Formed D R st → ShapedOutcome D (s ▹ b) (side (s ▹ b) st .outcome)
-  shaped-side b st h = shaped-visit paper one D R (rising D R st h) eqb (drop (k + 1) (quantifiers D)) (s ▹ b) st (rest-side b) (shaped D R st h) .answer-ok
+  shaped-side b st h = shaped-visit paper one D R (rising h) eqb (drop (k + 1) (quantifiers D)) (s ▹ b) st (rest-side b) (shaped D R st h) .answer-ok
 
   pub unmixed-side : (b : Bool) (st : Store) → Formed D R st → Unmixed (drop (k + 1) (quantifiers D)) (side (s ▹ b) st .outcome)
-  unmixed-side b st h = unmixed-visit paper one D R (rising D R st h) eqb (drop (k + 1) (quantifiers D)) (s ▹ b) st (rest-side b) (shaped D R st h)
+  unmixed-side b st h = unmixed-visit paper one D R (rising h) eqb (drop (k + 1) (quantifiers D)) (s ▹ b) st (rest-side b) (shaped D R st h)
 
   pub quantified : (st : Store) → Formed D R st → Below κ (drop (k + 1) (quantifiers D))
-  quantified st h = below-at (quantifiers D) (length s) κ (drop (k + 1) (quantifiers D)) (free-before (formulaOf D R) (facts D R st h)) rest
+  quantified st h = below-at (quantifiers D) (length s) κ (drop (k + 1) (quantifiers D)) (free-before (formulaOf D R) (facts h)) rest
 
   pub unmixed-here : (st : Store) → Formed D R st → Unmixed (κ ∷ drop (k + 1) (quantifiers D)) (branch paper D R κ side s st .outcome)
-  unmixed-here st h = unmixed-branch paper one D R (rising D R st h) κ (drop (k + 1) (quantifiers D)) s st rest (shaped D R st h)
+  unmixed-here st h = unmixed-branch paper one D R (rising h) κ (drop (k + 1) (quantifiers D)) s st rest (shaped D R st h)

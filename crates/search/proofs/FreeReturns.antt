@@ -1,13 +1,15 @@
 -- What the visitor of a free variable returns: its lines are those of the two sides, and two are one line above.
-use Prim.Native.Nat.{ℕ, suc, _+_, _<_}
+use Prim.Native.Nat.{ℕ, suc, _+_, _-_, _<_}
 use native.Mathlib.Omega.{arith}
 use mathlib.Core.Path.{_≡_, refl, sym, ap, _∙_, subst}
+use mathlib.Core.Logic.{_⊎_, inl, inr}
 use mathlib.Core.Bool.{Bool, true, false, cond, not, _&&_, Bool·beq, true≢false, false≢true}
 use mathlib.Core.List.{List, [], _∷_, _++_, append-nil, append-assoc}
 use lib.ListN.{length, take, drop, length-append}
 use Rattle.qbf.specs.Formula.{paper, free, Prefix, Clause, Node, _▹_, quantifiers, quantifierAt}
 use Rattle.qbf.specs.Truth.{Outcome, decided, mixed, decidedNodes, select}
 use Rattle.qbf.specs.Learning.{Constraint, Store, LearningResult, mentions, resolve}
+use Rattle.qbf.specs.Ceiling.{Attempt, finished}
 use Rattle.qbf.specs.Card.{byteOf}
 use Rattle.theory.proofs.Laws.{select-append}
 use Rattle.theory.proofs.WellFormed.{free-before}
@@ -16,14 +18,15 @@ use Rattle.tables.specs.Codes.{Statuses}
 use Rattle.tables.specs.Records.{Ledger}
 use Rattle.cover.specs.Cover.{Covers}
 use Rattle.node.specs.Node.{isOf, boundsOf, entryOf, Reads, onwardOf, newLines, Joined, LineTask, settledLines, SettledTo}
-use Rattle.search.specs.Search.{Kept, Task, Opened, Result, SideVisited, branchOf}
+use Rattle.search.specs.Search.{Kept, Task, Opened, Done, Result, SideVisited, branchOf}
 use Rattle.node.specs.declared.Verdict.{Verdict}
 use Rattle.node.specs.declared.Verdict.the-variants.{Yes, No, Mixed}
 use Rattle.node.specs.declared.Position.{Position}
 use Rattle.node.specs.declared.Answer.{Answer}
 use Rattle.search.proofs.Counts as counts
-use Rattle.search.proofs.Branching.{facts, rest, free-at}
-use Rattle.search.proofs.Returns.{UpSays, FinishSays, offR, onR, off-result, on-result, joined, onward-is, visits-both}
+use Rattle.inner.proofs.Stepping.{facts}
+use Rattle.search.proofs.Branching.{Came, rest, free-at}
+use Rattle.search.proofs.Returns.{UpSays, FinishSays, tried, offR, onR, wholeR, off-ended, on-came, on-halted, joined, onward-is, both-end, visits-both}
 
 -- ---- the lines of both sides, of the verdict y
 -- the outcome is a line by itself
@@ -158,34 +161,33 @@ module _ (D : Prefix) (R : List Clause) (s : Node) (st : Store) (k : ℕ) where
         list = ap (λ (ms : List Node). ((ls ++ newLines y a) ++ ((s ▹ false) ∷ [])) ++ ms) (alone y o (sym g)) ∙ append-nil ((ls ++ newLines y a) ++ ((s ▹ false) ∷ []))
 
 -- ---- the visitor
-module _ {cls sets kd ss cs cl qs ql tb sat mk : List ℕ} (kind : ℕ) (code : quantifierCode free ≡ kind) (p q : Position) (eq : q ≡ counts.below p (p .visits + 1) (p .lines))
+module _ {cls sets kd ss cs cl qs ql tb sat mk : List ℕ} (kind : ℕ) (code : quantifierCode free ≡ kind) (p q : Position) (eq : q ≡ counts.below p (p .budget - 1) (p .lines))
     (off : Answer) {up₁ cs₁ cl₁ qs₁ ql₁ tb₁ : List ℕ} (offs : SideVisited 1 q off cls sets kd ss cs cl qs ql tb sat mk up₁ cs₁ cl₁ qs₁ ql₁ tb₁) (t : Bool)
-    (ups : UpSays (off .verdict) kind (entryOf off cls cs₁ qs₁ up₁) (p .at) t) {ss₁ sat₁ mk₁ : List ℕ} (kept : Kept (q .at) (q .words) ss ss₁ tb tb₁ sat sat₁ mk mk₁)
+    (ups : UpSays off kind (entryOf off cls cs₁ qs₁ up₁) (p .at) t) {ss₁ sat₁ mk₁ : List ℕ} (kept : Kept (q .at) (q .words) ss ss₁ tb tb₁ sat sat₁ mk mk₁)
     (one : Bool) (one-is : one ≡ isOf (p .yes) (off .verdict)) {tbₐ : List ℕ} (l : ℕ) (counted : l ≡ cond one (off .lines + 1) (off .lines))
     (lined : (s : Node) (b : Bool) (ls : List Node) → LineTask s ls ss₁ tb₁ p (off .lines) → 1 ≡ byteOf b → Covers (p .free) tbₐ (ls ++ cond one ((s ▹ b) ∷ []) []))
-    (q′ : Position) (eq′ : q′ ≡ counts.below p (off .visits) l) (on : Answer) {up₂ cs₂ cl₂ qs₂ ql₂ tb₂ : List ℕ}
+    (q′ : Position) (eq′ : q′ ≡ counts.below p (off .budget) l) (on : Answer) {up₂ cs₂ cl₂ qs₂ ql₂ tb₂ : List ℕ}
     (ons : SideVisited 2 q′ on cls sets kd ss₁ cs₁ cl₁ qs₁ ql₁ tbₐ sat₁ mk₁ up₂ cs₂ cl₂ qs₂ ql₂ tb₂)
     (saved : List ℕ) (aside : take (off .len) saved ≡ entryOf off cls cs₁ qs₁ up₁) (r : Answer) {cs₃ cl₃ qs₃ ql₃ : List ℕ}
-    (fins : FinishSays kd (off .verdict) (off .len) on kind saved cls up₂ (p .at) cs₂ cl₂ qs₂ ql₂ r cs₃ cl₃ qs₃ ql₃) (unup : t ≡ false) (visits : r .visits ≡ on .visits)
+    (fins : FinishSays kd (off .verdict) (off .len) on kind saved cls up₂ (p .at) cs₂ cl₂ qs₂ ql₂ r cs₃ cl₃ qs₃ ql₃) (unup : t ≡ false) (visits : r .budget ≡ on .budget)
     {ss₂ : List ℕ} (same₂ : ss₂ ≡ ss₁) (two : Bool) (two-is : two ≡ isOf (p .yes) (on .verdict)) (tb₃ : List ℕ) (n : ℕ) (settled : n ≡ settledLines one two (on .lines))
     (settling : (s : Node) (ls : List Node) → LineTask s ls ss₂ tb₂ p (on .lines) → SettledTo one two s ls (p .free) tb₃) where
   pub free-result : (D : Prefix) (s : Node) (ls : List Node) (R : List Clause) (g : Ledger) (st : Store) → Task D s ls R g st cls sets kd ss cs cl qs ql tb (p .at) p
       → Opened D s R p sat mk → p .at < length D → quantifierAt D (suc (p .at)) ≡ free
-      → Result D g ls (branchOf D R free p s st) p (counts.answered (r .verdict) (boundsOf r) (r .visits) n) cls up₂ cs₃ cl₃ qs₃ ql₃ tb₃
-  free-result D s ls R g st task opened inside is =
-      record {
-        verdict = j .verdict;
-        stored = j .stored;
-        visited = visits-both free kind code p q eq off offs t ups D s ls R g st task opened inside is l kept q′ eq′ on ons ls₁ cov cnt saved aside r fins unup visits;
-        covers = subst (λ (x : LearningResult). Covers (p .free) tb₃ (ls ++ newLines (p .yes) (x .outcome))) (sym whole) (s₂ .covers (p .free) tb₃ (settling s ls₂ (line-task ss₂ (same₂ ∙ kept .statuses-restored) tb₂ ls₂ (on .lines) (z .covers) (z .counted))));
-        counted = settled ∙ ap (settledLines one two) (z .counted) ∙ s₂ .counts ∙ ap (λ (x : LearningResult). length (ls ++ newLines (p .yes) (x .outcome))) (sym whole);
-      }
+      → Result D g ls (branchOf D R free p s st) p (counts.answered (r .verdict) (boundsOf r) (r .budget) n) cls up₂ cs₃ cl₃ qs₃ ql₃ tb₃
+  free-result D s ls R g st task opened inside is = by (on-came free kind code p q eq off offs t ups D s ls R g st task opened inside is end w l kept q′ eq′ on ons ls₁ cov cnt)
     where
-      w : Result D g ls (offR free kind code p q eq off offs t ups D s ls R g st task opened inside is) (counts.below p (p .visits + 1) (p .lines)) off cls up₁ cs₁ cl₁ qs₁ ql₁ tb₁
-      w = off-result free kind code p q eq off offs t ups D s ls R g st task opened inside is
+      end : tried free kind code p q eq off offs t ups D s ls R g st task opened inside is (p .budget - 2) (s ▹ false) st ≡ finished (offR free kind code p q eq off offs t ups D s ls R g st task opened inside is)
+      end = off-ended free kind code p q eq off offs t ups D s ls R g st task opened inside is unup .0
+
+      w : Done D g ls (offR free kind code p q eq off offs t ups D s ls R g st task opened inside is) (counts.below p (p .budget - 1) (p .lines)) off cls up₁ cs₁ cl₁ qs₁ ql₁ tb₁
+      w = off-ended free kind code p q eq off offs t ups D s ls R g st task opened inside is unup .1
 
       a : Outcome Constraint
       a = offR free kind code p q eq off offs t ups D s ls R g st task opened inside is .outcome
+
+      full : LearningResult
+      full = wholeR free kind code p q eq off offs t ups D s ls R g st task opened inside is
 
       -- the place is a free one
       among : p .at < p .free
@@ -194,7 +196,7 @@ module _ {cls sets kd ss cs cl qs ql tb sat mk : List ℕ} (kind : ℕ) (code : 
             arith,
             task .frees,
             task .shown .long,
-            free-at (quantifiers D) (length s) (drop (p .at + 1) (quantifiers D)) (free-before _ (facts D R st (task .formed))) (rest D R free s (p .at) (task .shown .long) inside is),
+            free-at (quantifiers D) (length s) (drop (p .at + 1) (quantifiers D)) (free-before _ (facts (task .formed))) (rest D R free s (p .at) (task .shown .long) inside is),
           )
 
       line-task : (xs : List ℕ) → xs ≡ ss → (ys : List ℕ) (ms : List Node) (i : ℕ) → Covers (p .free) ys ms → i ≡ length ms → LineTask s ms xs ys p i
@@ -208,34 +210,51 @@ module _ {cls sets kd ss cs cl qs ql tb sat mk : List ℕ} (kind : ℕ) (code : 
       cov = lined s false (ls ++ newLines (p .yes) a) (line-task ss₁ (kept .statuses-restored) tb₁ (ls ++ newLines (p .yes) a) (off .lines) (w .covers) (w .counted)) refl
 
       cnt : l ≡ length ls₁
-      cnt = counted ∙ by one ∙ sym (length-append (ls ++ newLines (p .yes) a) (cond one ((s ▹ false) ∷ []) []))
+      cnt = counted ∙ one-more one ∙ sym (length-append (ls ++ newLines (p .yes) a) (cond one ((s ▹ false) ∷ []) []))
         where
-          by : (v : Bool) → cond v (off .lines + 1) (off .lines) ≡ length (ls ++ newLines (p .yes) a) + length (cond v ((s ▹ false) ∷ []) [])
-          by true = omega (arith, w .counted)
-          by false = omega (arith, w .counted)
+          one-more : (v : Bool) → cond v (off .lines + 1) (off .lines) ≡ length (ls ++ newLines (p .yes) a) + length (cond v ((s ▹ false) ∷ []) [])
+          one-more true = omega (arith, w .counted)
+          one-more false = omega (arith, w .counted)
 
-      z : Result D g ls₁ (onR free kind code p q eq off offs t ups D s ls R g st task opened inside is l kept q′ eq′ on ons ls₁ cov cnt) (counts.below p (off .visits) l) on cls up₂ cs₂ cl₂ qs₂ ql₂ tb₂
-      z = on-result free kind code p q eq off offs t ups D s ls R g st task opened inside is l kept q′ eq′ on ons ls₁ cov cnt
+      onRes : LearningResult
+      onRes = onR free kind code p q eq off offs t ups D s ls R g st task opened inside is end w l kept q′ eq′ on ons ls₁ cov cnt
 
       o : Outcome Constraint
-      o = onR free kind code p q eq off offs t ups D s ls R g st task opened inside is l kept q′ eq′ on ons ls₁ cov cnt .outcome
-
-      j : Joined D g (branchOf D R free p s st) r cls up₂ cs₃ cl₃ qs₃ ql₃
-      j = joined free kind code p q eq off offs t ups D s ls R g st task opened inside is l kept q′ eq′ on ons ls₁ cov cnt saved aside r fins unup
+      o = onRes .outcome
 
       st′ : Store
-      st′ = onR free kind code p q eq off offs t ups D s ls R g st task opened inside is l kept q′ eq′ on ons ls₁ cov cnt .store
+      st′ = onRes .store
 
       k : ℕ
-      k = suc (offR free kind code p q eq off offs t ups D s ls R g st task opened inside is .visits + onR free kind code p q eq off offs t ups D s ls R g st task opened inside is l kept q′ eq′ on ons ls₁ cov cnt .visits)
+      k = suc (offR free kind code p q eq off offs t ups D s ls R g st task opened inside is .visits + onRes .visits)
 
       ls₂ : List Node
       ls₂ = unsettled D R s st′ k (p .yes) ls a o one
 
-      whole : branchOf D R free p s st ≡ onwardOf D R free s a o st′ k
-      whole = onward-is free kind code p q eq off offs t ups D s ls R g st task opened inside is l kept q′ eq′ on ons ls₁ cov cnt saved aside r fins unup
+      by : Came D R (drop (p .at + 1) (quantifiers D)) ((p .budget - 2) - offR free kind code p q eq off offs t ups D s ls R g st task opened inside is .visits) (s ▹ true) (offR free kind code p q eq off offs t ups D s ls R g st task opened inside is .store) g ls₁ (counts.below p (off .budget) l) on cls up₂ cs₂ cl₂ qs₂ ql₂ tb₂
+          → Result D g ls (branchOf D R free p s st) p (counts.answered (r .verdict) (boundsOf r) (r .budget) n) cls up₂ cs₃ cl₃ qs₃ ql₃ tb₃
+      by (inr (z, e, h)) = on-halted free kind code p q eq off offs t ups D s ls R g st task opened inside is end w l kept q′ eq′ on ons ls₁ cov cnt saved aside r fins unup z e h visits n
+      by (inl (end₂, z)) =
+          subst (λ (x : Attempt). Result D g ls x p (counts.answered (r .verdict) (boundsOf r) (r .budget) n) cls up₂ cs₃ cl₃ qs₃ ql₃ tb₃)
+          (sym (both-end free kind code p q eq off offs t ups D s ls R g st task opened inside is end w l kept q′ eq′ on ons ls₁ cov cnt saved aside r fins unup end₂ z))
+          (record {
+            says = record {
+              verdict = j .verdict;
+              stored = j .stored;
+              visited = visits-both free kind code p q eq off offs t ups D s ls R g st task opened inside is end w l kept q′ eq′ on ons ls₁ cov cnt saved aside r fins unup end₂ z visits;
+              left = omega (arith, visits, z .left);
+              covers = subst (λ (x : LearningResult). Covers (p .free) tb₃ (ls ++ newLines (p .yes) (x .outcome))) (sym whole) (s₂ .covers (p .free) tb₃ (settling s ls₂ (line-task ss₂ (same₂ ∙ kept .statuses-restored) tb₂ ls₂ (on .lines) (z .covers) (z .counted))));
+              counted = settled ∙ ap (settledLines one two) (z .counted) ∙ s₂ .counts ∙ ap (λ (x : LearningResult). length (ls ++ newLines (p .yes) (x .outcome))) (sym whole);
+            };
+          })
+        where
+          j : Joined D g full r cls up₂ cs₃ cl₃ qs₃ ql₃
+          j = joined free kind code p q eq off offs t ups D s ls R g st task opened inside is end w l kept q′ eq′ on ons ls₁ cov cnt saved aside r fins unup end₂ z
 
-      s₂ : Settles D R s st′ k (p .yes) ls a o one two
-      s₂ =
-          settles D R s st′ k (p .yes) ls a o one two (one-is ∙ reads-line D (p .yes) (off .verdict) (entryOf off cls cs₁ qs₁ up₁) a (w .verdict))
-          (two-is ∙ reads-line D (p .yes) (on .verdict) (entryOf on cls cs₂ qs₂ up₂) o (z .verdict))
+          whole : full ≡ onwardOf D R free s a o st′ k
+          whole = onward-is free kind code p q eq off offs t ups D s ls R g st task opened inside is end w l kept q′ eq′ on ons ls₁ cov cnt saved aside r fins unup end₂ z
+
+          s₂ : Settles D R s st′ k (p .yes) ls a o one two
+          s₂ =
+              settles D R s st′ k (p .yes) ls a o one two (one-is ∙ reads-line D (p .yes) (off .verdict) (entryOf off cls cs₁ qs₁ up₁) a (w .verdict))
+              (two-is ∙ reads-line D (p .yes) (on .verdict) (entryOf on cls cs₂ qs₂ up₂) o (z .verdict))

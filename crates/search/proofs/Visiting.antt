@@ -1,5 +1,5 @@
 -- A visit: it is decided by a leaf, or the node is open and branches on the variable of the next place; and the node below, one value longer.
-use Prim.Native.Nat.{ℕ, suc, _+_, _≤_, _<_}
+use Prim.Native.Nat.{ℕ, suc, _+_, _-_, _≤_, _<_}
 use native.Mathlib.Omega.{arith}
 use mathlib.Core.Path.{_≡_, refl, sym, ap, _∙_, subst}
 use mathlib.Core.Logic.{_⊎_, inl, inr}
@@ -10,13 +10,14 @@ use lib.ListN.{length, take, drop, length-map, drop-of-length-le}
 use lib.Dec.{eqb}
 use Rattle.qbf.specs.Formula.{paper, Quantifier, free, exists, forall, Prefix, Clause, Node, _▹_, quantifiers, quantifierAt}
 use Rattle.qbf.specs.Truth.{Outcome, decided}
-use Rattle.qbf.specs.Learning.{Constraint, Store, LearningResult, below, leaf, settle, firstDead, lowestDead, reducedFound, concludeBy}
+use Rattle.qbf.specs.Learning.{Constraint, Store, leaf, firstDead, lowestDead, reducedFound, concludeBy}
+use Rattle.qbf.specs.Ceiling.{Attempt, finished, belowWithin, settleWithin, visitWithin}
 use Rattle.qbf.specs.Card.{byteOf}
 use Rattle.theory.proofs.Basics.{le-or-lt, length-▹}
 use Rattle.theory.proofs.WellFormed.{numbers-ok}
 use Rattle.theory.proofs.Widths.{prefix-width}
 use Rattle.theory.proofs.Lowest.{lowest-none}
-use Rattle.theory.proofs.ShapedSearch.{raise-nothing}
+use Rattle.theory.proofs.CeilingLaws.{raise-nothing-within}
 use Rattle.tables.specs.Formed.{Formed}
 use Rattle.tables.specs.Views.{quantifierCode}
 use Rattle.tables.specs.Codes.{codes, given, Quantified}
@@ -29,16 +30,18 @@ use Rattle.inner.specs.declared.Leaf.{Leaf}
 use Rattle.inner.specs.declared.Leaf.the-variants as found
 use Rattle.search_entry.specs.Entry.{tableOf, entryAt}
 use Rattle.search_entry.specs.declared.Bounds.{Bounds}
+use Rattle.search_entry.specs.declared.Source.the-variants.{Area}
 use Rattle.cover.specs.Cover.{Covers}
 use Rattle.node.specs.Node.{storedBy, Reads, Shown, NextKind}
 use Rattle.search.specs.Search.{Task, Opened, Result, Visited, Followed, Branched, visitOf, belowOf, branchOf}
 use Rattle.node.specs.declared.Verdict.{Verdict}
-use Rattle.node.specs.declared.Verdict.the-variants.{No}
+use Rattle.node.specs.declared.Verdict.the-variants.{No, Mixed}
 use Rattle.node.specs.declared.Position.{Position}
 use Rattle.node.specs.declared.Answer.{Answer}
 use Rattle.search.proofs.Counts as counts
 use Rattle.search.proofs.Keeping.{entered-below}
-use Rattle.search.proofs.Branching.{facts, rising, shaped, rest, one}
+use Rattle.inner.proofs.Stepping.{facts, rising}
+use Rattle.search.proofs.Branching.{shaped, rest, one}
 
 -- ---- the next quantifier, by the tables
 one-code : (a b : Quantifier) → quantifierCode a ≡ quantifierCode b → a ≡ b
@@ -87,7 +90,7 @@ module _ (D : Prefix) (kd : List ℕ) (shown : Quantified D kd) (at k : ℕ) (ne
 
 -- a prefix has no more variables than there are numbers
 prefix-short : (D : Prefix) (R : List Clause) (st : Store) → Formed D R st → length D ≤ paper .numbers
-prefix-short D R st h = omega (arith, prefix-width paper D (numbers-ok _ (facts D R st h)), length-map D (λ d. d .quantifier))
+prefix-short D R st h = omega (arith, prefix-width paper D (numbers-ok _ (facts h)), length-map D (λ d. d .quantifier))
 
 -- ---- an open node
 none-found : (D : Prefix) (v : Bool) (o : Option Clause) (next : Option (Outcome Constraint)) → concludeBy v (reducedFound D v o) next ≡ none → o ≡ none
@@ -135,40 +138,69 @@ module _ {D : Prefix} {s : Node} {ls : List Node} {R : List Clause} {g : Ledger}
     formed = task .formed;
   }
 
-  -- they decide
-  pub leaf-result : (w : Verdict) (v : Bool) (e : Constraint) (b : Bounds) (up : List ℕ) → leaf D R eqb s st ≡ some (decided v e)
-      → Reads D w (entryAt b cls (storedBy w cs qs) up) (decided v e)
-      → (r : Answer) → r ≡ counts.answered w b (p .visits + 1) (p .lines) → Result D g ls (visitOf D R p s st) p r cls up cs cl qs ql tb
-  leaf-result w v e b up is rd r q =
+  -- none is left of the budget
+  pub stop-result : p .budget ≤ 1 → (up : List ℕ) (r : Answer) → r ≡ record { verdict = Mixed; source = Area; start = 0; len = 0; budget = 0; lines = p .lines }
+      → Result D g ls (visitOf D R p s st) p r cls up cs cl qs ql tb
+  stop-result less up r q =
       subst (λ (x : Answer). Result D g ls (visitOf D R p s st) p x cls up cs cl qs ql tb) (sym q)
-      (subst (λ (x : Option (Outcome Constraint)). Result D g ls (settle x (below paper D R (drop (p .at) (quantifiers D))) s st) p (counts.answered w b (p .visits + 1) (p .lines)) cls up cs cl qs ql tb) (sym is)
+      (subst (λ (n : ℕ). Result D g ls (visitWithin D R eqb (belowWithin paper D R (drop (p .at) (quantifiers D))) n s st) p (record { verdict = Mixed; source = Area; start = 0; len = 0; budget = 0; lines = p .lines }) cls up cs cl qs ql tb) (sym spent)
+      (record { says = record { verdict = refl; stored = task .stored; spent = refl } }))
+    where
+      spent : p .budget - 1 ≡ 0
+      spent = omega (arith, less)
+
+  -- the visit is made
+  made-visit : 2 ≤ p .budget → p .budget - 1 ≡ suc (p .budget - 2)
+  made-visit made = omega (arith, made)
+
+  made-result : 2 ≤ p .budget → {r : Answer} {up cs′ cl′ qs′ ql′ tb′ : List ℕ}
+      → Result D g ls (settleWithin (leaf D R eqb s st) (belowWithin paper D R (drop (p .at) (quantifiers D))) (p .budget - 2) s st) p r cls up cs′ cl′ qs′ ql′ tb′
+      → Result D g ls (visitOf D R p s st) p r cls up cs′ cl′ qs′ ql′ tb′
+  made-result made {r} {up} {cs′} {cl′} {qs′} {ql′} {tb′} h =
+      subst (λ (n : ℕ). Result D g ls (visitWithin D R eqb (belowWithin paper D R (drop (p .at) (quantifiers D))) n s st) p r cls up cs′ cl′ qs′ ql′ tb′) (sym (made-visit made)) h
+
+  -- they decide
+  pub leaf-result : 2 ≤ p .budget → (w : Verdict) (v : Bool) (e : Constraint) (b : Bounds) (up : List ℕ) → leaf D R eqb s st ≡ some (decided v e)
+      → Reads D w (entryAt b cls (storedBy w cs qs) up) (decided v e)
+      → (r : Answer) → r ≡ counts.answered w b (p .budget - 1) (p .lines) → Result D g ls (visitOf D R p s st) p r cls up cs cl qs ql tb
+  leaf-result made w v e b up is rd r q =
+      made-result made
+      (subst (λ (x : Answer). Result D g ls (settleWithin (leaf D R eqb s st) next (p .budget - 2) s st) p x cls up cs cl qs ql tb) (sym q)
+      (subst (λ (x : Option (Outcome Constraint)). Result D g ls (settleWithin x next (p .budget - 2) s st) p (counts.answered w b (p .budget - 1) (p .lines)) cls up cs cl qs ql tb) (sym is)
       (record {
-        verdict = rd;
-        stored = task .stored;
-        visited = refl;
-        covers = subst (Covers (p .free) tb) (sym (append-nil ls)) (task .covers);
-        counted = task .counted ∙ ap length (sym (append-nil ls));
-      }))
+        says = record {
+          verdict = rd;
+          stored = task .stored;
+          visited = omega (arith, made);
+          left = omega (arith, made);
+          covers = subst (Covers (p .free) tb) (sym (append-nil ls)) (task .covers);
+          counted = task .counted ∙ ap length (sym (append-nil ls));
+        };
+      })))
+    where
+      next : ℕ → Node → Store → Attempt
+      next = belowWithin paper D R (drop (p .at) (quantifiers D))
 
   -- the node is open: what follows is asked at the same position
-  pub open-result : {r : Leaf} {wc : ℕ} {up up′ cs′ cl′ qs′ ql′ tb′ sat mk : List ℕ} (a : Answer) → Concluded D R s st r wc cls cs qs up sat mk → r ≡ found.Open → p .words ≡ wc
+  pub open-result : 2 ≤ p .budget → {r : Leaf} {wc : ℕ} {up up′ cs′ cl′ qs′ ql′ tb′ sat mk : List ℕ} (a : Answer) → Concluded D R s st r wc cls cs qs up sat mk → r ≡ found.Open → p .words ≡ wc
       → Followed p a cls sets kd ss cs cl qs ql tb sat mk up′ cs′ cl′ qs′ ql′ tb′ → Result D g ls (visitOf D R p s st) p a cls up′ cs′ cl′ qs′ ql′ tb′
-  open-result {up′ = up′} {cs′} {cl′} {qs′} {ql′} {tb′} a w e words h =
-      subst (λ (x : Option (Outcome Constraint)). Result D g ls (settle x (below paper D R (drop (p .at) (quantifiers D))) s st) p a cls up′ cs′ cl′ qs′ ql′ tb′) (sym (said-open w e))
-      (h .result D s ls R g st task (said-opened w p words e))
+  open-result made {up′ = up′} {cs′} {cl′} {qs′} {ql′} {tb′} a w e words h =
+      made-result made
+      (subst (λ (x : Option (Outcome Constraint)). Result D g ls (settleWithin x (belowWithin paper D R (drop (p .at) (quantifiers D))) (p .budget - 2) s st) p a cls up′ cs′ cl′ qs′ ql′ tb′) (sym (said-open w e))
+      (h .result D s ls R g st task (said-opened w p words e)))
 
   -- it goes on to the branch
   branch-result : (κ : Quantifier) {up cs′ cl′ qs′ ql′ tb′ : List ℕ} (r : Answer) → p .at < length D → quantifierAt D (suc (p .at)) ≡ κ
       → Result D g ls (branchOf D R κ p s st) p r cls up cs′ cl′ qs′ ql′ tb′ → Result D g ls (belowOf D R p s st) p r cls up cs′ cl′ qs′ ql′ tb′
-  branch-result κ {up} {cs′} {cl′} {qs′} {ql′} {tb′} r inD is h = subst (λ (x : LearningResult). Result D g ls x p r cls up cs′ cl′ qs′ ql′ tb′) (sym whole) h
+  branch-result κ {up} {cs′} {cl′} {qs′} {ql′} {tb′} r inD is h = subst (λ (x : Attempt). Result D g ls x p r cls up cs′ cl′ qs′ ql′ tb′) (sym whole) h
     where
       here : drop (p .at) (quantifiers D) ≡ κ ∷ drop (p .at + 1) (quantifiers D)
       here = ap (λ (i : ℕ). drop i (quantifiers D)) (sym (task .shown .long)) ∙ rest D R κ s (p .at) (task .shown .long) inD is
 
       whole : belowOf D R p s st ≡ branchOf D R κ p s st
       whole =
-          ap (λ (x : List Quantifier). below paper D R x s st) here
-          ∙ raise-nothing paper one D R (rising D R st (task .formed)) κ (drop (p .at + 1) (quantifiers D)) s st (rest D R κ s (p .at) (task .shown .long) inD is) (shaped D R st (task .formed))
+          ap (λ (x : List Quantifier). belowWithin paper D R x (p .budget - 2) s st) here
+          ∙ raise-nothing-within paper one D R (rising (task .formed)) κ (drop (p .at + 1) (quantifiers D)) (p .budget - 2) s st (rest D R κ s (p .at) (task .shown .long) inD is) (shaped D R st (task .formed))
 
   module _ (r : Answer) (k : ℕ) (next : NextKind kd (p .at) k) where
     at-kind : p .at < length D → k ≡ quantifierCode (quantifierAt D (suc (p .at)))
@@ -191,25 +223,28 @@ module _ {D : Prefix} {s : Node} {ls : List Node} {R : List Clause} {g : Ledger}
         branch-result κ r inD is (h .result D s ls R g st κ task opened inD is refl)
 
     -- no place is left
-    pub end-result : (b : Bounds) → b .len ≡ 0 → (up : List ℕ) → (k ≡ 1 → ⊥) → (k ≡ 2 → ⊥) → (k ≡ 0 → ⊥)
-        → r ≡ counts.answered No b (p .visits + 1) (p .lines) → Result D g ls (belowOf D R p s st) p r cls up cs cl qs ql tb
-    end-result b empty up x y z q = by (le-or-lt (length D) (p .at))
+    pub end-result : 2 ≤ p .budget → (b : Bounds) → b .len ≡ 0 → (up : List ℕ) → (k ≡ 1 → ⊥) → (k ≡ 2 → ⊥) → (k ≡ 0 → ⊥)
+        → r ≡ counts.answered No b (p .budget - 1) (p .lines) → Result D g ls (belowOf D R p s st) p r cls up cs cl qs ql tb
+    end-result made b empty up x y z q = by (le-or-lt (length D) (p .at))
       where
         by : (length D ≤ p .at) ⊎ (p .at < length D) → Result D g ls (belowOf D R p s st) p r cls up cs cl qs ql tb
         by (inr inD) = absurd (code-known (quantifierAt D (suc (p .at))) k (at-kind inD) x y z)
         by (inl le) =
             subst (λ (x : Answer). Result D g ls (belowOf D R p s st) p x cls up cs cl qs ql tb) (sym q)
-            (subst (λ (x : LearningResult). Result D g ls x p (counts.answered No b (p .visits + 1) (p .lines)) cls up cs cl qs ql tb) (sym whole)
+            (subst (λ (x : Attempt). Result D g ls x p (counts.answered No b (p .budget - 1) (p .lines)) cls up cs cl qs ql tb) (sym whole)
             (record {
-              verdict = ([], refl, ap (λ (n : ℕ). take n (drop (b .start) (tableOf (b .source) cls cs up))) empty);
-              stored = task .stored;
-              visited = refl;
-              covers = subst (Covers (p .free) tb) (sym (append-nil ls)) (task .covers);
-              counted = task .counted ∙ ap length (sym (append-nil ls));
+              says = record {
+                verdict = ([], refl, ap (λ (n : ℕ). take n (drop (b .start) (tableOf (b .source) cls cs up))) empty);
+                stored = task .stored;
+                visited = omega (arith, made);
+                left = omega (arith, made);
+                covers = subst (Covers (p .free) tb) (sym (append-nil ls)) (task .covers);
+                counted = task .counted ∙ ap length (sym (append-nil ls));
+              };
             }))
           where
-            whole : belowOf D R p s st ≡ record { outcome = decided false []; store = st; visits = 1 }
-            whole = ap (λ (x : List Quantifier). below paper D R x s st) (drop-of-length-le (quantifiers D) {i = p .at} (omega (arith, le, length-map D (λ d. d .quantifier))))
+            whole : belowOf D R p s st ≡ finished (record { outcome = decided false []; store = st; visits = 1 })
+            whole = ap (λ (x : List Quantifier). belowWithin paper D R x (p .budget - 2) s st) (drop-of-length-le (quantifiers D) {i = p .at} (omega (arith, le, length-map D (λ d. d .quantifier))))
 
 -- ---- one value longer
 -- a side is the visit of the node one place longer

@@ -8,7 +8,8 @@ use mathlib.Core.Option.{none}
 use lib.ListN.{length, take, drop}
 use Rattle.qbf.specs.Formula.{paper, Quantifier, Prefix, Clause, Node, _▹_, quantifiers, quantifierAt}
 use Rattle.qbf.specs.Truth.{freeVariables}
-use Rattle.qbf.specs.Learning.{Store, LearningResult, leaf, settle, visit, below, branch, firstDead}
+use Rattle.qbf.specs.Learning.{Store, LearningResult, firstDead}
+use Rattle.qbf.specs.Ceiling.{Attempt, finished, stopped, visitWithin, belowWithin, branchWithin}
 use Rattle.qbf.specs.Card.{byteOf}
 use lib.Dec.{eqb}
 use Rattle.cover.specs.Cover.{Covers}
@@ -21,6 +22,7 @@ use Rattle.tables.specs.Sets.{Descended, RowsKept}
 use Rattle.inner.specs.Inner.{Entered}
 use Rattle.search_entry.specs.Entry.{Bounded}
 use Rattle.node.specs.Node.{boundsOf, entryOf, Reads, Shown, newLines}
+use Rattle.node.specs.declared.Verdict.the-variants.{Mixed}
 use Rattle.node.specs.declared.Position.{Position}
 use Rattle.node.specs.declared.Answer.{Answer}
 
@@ -29,20 +31,25 @@ use Rattle.node.specs.declared.Answer.{Answer}
 abbrev pub left : Position → ℕ
 left p = paper .numbers - p .at
 
--- of the counts: room for the constraints put aside, for the visits, for the lines and for the numbers of stored rows
+-- of the counts: room for the constraints put aside, for the lines and for the numbers of stored rows, which grow no faster than the budget falls
 pub record Room (saved : ℕ) (cl ql : List ℕ) (p : Position) : Type 0 where
   pub within : p .at ≤ paper .numbers
   pub free : p .free ≤ paper .numbers
   pub words : RowLength (p .words)
   pub aside : left p * paper .numbers ≤ saved
-  pub visits : p .visits + 2 ^ suc (left p) ≤ 2 ^ 62
-  pub lines : p .lines ≤ p .visits + p .visits
-  pub clauses : newestOf cl ≤ p .visits + paper .constraints
-  pub cubes : newestOf ql ≤ p .visits + paper .constraints
+  pub lines : p .lines + (p .budget + p .budget) ≤ 2 ^ 62
+  pub clauses : newestOf cl + p .budget ≤ 2 ^ 62
+  pub cubes : newestOf ql + p .budget ≤ 2 ^ 62
 
 pub record Asked (saved : ℕ) (cs cl qs ql : List ℕ) (p : Position) : Type 0 where
   pub shelves : Shelves cs cl qs ql
   pub room : Room saved cl ql p
+
+-- where the node's own visit may be made
+pub record AskedOpen (saved : ℕ) (cs cl qs ql : List ℕ) (p : Position) : Type 0 where
+  pub shelves : Shelves cs cl qs ql
+  pub room : Room saved cl ql p
+  pub made : 2 ≤ p .budget
 
 -- a side is below a node that has put `aside` cells aside
 pub record AskedBelow (aside saved : ℕ) (cs cl qs ql : List ℕ) (p : Position) : Type 0 where
@@ -52,15 +59,13 @@ pub record AskedBelow (aside saved : ℕ) (cs cl qs ql : List ℕ) (p : Position
   pub own : suc (left p) * paper .numbers ≤ saved
 
 -- ---- what is left of the tables
--- the answer's counts: no more lines and rows than visits
+-- the answer's counts: no more lines and rows than the budget fell
 pub record Counts (cl ql : List ℕ) (p : Position) (r : Answer) (cl′ ql′ : List ℕ) : Type 0 where
   pub bounded : Bounded (boundsOf r)
-  pub more : p .visits < r .visits
-  pub fewer : r .visits < p .visits + 2 ^ suc (left p)
   pub lines-more : p .lines ≤ r .lines
-  pub lines-fewer : r .lines + (p .visits + p .visits) ≤ p .lines + (r .visits + r .visits)
-  pub clauses : newestOf cl′ + p .visits ≤ newestOf cl + r .visits
-  pub cubes : newestOf ql′ + p .visits ≤ newestOf ql + r .visits
+  pub lines-fewer : r .lines + (r .budget + r .budget) ≤ p .lines + (p .budget + p .budget)
+  pub clauses : newestOf cl′ + r .budget ≤ newestOf cl + p .budget
+  pub cubes : newestOf ql′ + r .budget ≤ newestOf ql + p .budget
 
 -- the values that were given, and the rows and marks of the places before k
 pub record Kept (k wc : ℕ) (statuses statuses′ table table′ sat sat′ marks marks′ : List ℕ) : Type 0 where
@@ -97,23 +102,38 @@ pub record Opened (D : Prefix) (s : Node) (R : List Clause) (p : Position) (sat 
   pub known : Descended D s R (p .words) sat marks (length s)
 
 -- ---- what an answer says
--- it is the result o of the learning search
-pub record Result (D : Prefix) (g : Ledger) (ls : List Node) (o : LearningResult) (p : Position) (r : Answer) (clauses area cs cl qs ql table : List ℕ) : Type 0 where
+-- the search ended with the result o
+pub record Done (D : Prefix) (g : Ledger) (ls : List Node) (o : LearningResult) (p : Position) (r : Answer) (clauses area cs cl qs ql table : List ℕ) : Type 0 where
   pub verdict : Reads D (r .verdict) (entryOf r clauses cs qs area) (o .outcome)
   pub stored : StoreKept D g (o .store) cs cl qs ql
-  pub visited : r .visits ≡ p .visits + o .visits
+  pub visited : r .budget + o .visits ≡ p .budget
+  pub left : 1 ≤ r .budget
   pub covers : Covers (p .free) table (ls ++ newLines (p .yes) (o .outcome))
   pub counted : r .lines ≡ length (ls ++ newLines (p .yes) (o .outcome))
 
--- the search at a position: what follows at a node s that is open, the node itself, and the branch on a variable of the quantifier κ
-abbrev pub belowOf : Prefix → List Clause → Position → Node → Store → LearningResult
-belowOf D R p s st = below paper D R (drop (p .at) (quantifiers D)) s st
+-- it was stopped, with the store st
+pub record Halted (D : Prefix) (g : Ledger) (st : Store) (r : Answer) (cs cl qs ql : List ℕ) : Type 0 where
+  pub verdict : r .verdict ≡ Mixed
+  pub stored : StoreKept D g st cs cl qs ql
+  pub spent : r .budget ≡ 0
 
-abbrev pub visitOf : Prefix → List Clause → Position → Node → Store → LearningResult
-visitOf D R p s st = settle (leaf D R eqb s st) (below paper D R (drop (p .at) (quantifiers D))) s st
+abbrev pub Says : Prefix → Ledger → List Node → Attempt → Position → Answer → List ℕ → List ℕ → List ℕ → List ℕ → List ℕ → List ℕ → List ℕ → Type 0
+Says D g ls (finished o) p r clauses area cs cl qs ql table = Done D g ls o p r clauses area cs cl qs ql table
+Says D g ls (stopped st) p r clauses area cs cl qs ql table = Halted D g st r cs cl qs ql
 
-abbrev pub branchOf : Prefix → List Clause → Quantifier → Position → Node → Store → LearningResult
-branchOf D R κ p s st = branch paper D R κ (visit D R eqb (below paper D R (drop (p .at + 1) (quantifiers D)))) s st
+-- by what the search under the budget comes to
+pub record Result (D : Prefix) (g : Ledger) (ls : List Node) (t : Attempt) (p : Position) (r : Answer) (clauses area cs cl qs ql table : List ℕ) : Type 0 where
+  pub says : Says D g ls t p r clauses area cs cl qs ql table
+
+-- the search at a position, under its budget: what follows at a node s that is open, the node itself, and the branch on a variable of the quantifier κ
+abbrev pub belowOf : Prefix → List Clause → Position → Node → Store → Attempt
+belowOf D R p s st = belowWithin paper D R (drop (p .at) (quantifiers D)) (p .budget - 2) s st
+
+abbrev pub visitOf : Prefix → List Clause → Position → Node → Store → Attempt
+visitOf D R p s st = visitWithin D R eqb (belowWithin paper D R (drop (p .at) (quantifiers D))) (p .budget - 1) s st
+
+abbrev pub branchOf : Prefix → List Clause → Quantifier → Position → Node → Store → Attempt
+branchOf D R κ p s st = branchWithin paper D R κ (visitWithin D R eqb (belowWithin paper D R (drop (p .at + 1) (quantifiers D)))) (p .budget - 2) s st
 
 -- at the inner node of a position
 pub record Visited (p : Position) (r : Answer)

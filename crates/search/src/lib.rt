@@ -1,12 +1,13 @@
 // The learning search below a start node that its own steps 1 to 4 leave open: a visit of a node, the branch on its next variable, and the
 // visitors of exists, forall and free variables, which call one another over lent tables; the number of open places falls. Statuses,
 // constraints, scratch space and the card's table are lent and handed back: no table is copied. Each place has its row of satisfied clauses and
-// its mark, and nothing of them is undone. The count of visits goes down with the position and comes back with the answer.
+// its mark, and nothing of them is undone. The budget goes down with the position, and what is left of it comes back with the answer. Where none is left
+// the visit is not made: that goes up as Mixed, joining nothing and storing nothing, so every table is handed back as at any end.
 ghost use Prim.Native.Nat.{suc, _≤_, _<_};
 ghost use lib.ListN.{length};
 ghost use Rattle.qbf.specs.Formula.{paper, exists, forall, free};
 ghost use Rattle.tables.specs.Views.{quantifierCode};
-ghost use Rattle.search.specs.Search.{Asked, AskedBelow, AsideKept, Left, Visited, SideVisited, Followed, Branched};
+ghost use Rattle.search.specs.Search.{Asked, AskedOpen, AskedBelow, AsideKept, Left, Visited, SideVisited, Followed, Branched};
 use coding::statuses::give;
 use coding::statuses::restore;
 use inner::Leaf;
@@ -22,6 +23,7 @@ use node::next_kind;
 use node::put_aside;
 use node::settle_lines;
 use node::settled;
+use node::stopped;
 use node::to_off;
 use node::to_on;
 use node::with_lines;
@@ -46,7 +48,7 @@ pub fn start<'a>(
     marks: &mut [u8; tables::BY_NUMBER],
     p: Position,
 ) -> Answer
-    requires { ⌜ Asked (length (now saved)) (now learned) (now «learned_links») (now cubes) (now «cube_links») p ⌝ }
+    requires { ⌜ AskedOpen (length (now saved)) (now learned) (now «learned_links») (now cubes) (now «cube_links») p ⌝ }
     ensures { λ r. ⌜ Left (suc (p .at)) p r (now («learned_links» .entry)) (now («cube_links» .entry)) (now (statuses .entry)) (now (table .entry)) (now (sat .entry)) (now (marks .entry)) (now (learned .exit)) (now («learned_links» .exit)) (now (cubes .exit)) (now («cube_links» .exit)) (now (statuses .exit)) (now (table .exit)) (now (sat .exit)) (now (marks .exit)) ⌝ }
     ensures { λ r. ⌜ Followed p r (now (clauses .entry)) (now (sets .entry)) (now (quantifiers .entry)) (now (statuses .entry)) (now (learned .entry)) (now («learned_links» .entry)) (now (cubes .entry)) (now («cube_links» .entry)) (now (table .entry)) (now (sat .entry)) (now (marks .entry)) (now (up .exit)) (now (learned .exit)) (now («learned_links» .exit)) (now (cubes .exit)) (now («cube_links» .exit)) (now (table .exit)) ⌝ }
 {
@@ -73,7 +75,7 @@ pub fn start<'a>(
     )
 }
 
-// At an inner node: steps 1 to 4, else step 5.
+// At an inner node: steps 1 to 4, else step 5. "The walk stops before the visit that would exceed" the ceiling.
 fn visit<'a>(
     clauses: &'a [u16; tables::CLAUSE_ROWS],
     sets: &'a [u64; tables::CLAUSE_SETS],
@@ -94,6 +96,9 @@ fn visit<'a>(
     ensures { λ r. ⌜ Left (p .at) p r (now («learned_links» .entry)) (now («cube_links» .entry)) (now (statuses .entry)) (now (table .entry)) (now (sat .entry)) (now (marks .entry)) (now (learned .exit)) (now («learned_links» .exit)) (now (cubes .exit)) (now («cube_links» .exit)) (now (statuses .exit)) (now (table .exit)) (now (sat .exit)) (now (marks .exit)) ⌝ }
     ensures { λ r. ⌜ Visited p r (now (clauses .entry)) (now (sets .entry)) (now (quantifiers .entry)) (now (statuses .entry)) (now (learned .entry)) (now («learned_links» .entry)) (now (cubes .entry)) (now («cube_links» .entry)) (now (table .entry)) (now (sat .entry)) (now (marks .entry)) (now (up .exit)) (now (learned .exit)) (now («learned_links» .exit)) (now (cubes .exit)) (now («cube_links» .exit)) (now (table .exit)) ⌝ }
 {
+    if p.budget <= 1 {
+        return stopped(p);
+    }
     let at = p.at;
     let words = p.words;
     let leaf = conclude(
@@ -153,7 +158,7 @@ fn branch<'a>(
     marks: &mut [u8; tables::BY_NUMBER],
     p: Position,
 ) -> Answer
-    requires { ⌜ Asked (length (now saved)) (now learned) (now «learned_links») (now cubes) (now «cube_links») p ⌝ }
+    requires { ⌜ AskedOpen (length (now saved)) (now learned) (now «learned_links») (now cubes) (now «cube_links») p ⌝ }
     ensures { λ r. ⌜ Left (suc (p .at)) p r (now («learned_links» .entry)) (now («cube_links» .entry)) (now (statuses .entry)) (now (table .entry)) (now (sat .entry)) (now (marks .entry)) (now (learned .exit)) (now («learned_links» .exit)) (now (cubes .exit)) (now («cube_links» .exit)) (now (statuses .exit)) (now (table .exit)) (now (sat .exit)) (now (marks .exit)) ⌝ }
     ensures { λ r. ⌜ Followed p r (now (clauses .entry)) (now (sets .entry)) (now (quantifiers .entry)) (now (statuses .entry)) (now (learned .entry)) (now («learned_links» .entry)) (now (cubes .entry)) (now («cube_links» .entry)) (now (table .entry)) (now (sat .entry)) (now (marks .entry)) (now (up .exit)) (now (learned .exit)) (now («learned_links» .exit)) (now (cubes .exit)) (now («cube_links» .exit)) (now (table .exit)) ⌝ }
 {
@@ -231,7 +236,7 @@ fn exists<'a>(
     marks: &mut [u8; tables::BY_NUMBER],
     p: Position,
 ) -> Answer
-    requires { ⌜ Asked (length (now saved)) (now learned) (now «learned_links») (now cubes) (now «cube_links») p × (p .at < paper .numbers) ⌝ }
+    requires { ⌜ AskedOpen (length (now saved)) (now learned) (now «learned_links») (now cubes) (now «cube_links») p × (p .at < paper .numbers) ⌝ }
     ensures { λ r. ⌜ Left (suc (p .at)) p r (now («learned_links» .entry)) (now («cube_links» .entry)) (now (statuses .entry)) (now (table .entry)) (now (sat .entry)) (now (marks .entry)) (now (learned .exit)) (now («learned_links» .exit)) (now (cubes .exit)) (now («cube_links» .exit)) (now (statuses .exit)) (now (table .exit)) (now (sat .exit)) (now (marks .exit)) ⌝ }
     ensures { λ r. ⌜ Branched (quantifierCode exists) p r (now (clauses .entry)) (now (sets .entry)) (now (quantifiers .entry)) (now (statuses .entry)) (now (learned .entry)) (now («learned_links» .entry)) (now (cubes .entry)) (now («cube_links» .entry)) (now (table .entry)) (now (sat .entry)) (now (marks .entry)) (now (up .exit)) (now (learned .exit)) (now («learned_links» .exit)) (now (cubes .exit)) (now («cube_links» .exit)) (now (table .exit)) ⌝ }
 {
@@ -271,7 +276,7 @@ fn forall<'a>(
     marks: &mut [u8; tables::BY_NUMBER],
     p: Position,
 ) -> Answer
-    requires { ⌜ Asked (length (now saved)) (now learned) (now «learned_links») (now cubes) (now «cube_links») p × (p .at < paper .numbers) ⌝ }
+    requires { ⌜ AskedOpen (length (now saved)) (now learned) (now «learned_links») (now cubes) (now «cube_links») p × (p .at < paper .numbers) ⌝ }
     ensures { λ r. ⌜ Left (suc (p .at)) p r (now («learned_links» .entry)) (now («cube_links» .entry)) (now (statuses .entry)) (now (table .entry)) (now (sat .entry)) (now (marks .entry)) (now (learned .exit)) (now («learned_links» .exit)) (now (cubes .exit)) (now («cube_links» .exit)) (now (statuses .exit)) (now (table .exit)) (now (sat .exit)) (now (marks .exit)) ⌝ }
     ensures { λ r. ⌜ Branched (quantifierCode forall) p r (now (clauses .entry)) (now (sets .entry)) (now (quantifiers .entry)) (now (statuses .entry)) (now (learned .entry)) (now («learned_links» .entry)) (now (cubes .entry)) (now («cube_links» .entry)) (now (table .entry)) (now (sat .entry)) (now (marks .entry)) (now (up .exit)) (now (learned .exit)) (now («learned_links» .exit)) (now (cubes .exit)) (now («cube_links» .exit)) (now (table .exit)) ⌝ }
 {
@@ -311,7 +316,7 @@ fn free<'a>(
     marks: &mut [u8; tables::BY_NUMBER],
     p: Position,
 ) -> Answer
-    requires { ⌜ Asked (length (now saved)) (now learned) (now «learned_links») (now cubes) (now «cube_links») p × (p .at < paper .numbers) ⌝ }
+    requires { ⌜ AskedOpen (length (now saved)) (now learned) (now «learned_links») (now cubes) (now «cube_links») p × (p .at < paper .numbers) ⌝ }
     ensures { λ r. ⌜ Left (suc (p .at)) p r (now («learned_links» .entry)) (now («cube_links» .entry)) (now (statuses .entry)) (now (table .entry)) (now (sat .entry)) (now (marks .entry)) (now (learned .exit)) (now («learned_links» .exit)) (now (cubes .exit)) (now («cube_links» .exit)) (now (statuses .exit)) (now (table .exit)) (now (sat .exit)) (now (marks .exit)) ⌝ }
     ensures { λ r. ⌜ Branched (quantifierCode free) p r (now (clauses .entry)) (now (sets .entry)) (now (quantifiers .entry)) (now (statuses .entry)) (now (learned .entry)) (now («learned_links» .entry)) (now (cubes .entry)) (now («cube_links» .entry)) (now (table .entry)) (now (sat .entry)) (now (marks .entry)) (now (up .exit)) (now (learned .exit)) (now («learned_links» .exit)) (now (cubes .exit)) (now («cube_links» .exit)) (now (table .exit)) ⌝ }
 {
@@ -352,7 +357,7 @@ fn sides<'a>(
     p: Position,
     kind: u16,
 ) -> Answer
-    requires { ⌜ Asked (length (now saved)) (now learned) (now «learned_links») (now cubes) (now «cube_links») p × (p .at < paper .numbers) ⌝ }
+    requires { ⌜ AskedOpen (length (now saved)) (now learned) (now «learned_links») (now cubes) (now «cube_links») p × (p .at < paper .numbers) ⌝ }
     ensures { λ r. ⌜ Left (suc (p .at)) p r (now («learned_links» .entry)) (now («cube_links» .entry)) (now (statuses .entry)) (now (table .entry)) (now (sat .entry)) (now (marks .entry)) (now (learned .exit)) (now («learned_links» .exit)) (now (cubes .exit)) (now («cube_links» .exit)) (now (statuses .exit)) (now (table .exit)) (now (sat .exit)) (now (marks .exit)) ⌝ }
     ensures { λ r. ⌜ Branched kind p r (now (clauses .entry)) (now (sets .entry)) (now (quantifiers .entry)) (now (statuses .entry)) (now (learned .entry)) (now («learned_links» .entry)) (now (cubes .entry)) (now («cube_links» .entry)) (now (table .entry)) (now (sat .entry)) (now (marks .entry)) (now (up .exit)) (now (learned .exit)) (now («learned_links» .exit)) (now (cubes .exit)) (now («cube_links» .exit)) (now (table .exit)) ⌝ }
 {
@@ -397,7 +402,7 @@ fn sides<'a>(
         table,
         sat,
         marks,
-        to_on(p, off.visits, lines),
+        to_on(p, off.budget, lines),
         n,
         tables::ON,
     );

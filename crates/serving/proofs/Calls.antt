@@ -4,21 +4,21 @@ use mathlib.Core.Path.{_≡_, refl, sym, ap, subst, _∙_}
 use mathlib.Core.Bool.{Bool, true, false, cond}
 use mathlib.Core.Option.{Option, none, some}
 use Rattle.qbf.specs.Calls.{Call, Answer, answer, refusal, guarded, State as Read}
-use Rattle.qbf.specs.Demands.{refusalOf}
+use Rattle.qbf.specs.Demands.{AfterSearch, refusalOf}
 use Rattle.theory.proofs.AcceptedRule.{some-none}
 use Rattle.state.specs.declared.State.{State}
 use Rattle.state.specs.Reading.{fits, stateIn, readState, wellFormedRead, valid}
 use Rattle.state.proofs.Valid.{valid-facts}
 use Rattle.serving.specs.Serves.{saidOf, outOf, nextOf, Serves}
 
--- no refusal, or 21: then the state may differ from the one given
+-- no refusal, or one after a search: then the state may differ from the one given
 abbrev pub Passes : Option ℕ → Type 0
 Passes none = Unit {0}
-Passes (some n) = n ≡ 21
+Passes (some n) = AfterSearch n
 
-passes-21 : (o : Option ℕ) → Passes o → (n : ℕ) → o ≡ some n → n ≡ 21
-passes-21 none h n e = absurd (some-none (sym e))
-passes-21 (some m) h n e = sym (number e) ∙ h
+after-search : (o : Option ℕ) → Passes o → (n : ℕ) → o ≡ some n → AfterSearch n
+after-search none h n e = absurd (some-none (sym e))
+after-search (some m) h n e = subst AfterSearch (number e) h
   where
     of : Option ℕ → ℕ
     of none = 0
@@ -49,13 +49,13 @@ module _ (x : State) (c : Call) where
     next-is : nextOf (readState x) c ≡ some (guarded true (stateIn x) c .state)
     next-is = ap (λ (o : Option Read). nextOf o c) (valid-facts x v .read) ∙ ap (λ (g : Bool). some (guarded g (stateIn x) c .state)) (valid-facts x v .formed)
 
-    -- the next state reads as the definitions' next state, and the call is not refused, or with 21
+    -- the next state reads as the definitions' next state, and the call is not refused, or after a search
     pub moved-on : (x′ : State) → readState x′ ≡ some (guarded true (stateIn x) c .state) → Passes (refusalOf (guarded true (stateIn x) c .out .reply)) → Serves x c (saidOf (guarded true (stateIn x) c .out)) x′
     moved-on x′ r h =
         record {
           answered = sym (ap saidOf out-is);
           next = r ∙ sym next-is;
-          kept = λ n q k. absurd (k (passes-21 (refusalOf (guarded true (stateIn x) c .out .reply)) h n (sym (ap (λ (a : Answer). refusalOf (a .reply)) out-is) ∙ q)));
+          kept = λ n q k. absurd (k (after-search (refusalOf (guarded true (stateIn x) c .out .reply)) h n (sym (ap (λ (a : Answer). refusalOf (a .reply)) out-is) ∙ q)));
         }
 
     -- not refused: the next state is given by its cells

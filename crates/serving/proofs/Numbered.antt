@@ -28,11 +28,11 @@ numbered-is (some (suc n)) h = refl
 -- ---- the refusals of the calls
 above-zero : (c : Call) → all (ltb 0) (refusals c) ≡ true
 above-zero (rule ls) = refl
-above-zero (query ls) = refl
-above-zero (card size) = refl
+above-zero (query top ls) = refl
+above-zero (card top size) = refl
 above-zero forget = refl
 above-zero withdraw = refl
-above-zero (keepCard size) = refl
+above-zero (keepCard top size) = refl
 
 known-numbered : (c : Call) (o : Option ℕ) → ((n : ℕ) → o ≡ some n → Mem n (refusals c)) → Numbered o
 known-numbered c none h = tt
@@ -48,13 +48,21 @@ said-refusal keep k = refl
 said-refusal (lines ls tb) k = refl
 said-refusal (cardRefused n tb) k = refl
 
+pub said-visits : (r : Reply) (k : ℕ) → saidReply r k .visits ≡ k
+said-visits done k = refl
+said-visits (refused n) k = refl
+said-visits swap k = refl
+said-visits keep k = refl
+said-visits (lines ls tb) k = refl
+said-visits (cardRefused n tb) k = refl
+
 malformed-numbered : (c : Call) → Numbered (refusalOf (outOf none c .reply))
 malformed-numbered (rule ls) = tt
-malformed-numbered (query ls) = tt
-malformed-numbered (card size) = tt
+malformed-numbered (query top ls) = tt
+malformed-numbered (card top size) = tt
 malformed-numbered forget = tt
 malformed-numbered withdraw = tt
-malformed-numbered (keepCard size) = tt
+malformed-numbered (keepCard top size) = tt
 
 pub out-numbered : (o : Option Read) (c : Call) → Numbered (refusalOf (outOf o c .reply))
 out-numbered none c = malformed-numbered c

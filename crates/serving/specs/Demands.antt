@@ -1,6 +1,7 @@
 -- What the three demands say of the code, over a list of calls that were served, each on the state that the last one returned.
 use Prim.Native.Nat.{ℕ, _*_, _≤_, _<_}
 use mathlib.Core.Path.{_≡_}
+use mathlib.Core.Logic.{_⊎_}
 use mathlib.Core.Bool.{true, false, not}
 use mathlib.Core.List.{List, [], _∷_, map}
 use mathlib.Core.Option.{Option, none, some}
@@ -8,10 +9,10 @@ use lib.ListN.{length}
 use Rattle.qbf.specs.Formula.{Formula, Node}
 use Rattle.qbf.specs.Truth.{Verdict, freeVariables}
 use Rattle.qbf.specs.Card.{Mem, tableOf, zeroTable}
-use Rattle.qbf.specs.Calls.{Call, rule, query, card, forget, withdraw, keepCard, Answer, nextFormula, State as Read}
+use Rattle.qbf.specs.Calls.{Call, rule, query, card, forget, withdraw, keepCard, ceilingOf, Answer, nextFormula, State as Read}
 use Rattle.qbf.specs.Partition.{Partition, keepsClauses}
 use Rattle.qbf.specs.Runs.{fresh, learningRun, plainRun}
-use Rattle.qbf.specs.Demands.{CardRight}
+use Rattle.qbf.specs.Demands.{AfterSearch, CardRight}
 use Rattle.theory.proofs.Refusals.{refusals}
 use Rattle.state.specs.declared.State.{State}
 use Rattle.state.specs.Reading.{readState}
@@ -27,22 +28,23 @@ formulaOf (some y) = some (y .formula)
 -- "zeroes the card table"; only a card has one
 abbrev pub zeroed : Call → List ℕ
 zeroed (rule ls) = []
-zeroed (query ls) = []
-zeroed (card size) = zeroTable size
+zeroed (query top ls) = []
+zeroed (card top size) = zeroTable size
 zeroed forget = []
 zeroed withdraw = []
-zeroed (keepCard size) = zeroTable size
+zeroed (keepCard top size) = zeroTable size
 
 -- the call c on the state x was refused with n: a is its answer, x′ the state that it left
 pub record Refused (x : State) (c : Call) (n : ℕ) (a : Said) (x′ : State) : Type 0 where
   -- the number is one that the paper has for the call
   pub known : Mem n (refusals c)
   -- "A refusal returns its number, 0 lines, 0 visits and the state as given, and zeroes the card table. .. Only 21 differs: the walk
-  -- runs to its end first, its visits are returned and its store is kept."
+  -- runs to its end first, its visits are returned and its store is kept." So does 34, "with visits equal to the ceiling and a zeroed card".
   pub answer : a ≡ said (some n) 0 0 (a .visits) (zeroed c)
-  pub visits : (n ≡ 21 → ⊥) → a .visits ≡ 0
-  pub state : (n ≡ 21 → ⊥) → x′ ≡ x
-  -- "A refused call leaves declarations and rules as they were": after 21 too
+  pub visits : (AfterSearch n → ⊥) → a .visits ≡ 0
+  pub state : (AfterSearch n → ⊥) → x′ ≡ x
+  pub stopped : n ≡ 34 → ceilingOf c ≡ some (a .visits)
+  -- "A refused call leaves declarations and rules as they were": after 21 and 34 too
   pub formula : formulaOf (readState x′) ≡ formulaOf (readState x)
 
 abbrev pub LeavesIfRefused : State → Call → Said → State → Type 0
@@ -55,6 +57,10 @@ Each P x [] (a ∷ qs) s = ⊥
 Each P x (c ∷ cs) [] s = ⊥
 Each P x (c ∷ cs) (a ∷ qs) s = P x c a (s .0) × Each P (s .0) cs qs (s .2)
 
+-- wish 8: no call makes more visits than its ceiling
+abbrev pub UnderCeiling : State → Call → Said → State → Type 0
+UnderCeiling x c a x′ = (n : ℕ) → ceilingOf c ≡ some n → a .visits ≤ n
+
 -- ---- demand 2: "On every card of an opened book that is not refused, a reading lies on a line exactly when the quantified rules are
 -- true for it. The lines are the topmost ones, each once, in the fixed order, and no reading lies on two."
 -- a card of the formula b, its lines of the verdict p, that is not refused: the answer has the count of the right lines, and the table their
@@ -66,7 +72,7 @@ pub record CardListed (p : Verdict) (b : Formula) (size : ℕ) (a : Said) : Type
   pub bytes : a .table ≡ tableOf (freeVariables (b .prefix)) size them
   pub whole : length (a .table) ≡ size
 
--- one that is refused: with 21, for the right lines are more than the table holds
+-- one that is refused with 21: the right lines are more than the table holds
 pub record CardOver (p : Verdict) (b : Formula) (size n : ℕ) : Type 0 where
   pub number : n ≡ 21
   pub them : List Node
@@ -75,16 +81,16 @@ pub record CardOver (p : Verdict) (b : Formula) (size n : ℕ) : Type 0 where
 
 abbrev pub CardBy : Verdict → Formula → ℕ → Said → Option ℕ → Type 0
 CardBy p b size a none = CardListed p b size a
-CardBy p b size a (some n) = CardOver p b size n
+CardBy p b size a (some n) = CardOver p b size n ⊎ (n ≡ 34)
 
 -- what is said of a call if it is a card, by the verdict of its lines and the size of its table
 abbrev pub IfCard : (Verdict → ℕ → Type 0) → Call → Type 0
 IfCard P (rule ls) = Unit {0}
-IfCard P (query ls) = Unit {0}
-IfCard P (card size) = P true size
+IfCard P (query top ls) = Unit {0}
+IfCard P (card top size) = P true size
 IfCard P forget = Unit {0}
 IfCard P withdraw = Unit {0}
-IfCard P (keepCard size) = P false size
+IfCard P (keepCard top size) = P false size
 
 abbrev pub RightIfCard : Formula → Call → Said → Type 0
 RightIfCard b c a = IfCard (λ p size. CardBy p b size a (a .refusal)) c
@@ -135,21 +141,35 @@ pub record SaidAgrees (a : Said) (p : Answer) : Type 0 where
   pub table : a .table ≡ saidOf p .table
   pub visits : a .visits ≤ p .visits
 
-abbrev pub AllSaid : List Said → List Answer → Type 0
-AllSaid [] [] = Unit {0}
-AllSaid [] (p ∷ ps) = ⊥
-AllSaid (a ∷ qs) [] = ⊥
-AllSaid (a ∷ qs) (p ∷ ps) = SaidAgrees a p × AllSaid qs ps
+-- "only a stopped call's answer is not compared with it, its visits still are": 34 at the ceiling, which is less than the plain search makes
+pub record SaidStopped (c : Call) (a : Said) (p : Answer) : Type 0 where
+  pub answer : a ≡ said (some 34) 0 0 (a .visits) (zeroed c)
+  pub ceiling : ceilingOf c ≡ some (a .visits)
+  pub needed : a .visits < p .visits
 
--- refusal numbers, swap or keep, the count of the lines and every byte of the table are the plain run's, in no more visits; and the
--- visits are exactly the learning search's
+pub record SaidRightly (c : Call) (a : Said) (p : Answer) : Type 0 where
+  pub either : SaidAgrees a p ⊎ SaidStopped c a p
+  -- "A call whose plain walk fits the ceiling is therefore always finished, in any list."
+  pub finished : (n : ℕ) → ceilingOf c ≡ some n → p .visits ≤ n → SaidAgrees a p
+
+abbrev pub AllSaid : List Call → List Said → List Answer → Type 0
+AllSaid [] [] [] = Unit {0}
+AllSaid [] [] (p ∷ ps) = ⊥
+AllSaid [] (a ∷ qs) ps = ⊥
+AllSaid (c ∷ cs) [] ps = ⊥
+AllSaid (c ∷ cs) (a ∷ qs) [] = ⊥
+AllSaid (c ∷ cs) (a ∷ qs) (p ∷ ps) = SaidRightly c a p × AllSaid cs qs ps
+
+-- refusal numbers, swap or keep, the count of the lines and every byte of the table are the plain run's, in no more visits, but for the calls that
+-- stopped; and all answers, with their visits, are exactly the learning search's
 pub record AnswersPlain (b : Formula) (cs : List Call) (qs : List Said) : Type 0 where
-  pub plain : AllSaid qs (plainRun b cs)
+  pub plain : AllSaid cs qs (plainRun b cs)
   pub learning : qs ≡ map saidOf (learningRun (fresh b) cs)
 
--- ---- all three, and what wish 7 promises of both cards, of the calls cs served on a state x of the opened formula b, with the answers qs
+-- ---- all three, the ceilings, and what wish 7 promises of both cards, of the calls cs served on a state x of the opened formula b, with the answers qs
 pub record Demands (b : Formula) (x : State) (cs : List Call) (qs : List Said) (s : Served x cs qs) : Type 0 where
   pub demand-1 : Each LeavesIfRefused x cs qs s
+  pub ceilings : Each UnderCeiling x cs qs s
   pub demand-2 : CardsRight b cs qs
   pub demand-3 : AnswersPlain b cs qs
   pub together : CardsTogether b cs qs

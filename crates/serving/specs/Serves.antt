@@ -6,7 +6,7 @@ use mathlib.Core.List.{List, [], _∷_}
 use mathlib.Core.Option.{Option, none, some}
 use lib.ListN.{length}
 use Rattle.qbf.specs.Calls.{Call, Reply, done, refused, swap, keep, lines, cardRefused, Answer, answer, refusal, State as Read, step}
-use Rattle.qbf.specs.Demands.{refusalOf}
+use Rattle.qbf.specs.Demands.{AfterSearch, refusalOf}
 use Rattle.state.specs.declared.State.{State}
 use Rattle.state.specs.Reading.{readState}
 
@@ -61,8 +61,8 @@ nextOf (some y) c = some (step y c .state)
 pub record Serves (x : State) (c : Call) (a : Said) (x′ : State) : Type 0 where
   pub answered : a ≡ saidOf (outOf (readState x) c)
   pub next : readState x′ ≡ nextOf (readState x) c
-  -- "A refusal returns .. the state as given .. Only 21 differs": every cell of it
-  pub kept : (n : ℕ) → refusalOf (outOf (readState x) c .reply) ≡ some n → (n ≡ 21 → ⊥) → x′ ≡ x
+  -- "A refusal returns .. the state as given .. Only 21 differs", and 34: every cell of it
+  pub kept : (n : ℕ) → refusalOf (outOf (readState x) c .reply) ≡ some n → (AfterSearch n → ⊥) → x′ ≡ x
 
 -- ---- a list of calls, each on the state that the last one returned
 abbrev pub Served : State → List Call → List Said → Type 0

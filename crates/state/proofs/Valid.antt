@@ -13,6 +13,8 @@ use Rattle.qbf.specs.Formula.{Limits, paper, free, Prefix, Clause, quantifiers,
 use Rattle.qbf.specs.Learning.{Constraint}
 use Rattle.qbf.specs.Calls.{wellFormed, formulaOk, prefixOk, numbersOk, freeFirst, clauseOk, clausesOk, constraintOk, storeOk, recordsOk}
 use Rattle.theory.proofs.Basics.{and-left, and-right, and-both, true-eqb}
+use Rattle.theory.proofs.WellFormed.{facts-formula, formula-facts}
+use Rattle.theory.proofs.Widths.{free-fits}
 use Rattle.tables.specs.Views.{quantifierCode, Numbers, Places, Kinds, Table, rowsOf}
 use Rattle.tables.proofs.Laws.{rows-length}
 use Rattle.state.specs.declared.State.{State}
@@ -229,7 +231,14 @@ module _ (x : State) where
           and-both (leb (length R) (paper .clauses)) (all (clauseOk paper D) R) (counted (paper .literals) (paper .clauses) (x .clauses) (x .«clause_sizes») i) (and-right a (all (clauseOk paper D) R) (q .clauses-ok))
 
       formula : formulaOk (stateIn x .formula) ≡ true
-      formula = and-both (prefixOk paper D) (clausesOk paper D R) prefix clauses
+      formula =
+          facts-formula (stateIn x .formula)
+          (record {
+            limits-ok = refl;
+            free-ok = free-fits paper (omega arith) D (and-left (numbersOk paper [] D) (freeFirst (quantifiers D)) prefix);
+            prefix-ok = prefix;
+            clauses-ok = clauses;
+          })
 
       store : storeOk paper D (stateIn x .store) ≡ true
       store =
@@ -248,7 +257,7 @@ module _ (x : State) where
       record {
         numbers-ok = and-both (leb (length D) (paper .numbers)) (numbersOk paper [] D) few (and-left (numbersOk paper [] D) (freeFirst (quantifiers D)) prefix);
         levels-ok = and-both p (freeFirst (quantifiers D)) (f .prefix-fits) (and-right (numbersOk paper [] D) (freeFirst (quantifiers D)) prefix);
-        clauses-ok = and-both a (all (clauseOk paper D) R) (f .clauses-fit) (and-right (leb (length R) (paper .clauses)) (all (clauseOk paper D) R) (and-right (prefixOk paper D) (clausesOk paper D R) formula));
+        clauses-ok = and-both a (all (clauseOk paper D) R) (f .clauses-fit) (and-right (leb (length R) (paper .clauses)) (all (clauseOk paper D) R) (formula-facts (stateIn x .formula) formula .clauses-ok));
         learned-clauses-ok = and-both b (all (constraintOk D false) C₀) (f .learned-clauses-fit) (and-right (leb (length C₀) (paper .constraints) && leb (length C₁) (paper .constraints)) (all (constraintOk D false) C₀) (and-left (leb (length C₀) (paper .constraints) && leb (length C₁) (paper .constraints) && all (constraintOk D false) C₀) (all (constraintOk D true) C₁) store));
         learned-cubes-ok = and-both c (all (constraintOk D true) C₁) (f .learned-cubes-fit) (and-right (leb (length C₀) (paper .constraints) && leb (length C₁) (paper .constraints) && all (constraintOk D false) C₀) (all (constraintOk D true) C₁) store);
         records-ok = sym recorded ∙ and-right (storeOk paper D (storeIn x)) (recordsOk (length R) (storeIn x)) kept;
@@ -264,7 +273,7 @@ module _ (x : State) where
       kept = and-right (formulaOk (stateIn x .formula)) (storeOk paper D (storeIn x) && recordsOk (length R) (storeIn x)) (f .formed)
 
       prefix : prefixOk paper D ≡ true
-      prefix = and-left (prefixOk paper D) (clausesOk paper D R) formula
+      prefix = formula-facts (stateIn x .formula) formula .prefix-ok
 
       store : storeOk paper D (stateIn x .store) ≡ true
       store = and-left (storeOk paper D (storeIn x)) (recordsOk (length R) (storeIn x)) kept

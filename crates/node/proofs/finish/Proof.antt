@@ -66,7 +66,7 @@ returns-2 c =
     let t = c .before .before .before .before .before .before in
     let a = t .args in (
       (
-        rw (c .with-lines .ensures) (record { bounded = t .pre .1; visits = refl; lines = refl }),
+        rw (c .with-lines .ensures) (record { bounded = t .pre .1; budget = refl; lines = refl }),
         t .pre .4,
         grown-none (now (a .learned-links)) (now (a .cube-links)),
       ),

@@ -35,6 +35,7 @@ use Rattle.node.proofs.next_kind.Reads as next-kind-reads
 use Rattle.node.proofs.put_aside.Reads as put-aside-reads
 use Rattle.node.proofs.settle_lines.Reads as settle-lines-reads
 use Rattle.node.proofs.settled.Reads as settled-reads
+use Rattle.node.proofs.stopped.Reads as stopped-reads
 use Rattle.node.proofs.to_off.Reads as to-off-reads
 use Rattle.node.proofs.to_on.Reads as to-on-reads
 use Rattle.node.proofs.with_lines.Reads as with-lines-reads
@@ -53,11 +54,11 @@ use Rattle.search_entry.specs.Entry.{Bounded}
 use Rattle.search_entry.specs.declared.Bounds.{Bounds}
 use Rattle.inner.specs.Inner.{LeafBounded}
 use Rattle.node.specs.declared.Verdict.the-variants.{Yes, No}
-use Rattle.search.proofs.Counts.{off-asked, on-asked, aside-room, falls-side, counts-up, counts-sides, counts-settled, visits-small, newest-small, lines-small, off-lines, on-lines-one, on-lines-small, part-asked, counts-as, result-as}
+use Rattle.search.proofs.Counts.{off-asked, on-asked, aside-room, falls-side, counts-up, counts-sides, counts-settled, counts-stopped, newest-small, lines-small, off-lines, on-lines-one, on-lines-small, part-asked, counts-as, result-as}
 use Rattle.search.proofs.Keeping.{statuses-back, rows-same, kept-up, kept-both, kept-open}
 use Rattle.search.proofs.Returns.{up-result}
 use Rattle.search.proofs.SidesReturns.{sides-result}
-use Rattle.search.proofs.Visiting.{said-no, said-yes, node-shown, leaf-result, open-result, kind-result, end-result, more-places, side-result}
+use Rattle.search.proofs.Visiting.{said-no, said-yes, node-shown, stop-result, leaf-result, open-result, kind-result, end-result, more-places, side-result}
 
 abbrev μ-branch : Measures 11 branch-kinds.ps ℕ
 μ-branch κs a = 5 * (paper .numbers - a .1 .1 .1 .1 .1 .1 .1 .1 .1 .1 .1 .1 .1 .0 .at) + 2
@@ -142,7 +143,7 @@ abbrev sides-claims : ℕ → sides-lts.Claims
 sides-claims t = (to-off-reads.Asked, to-off-reads.Learnt, side-below t, side.Post, goes-up-reads.Asked, goes-up-reads.Learnt, with-lines-reads.Asked, with-lines-reads.Learnt, put-aside-reads.Asked, put-aside-reads.Learnt, lined-reads.Asked, lined-reads.Learnt, line-if-reads.Asked, line-if-reads.Learnt, to-on-reads.Asked, to-on-reads.Learnt, finish-reads.Asked, finish-reads.Learnt, settle-lines-reads.Asked, settle-lines-reads.Learnt)
 
 abbrev visit-claims : ℕ → visit-lts.Claims
-visit-claims t = (conclude-reads.Asked, conclude-reads.Learnt, settled-reads.Asked, settled-reads.Learnt, branch-below t, branch.Post, with-lines-reads.Asked, with-lines-reads.Learnt)
+visit-claims t = (stopped-reads.Asked, stopped-reads.Learnt, conclude-reads.Asked, conclude-reads.Learnt, settled-reads.Asked, settled-reads.Learnt, branch-below t, branch.Post, with-lines-reads.Asked, with-lines-reads.Learnt)
 
 -- ---- branch
 branch-next-kind-requires : (t : ℕ) → branch-lts.Need-next-kind-requires (branch-claims t) (branch-at t) branch.Post
@@ -175,7 +176,7 @@ branch-placed-requires t c κs = search needs
 branch-settled-requires : (t : ℕ) → branch-lts.Need-settled-requires (branch-claims t) (branch-at t) branch.Post
 branch-settled-requires t c κs =
     let start = c .before .before .before .before .before .before .before in
-    visits-small (length (start .args .saved .now)) (start .args .p) (start .pre .1 .room)
+    omega (arith, start .pre .1 .made)
 
 branch-same-length : (t : ℕ) → branch-lts.Need-same-length (branch-claims t) (branch-at t) branch.Post
 branch-same-length t c = search needs
@@ -235,7 +236,7 @@ branch-returns-4 t c =
       },
       record {
         result = λ D s ls R g st task opened.
-            end-result (start .args .p) task (made .result) (next .result) (next .ensures) (empty .result) (ap (λ (b : Bounds). b .len) (empty .ensures)) _ (first .left) (second .left) (third .left) (made .ensures);
+            end-result (start .args .p) task (made .result) (next .result) (next .ensures) (start .pre .1 .made) (empty .result) (ap (λ (b : Bounds). b .len) (empty .ensures)) _ (first .left) (second .left) (third .left) (made .ensures);
       },
     )
 
@@ -385,7 +386,7 @@ side-returns t c = (
 sides-to-off-requires : (t : ℕ) → sides-lts.Need-to-off-requires (sides-claims t) (sides-at t) sides.Post
 sides-to-off-requires t c κs =
     let start = c .before .before .before .before .before .before .before .before .before .before .before .before in
-    (omega (arith, start .pre .1 .1), visits-small (length (start .args .saved .now)) (start .args .p) (start .pre .1 .0 .room))
+    (omega (arith, start .pre .1 .1), omega (arith, start .pre .1 .0 .made))
 
 sides-side-requires : (t : ℕ) → sides-lts.Need-side-requires (sides-claims t) (sides-at t) sides.Post
 sides-side-requires t c κs =
@@ -537,7 +538,7 @@ sides-returns-2 t c =
       record {
         counts =
             counts-sides (start .args .p) (start .pre .1 .1) (to-off .result) (to-off .ensures) (off .result) (off .ensures .0 .0 .counts) (lined .result) (to-on .result) (to-on .ensures) (on .result) (on .ensures .0 .0 .counts) (one .result) (two .result) (lined .ensures .0 .1)
-            (joined .result) (joined .ensures .0 .0) (joined .ensures .0 .2) (after .result) (after .ensures .0 .1) (made .result) (made .ensures);
+            (joined .result) (start .pre .1 .0 .made) (joined .ensures .0 .0) (joined .ensures .0 .2) (after .result) (after .ensures .0 .1) (made .result) (made .ensures);
         kept =
             kept-both (start .args .p) (to-off .result) (to-on .result) _ _ _ _ (to-off .ensures) (to-on .ensures) (off .ensures .0 .0 .kept) (lined .ensures .0 .0) (on .ensures .0 .0 .kept) (after .ensures .0 .0);
         shelves = joined .ensures .0 .1;
@@ -547,16 +548,33 @@ sides-returns-2 t c =
             result-as (sym (made .ensures))
             (sides-result (start .args .kind) (start .args .p) (to-off .result) (to-off .ensures) (off .result) (off .ensures .1) (up .result) (up .ensures) (off .ensures .0 .0 .kept)
             (one .result) (one .ensures) (lined .result) (lined .ensures .0 .1) (lined .ensures .0 .2) (lined .ensures .1)
-            (to-on .result) (to-on .ensures) (on .result) (on .ensures .1) _ (on .ensures .0 .1 .first ∙ aside .ensures .1) (joined .result) (joined .ensures .1) (first .left) (joined .ensures .0 .0 .visits)
+            (to-on .result) (to-on .ensures) (on .result) (on .ensures .1) _ (on .ensures .0 .1 .first ∙ aside .ensures .1) (joined .result) (joined .ensures .1) (first .left) (joined .ensures .0 .0 .budget)
             (on .ensures .0 .0 .kept .statuses-restored) (two .result) (two .ensures) (after .result) (after .ensures .0 .1) (after .ensures .0 .2) (after .ensures .1)
             D s ls R g st κ task opened inside is code);
       },
     )
 
 -- ---- visit
+visit-stopped-requires : (t : ℕ) → visit-lts.Need-stopped-requires (visit-claims t) (visit-at t) visit.Post
+visit-stopped-requires t c κs = search needs
+
+visit-returns : (t : ℕ) → visit-lts.Need-returns (visit-claims t) (visit-at t) visit.Post
+visit-returns t c =
+    let start = c .before .before .before .before .before in
+    let spent = c .before .if1 in
+    let made = c .stopped in (
+      record {
+        counts = counts-stopped (start .args .p) (made .result) (made .ensures);
+        kept = record { statuses-restored = refl; size = refl; rows = rows-same _ _ _ _ };
+        shelves = start .pre .1 .0 .shelves;
+      },
+      record { result = λ D s ls R g st k task entered. stop-result (start .args .p) task (omega (arith, spent .taken)) _ (made .result) (made .ensures) },
+    )
+
 visit-conclude-requires : (t : ℕ) → visit-lts.Need-conclude-requires (visit-claims t) (visit-at t) visit.Post
 visit-conclude-requires t c κs =
-    let start = c .before .before .before .before .before .before .before .before .before .before in
+    let start = c .before .before .before .before .before .before .before .before .before .before .before .before in
+    let over = c .before .before .before .before .before .before .before .before .if1 in
     (start .pre .1 .0 .shelves, start .pre .1 .1, start .pre .1 .0 .room .within, start .pre .1 .0 .room .words)
 
 visit-enum-known-leaf : (t : ℕ) → visit-lts.Need-enum-known-leaf (visit-claims t) (visit-at t) visit.Post
@@ -564,31 +582,35 @@ visit-enum-known-leaf t c = search needs
 
 visit-settled-requires : (t : ℕ) → visit-lts.Need-settled-requires (visit-claims t) (visit-at t) visit.Post
 visit-settled-requires t c κs =
-    let start = c .before .before .before .before .before .before .before .before .before .before .before .before .before .before in
-    visits-small (length (start .args .saved .now)) (start .args .p) (start .pre .1 .0 .room)
+    let start = c .before .before .before .before .before .before .before .before .before .before .before .before .before .before .before .before in
+    let over = c .before .before .before .before .before .before .before .before .before .before .before .before .if1 in
+    omega (arith, over .left)
 
 visit-enum-known-leaf-2 : (t : ℕ) → visit-lts.Need-enum-known-leaf-2 (visit-claims t) (visit-at t) visit.Post
 visit-enum-known-leaf-2 t c = search needs
 
 visit-settled-requires-2 : (t : ℕ) → visit-lts.Need-settled-requires-2 (visit-claims t) (visit-at t) visit.Post
 visit-settled-requires-2 t c κs =
-    let start = c .before .before .before .before .before .before .before .before .before .before .before .before .before .before in
-    visits-small (length (start .args .saved .now)) (start .args .p) (start .pre .1 .0 .room)
+    let start = c .before .before .before .before .before .before .before .before .before .before .before .before .before .before .before .before in
+    let over = c .before .before .before .before .before .before .before .before .before .before .before .before .if1 in
+    omega (arith, over .left)
 
 visit-enum-told : (t : ℕ) → visit-lts.Need-enum-told (visit-claims t) (visit-at t) visit.Post
 visit-enum-told t c = search needs
 
 visit-branch-requires : (t : ℕ) → visit-lts.Need-branch-requires (visit-claims t) (visit-at t) visit.Post
 visit-branch-requires t c κs =
-    let start = c .before .before .before .before .before .before .before .before .before .before .before .before .before .before .before .before .before .before .before .before .before .before .before in
-    (omega (arith, start .pre .0), start .pre .1 .0)
+    let start = c .before .before .before .before .before .before .before .before .before .before .before .before .before .before .before .before .before .before .before .before .before .before .before .before .before in
+    let over = c .before .before .before .before .before .before .before .before .before .before .before .before .before .before .before .before .before .before .before .before .before .if1 in
+    (omega (arith, start .pre .0), record { shelves = start .pre .1 .0 .shelves; room = start .pre .1 .0 .room; made = omega (arith, over .left) })
 
 visit-with-lines-requires : (t : ℕ) → visit-lts.Need-with-lines-requires (visit-claims t) (visit-at t) visit.Post
 visit-with-lines-requires t c κs = search needs
 
-visit-returns : (t : ℕ) → visit-lts.Need-returns (visit-claims t) (visit-at t) visit.Post
-visit-returns t c =
-    let start = c .before .before .before .before .before .before .before .before .before .before .before .before .before .before .before in
+visit-returns-2 : (t : ℕ) → visit-lts.Need-returns-2 (visit-claims t) (visit-at t) visit.Post
+visit-returns-2 t c =
+    let start = c .before .before .before .before .before .before .before .before .before .before .before .before .before .before .before .before .before in
+    let over = c .before .before .before .before .before .before .before .before .before .before .before .before .before .if1 in
     let steps = c .before .before .before .before .conclude in
     let said = c .before .before .leaf in
     let made = c .settled in (
@@ -600,13 +622,14 @@ visit-returns t c =
       record {
         result = λ D s ls R g st k task entered.
             let found = said-no (steps .ensures .1 D R s st k (node-shown (start .args .p) task) entered) (said .given .1) in
-            leaf-result (start .args .p) task No false (found .0) _ (steps .last .1 .1 .1 .1 .1 .1 .1 .1 .0) (found .1) (found .0, refl, found .2) (made .result) (made .ensures);
+            leaf-result (start .args .p) task (omega (arith, over .left)) No false (found .0) _ (steps .last .1 .1 .1 .1 .1 .1 .1 .1 .0) (found .1) (found .0, refl, found .2) (made .result) (made .ensures);
       },
     )
 
-visit-returns-2 : (t : ℕ) → visit-lts.Need-returns-2 (visit-claims t) (visit-at t) visit.Post
-visit-returns-2 t c =
-    let start = c .before .before .before .before .before .before .before .before .before .before .before .before .before .before .before in
+visit-returns-3 : (t : ℕ) → visit-lts.Need-returns-3 (visit-claims t) (visit-at t) visit.Post
+visit-returns-3 t c =
+    let start = c .before .before .before .before .before .before .before .before .before .before .before .before .before .before .before .before .before in
+    let over = c .before .before .before .before .before .before .before .before .before .before .before .before .before .if1 in
     let steps = c .before .before .before .before .conclude in
     let said = c .before .before .leaf2 in
     let made = c .settled2 in (
@@ -618,7 +641,7 @@ visit-returns-2 t c =
       record {
         result = λ D s ls R g st k task entered.
             let found = said-yes (steps .ensures .1 D R s st k (node-shown (start .args .p) task) entered) (said .given .1) in
-            leaf-result (start .args .p) task Yes true (found .0) _ (steps .last .1 .1 .1 .1 .1 .1 .1 .1 .0) (found .1) (found .0, refl, found .2) (made .result) (made .ensures);
+            leaf-result (start .args .p) task (omega (arith, over .left)) Yes true (found .0) _ (steps .last .1 .1 .1 .1 .1 .1 .1 .1 .0) (found .1) (found .0, refl, found .2) (made .result) (made .ensures);
       },
     )
 
@@ -628,9 +651,10 @@ visit-same-length t c = search needs
 visit-same-length-2 : (t : ℕ) → visit-lts.Need-same-length-2 (visit-claims t) (visit-at t) visit.Post
 visit-same-length-2 t c = search needs
 
-visit-returns-3 : (t : ℕ) → visit-lts.Need-returns-3 (visit-claims t) (visit-at t) visit.Post
-visit-returns-3 t c =
-    let start = c .before .before .before .before .before .before .before .before .before .before .before .before .before .before .before .before .before .before .before .before .before .before .before .before .before .before .before .before .before in
+visit-returns-4 : (t : ℕ) → visit-lts.Need-returns-4 (visit-claims t) (visit-at t) visit.Post
+visit-returns-4 t c =
+    let start = c .before .before .before .before .before .before .before .before .before .before .before .before .before .before .before .before .before .before .before .before .before .before .before .before .before .before .before .before .before .before .before in
+    let over = c .before .before .before .before .before .before .before .before .before .before .before .before .before .before .before .before .before .before .before .before .before .before .before .before .before .before .before .if1 in
     let steps = c .before .before .before .before .before .before .before .before .before .before .before .before .before .before .before .before .before .before .conclude in
     let said = c .before .before .before .before .before .before .before .before .before .before .before .before .before .before .before .before .enum-told in
     let followed = c .before .before .before .before .before .branch in
@@ -643,7 +667,7 @@ visit-returns-3 t c =
       record {
         result = λ D s ls R g st k task entered.
             result-as (sym (made .ensures))
-            (open-result (start .args .p) task (followed .result) (steps .ensures .1 D R s st k (node-shown (start .args .p) task) entered) (said .given .1) refl (followed .ensures .1));
+            (open-result (start .args .p) task (omega (arith, over .left)) (followed .result) (steps .ensures .1 D R s st k (node-shown (start .args .p) task) entered) (said .given .1) refl (followed .ensures .1));
       },
     )
 
@@ -731,6 +755,8 @@ pub +branch+exists+forall+free+side+sides+visit-spec : {M : Type 1} → statemen
     λ t. visit-lts.spec (visit-claims t)
     (visit-at t)
     visit.Post
+    (visit-stopped-requires t)
+    (visit-returns t)
     (visit-conclude-requires t)
     (visit-enum-known-leaf t)
     (visit-settled-requires t)
@@ -739,8 +765,8 @@ pub +branch+exists+forall+free+side+sides+visit-spec : {M : Type 1} → statemen
     (visit-enum-told t)
     (visit-branch-requires t)
     (visit-with-lines-requires t)
-    (visit-returns t)
     (visit-returns-2 t)
+    (visit-returns-3 t)
     (visit-same-length t)
     (visit-same-length-2 t)
-    (visit-returns-3 t)
+    (visit-returns-4 t)

@@ -11,11 +11,10 @@ use Rattle.search_entry.proofs.placed.Reads as placed-reads
 use native.Mathlib.Omega.{arith}
 use mathlib.Core.Path.{sym, ap, subst, refl}
 use Prim.Native.Nat.{zero-le}
-use lib.ListN.{length}
 use Rattle.search_entry.specs.Entry.{Bounded}
 use Rattle.search_entry.specs.declared.Bounds.{Bounds}
 use Rattle.node.specs.declared.Verdict.the-variants.{No}
-use Rattle.search.proofs.Counts.{counts-settled, visits-small}
+use Rattle.search.proofs.Counts.{counts-settled}
 use Rattle.search.proofs.Keeping.{rows-same}
 use Rattle.search.proofs.Visiting.{next-result, end-result, more-places}
 
@@ -28,7 +27,7 @@ placed-requires c κs = search needs
 settled-requires : tie.Need-settled-requires
 settled-requires c κs =
     let entry = c .before .before .before .before .before in
-    visits-small (length (entry .args .saved .now)) (entry .args .p) (entry .pre .room)
+    omega (arith, entry .pre .made)
 
 returns : tie.Need-returns
 returns c =
@@ -44,7 +43,7 @@ returns c =
       },
       record {
         result = λ D s ls R g st task opened.
-            end-result (entry .args .p) task (made .result) (next .result) (next .ensures) (empty .result) (ap (λ (b : Bounds). b .len) (empty .ensures)) _
+            end-result (entry .args .p) task (made .result) (next .result) (next .ensures) (entry .pre .made) (empty .result) (ap (λ (b : Bounds). b .len) (empty .ensures)) _
             (λ e. omega (arith, e, past .taken)) (λ e. omega (arith, e, past .taken)) (λ e. omega (arith, e, past .taken)) (made .ensures);
       },
     )
