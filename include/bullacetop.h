@@ -68,6 +68,7 @@ extern "C" {
 #define BULLACETOP_CLAUSE_COUNT 30
 #define BULLACETOP_TEXT_TABLE_TOO_SHORT 31
 #define BULLACETOP_NO_PAGE 36
+#define BULLACETOP_TAG_RANGE 39
 
 /* A printed page: its rows, the bytes of a row, each row's last one being '\n', and all of them. */
 #define BULLACETOP_PAGE_ROWS 24
@@ -359,7 +360,7 @@ struct bullacetop_opened {
     struct bullacetop_state state;
 };
 
-/* Opens a text of n bytes. Refusals 9, then line by line 1, 2, and as the calls. */
+/* Opens a text of n bytes, of edition 1 or 2. Refusals 9, then line by line 1, 2, and as the calls; 39 after 20. */
 struct bullacetop_opened bullacetop_open(const uint8_t *text, size_t n);
 
 /*

@@ -1,6 +1,8 @@
 // Books and call lines as text. A text is written into a lent table of at least as many bytes as `bullacetop_room` says; a shorter one is zeroed
 // and refused with 31.
 use book_writer::Written;
+use edition_opening::Editions;
+use edition_opening::open_editions;
 use opening::Opened;
 use reader::call::TABLE;
 use serve::shown::Shown;
@@ -8,7 +10,7 @@ use session_line::Spoken;
 use state::State;
 ghost use mathlib.Core.Path.{_≡_};
 ghost use Rattle.qbf.specs.Formula.{paper};
-ghost use Rattle.layout.specs.Opening.{openText};
+ghost use Rattle.editions.specs.Opening.{both, openEditions};
 ghost use Rattle.opening.specs.Opened.{OpenedAs};
 ghost use Rattle.qdimacs_form.specs.Opening.{openQdimacs};
 ghost use Rattle.serve.specs.Line.{answerBytes};
@@ -34,9 +36,9 @@ pub extern "C" fn bullacetop_print(text: &[u8], out: &mut [u8]) -> Written
 // A text opened: its state; or the refusal, its line, and a state on which every call is refused with 22.
 #[no_mangle]
 pub extern "C" fn bullacetop_open(text: &[u8]) -> Opened
-    ensures { λ r. ⌜ OpenedAs (openText paper (now (text .entry))) r ⌝ }
+    ensures { λ r. ⌜ OpenedAs (openEditions both paper (now (text .entry))) r ⌝ }
 {
-    opening::open_text(text)
+    open_editions(Editions::Both, text)
 }
 
 // A QDIMACS text opened likewise, to the state that our own text would give.

@@ -1,3 +1,4 @@
 pub mod Lines
 pub mod Opening
 pub mod Converting
+pub mod Program

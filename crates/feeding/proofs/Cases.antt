@@ -8,7 +8,8 @@ use Rattle.qbf.specs.Formula.{paper, placeOf}
 use Rattle.layout.specs.Words.{Bytes, ascii, split, same, digits, number, closed, inside}
 use Rattle.layout.specs.Forms.{items, consed, formFrom, formOf}
 use Rattle.layout.specs.Ceilings.{ceiled}
-use Rattle.layout.specs.Opening.{readLines, openText}
+use Rattle.editions.specs.Lines.{ruleFrom, lineFrom, lineOf as lineSaid}
+use Rattle.editions.specs.Opening.{readLines, readEditions, openEditions}
 use Rattle.layout.specs.Output.{lastDigits, decimal, refusalText, queryText}
 use Rattle.layout.specs.Session.{callFrom, ceiledCall, answerText}
 use Rattle.sessions.specs.Session.{requestFrom, requestOf}
@@ -48,12 +49,12 @@ rows =
     -- a last line that is not ended
     ∷ row ("(book 1)\n(flags 1)\n(end)\n" ∷ "(query 1)" ∷ []) ("" ∷ "" ∷ "(refused 1 4)\n" ∷ [])
     -- a refused book ends the program
-    ∷ row ("(book 2)\n(end)" ∷ "\n(query 1)\n" ∷ "(query 1)\n" ∷ []) ("" ∷ "(refused 2 1)\n" ∷ "" ∷ "" ∷ [])
+    ∷ row ("(book 3)\n(end)" ∷ "\n(query 1)\n" ∷ "(query 1)\n" ∷ []) ("" ∷ "(refused 2 1)\n" ∷ "" ∷ "" ∷ [])
     -- the input ends before the book does; `(end)` without its byte 10 ends no book
     ∷ row ("(book 1)\n(flags 1)\n(end)" ∷ []) ("" ∷ "(refused 1 3)\n" ∷ [])
     ∷ row [] ("(refused 1 1)\n" ∷ [])
     ∷ []
 
 step-rows : allPrinted rows ≡ allExpected rows
-unfolding split same digits number items consed closed inside formFrom formOf readLines openText placeOf lastDigits decimal refusalText queryText callFrom ceiled ceiledCall answerText requestFrom requestOf fed grown
+unfolding split same digits number items consed closed inside formFrom formOf ruleFrom lineFrom lineSaid readLines readEditions openEditions placeOf lastDigits decimal refusalText queryText callFrom ceiled ceiledCall answerText requestFrom requestOf fed grown
 step-rows = refl

@@ -15,7 +15,8 @@ use Rattle.qbf.specs.Runs.{fresh}
 use Rattle.layout.specs.Words.{Bytes, newline, onFirst, split, same, joined}
 use Rattle.layout.specs.Forms.{then}
 use Rattle.layout.specs.Output.{refusalText}
-use Rattle.layout.specs.Opening.{textBytes, Opened, refused, opened, openText}
+use Rattle.layout.specs.Opening.{textBytes, Opened, refused, opened}
+use Rattle.editions.specs.Opening.{both, openEditions}
 use Rattle.layout.specs.Session.{endLine, Parted, onto, parted}
 use Rattle.sessions.specs.Session.{Request, requestOf, Card, turnOf, serveLines, openedSession, sessionProgram}
 use Rattle.feeding.specs.Lines.{Step, after, fed, Serving, atLine, answered, longer, onLineByte, lastLine, lineOf, asLine, linesText}
@@ -92,8 +93,8 @@ module _ (L : Limits) where
       by [] r = absurd (let z : _≡_ {A = ℕ} 0 1 = cc in omega (arith, z))
       by (v ∷ vs) r = refl
 
-  pub open-long : (s : Bytes) → textBytes < length s → openText L s ≡ refused 9 0
-  unfolding openText
+  pub open-long : (s : Bytes) → textBytes < length s → openEditions both L s ≡ refused 9 0
+  unfolding openEditions
   open-long s h = rw (lt-ltb textBytes (length s) h)
 
   -- what comes of an opened book of n lines, and the lines behind it
@@ -105,7 +106,7 @@ module _ (L : Limits) where
   pub record BookFed (text : Bytes) (count : ℕ) (ls : List Bytes) (r : Step Held) : Type 0 where
     pub long : textBytes < length text → r ≡ record { text = refusalText 9 0; held = over }
     pub begun : length text ≤ textBytes → ls ≡ [] → (d : Begun) × (d .text ≡ text) × (r ≡ record { text = []; held = book d })
-    pub ended : length text ≤ textBytes → (l : Bytes) (ms : List Bytes) → ls ≡ l ∷ ms → r ≡ openedThen count (openText L text) ls
+    pub ended : length text ≤ textBytes → (l : Bytes) (ms : List Bytes) → ls ≡ l ∷ ms → r ≡ openedThen count (openEditions both L text) ls
 
   -- nothing more is read behind 9
   over-long : (text : Bytes) (count : ℕ) (ls : List Bytes) (s : Bytes) → textBytes < length text → BookFed text count ls (after (refusalText 9 0) (feed over s))
@@ -121,12 +122,12 @@ module _ (L : Limits) where
   opened-then n (opened b) s = fed-calls (atLine (suc n) (record { state = fresh b; shown = none })) s
 
   -- a line `(end)` was read
-  book-ended : (text : Bytes) (count : ℕ) (s : Bytes) → BookFed text count (split newline s) (after (opening count (openText L text) .text) (feed (opening count (openText L text) .held) s))
+  book-ended : (text : Bytes) (count : ℕ) (s : Bytes) → BookFed text count (split newline s) (after (opening count (openEditions both L text) .text) (feed (opening count (openEditions both L text) .held) s))
   book-ended text count s =
       record {
-        long = λ h. opened-then count (openText L text) s ∙ ap (λ (o : Opened). openedThen count o (split newline s)) (open-long text h);
+        long = λ h. opened-then count (openEditions both L text) s ∙ ap (λ (o : Opened). openedThen count o (split newline s)) (open-long text h);
         begun = λ h e. absurd (none-left (split newline s) (split-some newline s) e);
-        ended = λ h l ms e. opened-then count (openText L text) s;
+        ended = λ h l ms e. opened-then count (openEditions both L text) s;
       }
     where
       none-left : (vs : List Bytes) → (w : Bytes) × (ws : List Bytes) × (vs ≡ w ∷ ws) → vs ≡ [] → ⊥
@@ -185,7 +186,7 @@ module _ (L : Limits) where
       byte = record { text = t ++ (b ∷ []); line = l ++ (b ∷ []); count = n }
 
       ends : Bool → Step Held
-      ends u = cond u (opening (suc n) (openText L (t ++ (newline ∷ [])))) (inBook line)
+      ends u = cond u (opening (suc n) (openEditions both L (t ++ (newline ∷ [])))) (inBook line)
 
       step : Bool → Step Held
       step u = cond u (ends (same l endLine)) (inBook byte)
@@ -255,12 +256,12 @@ module _ (L : Limits) where
       r : Step Held
       r = feed start s
 
-      by : Dec (textBytes < length (p .book)) → (ls : List Bytes) → p .rest ≡ ls → whole r ≡ openedSession p (openText L (p .book))
+      by : Dec (textBytes < length (p .book)) → (ls : List Bytes) → p .rest ≡ ls → whole r ≡ openedSession p (openEditions both L (p .book))
       by (yes h) ls e = ap whole (fed-book s .long h) ∙ append-nil (refusalText 9 0) ∙ sym (ap (openedSession p) (open-long (p .book) h))
       by (no h) [] e =
           let w = fed-book s .begun (omega (arith, h)) e in
-          ap whole (w .2) ∙ ap (λ (t : Bytes). unendedBook (openText L t)) (w .1) ∙ unended-session p (openText L (p .book)) e
-      by (no h) (l ∷ ms) e = ap whole (fed-book s .ended (omega (arith, h)) l ms e) ∙ opened-session p (openText L (p .book))
+          ap whole (w .2) ∙ ap (λ (t : Bytes). unendedBook (openEditions both L t)) (w .1) ∙ unended-session p (openEditions both L (p .book)) e
+      by (no h) (l ∷ ms) e = ap whole (fed-book s .ended (omega (arith, h)) l ms e) ∙ opened-session p (openEditions both L (p .book))
 
   -- Whatever the pieces are in which the input comes, one after another: what is printed at each, and then at the end, is what the session prints.
   pub session-by-pieces : (ps : List Bytes) → whole (fedPieces (onByte L) start ps) ≡ sessionProgram L (joined ps)

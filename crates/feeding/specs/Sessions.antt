@@ -12,7 +12,8 @@ use Rattle.qbf.specs.Runs.{fresh}
 use Rattle.layout.specs.Words.{Bytes, newline, same}
 use Rattle.layout.specs.Forms.{then}
 use Rattle.layout.specs.Output.{refusalText}
-use Rattle.layout.specs.Opening.{textBytes, Opened, refused, opened, openText}
+use Rattle.layout.specs.Opening.{textBytes, Opened, refused, opened}
+use Rattle.editions.specs.Opening.{both, openEditions}
 use Rattle.layout.specs.Session.{endLine}
 use Rattle.sessions.specs.Session.{requestOf, Card, Turn, turnOf}
 use Rattle.feeding.specs.Lines.{Step, Answered, Serving, atLine, onLineByte, lastLine}
@@ -62,7 +63,7 @@ abbrev pub onBookByte : Limits → Begun → ℕ → Step Held
 onBookByte L d b =
     cond (eqb b newline)
     (cond (same (d .line) endLine)
-    (opening (suc (d .count)) (openText L (d .text ++ (newline ∷ []))))
+    (opening (suc (d .count)) (openEditions both L (d .text ++ (newline ∷ []))))
     (inBook (record { text = d .text ++ (newline ∷ []); line = []; count = suc (d .count) })))
     (inBook (record { text = d .text ++ (b ∷ []); line = d .line ++ (b ∷ []); count = d .count }))
 
@@ -78,6 +79,6 @@ onByte L (calls h) b = behind (onLineByte serveCall h b)
 onByte L over b = record { text = []; held = over }
 
 abbrev pub atEnd : Limits → Held → Bytes
-atEnd L (book d) = unendedBook (openText L (d .text))
+atEnd L (book d) = unendedBook (openEditions both L (d .text))
 atEnd L (calls h) = lastLine serveCall h
 atEnd L over = []

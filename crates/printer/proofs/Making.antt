@@ -14,11 +14,13 @@ use Rattle.qbf.specs.Runs.{fresh}
 use Rattle.theory.proofs.WellFormed.{formula-facts}
 use Rattle.tables.specs.Views.{Numbers}
 use Rattle.layout.specs.Words.{Bytes}
-use Rattle.layout.specs.Opening.{Opened, refused, opened, openText}
-use Rattle.layout_laws.proofs.Opened.{opened-formula, fresh-formed}
+use Rattle.layout.specs.Opening.{Opened, refused, opened}
+use Rattle.layout_laws.proofs.Opened.{fresh-formed}
+use Rattle.editions.specs.Opening.{both, openEditions}
+use Rattle.editions_laws.proofs.Formed.{opened-formula}
 use Rattle.opening.specs.Opened.{OpenedAs}
 use Rattle.opening.specs.declared.Opened.{Opened as Answered}
-use Rattle.opening.proofs.Apart.{text-apart}
+use Rattle.edition_opening.proofs.Apart.{edition-apart}
 use Rattle.state.specs.declared.State.{State}
 use Rattle.state.specs.Reading.{readState, valid, wellFormedRead, prefixIn}
 use Rattle.state.specs.Derived.{Quantified}
@@ -81,9 +83,9 @@ pub text-refused : (size : ℕ) (o : Opened) (q : Answered) (t : Bytes) → Open
 text-refused size (refused n k) q t w h z = (w .0, w .1, z)
 text-refused size (opened b) q t w h z = absurd (h (w .0))
 
-pub text-made : (s : Bytes) (size : ℕ) (q : Answered) (r : Made) (t : Bytes) → OpenedAs (openText paper s) q → q .refusal ≡ 0
+pub text-made : (s : Bytes) (size : ℕ) (q : Answered) (r : Made) (t : Bytes) → OpenedAs (openEditions both paper s) q → q .refusal ≡ 0
     → ((b : Formula) → readState (q .state) ≡ some (fresh b) → formulaOk b ≡ true → CardMade size (opened b) r t) → MakesCard s size r t
-text-made s size q r t w h made = by (text-apart s q w h)
+text-made s size q r t w h made = by (edition-apart both s q w h)
   where
-    by : (b : Formula) × (openText paper s ≡ opened b) → CardMade size (openText paper s) r t
-    by (b, i) = subst (λ (o : Opened). CardMade size o r t) (sym i) (made b (subst (λ (o : Opened). OpenedAs o q) i w .2) (opened-formula paper refl s b i))
+    by : (b : Formula) × (openEditions both paper s ≡ opened b) → CardMade size (openEditions both paper s) r t
+    by (b, i) = subst (λ (o : Opened). CardMade size o r t) (sym i) (made b (subst (λ (o : Opened). OpenedAs o q) i w .2) (opened-formula both paper refl s b i))

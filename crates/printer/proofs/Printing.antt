@@ -19,10 +19,13 @@ use Rattle.theory.proofs.Basics.{le-or-lt}
 use Rattle.layout.specs.Words.{Bytes, joined}
 use Rattle.layout.specs.Output.{refusalText}
 use Rattle.layout.specs.Page.{pageBytes, mostLines, pages, pageOf, noCard, noPage, zeroPage, printed}
-use Rattle.layout.specs.Program.{tableBytes, pagesFrom, pagesText, pagesPrinted, openedPages, pagesProgram}
-use Rattle.layout.specs.Opening.{Opened, refused, opened, openText}
-use Rattle.layout_laws.proofs.Opened.{opened-formula}
-use Rattle.opening.proofs.Apart.{NumberedText, text-numbered}
+use Rattle.layout.specs.Program.{tableBytes, pagesFrom, pagesText, pagesPrinted, openedPages}
+use Rattle.editions.specs.Opening.{both, openEditions}
+use Rattle.editions.specs.Program.{pagesProgram}
+use Rattle.layout.specs.Opening.{Opened, refused, opened}
+use Rattle.editions_laws.proofs.Formed.{opened-formula}
+use Rattle.opening.proofs.Apart.{NumberedText}
+use Rattle.edition_opening.proofs.Apart.{edition-numbered}
 use Rattle.serving.specs.Serves.{Said, saidReply, number}
 use Rattle.serve.proofs.FreeLines.{cardLines, lines-within, one-line}
 use Rattle.serve.proofs.CardTexts.{Listed, Refused, formed-cases}
@@ -94,12 +97,12 @@ module _ (size : ℕ) (r : Made) (t : Bytes) (ds : List Bytes) (p : PagesOf r t 
 -- Whatever makes the card of a text and writes each of its pages as their contracts say: all that is printed is what the program `pages` prints.
 pub printed-pages : (s : Bytes) (size : ℕ) (r : Made) (t : Bytes) (ds : List Bytes) → MakesCard s size r t → PagesOf r t ds → printedBy r ds ≡ pagesProgram paper size s
 unfolding pagesProgram
-printed-pages s size r t ds h p = by (openText paper s) refl h (text-numbered paper s)
+printed-pages s size r t ds h p = by (openEditions both paper s) refl h (edition-numbered both paper s)
   where
-    by : (o : Opened) → openText paper s ≡ o → CardMade size o r t → NumberedText o → printedBy r ds ≡ openedPages size o
+    by : (o : Opened) → openEditions both paper s ≡ o → CardMade size o r t → NumberedText o → printedBy r ds ≡ openedPages size o
     by (refused zero k) i w n = absurd n
     by (refused (suc m) k) i w n = told size r t ds p m k (w .0) (w .1)
-    by (opened b) i w n = of-reply size r t ds p b (opened-formula paper refl s b i) w
+    by (opened b) i w n = of-reply size r t ds p b (opened-formula both paper refl s b i) w
 
 -- ---- no page is refused
 few-lines : (n f : ℕ) → n * f ≤ tableBytes → (f ≡ 0 → n ≤ 1) → n ≤ mostLines
@@ -107,7 +110,7 @@ few-lines n zero h one = omega (arith, one refl)
 few-lines n (suc f) h one = let k : n ≤ n * suc f = le-mul-of-pos-right n (omega arith) in omega (arith, h, k)
 
 -- The card that the program makes can be printed whatever its book: its lines are few, stand in the table, and have no byte above 2.
-pub program-printable : (s : Bytes) (b : Formula) → openText paper s ≡ opened b → (ls : List Node) (tb : Bytes) → learningCard true b emptyStore tableBytes .out .reply ≡ lines ls tb
+pub program-printable : (s : Bytes) (b : Formula) → openEditions both paper s ≡ opened b → (ls : List Node) (tb : Bytes) → learningCard true b emptyStore tableBytes .out .reply ≡ lines ls tb
     → noCard tb (length ls) (freeVariables (b .prefix)) ≡ false
 program-printable s b i ls tb e = by (formed-cases true tableBytes (fresh b))
   where
@@ -115,7 +118,7 @@ program-printable s b i ls tb e = by (formed-cases true tableBytes (fresh b))
     a = learningCard true b emptyStore tableBytes .out .reply
 
     formed : wellFormed (fresh b) ≡ true
-    formed = opened-formed b (opened-formula paper refl s b i)
+    formed = opened-formed b (opened-formula both paper refl s b i)
 
     f : ℕ
     f = freeVariables (b .prefix)

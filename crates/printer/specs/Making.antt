@@ -14,6 +14,7 @@ use Rattle.layout.specs.Words.{Bytes, joined}
 use Rattle.layout.specs.Output.{refusalText}
 use Rattle.layout.specs.Page.{pageBytes, pages}
 use Rattle.layout.specs.Opening as opening
+use Rattle.editions.specs.Opening.{both, openEditions}
 use Rattle.page.specs.Lent.{PageLent}
 use Rattle.printer.specs.declared.Made.{Made}
 
@@ -32,7 +33,7 @@ CardMade size (opening.refused n line) r t = (r .refusal ≡ n) × (r .line ≡ 
 CardMade size (opening.opened b) r t = ReplyMade (b .prefix) (learningCard true b emptyStore size .out .reply) r t
 
 abbrev pub MakesCard : Bytes → ℕ → Made → Bytes → Type 0
-MakesCard s size r t = CardMade size (opening.openText paper s) r t
+MakesCard s size r t = CardMade size (openEditions both paper s) r t
 
 -- ---- its pages
 -- each page, from page n on, as it was written into a table of a page's bytes

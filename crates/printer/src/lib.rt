@@ -1,6 +1,8 @@
 // A text's card, made in a lent table for its pages to be printed.
 use answers::lines_of;
 use answers::refusal_of;
+use edition_opening::Editions;
+use edition_opening::open_editions;
 use state::State;
 use writer::answer;
 ghost use mathlib.Core.Path.{_≡_};
@@ -48,7 +50,7 @@ fn card_of(x: State, table: &mut [u8]) -> Made
 pub fn make_card(text: &[u8], table: &mut [u8]) -> Made
     ensures { λ r. ⌜ MakesCard (now (text .entry)) (length (now (table .entry))) r (now (table .exit)) ⌝ }
 {
-    let opened = opening::open_text(text);
+    let opened = open_editions(Editions::Both, text);
     if opened.refusal != opening::NONE {
         cover::clear(table);
         return Made {

@@ -15,10 +15,13 @@ use Rattle.qbf.specs.Runs.{fresh}
 use Rattle.theory.proofs.WellFormed.{formula-facts}
 use Rattle.layout.specs.Words.{Bytes}
 use Rattle.layout.specs.Output.{refusalText}
-use Rattle.layout.specs.Program.{tableBytes, cardPrinted, answerPrinted, openedPrinted, cardProgram}
+use Rattle.layout.specs.Program.{tableBytes, cardPrinted, answerPrinted, openedPrinted}
+use Rattle.editions.specs.Opening.{both, openEditions}
+use Rattle.editions.specs.Program.{cardProgram}
 use Rattle.layout.specs.Session.{answerText}
-use Rattle.layout.specs.Opening.{Opened, refused, opened, openText}
-use Rattle.layout_laws.proofs.Opened.{opened-formula, fresh-formed}
+use Rattle.layout.specs.Opening.{Opened, refused, opened}
+use Rattle.layout_laws.proofs.Opened.{fresh-formed}
+use Rattle.editions_laws.proofs.Formed.{opened-formula}
 use Rattle.state.specs.declared.State.{State}
 use Rattle.state.specs.Reading.{readState}
 use Rattle.serving.specs.Serves.{Said, saidOf, number, outOf, Serves}
@@ -29,17 +32,17 @@ use Rattle.opening.specs.declared.Opened.{Opened as Answered}
 use Rattle.writer.specs.Wrote.{Wrote}
 use Rattle.serve.specs.Line.{prefixRead, lineAnswer}
 use Rattle.answers.proofs.Told.{card-said}
-use Rattle.opening.proofs.Apart.{text-apart}
+use Rattle.edition_opening.proofs.Apart.{edition-apart}
 use Rattle.serve.proofs.Room.{wrote-as}
 use Rattle.serve.proofs.FreeLines.{cardLines}
 use Rattle.serve.proofs.CardTexts.{Listed, Refused, formed-cases, said-by, text-by}
 
 -- ---- what is printed for a text
-module _ (s : Bytes) (q : Answered) (told : OpenedAs (openText paper s) q) {d₀ d : Bytes} {r : ℕ} where
+module _ (s : Bytes) (q : Answered) (told : OpenedAs (openEditions both paper s) q) {d₀ d : Bytes} {r : ℕ} where
   -- a refused text
   pub text-refused : (q .refusal ≡ 0 → ⊥) → Wrote d₀ 0 (refusalText (q .refusal) (q .line)) d r → Wrote d₀ 0 (cardProgram paper tableBytes s) d r
   unfolding cardProgram
-  text-refused h w = wrote-as (by (openText paper s) told) w
+  text-refused h w = wrote-as (by (openEditions both paper s) told) w
     where
       by : (o : Opened) → OpenedAs o q → refusalText (q .refusal) (q .line) ≡ openedPrinted tableBytes o
       by (refused n k) (e, l, x) = λ i. refusalText (e i) (l i)
@@ -49,10 +52,10 @@ module _ (s : Bytes) (q : Answered) (told : OpenedAs (openText paper s) q) {d₀
   pub text-printed : q .refusal ≡ 0 → ((b : Formula) → readState (q .state) ≡ some (fresh b) → formulaOk b ≡ true → Wrote d₀ 0 (answerPrinted (b .prefix) (learningCard true b emptyStore tableBytes .out)) d r)
       → Wrote d₀ 0 (cardProgram paper tableBytes s) d r
   unfolding cardProgram
-  text-printed h w = by (text-apart s q told h)
+  text-printed h w = by (edition-apart both s q told h)
     where
-      by : (b : Formula) × (openText paper s ≡ opened b) → Wrote d₀ 0 (openedPrinted tableBytes (openText paper s)) d r
-      by (b, i) = subst (λ (o : Opened). Wrote d₀ 0 (openedPrinted tableBytes o) d r) (sym i) (w b (subst (λ (o : Opened). OpenedAs o q) i told .2) (opened-formula paper refl s b i))
+      by : (b : Formula) × (openEditions both paper s ≡ opened b) → Wrote d₀ 0 (openedPrinted tableBytes (openEditions both paper s)) d r
+      by (b, i) = subst (λ (o : Opened). Wrote d₀ 0 (openedPrinted tableBytes o) d r) (sym i) (w b (subst (λ (o : Opened). OpenedAs o q) i told .2) (opened-formula both paper refl s b i))
 
 -- ---- the card of a state with an empty store
 module _ (x : State) (size : ℕ) (p : Printed) (k : ℕ) (tb : List ℕ) (x′ : State) (s : Serves x (card size) (cardSaid p k tb) x′) (r : ℕ) (q : r ≡ number (cardSaid p 0 [] .refusal)) (b : Formula) (e : readState x ≡ some (fresh b)) (ok : formulaOk b ≡ true) where

@@ -5,7 +5,8 @@ use lib.ListN.{length, take}
 use Rattle.qbf.specs.Formula.{paper}
 use Rattle.layout.specs.Words.{Bytes}
 use Rattle.layout.specs.Output.{refusalText}
-use Rattle.layout.specs.Program.{tableBytes, cardProgram}
+use Rattle.layout.specs.Program.{tableBytes}
+use Rattle.editions.specs.Program.{cardProgram}
 use Rattle.book_writer.specs.declared.Written.{Written}
 use Rattle.serve.specs.Line.{answerBytes, TooShort}
 

@@ -6,6 +6,8 @@ use answers::refusal_of;
 use book_writer::NONE;
 use book_writer::TEXT_TABLE_TOO_SHORT;
 use book_writer::Written;
+use edition_opening::Editions;
+use edition_opening::open_editions;
 use state::State;
 ghost use mathlib.Core.Path.{_≡_};
 ghost use mathlib.Core.Bool.{true};
@@ -16,7 +18,8 @@ ghost use Rattle.qbf.specs.Formula.{Formula, paper};
 ghost use Rattle.qbf.specs.Learning.{emptyStore};
 ghost use Rattle.qbf.specs.Calls.{formulaOk, learningCard};
 ghost use Rattle.qbf.specs.Runs.{fresh};
-ghost use Rattle.layout.specs.Program.{tableBytes, answerPrinted, cardProgram};
+ghost use Rattle.layout.specs.Program.{tableBytes, answerPrinted};
+ghost use Rattle.editions.specs.Program.{cardProgram};
 ghost use Rattle.state.specs.Reading.{readState};
 ghost use Rattle.writer.specs.Wrote.{Wrote};
 ghost use Rattle.serve.specs.Line.{answerBytes, TooShort};
@@ -82,7 +85,7 @@ fn print_text(text: &[u8], out: &mut [u8]) -> usize
     requires { ⌜ answerBytes ≤ length (now out) ⌝ }
     ensures { λ r. ⌜ Wrote (now (out .entry)) 0 (cardProgram paper tableBytes (now (text .entry))) (now (out .exit)) r ⌝ }
 {
-    let opened = opening::open_text(text);
+    let opened = open_editions(Editions::Both, text);
     if opened.refusal != opening::NONE {
         return refuse(out, opened.refusal, opened.line as u64);
     }

@@ -10,12 +10,13 @@ use Rattle.qbf.specs.Formula.{paper}
 use Rattle.qbf.specs.Runs.{fresh}
 use Rattle.layout.specs.Words.{Bytes}
 use Rattle.layout.specs.Output.{refusalText}
-use Rattle.layout.specs.Opening.{Opened as Text, refused, opened, openText}
+use Rattle.layout.specs.Opening.{Opened as Text, refused, opened}
+use Rattle.editions.specs.Opening.{both, openEditions}
 use Rattle.feeding.specs.Sessions.{unendedBook}
 use Rattle.reader.specs.Books.{lineCount, BookEnd}
 use Rattle.opening.specs.declared.Opened.{Opened}
 use Rattle.opening.specs.Opened.{OpenedAs}
-use Rattle.opening.proofs.Apart.{text-apart}
+use Rattle.edition_opening.proofs.Apart.{edition-apart}
 use Rattle.book_writer.specs.declared.Written.{Written}
 use Rattle.serve.specs.Books.{Prints}
 use Rattle.serve.specs.Shown.{noCard}
@@ -31,25 +32,25 @@ refused-ends {t} {d₀} {d} {v} {r} w o =
     }
 
 module _ (q : Bytes) (o : Opened) {d₀ d : Bytes} {r : Session} where
-  pub close-refused : OpenedAs (openText paper q) o → (o .refusal ≡ 0 → ⊥) → Ends (refusalText (o .refusal) (o .line)) d₀ r d → BookClosed q d₀ r d
-  close-refused told h w = by (openText paper q) told
+  pub close-refused : OpenedAs (openEditions both paper q) o → (o .refusal ≡ 0 → ⊥) → Ends (refusalText (o .refusal) (o .line)) d₀ r d → BookClosed q d₀ r d
+  close-refused told h w = by (openEditions both paper q) told
     where
       by : (x : Text) → OpenedAs x o → Ends (unendedBook x) d₀ r d
       by (refused n k) (e, l, v) = subst (λ (j : ℕ). Ends (refusalText n j) d₀ r d) l (subst (λ (j : ℕ). Ends (refusalText j (o .line)) d₀ r d) e w)
       by (opened b) (e, l, v) = absurd (h e)
 
 module _ (q : Bytes) (end : ℕ) (o : Opened) where
-  pub book-refused : OpenedAs (openText paper (take end q)) o → (o .refusal ≡ 0 → ⊥) → {d₀ d : Bytes} {r : Session} → Ends (refusalText (o .refusal) (o .line)) d₀ r d → BookOpened q end d₀ r d
-  book-refused told h {d₀} {d} {r} w = by (openText paper (take end q)) told
+  pub book-refused : OpenedAs (openEditions both paper (take end q)) o → (o .refusal ≡ 0 → ⊥) → {d₀ d : Bytes} {r : Session} → Ends (refusalText (o .refusal) (o .line)) d₀ r d → BookOpened q end d₀ r d
+  book-refused told h {d₀} {d} {r} w = by (openEditions both paper (take end q)) told
     where
       by : (x : Text) → OpenedAs x o → BookLeft x (lineCount (take end q)) end (length q) d₀ r d
       by (refused n k) (e, l, v) = subst (λ (j : ℕ). Ends (refusalText n j) d₀ r d) l (subst (λ (j : ℕ). Ends (refusalText j (o .line)) d₀ r d) e w)
       by (opened b) (e, l, v) = absurd (h e)
 
-  pub book-opened : (d₀ d : Bytes) → OpenedAs (openText paper (take end q)) o → o .refusal ≡ 0 → {n : ℕ} → n ≡ lineCount (take end q) → {card : Shown} → card ≡ noCard → {m : ℕ} → m ≡ nextNumber n
+  pub book-opened : (d₀ d : Bytes) → OpenedAs (openEditions both paper (take end q)) o → o .refusal ≡ 0 → {n : ℕ} → n ≡ lineCount (take end q) → {card : Shown} → card ≡ noCard → {m : ℕ} → m ≡ nextNumber n
       → BookOpened q end d₀ (record { calling = true; over = false; waits = false; skipping = false; at = end; held = length q; number = m; length = 0; state = o .state; shown = card }) d
   book-opened d₀ d told z {n} i {card} c {m} k =
-      let w = text-apart (take end q) o told z in
+      let w = edition-apart both (take end q) o told z in
       subst (λ (x : Text). BookLeft x (lineCount (take end q)) end (length q) d₀ (record { calling = true; over = false; waits = false; skipping = false; at = end; held = length q; number = m; length = 0; state = o .state; shown = card }) d) (sym (w .1))
       (record {
         calling = record { calling = refl; over = refl; waits = refl; skipping = refl; at = refl; held = refl; number = k ∙ ap nextNumber i };
@@ -58,9 +59,9 @@ module _ (q : Bytes) (end : ℕ) (o : Opened) where
         shown = c;
       })
 
-pub close-opened : (q d₀ d : Bytes) (o : Opened) {r : Session} → OpenedAs (openText paper q) o → o .refusal ≡ 0 → Over 0 r → BookClosed q d₀ r d
+pub close-opened : (q d₀ d : Bytes) (o : Opened) {r : Session} → OpenedAs (openEditions both paper q) o → o .refusal ≡ 0 → Over 0 r → BookClosed q d₀ r d
 close-opened q d₀ d o {r} told z e =
-    let w = text-apart q o told z in
+    let w = edition-apart both q o told z in
     subst (λ (x : Text). Ends (unendedBook x) d₀ r d) (sym (w .1))
     (record { over = subst (λ (k : ℕ). Over k r) (sym (e .printed)) e; printed = λ a. (omega (arith, e .printed), ap (λ (k : ℕ). take k d) (e .printed)) })
 

@@ -17,7 +17,8 @@ use Rattle.qbf.specs.Runs.{fresh}
 use Rattle.layout.specs.Words.{Bytes, newline, split}
 use Rattle.layout.specs.Forms.{then}
 use Rattle.layout.specs.Output.{refusalText}
-use Rattle.layout.specs.Opening.{textBytes, Opened, refused, opened, openText}
+use Rattle.layout.specs.Opening.{textBytes, Opened, refused, opened}
+use Rattle.editions.specs.Opening.{both, openEditions}
 use Rattle.layout.specs.Session.{parted}
 use Rattle.sessions.specs.Session.{Request, requestOf, Turn, turnOf}
 use Rattle.feeding.specs.Lines.{Step, after, fed, Part, begun, overlong, lineOf, Answered, Serving, atLine, unended, asLine}
@@ -127,28 +128,28 @@ module _ (s r : Session) (got : ℕ) (text cards d₀ d : Bytes) (o : Over 0 r) 
 
 -- ---- the book
 -- what opens, whether it is longer than a text may be or not
-opened-fed : (q : Bytes) (e : ℕ) → BookEnd q (suc e) → feed start q ≡ openedThen paper (lineCount (take (suc e) q)) (openText paper (take (suc e) q)) (split newline (drop (suc e) q))
+opened-fed : (q : Bytes) (e : ℕ) → BookEnd q (suc e) → feed start q ≡ openedThen paper (lineCount (take (suc e) q)) (openEditions both paper (take (suc e) q)) (split newline (drop (suc e) q))
 opened-fed q e b = by (decLt textBytes (length (parted (split newline q) .book))) (split-some newline (drop (suc e) q)) ∙ same
   where
     by : Dec (textBytes < length (parted (split newline q) .book)) → (w : Bytes) × (ws : List Bytes) × (split newline (drop (suc e) q) ≡ w ∷ ws)
-        → feed start q ≡ openedThen paper (parted (split newline q) .count) (openText paper (parted (split newline q) .book)) (parted (split newline q) .rest)
+        → feed start q ≡ openedThen paper (parted (split newline q) .count) (openEditions both paper (parted (split newline q) .book)) (parted (split newline q) .rest)
     by (yes h) r = fed-book paper q .long h ∙ ap (λ (o : Opened). openedThen paper (parted (split newline q) .count) o (parted (split newline q) .rest)) (sym (open-long paper (parted (split newline q) .book) h))
     by (no h) r = fed-book paper q .ended (omega (arith, h)) (r .0) (r .1) (sym (b .2) ∙ r .2)
 
-    same : openedThen paper (parted (split newline q) .count) (openText paper (parted (split newline q) .book)) (parted (split newline q) .rest)
-        ≡ openedThen paper (lineCount (take (suc e) q)) (openText paper (take (suc e) q)) (split newline (drop (suc e) q))
-    same = λ i. openedThen paper ((sym (count-book q) ∙ ap lineCount (sym (b .1))) i) (openText paper (sym (b .1) i)) (sym (b .2) i)
+    same : openedThen paper (parted (split newline q) .count) (openEditions both paper (parted (split newline q) .book)) (parted (split newline q) .rest)
+        ≡ openedThen paper (lineCount (take (suc e) q)) (openEditions both paper (take (suc e) q)) (split newline (drop (suc e) q))
+    same = λ i. openedThen paper ((sym (count-book q) ∙ ap lineCount (sym (b .1))) i) (openEditions both paper (sym (b .1) i)) (sym (b .2) i)
 
 -- one that has not ended, and is read no further
-closed-fed : (q : Bytes) → parted (split newline q) .rest ≡ [] → textBytes < length q → feed start q ≡ record { text = unendedBook (openText paper q); held = over }
+closed-fed : (q : Bytes) → parted (split newline q) .rest ≡ [] → textBytes < length q → feed start q ≡ record { text = unendedBook (openEditions both paper q); held = over }
 closed-fed q e h =
     fed-book paper q .long (omega (arith, h, ap length (all-book q e)))
     ∙ ap (λ (o : Opened). record { text = unendedBook o; held = over }) (sym (open-long paper q h))
 
-closed-end : (q : Bytes) → parted (split newline q) .rest ≡ [] → length q ≤ textBytes → atEnd paper (feed start q .held) ≡ unendedBook (openText paper q)
+closed-end : (q : Bytes) → parted (split newline q) .rest ≡ [] → length q ≤ textBytes → atEnd paper (feed start q .held) ≡ unendedBook (openEditions both paper q)
 closed-end q e h =
     let w = fed-book paper q .begun (omega (arith, h, ap length (all-book q e))) e in
-    ap (λ (x : Step Held). atEnd paper (x .held)) (w .2) ∙ ap (λ (t : Bytes). unendedBook (openText paper t)) (w .1 ∙ all-book q e)
+    ap (λ (x : Step Held). atEnd paper (x .held)) (w .2) ∙ ap (λ (t : Bytes). unendedBook (openEditions both paper t)) (w .1 ∙ all-book q e)
 
 module _ (s r : Session) (k : ℕ) (text cards d₀ d : Bytes) (inside : k ≤ length text) (one : s .number ≡ 1) (a : answerBytes ≤ length d₀) where
   abbrev q : Bytes
@@ -170,7 +171,7 @@ module _ (s r : Session) (k : ℕ) (text cards d₀ d : Bytes) (inside : k ≤ l
       same : drop (r .at) (take (r .held + 0) text) ≡ take k text
       same = let g : r .held + 0 ≡ k = omega (arith, w .held, size) in λ i. drop (w .at i) (take (g i) text)
 
-  behind-went : (e : ℕ) → BookEnd q (suc e) → (o : Opened) → openText paper (take (suc e) q) ≡ o → BookLeft o (lineCount (take (suc e) q)) (suc e) (length q) d₀ r d → k ≤ suc textBytes → Went s q text start r text cards d
+  behind-went : (e : ℕ) → BookEnd q (suc e) → (o : Opened) → openEditions both paper (take (suc e) q) ≡ o → BookLeft o (lineCount (take (suc e) q)) (suc e) (length q) d₀ r d → k ≤ suc textBytes → Went s q text start r text cards d
   behind-went e b (refused n line) is w few = went-over s r q text d (w .over) (w .printed a .0) cards start (refusalText n line) (w .printed a .1) (opened-fed q e b ∙ ap (λ (o : Opened). openedThen paper (lineCount (take (suc e) q)) o (split newline (drop (suc e) q))) is)
   behind-went e b (opened f) is w few =
       record {
@@ -211,9 +212,9 @@ module _ (s r : Session) (k : ℕ) (text cards d₀ d : Bytes) (inside : k ≤ l
       shown = λ i. calls (record { number = number i; part = partIn (w .calling .skipping i); left = record { state = fresh f; shown = cardIn (w .shown i) cards } })
 
   book-went : (last : Bool) → (last ≡ true → textBytes < length q) → (last ≡ false → length q ≤ textBytes) → BookTurned q last d₀ r d → k ≤ suc textBytes → Went s q text start r text cards d
-  book-went true full part (zero, b, w) few = went-over s r q text d (w .over) (w .printed a .0) cards start (unendedBook (openText paper q)) (w .printed a .1) (closed-fed q b (full refl))
+  book-went true full part (zero, b, w) few = went-over s r q text d (w .over) (w .printed a .0) cards start (unendedBook (openEditions both paper q)) (w .printed a .1) (closed-fed q b (full refl))
   book-went false full part (zero, b, w) few = waits-went b (part refl) w
-  book-went last full part (suc e, b, w) few = behind-went e b (openText paper (take (suc e) q)) refl w few
+  book-went last full part (suc e, b, w) few = behind-went e b (openEditions both paper (take (suc e) q)) refl w few
 
   book-finished : Quiet start q → BookTurned q true d₀ r d → Finished s q text start r text d
   book-finished h (zero, b, w) = finished-over s r q text d (w .over) (w .printed a .0) start (w .printed a .1 ∙ sym (closed-end q (h .0) (h .1)))

@@ -11,7 +11,8 @@ use Rattle.qbf.specs.Calls.{State as Read}
 use Rattle.qbf.specs.Runs.{fresh}
 use Rattle.layout.specs.Words.{Bytes, newline, split}
 use Rattle.layout.specs.Output.{refusalText}
-use Rattle.layout.specs.Opening.{textBytes, Opened, refused, opened, openText}
+use Rattle.layout.specs.Opening.{textBytes, Opened, refused, opened}
+use Rattle.editions.specs.Opening.{both, openEditions}
 use Rattle.layout.specs.Session.{parted}
 use Rattle.sessions.specs.Session.{requestOf, Turn, turnOf}
 use Rattle.feeding.specs.Lines.{Step, after, fed, Part, begun, overlong, Serving}
@@ -81,10 +82,10 @@ BookLeft (refused k line) n end held d₀ r d = Ends (refusalText k line) d₀ r
 BookLeft (opened b) n end held d₀ r d = Behind (fresh b) n end held r
 
 abbrev pub BookOpened : Bytes → ℕ → Bytes → Session → Bytes → Type 0
-BookOpened q end d₀ r d = BookLeft (openText paper (take end q)) (lineCount (take end q)) end (length q) d₀ r d
+BookOpened q end d₀ r d = BookLeft (openEditions both paper (take end q)) (lineCount (take end q)) end (length q) d₀ r d
 
 abbrev pub BookClosed : Bytes → Bytes → Session → Bytes → Type 0
-BookClosed q d₀ r d = Ends (unendedBook (openText paper q)) d₀ r d
+BookClosed q d₀ r d = Ends (unendedBook (openEditions both paper q)) d₀ r d
 
 abbrev pub BookNotEnded : Bool → Bytes → Bytes → Session → Bytes → Type 0
 BookNotEnded true q d₀ r d = BookClosed q d₀ r d

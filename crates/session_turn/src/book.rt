@@ -2,7 +2,8 @@
 use crate::Session;
 use crate::input::next_number;
 use crate::over;
-use opening::open_text;
+use edition_opening::Editions;
+use edition_opening::open_editions;
 use reader::text::book_end;
 use reader::text::line_count;
 use serve::book::print_refusal;
@@ -24,7 +25,7 @@ fn open_book(text: &[u8], end: usize, answer: &mut [u8]) -> Session
     requires { ⌜ end ≤ length (now text) ⌝ }
     ensures { λ r. ⌜ BookOpened (now (text .entry)) end (now (answer .entry)) r (now (answer .exit)) ⌝ }
 {
-    let opened = open_text(&text[..end]);
+    let opened = open_editions(Editions::Both, &text[..end]);
     if opened.refusal != opening::NONE {
         return refused(opened.refusal, opened.line, answer);
     }
@@ -49,7 +50,7 @@ fn open_book(text: &[u8], end: usize, answer: &mut [u8]) -> Session
 fn close_book(text: &[u8], answer: &mut [u8]) -> Session
     ensures { λ r. ⌜ BookClosed (now (text .entry)) (now (answer .entry)) r (now (answer .exit)) ⌝ }
 {
-    let opened = open_text(text);
+    let opened = open_editions(Editions::Both, text);
     if opened.refusal != opening::NONE {
         return refused(opened.refusal, opened.line, answer);
     }

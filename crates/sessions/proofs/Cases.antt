@@ -8,7 +8,8 @@ use Rattle.qbf.specs.Formula.{paper, placeOf}
 use Rattle.layout.specs.Words.{Bytes, ascii, newline, space, split, same, digits, number, closed, inside}
 use Rattle.layout.specs.Forms.{items, consed, formFrom, formOf}
 use Rattle.layout.specs.Ceilings.{ceilingNumber, ceiled}
-use Rattle.layout.specs.Opening.{readLines, openText}
+use Rattle.editions.specs.Lines.{ruleFrom, lineFrom, lineOf as lineSaid}
+use Rattle.editions.specs.Opening.{readLines, readEditions, openEditions}
 use Rattle.layout.specs.Output.{lastDigits, decimal, literalText, itemsText, lineText, linesText, visitsText, cardText, refusalText, overflowText, queryText}
 use Rattle.layout.specs.Page.{aligned, signOf, pageOf, noPage}
 use Rattle.layout.specs.Session.{callFrom, ceiledCall, answerText, parted}
@@ -63,7 +64,7 @@ rows =
     ∷ []
 
 session-rows : printed rows ≡ expected rows
-unfolding split same digits number items consed closed inside formFrom formOf readLines openText placeOf lastDigits decimal literalText itemsText lineText linesText visitsText cardText refusalText overflowText queryText callFrom ceilingNumber ceiled ceiledCall answerText requestFrom requestOf bodyText lineOf formText formsText bookForms bookText textRoom writeCall serveLines parted sessionProgram
+unfolding split same digits number items consed closed inside formFrom formOf ruleFrom lineFrom lineSaid readLines readEditions openEditions placeOf lastDigits decimal literalText itemsText lineText linesText visitsText cardText refusalText overflowText queryText callFrom ceilingNumber ceiled ceiledCall answerText requestFrom requestOf bodyText lineOf formText formsText bookForms bookText textRoom writeCall serveLines parted sessionProgram
 session-rows = refl
 
 -- ---- pages
@@ -125,5 +126,19 @@ pages =
     ∷ []
 
 session-pages : shown pages ≡ outputs pages
-unfolding split same digits number items consed closed inside formFrom formOf readLines openText placeOf lastDigits decimal literalText itemsText lineText linesText visitsText cardText refusalText overflowText queryText callFrom ceilingNumber ceiled ceiledCall answerText requestFrom requestOf bodyText lineOf formText formsText bookForms bookText textRoom writeCall serveLines parted sessionProgram aligned signOf pageOf noPage
+unfolding split same digits number items consed closed inside formFrom formOf ruleFrom lineFrom lineSaid readLines readEditions openEditions placeOf lastDigits decimal literalText itemsText lineText linesText visitsText cardText refusalText overflowText queryText callFrom ceilingNumber ceiled ceiledCall answerText requestFrom requestOf bodyText lineOf formText formsText bookForms bookText textRoom writeCall serveLines parted sessionProgram aligned signOf pageOf noPage
 session-pages = refl
+
+-- ---- books of either edition
+record Editions : Type 0 where
+  tagged : sessionProgram paper (ascii "(book 2)\n(flags 1 2)\n(exists 3)\n(forall 4)\n(rule (tag 9) 3 4 (no 1))\n(rule (tag 9) (no 3) (no 4) 2)\n(rule (tag 1) 1 2)\n(end)\n(card)\n") ≡ ascii cardA
+  ones : sessionProgram paper (ascii "(book 1)\n(flags 1 2)\n(one 2 1)\n(end)\n(write)\n") ≡ ascii "(book 1)\n(flags 1 2)\n(rule 1 2)\n(rule (no 1) (no 2))\n(end)\n"
+  written : sessionProgram paper (ascii "(book 2)\n(flags 1)\n(rule (tag 7) 1)\n(end)\n(write)\n") ≡ ascii "(book 1)\n(flags 1)\n(rule 1)\n(end)\n"
+  out-of-range : sessionProgram paper (ascii "(book 2)\n(flags 1)\n(rule (tag 0) 1)\n(end)\n(card)\n") ≡ ascii "(refused 39 3)\n"
+  no-edition : sessionProgram paper (ascii "(book 3)\n(flags 1)\n(end)\n(card)\n") ≡ ascii "(refused 2 1)\n"
+  -- a rule of a call line has no tag
+  call-tagged : sessionProgram paper (ascii "(book 2)\n(flags 1)\n(end)\n(rule (tag 1) 1)\n") ≡ ascii "(refused 1 4)\n"
+
+session-editions : Editions
+unfolding split same digits number items consed closed inside formFrom formOf ruleFrom lineFrom lineSaid readLines readEditions openEditions placeOf lastDigits decimal literalText itemsText lineText linesText visitsText cardText refusalText overflowText queryText callFrom ceiled ceiledCall answerText requestFrom requestOf bodyText lineOf formText formsText bookForms bookText textRoom writeCall serveLines parted sessionProgram
+session-editions = record { tagged = refl; ones = refl; written = refl; out-of-range = refl; no-edition = refl; call-tagged = refl }

@@ -1,4 +1,4 @@
--- A session: a book, then one request to a line, and the answer to each. Paper 01, "Text and program"; paper 02, wishes 2 and 11.
+-- A session: a book, then one request to a line, and the answer to each. Paper 01, "Text and program"; paper 02, wishes 2, 11 and 13.
 use Prim.Native.Nat.{ℕ, suc}
 use mathlib.Core.Bool.{false, cond}
 use mathlib.Core.List.{List, [], _∷_, _++_}
@@ -15,6 +15,7 @@ use Rattle.layout.specs.Output.{refusalText}
 use Rattle.layout.specs.Page.{noPage, pageOf}
 use Rattle.layout.specs.Opening as opening
 use Rattle.layout.specs.Session.{sizedBy, ceiledCall, answerText, Parted, parted}
+use Rattle.editions.specs.Opening.{both, openEditions}
 use Rattle.booktext.specs.Books.{Written, written, writeRefused, writeCall, textRoom}
 
 -- ---- the request of a line
@@ -136,4 +137,4 @@ openedSession p (opening.opened b) = serveLines (suc (p .count)) (fresh b) none 
 
 -- the output for a whole input
 unfoldable pub sessionProgram : Limits → Bytes → Bytes
-sessionProgram L s = let p = parted (split newline s) in openedSession p (opening.openText L (p .book))
+sessionProgram L s = let p = parted (split newline s) in openedSession p (openEditions both L (p .book))

@@ -1,3 +1,3 @@
 # 9 comes before the fault on line 1
 awk 'function repeat(text, times,  i) { for (i = 0; i < times; i++) printf "%s", text }
-BEGIN { printf "(book 2)\n"; repeat("x", 65528) }'
+BEGIN { printf "(book 3)\n"; repeat("x", 65528) }'

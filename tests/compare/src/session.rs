@@ -385,7 +385,7 @@ mod tests {
     #[test]
     fn refused_books_end_the_session() {
         assert_eq!(answers(""), "(refused 1 1)\n");
-        assert_eq!(answers("(book 2)\n(end)\n(forget)\n"), "(refused 2 1)\n");
+        assert_eq!(answers("(book 3)\n(end)\n(forget)\n"), "(refused 2 1)\n");
         assert_eq!(answers("(book 1)\n(flags)\n(end)"), "(refused 1 3)\n");
         assert_eq!(answers("(book 1)\n(flags)\n(end)\r\n(forget)\n"), "(refused 1 3)\n");
         assert_eq!(answers("(end)\n(forget)\n"), "(refused 1 1)\n");

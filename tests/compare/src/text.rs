@@ -1,10 +1,9 @@
 //! Opening a text, and the program `card`.
 
 use crate::answer::Said;
-use crate::formula::{Formula, Quantifier, Variable};
-use crate::layout::{self, Form};
+use crate::editions::{self, Reads};
+use crate::formula::Formula;
 use crate::options::Options;
-use crate::refusal;
 use crate::solver::Solver;
 
 /// "9 text over 65,536 bytes".
@@ -19,84 +18,9 @@ pub struct TextRefusal {
     pub line: usize,
 }
 
-/// Which forms may stand on the next line.
-#[derive(Clone, Copy, PartialEq, Eq, PartialOrd)]
-enum Stage {
-    Book,
-    Flags,
-    Groups,
-    Rules,
-    Ended,
-}
-
-/// Opens a text: the formula, or the first fault with its line.
+/// Opens a text of either edition: the formula, or the first fault with its line.
 pub fn open(text: &[u8], options: &Options) -> Result<Formula, TextRefusal> {
-    if text.len() > LARGEST_TEXT {
-        return Err(TextRefusal { number: 9, line: 0 });
-    }
-    let mut formula = Formula::default();
-    let mut stage = Stage::Book;
-    let mut rest = text;
-    let mut line = 0;
-    while stage != Stage::Ended {
-        line += 1;
-        let refused = |number| TextRefusal { number, line };
-        // A missing line and one without its byte 10 are no lines of the layout.
-        let end = rest.iter().position(|&byte| byte == b'\n').ok_or(refused(1))?;
-        let form = layout::read(&rest[..end]).ok_or(refused(1))?;
-        stage = next_stage(stage, &form).ok_or(refused(1))?;
-        take(&mut formula, form, options).map_err(refused)?;
-        rest = &rest[end + 1..];
-    }
-    match rest.is_empty() {
-        true => Ok(formula),
-        false => Err(TextRefusal { number: 1, line: line + 1 }),
-    }
-}
-
-/// "In order: (book 1), (flags ..), any (exists ..) or (forall ..), rules, (end)".
-fn next_stage(stage: Stage, form: &Form) -> Option<Stage> {
-    match (stage, form) {
-        (Stage::Book, Form::Book(_)) => Some(Stage::Flags),
-        (Stage::Flags, Form::Flags(_)) => Some(Stage::Groups),
-        (Stage::Groups, Form::Exists(_) | Form::Forall(_)) => Some(Stage::Groups),
-        (Stage::Groups | Stage::Rules, Form::Rule(_)) => Some(Stage::Rules),
-        (Stage::Groups | Stage::Rules, Form::End) => Some(Stage::Ended),
-        _ => None,
-    }
-}
-
-fn take(formula: &mut Formula, form: Form, options: &Options) -> Result<(), u8> {
-    match form {
-        Form::Book(1) | Form::End => Ok(()),
-        Form::Book(_) => Err(2),
-        Form::Flags(numbers) => declare(formula, &numbers, Quantifier::Free, options),
-        Form::Exists(numbers) => declare(formula, &numbers, Quantifier::Exists, options),
-        Form::Forall(numbers) => declare(formula, &numbers, Quantifier::Forall, options),
-        Form::Rule(literals) => {
-            if let Some(number) = refusal::of_rule(formula, &literals, options) {
-                return Err(number);
-            }
-            let narrow: Vec<i16> = literals.iter().map(|&literal| literal as i16).collect();
-            formula.add(&narrow);
-            Ok(())
-        }
-    }
-}
-
-fn declare(
-    formula: &mut Formula,
-    numbers: &[i32],
-    quantifier: Quantifier,
-    options: &Options,
-) -> Result<(), u8> {
-    for &number in numbers {
-        if let Some(refused) = refusal::of_declaration(formula, number, quantifier, options) {
-            return Err(refused);
-        }
-        formula.prefix.push(Variable { number: number as i16, quantifier });
-    }
-    Ok(())
+    editions::open(text, Reads::Both, options, None)
 }
 
 /// What the program `card` prints for a text.

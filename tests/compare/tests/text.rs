@@ -17,7 +17,7 @@ fn first_lines_and_ends() {
     assert_eq!(refusal(""), Some((1, 1)));
     assert_eq!(refusal("\n"), Some((1, 1)));
     assert_eq!(refusal("(book 2)"), Some((1, 1)));
-    for edition in ["0", "2", "99999"] {
+    for edition in ["0", "3", "99999"] {
         assert_eq!(refusal(&format!("(book {edition})\n")), Some((2, 1)));
     }
     for line in ["(book 01)", "(book)", "(book 1 1)", "(Book 1)", "(book 1) ", "(book (no 1))"] {
@@ -108,7 +108,7 @@ fn rule_256_and_long_texts() {
 #[test]
 fn what_the_program_prints() {
     let printed = |text: &str| card_program(text.as_bytes(), &Options::paper());
-    assert_eq!(printed("(book 2)\n"), "(refused 2 1)\n");
+    assert_eq!(printed("(book 3)\n"), "(refused 2 1)\n");
     assert_eq!(printed(&"x".repeat(LARGEST_TEXT + 1)), "(refused 9 0)\n");
     assert_eq!(printed("(book 1)\n(flags 1 2)\n(end)\n"), "(card 1)\n(line)\n(visits 1)\n(end)\n");
 }

@@ -314,7 +314,7 @@ fn kind(said: Said) -> String {
 #[test]
 fn short_pages() {
     let case = draw(Source::Opened, seed(), 3).case;
-    let books: [&[u8]; 2] = [b"(book 1)\n(flags 1)\n(rule 1)\n(end)\n", b"(book 2)\n"];
+    let books: [&[u8]; 2] = [b"(book 1)\n(flags 1)\n(rule 1)\n(end)\n", b"(book 3)\n"];
     let lines: [&[u8]; 5] = [b"(forget)", b"(rule)", b"(card)", b"(keep-card)", b"x"];
     for length in [0, 1, 15, 1_000, room() - 1, room()] {
         let fits = length == room();

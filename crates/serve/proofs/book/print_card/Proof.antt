@@ -5,7 +5,8 @@ use Rattle.serve.proofs.book.print_card.Tie as tie
 use native.Mathlib.Omega.{arith}
 use denote.Ref.{now}
 use Rattle.qbf.specs.Formula.{paper}
-use Rattle.layout.specs.Program.{tableBytes, cardProgram}
+use Rattle.layout.specs.Program.{tableBytes}
+use Rattle.editions.specs.Program.{cardProgram}
 use Rattle.serve.proofs.Room.{prints, prints-short}
 
 short-requires : tie.Need-short-requires

@@ -3,7 +3,6 @@ use Rattle.session_turn.proofs.book.open_book.Statement.{statement}
 use Rattle.session_turn.proofs.book.open_book.Tie as tie
 use Rattle.session_turn.proofs.book.open_book.Reads as reads
 use Rattle.session_turn.proofs.book.open_book.Lts as lts
-use Rattle.opening.proofs.open_text.Reads as open-text-reads
 use Rattle.reader.proofs.text.line_count.Reads as line-count-reads
 use Rattle.serve.proofs.shown.no_card.Reads as no-card-reads
 use Rattle.session_turn.proofs.book.refused.Reads as refused-reads
@@ -14,11 +13,11 @@ use native.Mathlib.Omega.{arith}
 use denote.Ref.{now}
 use mathlib.Core.Path.{_≡_, refl, sym, ap, subst, _∙_}
 
-slice-aggregate-open-text : tie.Need-slice-aggregate-open-text
-slice-aggregate-open-text c = omega (arith, c .before .before .before .pre, length-take (c .before .before .before .args .end) (now (c .before .before .before .args .text)))
+slice-aggregate-open-editions : tie.Need-slice-aggregate-open-editions
+slice-aggregate-open-editions c = omega (arith, c .before .before .before .pre, length-take (c .before .before .before .args .end) (now (c .before .before .before .args .text)))
 
-open-text-requires : tie.Need-open-text-requires
-open-text-requires c κs = search needs
+open-editions-requires : tie.Need-open-editions-requires
+open-editions-requires c κs = search needs
 
 refused-requires : tie.Need-refused-requires
 refused-requires c κs = search needs
@@ -27,7 +26,7 @@ same-length : tie.Need-same-length
 same-length c = search needs
 
 returns : tie.Need-returns
-returns c = book-refused (now (c .before .before .before .before .before .before .before .before .before .before .args .text)) (c .before .before .before .before .before .before .before .before .before .before .args .end) (c .before .before .before .before .before .before .open-text .result) (c .before .before .before .before .before .before .open-text .ensures) (c .before .before .before .before .if1 .taken) (c .before .before .refused .ensures)
+returns c = book-refused (now (c .before .before .before .before .before .before .before .before .before .before .args .text)) (c .before .before .before .before .before .before .before .before .before .before .args .end) (c .before .before .before .before .before .before .open-editions .result) (c .before .before .before .before .before .before .open-editions .ensures) (c .before .before .before .before .if1 .taken) (c .before .before .refused .ensures)
 
 slice-aggregate-line-count : tie.Need-slice-aggregate-line-count
 slice-aggregate-line-count c = omega (arith, c .before .before .before .before .before .before .before .pre, length-take (c .before .before .before .before .before .before .before .args .end) (now (c .before .before .before .before .before .before .before .args .text)))
@@ -42,14 +41,14 @@ next-number-requires : tie.Need-next-number-requires
 next-number-requires c κs = search needs
 
 returns-2 : tie.Need-returns-2
-returns-2 c = book-opened (now (c .before .before .before .before .before .before .before .before .before .before .before .args .text)) (c .before .before .before .before .before .before .before .before .before .before .before .args .end) (c .before .before .before .before .before .before .before .open-text .result) (now (c .before .before .before .before .before .before .before .before .before .before .before .args .answer)) (now (c .before .before .before .before .before .before .before .before .before .before .before .args .answer)) (c .before .before .before .before .before .before .before .open-text .ensures) (c .before .before .before .before .before .if1 .left) (c .before .before .before .line-count .ensures) (c .before .no-card .ensures) (c .next-number .ensures)
+returns-2 c = book-opened (now (c .before .before .before .before .before .before .before .before .before .before .before .args .text)) (c .before .before .before .before .before .before .before .before .before .before .before .args .end) (c .before .before .before .before .before .before .before .open-editions .result) (now (c .before .before .before .before .before .before .before .before .before .before .before .args .answer)) (now (c .before .before .before .before .before .before .before .before .before .before .before .args .answer)) (c .before .before .before .before .before .before .before .open-editions .ensures) (c .before .before .before .before .before .if1 .left) (c .before .before .before .line-count .ensures) (c .before .no-card .ensures) (c .next-number .ensures)
 
 pub open-book-spec : {M : Type 1} → statement M
 open-book-spec =
     tie.close
     (tie.spec
-    slice-aggregate-open-text
-    open-text-requires
+    slice-aggregate-open-editions
+    open-editions-requires
     refused-requires
     same-length
     returns
