@@ -216,7 +216,7 @@ module _ {ns ls ks : List ℕ} {n kind : ℕ} (w : New ns ls ks n kind) where
       }
 
   pub growing : Growing ls ks count kind
-  growing = record { level = omega (arith, past .low, few); beside = past .code; code = w .may .code }
+  growing = record { beside = past .code; code = w .may .code }
 
   pub count-fits : count < paper .numbers
   count-fits = few

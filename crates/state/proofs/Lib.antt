@@ -5,6 +5,7 @@ pub mod Order
 pub mod Scan
 pub mod Codes
 pub mod Recording
+pub mod Rooms
 pub mod Valid
 pub mod Behind
 pub mod Growth

@@ -48,19 +48,19 @@ module _ {places : List ℕ} {lits : List ℤ} {last i : ℕ} (w : Ordering plac
 -- ---- clauses
 module _ (D : Prefix) (lits : List ℤ) where
   pub clause-empty : length lits < 1 → false ≡ clauseOk paper D lits
-  clause-empty h = sym (ap (λ (x : Bool). x && leb (length lits) 16 && inOrder D 0 lits) (lt-leb 1 (length lits) h))
+  clause-empty h = sym (ap (λ (x : Bool). x && leb (length lits) (paper .literals) && inOrder D 0 lits) (lt-leb 1 (length lits) h))
 
-  pub clause-long : 1 ≤ length lits → 16 < length lits → false ≡ clauseOk paper D lits
+  pub clause-long : 1 ≤ length lits → paper .literals < length lits → false ≡ clauseOk paper D lits
   clause-long h k =
       sym
-      (ap (λ (x : Bool). x && leb (length lits) 16 && inOrder D 0 lits) (le-leb 1 (length lits) h)
-      ∙ ap (λ (x : Bool). x && inOrder D 0 lits) (lt-leb (length lits) 16 k))
+      (ap (λ (x : Bool). x && leb (length lits) (paper .literals) && inOrder D 0 lits) (le-leb 1 (length lits) h)
+      ∙ ap (λ (x : Bool). x && inOrder D 0 lits) (lt-leb (length lits) (paper .literals) k))
 
-  pub clause-order : 1 ≤ length lits → length lits ≤ 16 → inOrder D 0 lits ≡ clauseOk paper D lits
+  pub clause-order : 1 ≤ length lits → length lits ≤ paper .literals → inOrder D 0 lits ≡ clauseOk paper D lits
   clause-order h k =
       sym
-      (ap (λ (x : Bool). x && leb (length lits) 16 && inOrder D 0 lits) (le-leb 1 (length lits) h)
-      ∙ ap (λ (x : Bool). x && inOrder D 0 lits) (le-leb (length lits) 16 k))
+      (ap (λ (x : Bool). x && leb (length lits) (paper .literals) && inOrder D 0 lits) (le-leb 1 (length lits) h)
+      ∙ ap (λ (x : Bool). x && inOrder D 0 lits) (le-leb (length lits) (paper .literals) k))
 
 -- ---- constraints
 module _ (D : Prefix) where

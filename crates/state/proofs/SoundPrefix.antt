@@ -1,7 +1,7 @@
 -- For whoever builds a state: tables by place that show a well-formed prefix, and the state that they give.
 use Prim.Native.Nat.{ℕ}
 use native.Mathlib.Omega.{arith}
-use mathlib.Core.Path.{_≡_, ap, _∙_}
+use mathlib.Core.Path.{_≡_, ap, sym, _∙_}
 use mathlib.Core.Bool.{true}
 use mathlib.Core.List.{List, []}
 use lib.ListN.{length, getD}
@@ -15,7 +15,7 @@ use Rattle.state.specs.Derived.{numbered, Quantified}
 use Rattle.state.specs.Declare.{Sound}
 use Rattle.state.proofs.Fresh.{numbers-numbered}
 use Rattle.state.proofs.Steps.{steps-ok, stepsFrom}
-use Rattle.state.proofs.Valid.{prefix-quantified, clausesPart, learnedClausesPart, learnedCubesPart, recordsPart, parts-valid, valid-parts}
+use Rattle.state.proofs.Valid.{prefix-quantified, clausesPart, learnedClausesPart, learnedCubesPart, recordsPart, parts-valid, valid-parts, valid-paper}
 
 -- ---- tables
 module _ (ns ls ks : List ℕ) where
@@ -45,12 +45,13 @@ module _ (ns ls ks : List ℕ) where
 -- ---- states
 pub valid-sound : (x : State) → valid x ≡ true → Sound (x .numbers) (x .levels) (x .kinds)
 valid-sound x v =
-    let p = valid-parts x v in
+    let p = valid-parts (paper .numbers) (paper .clauses) x (sym (valid-paper x) ∙ v) in
     record { numbers-ok = and-right (leb (length (prefixIn x)) (paper .numbers)) (numbersOk paper [] (prefixIn x)) (p .numbers-ok); levels-ok = p .levels-ok }
 
-pub sound-valid : (x : State) → Sound (x .numbers) (x .levels) (x .kinds) → clausesPart x ≡ true → learnedClausesPart x ≡ true → learnedCubesPart x ≡ true → recordsPart x ≡ true → valid x ≡ true
+pub sound-valid : (x : State) → Sound (x .numbers) (x .levels) (x .kinds) → clausesPart (paper .numbers) (paper .clauses) x ≡ true → learnedClausesPart (paper .numbers) (paper .clauses) x ≡ true → learnedCubesPart (paper .numbers) (paper .clauses) x ≡ true → recordsPart (paper .numbers) (paper .clauses) x ≡ true → valid x ≡ true
 sound-valid x s c l p r =
-    parts-valid x
+    valid-paper x
+    ∙ parts-valid (paper .numbers) (paper .clauses) x (omega arith) (omega arith)
     (record {
       numbers-ok = sound-numbered (x .numbers) (x .levels) (x .kinds) s;
       levels-ok = s .levels-ok;

@@ -9,7 +9,7 @@ use lib.ListN.{length, getD}
 use lib.Dec.{leb, eqb}
 use lib.IntN.{ℤ}
 use borrow.Author.Tests.{le-leb, leb-true}
-use Rattle.qbf.specs.Formula.{Limits, paper, free, Prefix, Clause, quantifiers, quantifierAt, all}
+use Rattle.qbf.specs.Formula.{Limits, paper, highest, mostFree, free, Prefix, Clause, quantifiers, quantifierAt, all}
 use Rattle.qbf.specs.Learning.{Constraint}
 use Rattle.qbf.specs.Calls.{wellFormed, formulaOk, prefixOk, numbersOk, freeFirst, clauseOk, clausesOk, constraintOk, storeOk, recordsOk}
 use Rattle.theory.proofs.Basics.{and-left, and-right, and-both, true-eqb}
@@ -18,8 +18,9 @@ use Rattle.theory.proofs.Widths.{free-fits}
 use Rattle.tables.specs.Views.{quantifierCode, Numbers, Places, Kinds, Table, rowsOf}
 use Rattle.tables.proofs.Laws.{rows-length}
 use Rattle.state.specs.declared.State.{State}
-use Rattle.state.specs.Reading.{listing, atMost, quantifierOf, entryAt, entries, codeAt, variableAt, prefixOf, levelsFit, prefixFits, rowsFit, fits, recordAt, recordsOf, prefixIn, storeIn, stateIn, readState, wellFormedRead, valid}
-use Rattle.state.specs.Derived.{numbered, Placing, Quantified, levelsOk, Shown, clausesFine, constraintsFine, recordsFine, Sized, Checked}
+use Rattle.state.specs.Reading.{listing, atMost, quantifierOf, entryAt, entries, codeAt, variableAt, prefixOf, levelsFit, prefixFits, rowsFit, own, fitsUnder, recordAt, recordsOf, prefixIn, storeUnder, stateUnder, stateIn, readUnder, readState, wellFormedRead, validUnder, valid, roomy}
+use Rattle.state.specs.Derived.{numbered, Placing, Quantified, levelsOk, Shown, clausesFine, constraintsFine, recordsFine, rowsFine, Sized, CheckedUnder, Checked}
+use Rattle.state.proofs.Rooms.{sized-room, room-is}
 use Rattle.state.proofs.Listing.{listing-length, listing-at, listing-map, listing-all, listing-most}
 
 -- ---- the prefix of three tables
@@ -103,55 +104,59 @@ table-rows w most flat sizes t =
     (listing-most w (entryAt sizes) 0 (getD sizes 0 0) (λ j a b. t .short j (omega arith)))
 
 -- ---- a state
--- what a test that passes says of a state
-pub record ValidFacts (x : State) : Type 0 where
-  pub read : readState x ≡ some (stateIn x)
-  pub formed : wellFormed (stateIn x) ≡ true
-  pub prefix-fits : prefixFits paper (x .numbers) (x .levels) (x .kinds) ≡ true
-  pub clauses-fit : rowsFit (paper .literals) (paper .clauses) (x .«clause_sizes») ≡ true
-  pub learned-clauses-fit : rowsFit (paper .numbers) (paper .constraints) (x .«learned_clause_sizes») ≡ true
-  pub learned-cubes-fit : rowsFit (paper .numbers) (paper .constraints) (x .«learned_cube_sizes») ≡ true
+-- what a test that passes says of a state under the limits L
+pub record FactsUnder (L : Limits) (x : State) : Type 0 where
+  pub read : readUnder L x ≡ some (stateUnder L x)
+  pub formed : wellFormed (stateUnder L x) ≡ true
+  pub prefix-fits : prefixFits L (x .numbers) (x .levels) (x .kinds) ≡ true
+  pub clauses-fit : rowsFit (L .literals) (L .clauses) (x .«clause_sizes») ≡ true
+  pub learned-clauses-fit : rowsFit (L .numbers) (L .constraints) (x .«learned_clause_sizes») ≡ true
+  pub learned-cubes-fit : rowsFit (L .numbers) (L .constraints) (x .«learned_cube_sizes») ≡ true
 
-module _ (x : State) where
+-- its limits: n numbers and m clauses
+module _ (n m : ℕ) (x : State) where
+  abbrev L : Limits
+  L = own n m
+
   abbrev p : Bool
-  p = prefixFits paper (x .numbers) (x .levels) (x .kinds)
+  p = prefixFits L (x .numbers) (x .levels) (x .kinds)
 
   abbrev a : Bool
-  a = rowsFit (paper .literals) (paper .clauses) (x .«clause_sizes»)
+  a = rowsFit (paper .literals) m (x .«clause_sizes»)
 
   abbrev b : Bool
-  b = rowsFit (paper .numbers) (paper .constraints) (x .«learned_clause_sizes»)
+  b = rowsFit n (paper .constraints) (x .«learned_clause_sizes»)
 
   abbrev c : Bool
-  c = rowsFit (paper .numbers) (paper .constraints) (x .«learned_cube_sizes»)
+  c = rowsFit n (paper .constraints) (x .«learned_cube_sizes»)
 
-  fits-read : fits x ≡ true → readState x ≡ some (stateIn x)
-  unfolding readState
-  fits-read e = ap (λ (q : Bool). cond q (some (stateIn x)) none) e
+  fits-read : fitsUnder L x ≡ true → readUnder L x ≡ some (stateUnder L x)
+  unfolding readUnder
+  fits-read e = ap (λ (q : Bool). cond q (some (stateUnder L x)) none) e
 
-  valid-is : valid x ≡ (fits x && wellFormed (stateIn x))
-  unfolding valid readState
-  valid-is = by (fits x)
+  valid-is : validUnder L x ≡ (fitsUnder L x && wellFormed (stateUnder L x))
+  unfolding validUnder readUnder
+  valid-is = by (fitsUnder L x)
     where
-      by : (q : Bool) → wellFormedRead (cond q (some (stateIn x)) none) ≡ (q && wellFormed (stateIn x))
+      by : (q : Bool) → wellFormedRead (cond q (some (stateUnder L x)) none) ≡ (q && wellFormed (stateUnder L x))
       by true = refl
       by false = refl
 
-  pub valid-facts : valid x ≡ true → ValidFacts x
-  valid-facts e =
-      let f : fits x ≡ true = and-left (fits x) (wellFormed (stateIn x)) (sym valid-is ∙ e) in
+  pub facts-under : validUnder L x ≡ true → FactsUnder L x
+  facts-under e =
+      let f : fitsUnder L x ≡ true = and-left (fitsUnder L x) (wellFormed (stateUnder L x)) (sym valid-is ∙ e) in
       let g : (p && a && b) ≡ true = and-left (p && a && b) c f in
       record {
         read = fits-read f;
-        formed = and-right (fits x) (wellFormed (stateIn x)) (sym valid-is ∙ e);
+        formed = and-right (fitsUnder L x) (wellFormed (stateUnder L x)) (sym valid-is ∙ e);
         prefix-fits = and-left p a (and-left (p && a) b g);
         clauses-fit = and-right p a (and-left (p && a) b g);
         learned-clauses-fit = and-right (p && a) b g;
         learned-cubes-fit = and-right (p && a && b) c f;
       }
 
-  pub facts-valid : p ≡ true → a ≡ true → b ≡ true → c ≡ true → wellFormed (stateIn x) ≡ true → valid x ≡ true
-  facts-valid h i j k f = valid-is ∙ and-both (fits x) (wellFormed (stateIn x)) (and-both (p && a && b) c (and-both (p && a) b (and-both p a h i) j) k) f
+  pub under-facts : p ≡ true → a ≡ true → b ≡ true → c ≡ true → wellFormed (stateUnder L x) ≡ true → validUnder L x ≡ true
+  under-facts h i j k f = valid-is ∙ and-both (fitsUnder L x) (wellFormed (stateUnder L x)) (and-both (p && a && b) c (and-both (p && a) b (and-both p a h i) j) k) f
 
   -- ---- its check, part by part
   abbrev D : Prefix
@@ -161,39 +166,39 @@ module _ (x : State) where
   R = rowsOf (paper .literals) (x .clauses) (x .«clause_sizes»)
 
   abbrev C₀ : List Constraint
-  C₀ = rowsOf (paper .numbers) (x .«learned_clauses») (x .«learned_clause_sizes»)
+  C₀ = rowsOf n (x .«learned_clauses») (x .«learned_clause_sizes»)
 
   abbrev C₁ : List Constraint
-  C₁ = rowsOf (paper .numbers) (x .«learned_cubes») (x .«learned_cube_sizes»)
+  C₁ = rowsOf n (x .«learned_cubes») (x .«learned_cube_sizes»)
 
   abbrev pub numbersPart : Bool
-  numbersPart = numbered paper D
+  numbersPart = numbered L D
 
   abbrev pub levelsPart : Bool
-  levelsPart = levelsOk paper (x .numbers) (x .levels) (x .kinds)
+  levelsPart = levelsOk L (x .numbers) (x .levels) (x .kinds)
 
   abbrev pub clausesPart : Bool
-  clausesPart = clausesFine D (x .clauses) (x .«clause_sizes»)
+  clausesPart = clausesFine m D (x .clauses) (x .«clause_sizes»)
 
   abbrev pub learnedClausesPart : Bool
-  learnedClausesPart = constraintsFine D false (x .«learned_clauses») (x .«learned_clause_sizes»)
+  learnedClausesPart = constraintsFine n D false (x .«learned_clauses») (x .«learned_clause_sizes»)
 
   abbrev pub learnedCubesPart : Bool
-  learnedCubesPart = constraintsFine D true (x .«learned_cubes») (x .«learned_cube_sizes»)
+  learnedCubesPart = constraintsFine n D true (x .«learned_cubes») (x .«learned_cube_sizes»)
 
   abbrev pub recordsPart : Bool
   recordsPart = recordsFine (x .«clause_sizes») (x .«learned_clause_sizes»)
 
   -- each learned clause has a record
-  recorded : recordsOk (length R) (storeIn x) ≡ recordsPart
+  recorded : recordsOk (length R) (storeUnder L x) ≡ recordsPart
   recorded =
       ap (λ (q : Bool). q && atMost (length R) (recordsOf (x .«learned_clause_sizes»))) (true-eqb (length (recordsOf (x .«learned_clause_sizes»))) (length C₀) same)
-      ∙ ap (λ (n : ℕ). atMost n (recordsOf (x .«learned_clause_sizes»))) (rows-length (paper .literals) (x .clauses) (x .«clause_sizes») (getD (x .«clause_sizes») 0 0))
+      ∙ ap (λ (i : ℕ). atMost i (recordsOf (x .«learned_clause_sizes»))) (rows-length (paper .literals) (x .clauses) (x .«clause_sizes») (getD (x .«clause_sizes») 0 0))
     where
       same : length (recordsOf (x .«learned_clause_sizes»)) ≡ length C₀
       same =
           listing-length (recordAt (x .«learned_clause_sizes»)) 0 (getD (x .«learned_clause_sizes») 0 0)
-          ∙ sym (rows-length (paper .numbers) (x .«learned_clauses») (x .«learned_clause_sizes») (getD (x .«learned_clause_sizes») 0 0))
+          ∙ sym (rows-length n (x .«learned_clauses») (x .«learned_clause_sizes») (getD (x .«learned_clause_sizes») 0 0))
 
   pub record Parts : Type 0 where
     pub numbers-ok : numbersPart ≡ true
@@ -204,11 +209,12 @@ module _ (x : State) where
     pub records-ok : recordsPart ≡ true
 
   counted : (w most : ℕ) (flat : List ℤ) (sizes : List ℕ) → rowsFit w most sizes ≡ true → leb (length (rowsOf w flat sizes)) most ≡ true
-  counted w most flat sizes e = ap (λ (n : ℕ). leb n most) (rows-length w flat sizes (getD sizes 0 0)) ∙ and-left (leb (getD sizes 0 0) most) (atMost w (entries sizes)) e
+  counted w most flat sizes e = ap (λ (i : ℕ). leb i most) (rows-length w flat sizes (getD sizes 0 0)) ∙ and-left (leb (getD sizes 0 0) most) (atMost w (entries sizes)) e
 
-  pub parts-valid : Parts → valid x ≡ true
-  parts-valid q = facts-valid h i j k (and-both (formulaOk (stateIn x .formula)) (storeOk paper D (storeIn x) && recordsOk (length R) (storeIn x)) formula
-      (and-both (storeOk paper D (storeIn x)) (recordsOk (length R) (storeIn x)) store (recorded ∙ q .records-ok)))
+  -- so few numbers that there can be no more free variables than there may be
+  pub parts-valid : n ≤ mostFree → m ≤ highest .clauses → Parts → validUnder L x ≡ true
+  parts-valid few-numbers few-clauses q = under-facts h i j k (and-both (formulaOk (stateUnder L x .formula)) (storeOk L D (storeUnder L x) && recordsOk (length R) (storeUnder L x)) formula
+      (and-both (storeOk L D (storeUnder L x)) (recordsOk (length R) (storeUnder L x)) store (recorded ∙ q .records-ok)))
     where
       h : p ≡ true
       h = and-left p (freeFirst (quantifiers D)) (q .levels-ok)
@@ -222,25 +228,25 @@ module _ (x : State) where
       k : c ≡ true
       k = and-left c (all (constraintOk D true) C₁) (q .learned-cubes-ok)
 
-      prefix : prefixOk paper D ≡ true
+      prefix : prefixOk L D ≡ true
       prefix =
-          and-both (numbersOk paper [] D) (freeFirst (quantifiers D)) (and-right (leb (length D) (paper .numbers)) (numbersOk paper [] D) (q .numbers-ok)) (and-right p (freeFirst (quantifiers D)) (q .levels-ok))
+          and-both (numbersOk L [] D) (freeFirst (quantifiers D)) (and-right (leb (length D) n) (numbersOk L [] D) (q .numbers-ok)) (and-right p (freeFirst (quantifiers D)) (q .levels-ok))
 
-      clauses : clausesOk paper D R ≡ true
+      clauses : clausesOk L D R ≡ true
       clauses =
-          and-both (leb (length R) (paper .clauses)) (all (clauseOk paper D) R) (counted (paper .literals) (paper .clauses) (x .clauses) (x .«clause_sizes») i) (and-right a (all (clauseOk paper D) R) (q .clauses-ok))
+          and-both (leb (length R) m) (all (clauseOk paper D) R) (counted (paper .literals) m (x .clauses) (x .«clause_sizes») i) (and-right a (all (clauseOk paper D) R) (q .clauses-ok))
 
-      formula : formulaOk (stateIn x .formula) ≡ true
+      formula : formulaOk (stateUnder L x .formula) ≡ true
       formula =
-          facts-formula (stateIn x .formula)
+          facts-formula (stateUnder L x .formula)
           (record {
-            limits-ok = refl;
-            free-ok = free-fits paper (omega arith) D (and-left (numbersOk paper [] D) (freeFirst (quantifiers D)) prefix);
+            limits-ok = and-both (leb n (highest .numbers)) (leb m (highest .clauses)) (le-leb n (highest .numbers) (omega (arith, few-numbers))) (le-leb m (highest .clauses) few-clauses);
+            free-ok = free-fits L few-numbers D (and-left (numbersOk L [] D) (freeFirst (quantifiers D)) prefix);
             prefix-ok = prefix;
             clauses-ok = clauses;
           })
 
-      store : storeOk paper D (stateIn x .store) ≡ true
+      store : storeOk L D (stateUnder L x .store) ≡ true
       store =
           and-both
           (leb (length C₀) (paper .constraints) && leb (length C₁) (paper .constraints) && all (constraintOk D false) C₀)
@@ -248,40 +254,40 @@ module _ (x : State) where
           (and-both
           (leb (length C₀) (paper .constraints) && leb (length C₁) (paper .constraints))
           (all (constraintOk D false) C₀)
-          (and-both (leb (length C₀) (paper .constraints)) (leb (length C₁) (paper .constraints)) (counted (paper .numbers) (paper .constraints) (x .«learned_clauses») (x .«learned_clause_sizes») j) (counted (paper .numbers) (paper .constraints) (x .«learned_cubes») (x .«learned_cube_sizes») k))
+          (and-both (leb (length C₀) (paper .constraints)) (leb (length C₁) (paper .constraints)) (counted n (paper .constraints) (x .«learned_clauses») (x .«learned_clause_sizes») j) (counted n (paper .constraints) (x .«learned_cubes») (x .«learned_cube_sizes») k))
           (and-right b (all (constraintOk D false) C₀) (q .learned-clauses-ok)))
           (and-right c (all (constraintOk D true) C₁) (q .learned-cubes-ok))
 
-  pub valid-parts : valid x ≡ true → Parts
+  pub valid-parts : validUnder L x ≡ true → Parts
   valid-parts e =
       record {
-        numbers-ok = and-both (leb (length D) (paper .numbers)) (numbersOk paper [] D) few (and-left (numbersOk paper [] D) (freeFirst (quantifiers D)) prefix);
-        levels-ok = and-both p (freeFirst (quantifiers D)) (f .prefix-fits) (and-right (numbersOk paper [] D) (freeFirst (quantifiers D)) prefix);
-        clauses-ok = and-both a (all (clauseOk paper D) R) (f .clauses-fit) (and-right (leb (length R) (paper .clauses)) (all (clauseOk paper D) R) (formula-facts (stateIn x .formula) formula .clauses-ok));
+        numbers-ok = and-both (leb (length D) n) (numbersOk L [] D) few (and-left (numbersOk L [] D) (freeFirst (quantifiers D)) prefix);
+        levels-ok = and-both p (freeFirst (quantifiers D)) (f .prefix-fits) (and-right (numbersOk L [] D) (freeFirst (quantifiers D)) prefix);
+        clauses-ok = and-both a (all (clauseOk paper D) R) (f .clauses-fit) (and-right (leb (length R) m) (all (clauseOk paper D) R) (formula-facts (stateUnder L x .formula) formula .clauses-ok));
         learned-clauses-ok = and-both b (all (constraintOk D false) C₀) (f .learned-clauses-fit) (and-right (leb (length C₀) (paper .constraints) && leb (length C₁) (paper .constraints)) (all (constraintOk D false) C₀) (and-left (leb (length C₀) (paper .constraints) && leb (length C₁) (paper .constraints) && all (constraintOk D false) C₀) (all (constraintOk D true) C₁) store));
         learned-cubes-ok = and-both c (all (constraintOk D true) C₁) (f .learned-cubes-fit) (and-right (leb (length C₀) (paper .constraints) && leb (length C₁) (paper .constraints) && all (constraintOk D false) C₀) (all (constraintOk D true) C₁) store);
-        records-ok = sym recorded ∙ and-right (storeOk paper D (storeIn x)) (recordsOk (length R) (storeIn x)) kept;
+        records-ok = sym recorded ∙ and-right (storeOk L D (storeUnder L x)) (recordsOk (length R) (storeUnder L x)) kept;
       }
     where
-      f : ValidFacts x
-      f = valid-facts e
+      f : FactsUnder L x
+      f = facts-under e
 
-      formula : formulaOk (stateIn x .formula) ≡ true
-      formula = and-left (formulaOk (stateIn x .formula)) (storeOk paper D (storeIn x) && recordsOk (length R) (storeIn x)) (f .formed)
+      formula : formulaOk (stateUnder L x .formula) ≡ true
+      formula = and-left (formulaOk (stateUnder L x .formula)) (storeOk L D (storeUnder L x) && recordsOk (length R) (storeUnder L x)) (f .formed)
 
-      kept : (storeOk paper D (storeIn x) && recordsOk (length R) (storeIn x)) ≡ true
-      kept = and-right (formulaOk (stateIn x .formula)) (storeOk paper D (storeIn x) && recordsOk (length R) (storeIn x)) (f .formed)
+      kept : (storeOk L D (storeUnder L x) && recordsOk (length R) (storeUnder L x)) ≡ true
+      kept = and-right (formulaOk (stateUnder L x .formula)) (storeOk L D (storeUnder L x) && recordsOk (length R) (storeUnder L x)) (f .formed)
 
-      prefix : prefixOk paper D ≡ true
-      prefix = formula-facts (stateIn x .formula) formula .prefix-ok
+      prefix : prefixOk L D ≡ true
+      prefix = formula-facts (stateUnder L x .formula) formula .prefix-ok
 
-      store : storeOk paper D (stateIn x .store) ≡ true
-      store = and-left (storeOk paper D (storeIn x)) (recordsOk (length R) (storeIn x)) kept
+      store : storeOk L D (stateUnder L x .store) ≡ true
+      store = and-left (storeOk L D (storeUnder L x)) (recordsOk (length R) (storeUnder L x)) kept
 
-      few : leb (length D) (paper .numbers) ≡ true
+      few : leb (length D) n ≡ true
       few =
-          ap (λ (n : ℕ). leb n (paper .numbers)) (prefix-length (x .numbers) (x .levels) (x .kinds))
-          ∙ and-left (leb (getD (x .numbers) 0 0) (paper .numbers)) (levelsFit paper (x .numbers) (x .levels) (x .kinds)) (f .prefix-fits)
+          ap (λ (i : ℕ). leb i n) (prefix-length (x .numbers) (x .levels) (x .kinds))
+          ∙ and-left (leb (getD (x .numbers) 0 0) n) (levelsFit L (x .numbers) (x .levels) (x .kinds)) (f .prefix-fits)
 
   -- two answers that are true of each other are one
   alike : (r q : Bool) → (q ≡ true → r ≡ true) → (r ≡ true → q ≡ true) → r ≡ q
@@ -290,12 +296,12 @@ module _ (x : State) where
   alike false false f g = refl
 
   abbrev rowsPart : Bool
-  rowsPart = clausesPart && learnedClausesPart && learnedCubesPart && recordsPart
+  rowsPart = rowsFine n m D x
 
   -- the answer is the rows' where the prefix is well formed
-  rows-valid : (numbersPart && levelsPart) ≡ true → {r : Bool} → r ≡ rowsPart → r ≡ valid x
-  rows-valid h {r} s =
-      alike r (valid x)
+  rows-valid : n ≤ mostFree → m ≤ highest .clauses → (numbersPart && levelsPart) ≡ true → {r : Bool} → r ≡ rowsPart → r ≡ validUnder L x
+  rows-valid few-numbers few-clauses h {r} s =
+      alike r (validUnder L x)
       (λ v.
       s
       ∙ and-both (clausesPart && learnedClausesPart && learnedCubesPart) recordsPart
@@ -304,7 +310,7 @@ module _ (x : State) where
       (λ e.
       let w : (clausesPart && learnedClausesPart && learnedCubesPart) ≡ true = and-left (clausesPart && learnedClausesPart && learnedCubesPart) recordsPart (sym s ∙ e) in
       let g : (clausesPart && learnedClausesPart) ≡ true = and-left (clausesPart && learnedClausesPart) learnedCubesPart w in
-      parts-valid
+      parts-valid few-numbers few-clauses
       (record {
         numbers-ok = and-left numbersPart levelsPart h;
         levels-ok = and-right numbersPart levelsPart h;
@@ -314,22 +320,66 @@ module _ (x : State) where
         records-ok = and-right (clausesPart && learnedClausesPart && learnedCubesPart) recordsPart (sym s ∙ e);
       }))
 
+  -- where a table is too short
+  pub checked-short : roomy L x ≡ false → (places kinds : List ℕ) → CheckedUnder L x false places kinds
+  checked-short e places kinds =
+      record { said = sym (ap (λ (q : Bool). q && validUnder L x) e); placed = λ q. absurd (false≢true q); kinded = λ q. absurd (false≢true q) }
+
   -- from the prefix that was read: the check stops there, or goes on to the rows
-  module _ {ok : Bool} {places kinds : List ℕ} (shown : Shown paper (x .numbers) (x .levels) (x .kinds) ok places kinds) (sized : Sized x) where
-    valid-read : valid x ≡ true → ok ≡ true
+  module _ {ok : Bool} {places kinds : List ℕ} (room : roomy L x ≡ true) (shown : Shown L (x .numbers) (x .levels) (x .kinds) ok places kinds) where
+    valid-read : validUnder L x ≡ true → ok ≡ true
     valid-read v = shown .said ∙ and-both numbersPart levelsPart (valid-parts v .numbers-ok) (valid-parts v .levels-ok)
 
-    checked : {r : Bool} → r ≡ valid x → Checked x r places kinds
+    checked : {r : Bool} → r ≡ validUnder L x → CheckedUnder L x r places kinds
     checked e =
-        record { said = e; sized = sized; placed = λ v. shown .places-shown (valid-read v); kinded = λ v. shown .kinds-shown (valid-read v) }
+        record {
+          said = e ∙ sym (ap (λ (q : Bool). q && validUnder L x) room);
+          placed = λ v. shown .places-shown (valid-read (sym e ∙ v));
+          kinded = λ v. shown .kinds-shown (valid-read (sym e ∙ v));
+        }
 
-    pub checked-bad : ok ≡ false → Checked x false places kinds
-    checked-bad e = checked (sym e ∙ alike ok (valid x) valid-read (λ t. absurd (false≢true (sym e ∙ t))))
+    pub checked-bad : ok ≡ false → CheckedUnder L x false places kinds
+    checked-bad e = checked (sym e ∙ alike ok (validUnder L x) valid-read (λ t. absurd (false≢true (sym e ∙ t))))
 
-    pub checked-rows : ok ≡ true → {r : Bool} → ((D : Prefix) → Places D places → Kinds D kinds
-        → r ≡ (clausesFine D (x .clauses) (x .«clause_sizes») && constraintsFine D false (x .«learned_clauses») (x .«learned_clause_sizes») && constraintsFine D true (x .«learned_cubes») (x .«learned_cube_sizes») && recordsFine (x .«clause_sizes») (x .«learned_clause_sizes»)))
-        → Checked x r places kinds
-    checked-rows e f = checked (rows-valid (sym (shown .said) ∙ e) (f D (shown .places-shown e) (shown .kinds-shown e)))
+    pub checked-rows : n ≤ mostFree → m ≤ highest .clauses → ok ≡ true → {r : Bool} → ((D : Prefix) → Places D places → Kinds D kinds → r ≡ rowsFine n m D x) → CheckedUnder L x r places kinds
+    checked-rows few-numbers few-clauses e f = checked (rows-valid few-numbers few-clauses (sym (shown .said) ∙ e) (f D (shown .places-shown e) (shown .kinds-shown e)))
+
+-- ---- a state by value, under the paper's limits
+pub record ValidFacts (x : State) : Type 0 where
+  pub read : readState x ≡ some (stateIn x)
+  pub formed : wellFormed (stateIn x) ≡ true
+  pub prefix-fits : prefixFits paper (x .numbers) (x .levels) (x .kinds) ≡ true
+  pub clauses-fit : rowsFit (paper .literals) (paper .clauses) (x .«clause_sizes») ≡ true
+  pub learned-clauses-fit : rowsFit (paper .numbers) (paper .constraints) (x .«learned_clause_sizes») ≡ true
+  pub learned-cubes-fit : rowsFit (paper .numbers) (paper .constraints) (x .«learned_cube_sizes») ≡ true
+
+module _ (x : State) where
+  read-paper : readState x ≡ readUnder paper x
+  unfolding readState readUnder
+  read-paper = refl
+
+  pub valid-paper : valid x ≡ validUnder paper x
+  unfolding valid readState validUnder readUnder
+  valid-paper = refl
+
+  pub valid-facts : valid x ≡ true → ValidFacts x
+  valid-facts e =
+      let f = facts-under (paper .numbers) (paper .clauses) x (sym valid-paper ∙ e) in
+      record {
+        read = read-paper ∙ f .read;
+        formed = f .formed;
+        prefix-fits = f .prefix-fits;
+        clauses-fit = f .clauses-fit;
+        learned-clauses-fit = f .learned-clauses-fit;
+        learned-cubes-fit = f .learned-cubes-fit;
+      }
+
+  pub checked-paper : Sized x → {ok : Bool} {places kinds : List ℕ} → CheckedUnder paper x ok places kinds → Checked x ok places kinds
+  checked-paper s {ok} k =
+      record { said = said; sized = s; placed = λ v. k .placed (said ∙ v); kinded = λ v. k .kinded (said ∙ v) }
+    where
+      said : ok ≡ valid x
+      said = k .said ∙ ap (λ (q : Bool). q && validUnder paper x) (room-is paper x (sized-room s)) ∙ sym valid-paper
 
 -- ---- what the tables of a valid state show
 pub record ValidTables (x : State) : Type 0 where
@@ -348,7 +398,7 @@ module _ (x : State) (v : valid x ≡ true) where
       }
 
   pub valid-numbered : numbered paper (prefixIn x) ≡ true
-  valid-numbered = valid-parts x v .numbers-ok
+  valid-numbered = valid-parts (paper .numbers) (paper .clauses) x (sym (valid-paper x) ∙ v) .numbers-ok
 
   pub valid-numbers : Numbers (prefixIn x) (x .numbers)
   valid-numbers = prefix-numbers (x .numbers) (x .levels) (x .kinds)

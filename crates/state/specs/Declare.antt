@@ -37,7 +37,6 @@ abbrev pub nextLevel : List ℕ → List ℕ → ℕ → ℕ → ℕ
 nextLevel ls ks p kind = levelBeside (levelFor ls p) (quantifierOf (codeFor ls ks p)) (quantifierOf kind)
 
 pub record Growing (ls ks : List ℕ) (p kind : ℕ) : Type 0 where
-  pub level : levelFor ls p ≤ paper .numbers
   pub beside : codeFor ls ks p ≤ quantifierCode forall
   pub code : kind ≤ quantifierCode forall
 

@@ -1,7 +1,7 @@
 -- What the tables of a state say of its prefix, and what is ensured of the tables that are derived from them.
-use Prim.Native.Nat.{ℕ, zero, suc, _+_, _*_, _<_}
+use Prim.Native.Nat.{ℕ, zero, suc, _+_, _*_, _≤_, _<_}
 use mathlib.Core.Path.{_≡_}
-use mathlib.Core.Bool.{Bool, true, not, _&&_}
+use mathlib.Core.Bool.{Bool, true, false, not, _&&_}
 use mathlib.Core.List.{List, []}
 use lib.ListN.{length, getD}
 use lib.Dec.{leb, eqb}
@@ -10,7 +10,7 @@ use Rattle.qbf.specs.Formula.{Limits, paper, Quantifier, free, exists, forall, 
 use Rattle.qbf.specs.Calls.{numbersOk, freeFirst, clauseOk, constraintOk}
 use Rattle.tables.specs.Views.{quantifierCode, Numbers, Places, Kinds, rowsOf}
 use Rattle.state.specs.declared.State.{State}
-use Rattle.state.specs.Reading.{atMost, quantifierOf, codeAt, prefixOf, prefixFits, rowsFit, recordsOf, prefixIn, valid}
+use Rattle.state.specs.Reading.{atMost, quantifierOf, codeAt, prefixOf, prefixFits, rowsFit, recordsOf, prefixIn, valid, accepted}
 
 -- a table of n cells, each of them 0
 pub record Cleared (n : ℕ) (t : List ℕ) : Type 0 where
@@ -58,12 +58,12 @@ pub record Shown (L : Limits) (ns ls ks : List ℕ) (ok : Bool) (places kinds : 
   pub places-shown : ok ≡ true → Places (prefixOf ns ls ks) places
   pub kinds-shown : ok ≡ true → Kinds (prefixOf ns ls ks) kinds
 
--- flat tables: rows within their room, each of them well formed
-abbrev pub clausesFine : Prefix → List ℤ → List ℕ → Bool
-clausesFine D flat sizes = rowsFit (paper .literals) (paper .clauses) sizes && all (clauseOk paper D) (rowsOf (paper .literals) flat sizes)
+-- flat tables: rows within their room, each of them well formed; clauses of which there may be `most`, and learned constraints in rows of w cells
+abbrev pub clausesFine : ℕ → Prefix → List ℤ → List ℕ → Bool
+clausesFine most D flat sizes = rowsFit (paper .literals) most sizes && all (clauseOk paper D) (rowsOf (paper .literals) flat sizes)
 
-abbrev pub constraintsFine : Prefix → Bool → List ℤ → List ℕ → Bool
-constraintsFine D cube flat sizes = rowsFit (paper .numbers) (paper .constraints) sizes && all (constraintOk D cube) (rowsOf (paper .numbers) flat sizes)
+abbrev pub constraintsFine : ℕ → Prefix → Bool → List ℤ → List ℕ → Bool
+constraintsFine w D cube flat sizes = rowsFit w (paper .constraints) sizes && all (constraintOk D cube) (rowsOf w flat sizes)
 
 -- no record is above the count of clauses
 abbrev pub recordsFine : List ℕ → List ℕ → Bool
@@ -80,6 +80,32 @@ pub record Sized (x : State) : Type 0 where
   pub learned-clause-sizes-room : length (x .«learned_clause_sizes») ≡ suc (paper .constraints) + paper .constraints
   pub learned-cubes-room : length (x .«learned_cubes») ≡ paper .constraints * paper .numbers
   pub learned-cube-sizes-room : length (x .«learned_cube_sizes») ≡ suc (paper .constraints)
+
+-- lent tables that have room for what the limits allow
+pub record Roomy (L : Limits) (x : State) : Type 0 where
+  pub numbers-room : suc (L .numbers) ≤ length (x .numbers)
+  pub levels-room : suc (L .numbers) ≤ length (x .levels)
+  pub kinds-room : suc (L .numbers) ≤ length (x .kinds)
+  pub clauses-room : L .clauses * L .literals ≤ length (x .clauses)
+  pub clause-sizes-room : suc (L .clauses) ≤ length (x .«clause_sizes»)
+  pub learned-clauses-room : L .constraints * L .numbers ≤ length (x .«learned_clauses»)
+  pub learned-clause-sizes-room : suc (L .constraints) + L .constraints ≤ length (x .«learned_clause_sizes»)
+  pub learned-cubes-room : L .constraints * L .numbers ≤ length (x .«learned_cubes»)
+  pub learned-cube-sizes-room : suc (L .constraints) ≤ length (x .«learned_cube_sizes»)
+
+-- the rows of a state with room for them: of clauses, of learned constraints, and the records
+abbrev pub rowsFine : ℕ → ℕ → Prefix → State → Bool
+rowsFine n m D x =
+    clausesFine m D (x .clauses) (x .«clause_sizes»)
+    && constraintsFine n D false (x .«learned_clauses») (x .«learned_clause_sizes»)
+    && constraintsFine n D true (x .«learned_cubes») (x .«learned_cube_sizes»)
+    && recordsFine (x .«clause_sizes») (x .«learned_clause_sizes»)
+
+-- what the check of lent tables says: whether they are accepted, and the tables by number that show their prefix where they are
+pub record CheckedUnder (L : Limits) (x : State) (ok : Bool) (places kinds : List ℕ) : Type 0 where
+  pub said : ok ≡ accepted L x
+  pub placed : ok ≡ true → Places (prefixIn x) places
+  pub kinded : ok ≡ true → Kinds (prefixIn x) kinds
 
 -- what the check of a state says: whether it is valid, and the tables by number that show its prefix where it is
 pub record Checked (x : State) (ok : Bool) (places kinds : List ℕ) : Type 0 where

@@ -17,14 +17,20 @@ pub fn count<'a>(table: &'a [u16]) -> usize
 }
 
 // What follows i others: cell i + 1.
-pub fn entry<'a>(table: &'a [u16], i: usize) -> usize
+pub fn cell_after<'a>(table: &'a [u16], i: usize) -> u16
     ensures { λ r. ⌜ r ≡ entryAt (now (table .entry)) i ⌝ }
 {
     if i < table.len() {
-        cell(table, i + 1) as usize
+        cell(table, i + 1)
     } else {
         0
     }
+}
+
+pub fn entry<'a>(table: &'a [u16], i: usize) -> usize
+    ensures { λ r. ⌜ r ≡ entryAt (now (table .entry)) i ⌝ }
+{
+    cell_after(table, i) as usize
 }
 
 // The record of learned clause i, which stands behind the sizes.

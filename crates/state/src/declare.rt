@@ -14,14 +14,14 @@ pub const NOT_A_NUMBER: u16 = 3;
 pub const DECLARED_TWICE: u16 = 4;
 
 // 0 where there is no place.
-fn level_at<'a>(levels: &'a [u16], place: Place) -> Level
-    ensures { λ r. ⌜ r .0 ≡ levelFor (now (levels .entry)) (place .0) ⌝ }
+fn level_at<'a>(levels: &'a [u16], place: Place) -> u16
+    ensures { λ r. ⌜ r ≡ levelFor (now (levels .entry)) (place .0) ⌝ }
 {
     let p = place.0;
     if p == 0 {
-        return Level(0);
+        return 0;
     }
-    Level(crate::cells::cell(levels, p) as usize)
+    crate::cells::cell(levels, p)
 }
 
 // The level that a quantifier gives after the places that are declared.

@@ -2,36 +2,36 @@
 // that its quantifiers give, and its free variables come first.
 ghost use mathlib.Core.Path.{_≡_};
 ghost use Prim.Native.Nat.{_≤_};
-ghost use Rattle.qbf.specs.Formula.{Limits, paper, forall, levelBeside};
+ghost use Rattle.qbf.specs.Formula.{Limits, forall, levelBeside};
 ghost use Rattle.tables.specs.Views.{quantifierCode};
 ghost use Rattle.state.specs.Reading.{quantifierOf};
 ghost use Rattle.state.specs.Derived.{stepOk, levelsOk};
 use literal::Level;
 
 // The level of a place, next to one of the level and the quantifier given first.
-pub fn level_beside(level: Level, beside: u16, kind: u16) -> Level
-    requires { ⌜ (level .0 ≤ paper .numbers) × (beside ≤ quantifierCode forall) × (kind ≤ quantifierCode forall) ⌝ }
-    ensures { λ r. ⌜ r .0 ≡ levelBeside (level .0) (quantifierOf beside) (quantifierOf kind) ⌝ }
+pub fn level_beside(level: u16, beside: u16, kind: u16) -> Level
+    requires { ⌜ (beside ≤ quantifierCode forall) × (kind ≤ quantifierCode forall) ⌝ }
+    ensures { λ r. ⌜ r .0 ≡ levelBeside level (quantifierOf beside) (quantifierOf kind) ⌝ }
 {
     if kind == tables::FREE {
         return Level(0);
     }
     if kind == beside {
-        level
+        Level(level as usize)
     } else {
-        Level(level.0 + 1)
+        Level(level as usize + 1)
     }
 }
 
-fn step_ok(level: Level, beside: u16, next: Level, kind: u16) -> bool
-    requires { ⌜ (level .0 ≤ paper .numbers) × (beside ≤ quantifierCode forall) ⌝ }
-    ensures { λ r. ⌜ r ≡ stepOk (level .0) beside (next .0) kind ⌝ }
+fn step_ok(level: u16, beside: u16, next: u16, kind: u16) -> bool
+    requires { ⌜ beside ≤ quantifierCode forall ⌝ }
+    ensures { λ r. ⌜ r ≡ stepOk level beside next kind ⌝ }
 {
     if kind > tables::FORALL {
         return false;
     }
     let given = level_beside(level, beside, kind);
-    if given.0 != next.0 {
+    if given.0 != next as usize {
         return false;
     }
     if beside == tables::FREE {
@@ -41,7 +41,6 @@ fn step_ok(level: Level, beside: u16, next: Level, kind: u16) -> bool
 }
 
 pub fn levels_ok<'a>(numbers: &'a [u16], levels: &'a [u16], kinds: &'a [u16], limit: usize) -> bool
-    requires { ⌜ limit ≤ paper .numbers ⌝ }
     ensures { λ r. ⌜
         ((L : Limits) →
         L .numbers ≡ limit →
@@ -52,16 +51,16 @@ pub fn levels_ok<'a>(numbers: &'a [u16], levels: &'a [u16], kinds: &'a [u16], li
     if count > limit {
         return false;
     }
-    let mut level: usize = 0;
+    let mut level: u16 = 0;
     let mut beside = tables::FREE;
     let mut i: usize = 0;
     while i < count {
-        let next = crate::cells::entry(levels, i);
-        if next > limit {
+        let next = crate::cells::cell_after(levels, i);
+        if next as usize > limit {
             return false;
         }
-        let kind = crate::cells::cell(kinds, next);
-        if !step_ok(Level(level), beside, Level(next), kind) {
+        let kind = crate::cells::cell(kinds, next as usize);
+        if !step_ok(level, beside, next, kind) {
             return false;
         }
         level = next;

@@ -9,9 +9,11 @@ pub mod cells;
 pub mod declare;
 pub mod kinds;
 mod lengths;
+pub mod lent;
 mod levels;
 pub mod numbers;
 pub mod prefix;
+mod room;
 mod rows;
 
 #[repr(C)]
@@ -112,30 +114,20 @@ pub fn check_tables<'a>(
     );
     let mut places = [0u16; tables::BY_NUMBER];
     let mut by_number = [0u16; tables::BY_NUMBER];
-    let fits = prefix::read_prefix(
+    let ok = lent::check(
         numbers,
         levels,
         kinds,
-        tables::NUMBERS,
-        &mut places,
-        &mut by_number,
-    );
-    if !fits {
-        return prefix::Tables {
-            ok: false,
-            places: places,
-            kinds: by_number,
-        };
-    }
-    let ok = rows::all_ok(
-        &places,
-        &by_number,
         clauses,
         clause_sizes,
         learned_clauses,
         learned_clause_sizes,
         learned_cubes,
         learned_cube_sizes,
+        tables::NUMBERS,
+        tables::CLAUSES,
+        &mut places,
+        &mut by_number,
     );
     prefix::Tables {
         ok: ok,

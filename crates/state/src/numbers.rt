@@ -2,7 +2,7 @@
 ghost use mathlib.Core.Path.{_≡_};
 ghost use mathlib.Core.Bool.{true};
 ghost use mathlib.Core.List.{[]};
-ghost use Prim.Native.Nat.{suc, _≤_};
+ghost use Prim.Native.Nat.{suc};
 ghost use lib.ListN.{length};
 ghost use Rattle.qbf.specs.Formula.{Limits, Prefix, paper};
 ghost use Rattle.qbf.specs.Calls.{numbersOk};
@@ -26,7 +26,7 @@ fn is_fresh<'a>(places: &'a [u16], limit: usize, number: Number) -> bool
 
 // The place of each number, in a table whose content before is free. Refused where a number is not 1 to the limit, or stands twice.
 pub fn place_numbers<'a>(numbers: &'a [u16], limit: usize, places: &mut [u16]) -> bool
-    requires { ⌜ (limit ≤ paper .numbers) × (length (now places) ≡ suc limit) ⌝ }
+    requires { ⌜ length (now places) ≡ suc limit ⌝ }
     ensures { λ r. ⌜
         (length (now (places .exit)) ≡ suc limit)
         × ((L : Limits) → L .numbers ≡ limit → Placing L (now (numbers .entry)) r (now (places .exit)))

@@ -1,8 +1,8 @@
 // The prefix of a state: whether it is well formed, and the tables by number that show it.
 ghost use mathlib.Core.Path.{_≡_};
-ghost use Prim.Native.Nat.{suc, _≤_};
+ghost use Prim.Native.Nat.{suc};
 ghost use lib.ListN.{length};
-ghost use Rattle.qbf.specs.Formula.{Limits, paper};
+ghost use Rattle.qbf.specs.Formula.{Limits};
 ghost use Rattle.state.specs.Derived.{Shown};
 
 pub struct Tables {
@@ -20,9 +20,7 @@ pub fn read_prefix<'a>(
     places: &mut [u16],
     by_number: &mut [u16],
 ) -> bool
-    requires { ⌜
-        (limit ≤ paper .numbers) × (length (now places) ≡ suc limit) × (length (now «by_number») ≡ suc limit)
-        ⌝ }
+    requires { ⌜ (length (now places) ≡ suc limit) × (length (now «by_number») ≡ suc limit) ⌝ }
     ensures { λ r. ⌜
         ((L : Limits) →
         L .numbers ≡ limit →

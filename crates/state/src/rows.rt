@@ -1,6 +1,6 @@
 // The rows of a state's flat tables: clauses and learned constraints, each in place order, and a constraint reduced.
 ghost use mathlib.Core.Path.{_≡_};
-ghost use Prim.Native.Nat.{_≤_, _+_};
+ghost use Prim.Native.Nat.{_≤_, _+_, _*_};
 ghost use mathlib.Core.Bool.{true, false, cond, not, _&&_};
 ghost use lib.ListN.{length, take, drop};
 ghost use Rattle.qbf.specs.Formula.{Prefix, paper, exists, forall, quantifierAt};
@@ -11,7 +11,7 @@ ghost use Rattle.state.specs.Derived.{clausesFine, constraintsFine, reco
 ghost use Rattle.state.specs.Reading.{atMost, recordsOf};
 
 // Each place is greater than the one before: so each variable is declared, and none stands twice.
-pub fn in_order<'a>(places: &'a [u16; tables::BY_NUMBER], lits: &'a [i16]) -> bool
+pub fn in_order<'a>(places: &'a [u16], lits: &'a [i16]) -> bool
     ensures { λ r. ⌜ ((D : Prefix) → Places D (now (places .entry)) → r ≡ inOrder D 0 (now (lits .entry))) ⌝ }
 {
     let mut last: usize = 0;
@@ -36,7 +36,7 @@ fn row<'a>(flat: &'a [i16], from: usize, len: usize) -> &'a [i16]
 }
 
 // "1 to 16 literals, no variable twice, .. in place order"
-fn clause_ok<'a>(places: &'a [u16; tables::BY_NUMBER], lits: &'a [i16]) -> bool
+fn clause_ok<'a>(places: &'a [u16], lits: &'a [i16]) -> bool
     ensures { λ r. ⌜ ((D : Prefix) → Places D (now (places .entry)) → r ≡ clauseOk paper D (now (lits .entry))) ⌝ }
 {
     if lits.len() < 1 {
@@ -56,7 +56,7 @@ fn dropped_kind(cube: bool) -> u16
 }
 
 // Reduction drops no literal from the end.
-fn reduced<'a>(kinds: &'a [u16; tables::BY_NUMBER], lits: &'a [i16], cube: bool) -> bool
+fn reduced<'a>(kinds: &'a [u16], lits: &'a [i16], cube: bool) -> bool
     ensures { λ r. ⌜
         ((D : Prefix) →
         Kinds D (now (kinds .entry)) →
@@ -71,12 +71,7 @@ fn reduced<'a>(kinds: &'a [u16; tables::BY_NUMBER], lits: &'a [i16], cube: bool)
     kind != dropped_kind(cube)
 }
 
-fn constraint_ok<'a>(
-    places: &'a [u16; tables::BY_NUMBER],
-    kinds: &'a [u16; tables::BY_NUMBER],
-    lits: &'a [i16],
-    cube: bool,
-) -> bool
+fn constraint_ok<'a>(places: &'a [u16], kinds: &'a [u16], lits: &'a [i16], cube: bool) -> bool
     ensures { λ r. ⌜
         ((D : Prefix) →
         Places D (now (places .entry)) →
@@ -91,19 +86,17 @@ fn constraint_ok<'a>(
     }
 }
 
-pub fn clauses_ok<'a>(
-    places: &'a [u16; tables::BY_NUMBER],
-    flat: &'a [i16; tables::CLAUSE_CELLS],
-    sizes: &'a [u16; tables::CLAUSE_SIZES],
-) -> bool
+// There may be `most`.
+pub fn clauses_ok<'a>(places: &'a [u16], flat: &'a [i16], sizes: &'a [u16], most: usize) -> bool
+    requires { ⌜ most * paper .literals ≤ length (now flat) ⌝ }
     ensures { λ r. ⌜
         ((D : Prefix) →
         Places D (now (places .entry)) →
-        r ≡ clausesFine D (now (flat .entry)) (now (sizes .entry)))
+        r ≡ clausesFine most D (now (flat .entry)) (now (sizes .entry)))
         ⌝ }
 {
     let count = crate::cells::count(sizes);
-    if count > tables::CLAUSES {
+    if count > most {
         return false;
     }
     let mut k: usize = 0;
@@ -121,18 +114,21 @@ pub fn clauses_ok<'a>(
     true
 }
 
+// In rows of so many cells.
 pub fn constraints_ok<'a>(
-    places: &'a [u16; tables::BY_NUMBER],
-    kinds: &'a [u16; tables::BY_NUMBER],
-    flat: &'a [i16; tables::CONSTRAINT_CELLS],
+    places: &'a [u16],
+    kinds: &'a [u16],
+    flat: &'a [i16],
     sizes: &'a [u16],
+    width: usize,
     cube: bool,
 ) -> bool
+    requires { ⌜ paper .constraints * width ≤ length (now flat) ⌝ }
     ensures { λ r. ⌜
         ((D : Prefix) →
         Places D (now (places .entry)) →
         Kinds D (now (kinds .entry)) →
-        r ≡ constraintsFine D cube (now (flat .entry)) (now (sizes .entry)))
+        r ≡ constraintsFine width D cube (now (flat .entry)) (now (sizes .entry)))
         ⌝ }
 {
     let count = crate::cells::count(sizes);
@@ -142,10 +138,10 @@ pub fn constraints_ok<'a>(
     let mut k: usize = 0;
     while k < count {
         let len = crate::cells::entry(sizes, k);
-        if len > tables::NUMBERS {
+        if len > width {
             return false;
         }
-        let lits = row(flat, k * tables::NUMBERS, len);
+        let lits = row(flat, k * width, len);
         if !constraint_ok(places, kinds, lits, cube) {
             return false;
         }
@@ -169,35 +165,56 @@ fn records_ok<'a>(sizes: &'a [u16], clauses: usize) -> bool
     true
 }
 
-// Clauses, learned clauses, learned cubes, and the records of the learned clauses.
+// Clauses, learned clauses, learned cubes, and the records of the learned clauses, under the limits for numbers and clauses.
 pub fn all_ok<'a>(
-    places: &'a [u16; tables::BY_NUMBER],
-    kinds: &'a [u16; tables::BY_NUMBER],
-    clauses: &'a [i16; tables::CLAUSE_CELLS],
-    clause_sizes: &'a [u16; tables::CLAUSE_SIZES],
-    learned_clauses: &'a [i16; tables::CONSTRAINT_CELLS],
-    learned_clause_sizes: &'a [u16; tables::LEARNED_CLAUSE_SIZES],
-    learned_cubes: &'a [i16; tables::CONSTRAINT_CELLS],
-    learned_cube_sizes: &'a [u16; tables::CONSTRAINT_SIZES],
+    places: &'a [u16],
+    kinds: &'a [u16],
+    clauses: &'a [i16],
+    clause_sizes: &'a [u16],
+    learned_clauses: &'a [i16],
+    learned_clause_sizes: &'a [u16],
+    learned_cubes: &'a [i16],
+    learned_cube_sizes: &'a [u16],
+    most_numbers: usize,
+    most_clauses: usize,
 ) -> bool
+    requires { ⌜
+        («most_clauses» * paper .literals ≤ length (now clauses))
+        × (paper .constraints * «most_numbers» ≤ length (now «learned_clauses»))
+        × (paper .constraints * «most_numbers» ≤ length (now «learned_cubes»))
+        ⌝ }
     ensures { λ r. ⌜
         ((D : Prefix) →
         Places D (now (places .entry)) →
         Kinds D (now (kinds .entry)) →
         r
-        ≡ (clausesFine D (now (clauses .entry)) (now («clause_sizes» .entry))
-        && constraintsFine D false (now («learned_clauses» .entry)) (now («learned_clause_sizes» .entry))
-        && constraintsFine D true (now («learned_cubes» .entry)) (now («learned_cube_sizes» .entry))
+        ≡ (clausesFine «most_clauses» D (now (clauses .entry)) (now («clause_sizes» .entry))
+        && constraintsFine «most_numbers» D false (now («learned_clauses» .entry)) (now («learned_clause_sizes» .entry))
+        && constraintsFine «most_numbers» D true (now («learned_cubes» .entry)) (now («learned_cube_sizes» .entry))
         && recordsFine (now («clause_sizes» .entry)) (now («learned_clause_sizes» .entry))))
         ⌝ }
 {
-    if !clauses_ok(places, clauses, clause_sizes) {
+    if !clauses_ok(places, clauses, clause_sizes, most_clauses) {
         return false;
     }
-    if !constraints_ok(places, kinds, learned_clauses, learned_clause_sizes, false) {
+    if !constraints_ok(
+        places,
+        kinds,
+        learned_clauses,
+        learned_clause_sizes,
+        most_numbers,
+        false,
+    ) {
         return false;
     }
-    if !constraints_ok(places, kinds, learned_cubes, learned_cube_sizes, true) {
+    if !constraints_ok(
+        places,
+        kinds,
+        learned_cubes,
+        learned_cube_sizes,
+        most_numbers,
+        true,
+    ) {
         return false;
     }
     records_ok(learned_clause_sizes, crate::cells::count(clause_sizes))

@@ -14,11 +14,8 @@ returns c = search needs
 cell-requires : tie.Need-cell-requires
 cell-requires c κs = search needs
 
-cast-t6 : tie.Need-cast-t6
-cast-t6 c = search needs
-
 returns-2 : tie.Need-returns-2
 returns-2 c = c .cell .ensures ∙ level-at (now (c .before .before .before .args .levels)) (c .before .before .before .args .place .0) (c .before .if1 .left)
 
 pub level-at-spec : {M : Type 1} → statement M
-level-at-spec = tie.close (tie.spec returns cell-requires cast-t6 returns-2)
+level-at-spec = tie.close (tie.spec returns cell-requires returns-2)

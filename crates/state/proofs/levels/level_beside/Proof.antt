@@ -8,14 +8,14 @@ use Rattle.state.proofs.Steps.{level-same, level-other}
 returns : tie.Need-returns
 returns c = search needs
 
-add-t6 : tie.Need-add-t6
-add-t6 c = search needs
+add-t8 : tie.Need-add-t8
+add-t8 c = search needs
 
 returns-2 : tie.Need-returns-2
-returns-2 c = level-same (c .before .before .args .level .0) (c .before .before .args .beside) (c .before .before .args .kind) (c .before .before .pre .1) (c .before .before .pre .2) (c .before .if1 .left) (c .if2 .taken)
+returns-2 c = level-same (c .before .before .args .level) (c .before .before .args .beside) (c .before .before .args .kind) (c .before .before .pre .0) (c .before .before .pre .1) (c .before .if1 .left) (c .if2 .taken)
 
 returns-3 : tie.Need-returns-3
-returns-3 c = level-other (c .before .before .before .args .level .0) (c .before .before .before .args .beside) (c .before .before .before .args .kind) (c .before .before .before .pre .1) (c .before .before .before .pre .2) (c .before .before .if1 .left) (c .before .if2 .left)
+returns-3 c = level-other (c .before .before .args .level) (c .before .before .args .beside) (c .before .before .args .kind) (c .before .before .pre .0) (c .before .before .pre .1) (c .before .if1 .left) (c .if2 .left)
 
 pub level-beside-spec : {M : Type 1} → statement M
-level-beside-spec = tie.close (tie.spec returns add-t6 returns-2 returns-3)
+level-beside-spec = tie.close (tie.spec returns add-t8 returns-2 returns-3)

@@ -4,7 +4,7 @@ use Rattle.state.proofs.levels.levels_ok.Reads as reads
 use Rattle.state.proofs.levels.levels_ok.Lts as lts
 use Rattle.state.proofs.cells.cell.Reads as cell-reads
 use Rattle.state.proofs.cells.count.Reads as count-reads
-use Rattle.state.proofs.cells.entry.Reads as entry-reads
+use Rattle.state.proofs.cells.cell_after.Reads as cell-after-reads
 use Rattle.state.proofs.levels.step_ok.Reads as step-ok-reads
 use borrow.Author.Needs.{needs}
 use Prim.Native.Nat.{_-_}
@@ -18,10 +18,10 @@ Inv-loop numbers levels kinds limit count level₀ beside₀ i₀ level beside i
 abbrev μ-loop : tie.MeasureT-loop
 μ-loop numbers levels kinds limit count level₀ beside₀ i₀ level beside i = count - i
 
-level-read : (c : tie.After-entry Inv-loop μ-loop) → let a = c .before .before .before .before .before .before .before .before .args in LevelRead (a .limit) (now (a .numbers)) (now (a .levels)) (now (a .kinds)) (c .before .before .before .before .count .result) (c .before .before .loop .level) (c .before .before .loop .beside) (c .before .before .loop .i) (c .entry .result)
-level-read c = record { stepping = c .before .before .loop .inv; more = c .before .loop-test .taken; is = c .entry .ensures }
+level-read : (c : tie.After-cell-after Inv-loop μ-loop) → let a = c .before .before .before .before .before .before .before .before .args in LevelRead (a .limit) (now (a .numbers)) (now (a .levels)) (now (a .kinds)) (c .before .before .before .before .count .result) (c .before .before .loop .level) (c .before .before .loop .beside) (c .before .before .loop .i) (c .cell-after .result)
+level-read c = record { stepping = c .before .before .loop .inv; more = c .before .loop-test .taken; is = c .cell-after .ensures }
 
-tested : (c : tie.After-step-ok Inv-loop μ-loop) → let a = c .before .before .before .before .before .before .before .before .before .before .before .args in StepTested (a .limit) (now (a .numbers)) (now (a .levels)) (now (a .kinds)) (c .before .before .before .before .before .before .before .count .result) (c .before .before .before .before .before .loop .level) (c .before .before .before .before .before .loop .beside) (c .before .before .before .before .before .loop .i) (c .before .before .before .entry .result) (c .before .cell .result) (c .step-ok .result)
+tested : (c : tie.After-step-ok Inv-loop μ-loop) → let a = c .before .before .before .before .before .before .before .before .before .before .before .args in StepTested (a .limit) (now (a .numbers)) (now (a .levels)) (now (a .kinds)) (c .before .before .before .before .before .before .before .count .result) (c .before .before .before .before .before .loop .level) (c .before .before .before .before .before .loop .beside) (c .before .before .before .before .before .loop .i) (c .before .before .before .cell-after .result) (c .before .cell .result) (c .step-ok .result)
 tested c = record { level-read = level-read (c .before .before .before); small = c .before .before .if2 .left; is = c .before .cell .ensures; said = c .step-ok .ensures }
 
 count-requires : tie.Need-count-requires Inv-loop μ-loop
@@ -33,17 +33,23 @@ returns c = λ L q. levels-many L (now (c .before .before .before .before .befor
 loop-holds : tie.Need-loop-holds Inv-loop μ-loop
 loop-holds c = stepping-none (c .before .before .before .before .before .args .limit) (now (c .before .before .before .before .before .args .numbers)) (now (c .before .before .before .before .before .args .levels)) (now (c .before .before .before .before .before .args .kinds)) (c .before .count .ensures) (c .if1 .left)
 
-entry-requires : tie.Need-entry-requires Inv-loop μ-loop
-entry-requires c κs = search needs
+cell-after-requires : tie.Need-cell-after-requires Inv-loop μ-loop
+cell-after-requires c κs = search needs
+
+cast-if2 : tie.Need-cast-if2 Inv-loop μ-loop
+cast-if2 c = search needs
 
 returns-2 : tie.Need-returns-2 Inv-loop μ-loop
 returns-2 c = level-high (level-read (c .before)) (c .if2 .taken)
+
+cast-cell : tie.Need-cast-cell Inv-loop μ-loop
+cast-cell c = search needs
 
 cell-requires : tie.Need-cell-requires Inv-loop μ-loop
 cell-requires c κs = search needs
 
 step-ok-requires : tie.Need-step-ok-requires Inv-loop μ-loop
-step-ok-requires c κs = (omega (arith, c .before .before .before .before .loop .inv .level, c .before .before .before .before .before .before .before .before .before .before .pre), c .before .before .before .before .loop .inv .code)
+step-ok-requires c κs = c .before .before .before .before .loop .inv .code
 
 returns-3 : tie.Need-returns-3 Inv-loop μ-loop
 returns-3 c = step-bad (tested (c .before)) (c .if3 .taken)
@@ -69,8 +75,10 @@ levels-ok-spec =
     count-requires
     returns
     loop-holds
-    entry-requires
+    cell-after-requires
+    cast-if2
     returns-2
+    cast-cell
     cell-requires
     step-ok-requires
     returns-3

@@ -42,10 +42,10 @@ same-length : tie.Need-same-length Inv-loop μ-loop
 same-length c = c .before .before .before .before .clear .ensures .room
 
 returns : tie.Need-returns Inv-loop μ-loop
-returns c = (c .before .before .before .before .clear .ensures .room ∙ start (c .before) .pre .1, filling-many _ (c .before .count .ensures) (c .if1 .taken))
+returns c = (c .before .before .before .before .clear .ensures .room ∙ start (c .before) .pre, filling-many _ (c .before .count .ensures) (c .if1 .taken))
 
 loop-holds : tie.Need-loop-holds Inv-loop μ-loop
-loop-holds c = filling-none (start (c .before) .pre .1) (c .before .before .before .before .clear .ensures) (c .before .count .ensures) (c .if1 .left)
+loop-holds c = filling-none (start (c .before) .pre) (c .before .before .before .before .clear .ensures) (c .before .count .ensures) (c .if1 .left)
 
 entry-requires : tie.Need-entry-requires Inv-loop μ-loop
 entry-requires c κs = search needs
@@ -54,7 +54,7 @@ is-fresh-requires : tie.Need-is-fresh-requires Inv-loop μ-loop
 is-fresh-requires c κs = search needs
 
 same-length-2 : tie.Need-same-length-2 Inv-loop μ-loop
-same-length-2 c = let l = looped (c .before) in l .before .loop .inv .filled .room ∙ sym (start (counted l) .pre .1)
+same-length-2 c = let l = looped (c .before) in l .before .loop .inv .filled .room ∙ sym (start (counted l) .pre)
 
 returns-2 : tie.Need-returns-2 Inv-loop μ-loop
 returns-2 c = (looped (c .before) .before .loop .inv .filled .room, tested-bad (tested (c .before)) (c .if2 .taken))
@@ -65,10 +65,10 @@ add-places c = search needs
 cast-places : tie.Need-cast-places Inv-loop μ-loop
 cast-places c =
     let l = looped (c .before) in
-    omega (arith, l .loop-test .taken, l .before .loop .inv .few, start (counted l) .pre .0)
+    omega (arith, l .loop-test .taken, counted l .count .ensures, counted l .before .before .before .before .before .before .shared-slice-known .given 0)
 
 mul-places : tie.Need-mul-places Inv-loop μ-loop
-mul-places c = omega (arith, tested-within (tested (c .before)) (c .if2 .left), start (counted (looped (c .before))) .pre .0)
+mul-places c = omega (arith, tested-within (tested (c .before)) (c .if2 .left), looped (c .before) .before .loop .inv .filled .room)
 
 slice-write-places : tie.Need-slice-write-places Inv-loop μ-loop
 slice-write-places c = omega (arith, tested-within (tested (c .before)) (c .if2 .left), looped (c .before) .before .loop .inv .filled .room)
@@ -83,7 +83,7 @@ loop-again : tie.Need-loop-again Inv-loop μ-loop
 loop-again c = tested-more (tested (c .before)) (c .if2 .left)
 
 same-length-3 : tie.Need-same-length-3 Inv-loop μ-loop
-same-length-3 c = c .before .loop .inv .filled .room ∙ sym (start (c .before .before .before) .pre .1)
+same-length-3 c = c .before .loop .inv .filled .room ∙ sym (start (c .before .before .before) .pre)
 
 returns-3 : tie.Need-returns-3 Inv-loop μ-loop
 returns-3 c = (c .before .loop .inv .filled .room, filling-end (c .before .loop .inv) (c .loop-test .left))

@@ -19,7 +19,7 @@ constraints-ok-requires c κs = search needs
 
 returns-2 : tie.Need-returns-2
 returns-2 c =
-    let first = c .before .before .before in
+    let first = c .before .before in
     λ D p k. rw (sym (first .before .clauses-ok .ensures D p) ∙ not-false _ (first .if1 .left), sym (c .before .constraints-ok .ensures D p k) ∙ not-true _ (c .if2 .taken))
 
 constraints-ok-requires-2 : tie.Need-constraints-ok-requires-2
@@ -27,8 +27,8 @@ constraints-ok-requires-2 c κs = search needs
 
 returns-3 : tie.Need-returns-3
 returns-3 c =
-    let second = c .before .before .before in
-    let first = second .before .before .before in
+    let second = c .before .before in
+    let first = second .before .before in
     λ D p k.
     rw (
       sym (first .before .clauses-ok .ensures D p) ∙ not-false _ (first .if1 .left),
@@ -44,9 +44,9 @@ records-ok-requires c κs = search needs
 
 returns-4 : tie.Need-returns-4
 returns-4 c =
-    let third = c .before .before .before .before in
-    let second = third .before .before .before in
-    let first = second .before .before .before in
+    let third = c .before .before in
+    let second = third .before .before in
+    let first = second .before .before in
     λ D p k.
     rw (
       sym (first .before .clauses-ok .ensures D p) ∙ not-false _ (first .if1 .left),

@@ -15,25 +15,25 @@ use Rattle.tables.specs.Views.{Places}
 use Rattle.state.proofs.Scan.{Scanning, scanning-many, scanning-none, scanning-end, SizeRead, row-long, RowTested, row-bad, row-more}
 
 abbrev Inv-loop : tie.InvT-loop
-Inv-loop places flat sizes count k₀ k = Scanning (λ D. Places D places) (clauseOk paper) 16 255 flat sizes count k
+Inv-loop places flat sizes most count k₀ k = Scanning (λ D. Places D places) (clauseOk paper) (paper .literals) most flat sizes count k
 
 abbrev μ-loop : tie.MeasureT-loop
-μ-loop places flat sizes count k₀ k = count - k
+μ-loop places flat sizes most count k₀ k = count - k
 
-size-read : (c : tie.After-entry Inv-loop μ-loop) → let a = c .before .before .before .before .before .before .before .args in SizeRead (λ D. Places D (now (a .places))) (clauseOk paper) 16 255 (now (a .flat)) (now (a .sizes)) (c .before .before .before .before .before .count .result) (c .before .before .before .loop .k) (c .entry .result)
-size-read c = record { scanning = c .before .before .before .loop .inv; more = c .before .before .loop-test .taken; is = c .entry .ensures }
+size-read : (c : tie.After-entry Inv-loop μ-loop) → let a = c .before .before .before .before .before .before .before .args in SizeRead (λ D. Places D (now (a .places))) (clauseOk paper) (paper .literals) (a .most) (now (a .flat)) (now (a .sizes)) (c .before .before .before .before .count .result) (c .before .before .loop .k) (c .entry .result)
+size-read c = record { scanning = c .before .before .loop .inv; more = c .before .loop-test .taken; is = c .entry .ensures }
 
-tested : (c : tie.After-clause-ok Inv-loop μ-loop) → let a = c .before .before .before .before .before .before .before .before .before .before .before .args in RowTested (λ D. Places D (now (a .places))) (clauseOk paper) 16 255 (now (a .flat)) (now (a .sizes)) (c .before .before .before .before .before .before .before .before .before .count .result) (c .before .before .before .before .before .before .before .loop .k) (c .before .before .before .before .entry .result) (now (c .before .row .result)) (c .clause-ok .result)
-tested c = record { size-read = size-read (c .before .before .before .before); short = c .before .before .before .if2 .left; part = c .before .row .ensures; said = c .clause-ok .ensures }
+tested : (c : tie.After-clause-ok Inv-loop μ-loop) → let a = c .before .before .before .before .before .before .before .before .before .before .args in RowTested (λ D. Places D (now (a .places))) (clauseOk paper) (paper .literals) (a .most) (now (a .flat)) (now (a .sizes)) (c .before .before .before .before .before .before .before .count .result) (c .before .before .before .before .before .loop .k) (c .before .before .before .entry .result) (now (c .before .row .result)) (c .clause-ok .result)
+tested c = record { size-read = size-read (c .before .before .before); short = c .before .before .if2 .left; part = c .before .row .ensures; said = c .clause-ok .ensures }
 
 count-requires : tie.Need-count-requires Inv-loop μ-loop
 count-requires c κs = search needs
 
 returns : tie.Need-returns Inv-loop μ-loop
-returns c = scanning-many (λ D. Places D (now (c .before .before .before .args .places))) (clauseOk paper) 16 255 (now (c .before .before .before .args .flat)) (now (c .before .before .before .args .sizes)) (c .before .count .ensures) (c .if1 .taken)
+returns c = scanning-many (λ D. Places D (now (c .before .before .before .before .args .places))) (clauseOk paper) (paper .literals) (c .before .before .before .before .args .most) (now (c .before .before .before .before .args .flat)) (now (c .before .before .before .before .args .sizes)) (c .before .count .ensures) (c .if1 .taken)
 
 loop-holds : tie.Need-loop-holds Inv-loop μ-loop
-loop-holds c = scanning-none (λ D. Places D (now (c .before .before .before .args .places))) (clauseOk paper) 16 255 (now (c .before .before .before .args .flat)) (now (c .before .before .before .args .sizes)) (c .before .count .ensures) (c .if1 .left)
+loop-holds c = scanning-none (λ D. Places D (now (c .before .before .before .before .args .places))) (clauseOk paper) (paper .literals) (c .before .before .before .before .args .most) (now (c .before .before .before .before .args .flat)) (now (c .before .before .before .before .args .sizes)) (c .before .count .ensures) (c .if1 .left)
 
 entry-requires : tie.Need-entry-requires Inv-loop μ-loop
 entry-requires c κs = search needs

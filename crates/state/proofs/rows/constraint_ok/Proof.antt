@@ -18,10 +18,10 @@ reduced-requires : tie.Need-reduced-requires
 reduced-requires c κs = search needs
 
 returns : tie.Need-returns
-returns c = λ D shown kinds. c .reduced .ensures D kinds ∙ sym (ap (λ (x : Bool). x && not (dropped (c .before .before .before .args .cube) (quantifierAt D (lastPlace D (now (c .before .before .before .args .lits)))))) (sym (c .before .before .in-order .ensures D shown) ∙ c .before .if1 .taken))
+returns c = λ D shown kinds. c .reduced .ensures D kinds ∙ sym (ap (λ (x : Bool). x && not (dropped (c .before .before .before .before .before .args .cube) (quantifierAt D (lastPlace D (now (c .before .before .before .before .before .args .lits)))))) (sym (c .before .before .in-order .ensures D shown) ∙ c .before .if1 .taken))
 
 returns-2 : tie.Need-returns-2
-returns-2 c = λ D shown kinds. sym (ap (λ (x : Bool). x && not (dropped (c .before .before .args .cube) (quantifierAt D (lastPlace D (now (c .before .before .args .lits)))))) (sym (c .before .in-order .ensures D shown) ∙ c .if1 .left))
+returns-2 c = λ D shown kinds. sym (ap (λ (x : Bool). x && not (dropped (c .before .before .before .before .args .cube) (quantifierAt D (lastPlace D (now (c .before .before .before .before .args .lits)))))) (sym (c .before .in-order .ensures D shown) ∙ c .if1 .left))
 
 pub constraint-ok-spec : {M : Type 1} → statement M
 constraint-ok-spec = tie.close (tie.spec in-order-requires reduced-requires returns returns-2)

@@ -12,7 +12,7 @@ use Rattle.literal.proofs.Signed.{back}
 use Rattle.state.proofs.Order.{reduced-empty, reduced-last}
 
 returns : tie.Need-returns
-returns c = λ D shown. reduced-empty D (c .before .args .cube) (now (c .before .args .lits)) (c .if1 .taken)
+returns c = λ D shown. reduced-empty D (c .before .before .args .cube) (now (c .before .before .args .lits)) (c .if1 .taken)
 
 sub-number-of : tie.Need-sub-number-of
 sub-number-of c = search needs
@@ -33,7 +33,7 @@ dropped-kind-requires : tie.Need-dropped-kind-requires
 dropped-kind-requires c κs = search needs
 
 returns-2 : tie.Need-returns-2
-returns-2 c = λ D shown. reduced-last D (now (c .before .before .before .before .before .before .args .kinds)) shown (c .before .before .before .before .before .before .args .cube) (now (c .before .before .before .before .before .before .args .lits)) (c .before .before .before .before .before .if1 .left) (c .before .kind-of .ensures ∙ ap (λ (n : ℕ). getD (now (c .before .before .before .before .before .before .args .kinds)) n 0) (c .before .before .number-of .ensures ∙ ap numberOf (back {z = getD (now (c .before .before .before .before .before .before .args .lits)) (length (now (c .before .before .before .before .before .before .args .lits)) - 1) (pos 0)} (sfits-of (c .before .before .before .number-of-arg .given))))) (c .dropped-kind .ensures)
+returns-2 c = λ D shown. reduced-last D (now (c .before .before .before .before .before .before .args .kinds)) shown (c .before .before .before .before .before .before .args .cube) (now (c .before .before .before .before .before .before .args .lits)) (c .before .before .before .before .if1 .left) (c .before .kind-of .ensures ∙ ap (λ (n : ℕ). getD (now (c .before .before .before .before .before .before .args .kinds)) n 0) (c .before .before .number-of .ensures ∙ ap numberOf (back {z = getD (now (c .before .before .before .before .before .before .args .lits)) (length (now (c .before .before .before .before .before .before .args .lits)) - 1) (pos 0)} (sfits-of (c .before .before .before .number-of-arg .given))))) (c .dropped-kind .ensures)
 
 pub reduced-spec : {M : Type 1} → statement M
 reduced-spec =

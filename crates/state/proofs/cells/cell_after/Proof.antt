@@ -1,8 +1,8 @@
 use borrow.Author.Needs.{needs}
-use Rattle.state.proofs.cells.entry.Statement.{statement}
-use Rattle.state.proofs.cells.entry.Tie as tie
-use Rattle.state.proofs.cells.entry.Reads as reads
-use Rattle.state.proofs.cells.entry.Lts as lts
+use Rattle.state.proofs.cells.cell_after.Statement.{statement}
+use Rattle.state.proofs.cells.cell_after.Tie as tie
+use Rattle.state.proofs.cells.cell_after.Reads as reads
+use Rattle.state.proofs.cells.cell_after.Lts as lts
 use Rattle.state.proofs.cells.cell.Reads as cell-reads
 use mathlib.Core.Path.{sym, ap, _∙_}
 use Prim.Native.Nat.{ℕ}
@@ -17,14 +17,11 @@ add-cell c = search needs
 cell-requires : tie.Need-cell-requires
 cell-requires c κs = search needs
 
-cast-result : tie.Need-cast-result
-cast-result c = search needs
-
 returns : tie.Need-returns
 returns c = c .cell .ensures ∙ ap (λ (j : ℕ). getD (now (c .before .before .before .args .table)) j 0) (add-one (c .before .before .before .args .i))
 
 returns-2 : tie.Need-returns-2
 returns-2 c = sym (List·getD-eq-default (now (c .before .before .args .table)) 0 (omega (arith, c .if1 .left)))
 
-pub entry-spec : {M : Type 1} → statement M
-entry-spec = tie.close (tie.spec add-cell cell-requires cast-result returns returns-2)
+pub cell-after-spec : {M : Type 1} → statement M
+cell-after-spec = tie.close (tie.spec add-cell cell-requires returns returns-2)
