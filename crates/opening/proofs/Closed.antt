@@ -5,8 +5,10 @@ use native.Mathlib.Omega.{arith}
 use mathlib.Core.Path.{_≡_, refl, sym, ap, subst, _∙_}
 use mathlib.Core.Bool.{Bool, false}
 use mathlib.Core.List.{List, [], _∷_, map}
+use mathlib.Core.Logic.{inl, inr}
 use mathlib.Core.Option.{Option, none, some}
 use Rattle.qbf.specs.Formula.{paper}
+use Rattle.qbf.specs.Demands.{AfterSearch}
 use Rattle.qbf.specs.Calls.{Call, rule, query, card, forget, withdraw, answer, refusal, guarded, State as Read, keepCard}
 use Rattle.qbf.specs.Demands.{refusalOf}
 use Rattle.layout.specs.Words.{Bytes}
@@ -24,9 +26,9 @@ saidMalformed c = saidOf (answer (refusal 22 c) 0)
 
 refusal-22 : (c : Call) → refusalOf (refusal 22 c) ≡ some 22
 refusal-22 (rule ls) = refl
-refusal-22 (query ls) = refl
-refusal-22 (card size) = refl
-refusal-22 (keepCard size) = refl
+refusal-22 (query n ls) = refl
+refusal-22 (card n size) = refl
+refusal-22 (keepCard n size) = refl
 refusal-22 forget = refl
 refusal-22 withdraw = refl
 
@@ -34,10 +36,14 @@ refused-22 : (c : Call) (o : Option Read) → wellFormedRead o ≡ false → ref
 refused-22 c none e = refusal-22 c
 refused-22 c (some y) e = ap (λ (g : Bool). refusalOf (guarded g y c .out .reply)) e ∙ refusal-22 c
 
+not-after : AfterSearch 22 → ⊥
+not-after (inl e) = omega (arith, e)
+not-after (inr e) = omega (arith, e)
+
 -- one call on a malformed state
 pub closed-refused : (x : State) → valid x ≡ false → (c : Call) (a : Said) (x′ : State) → Serves x c a x′ → (a ≡ saidMalformed c) × (x′ ≡ x)
 unfolding valid
-closed-refused x e c a x′ s = (s .answered ∙ sym (malformed x c e .answered), s .kept 22 (refused-22 c (readState x) e) (λ q. omega (arith, q)))
+closed-refused x e c a x′ s = (s .answered ∙ sym (malformed x c e .answered), s .kept 22 (refused-22 c (readState x) e) not-after)
 
 -- any list of calls, each on the state that the last one returned
 pub closed-served : (x : State) → valid x ≡ false → (cs : List Call) (qs : List Said) → Served x cs qs → qs ≡ map saidMalformed cs
