@@ -13,9 +13,8 @@
 #define FILL 0xEE
 
 static struct bullacetop_state book;
-/* What a call in place works on. */
+/* What a call works on. */
 static struct bullacetop_state lent;
-static struct bullacetop_answer answer;
 static struct bullacetop_reply reply;
 static struct bullacetop_opened opened;
 static struct bullacetop_written printed;
@@ -26,43 +25,23 @@ static char text[4096] = "(book 1)\n(flags)\n(exists", qdimacs[4096] = "p cnf 40
 
 static const int16_t literals[] = {1, -2, 3};
 
-/* One function for each call, so that a frame holds what is handed over and answered by one call only. */
+/* One function for each call, so that a frame holds what one call is handed over and answers. */
 static void rule(void)
-{
-    answer = bullacetop_rule(book, literals, 3);
-}
-
-static void forget(void)
-{
-    answer = bullacetop_forget(book);
-}
-
-static void query(void)
-{
-    answer = bullacetop_query(book, NULL, 0);
-}
-
-static void card(void)
-{
-    answer = bullacetop_card(book, table, sizeof table);
-}
-
-static void rule_in_place(void)
 {
     reply = bullacetop_rule_at(&lent, literals, 3);
 }
 
-static void forget_in_place(void)
+static void forget(void)
 {
     reply = bullacetop_forget_at(&lent);
 }
 
-static void query_in_place(void)
+static void query(void)
 {
     reply = bullacetop_query_at(&lent, NULL, 0);
 }
 
-static void card_in_place(void)
+static void card(void)
 {
     reply = bullacetop_card_at(&lent, table, sizeof table);
 }
@@ -98,10 +77,6 @@ static const struct {
     {"forget", forget},
     {"query", query},
     {"card", card},
-    {"rule in place", rule_in_place},
-    {"forget in place", forget_in_place},
-    {"query in place", query_in_place},
-    {"card in place", card_in_place},
     {"print", print},
     {"open", open},
     {"open_qdimacs", open_qdimacs},
@@ -151,7 +126,7 @@ int main(void)
         makecontext(&there, calls[i].make, 0);
         swapcontext(&here, &there);
         printf("%s: %zu bytes, refusals %u, text %zu\n", calls[i].name, written(stack),
-               (unsigned)(answer.refusal + reply.refusal + printed.refusal + opened.refusal + turn.refusal), printed.length + turn.length);
+               (unsigned)(reply.refusal + printed.refusal + opened.refusal + turn.refusal), printed.length + turn.length);
     }
     free(stack);
     return 0;

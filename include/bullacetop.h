@@ -3,17 +3,17 @@
  *
  * Link target/staticlib/libbullacetop.a, which `rt staticlib bullacetop` makes (x86-64 Linux; size_t has 64 bits).
  *
- * A state is a value. Every call takes one and answers with the next one; the caller keeps it. Rule, forget, query and card also work in
- * place, on a state that is lent; so does writing a book back as text. The library has no memory of its own: it allocates nothing, keeps no pointer after a call returns and has
- * no global data, so calls on different states may run at once.
+ * A state belongs to the caller, who lends it to a call; what the call changes is written where it stands. Only a line of a session takes a
+ * state and answers with the next one. The library has no memory of its own: it allocates nothing, keeps no pointer after a call returns and
+ * has no global data, so calls on different states may run at once.
  *
  * Whatever bytes a state has, no call faults or runs without end: each call checks its state in full and refuses a malformed one with 22.
  * Nothing else needs to be checked before a call but the pointers: a list or a table of n items has to be readable (the card table
  * writable) for n items. Where n is 0 nothing is read or written, and the pointer may be NULL. Lent lists are not written. A table must
  * not overlap another argument.
  *
- * Stack: have 512 KiB, for a call in place 128 KiB. The deepest call, on 40 variables, was seen to take less (docs/BENCHMARKS.md), with the
- * state handed over, the answer (19 KiB each) and the tables of its search in it.
+ * Stack: have 128 KiB for a call, and 512 KiB for a text or a line. The deepest ones, on 40 variables, were seen to take less
+ * (docs/BENCHMARKS.md), with the tables of a search in it and, for a text or a line, states of 19 KiB.
  */
 #ifndef BULLACETOP_H
 #define BULLACETOP_H
@@ -82,7 +82,7 @@ extern "C" {
  * else the index, from 1, of the run of one quantifier that it stands in. To declare one more variable: write its number and its level to
  * the next cell, the quantifier to the cell of the level, and add 1 to numbers[0] (see examples/c/card.c). Declare before the first rule.
  *
- * A literal is a variable's number for on, negated for off. Rows hold them in place order; use bullacetop_rule, which sorts and checks.
+ * A literal is a variable's number for on, negated for off. Rows hold them in place order; use bullacetop_rule_at, which sorts and checks.
  * Cells outside the counts may hold anything. No answer depends on them.
  */
 struct bullacetop_state {
@@ -106,63 +106,38 @@ struct bullacetop_state {
 };
 
 /*
- * What a call says, and the next state. A refusal has 0 lines and 0 visits, and `state` is the one that was given, byte for byte. Only 21
- * differs: the search ran to its end, its visits are told, and `state` keeps what it learned; declarations and rules are as they were.
+ * The calls. The state stays with the caller and nothing of it is copied. It is lent as its nine tables, which need not stand in one struct;
+ * bullacetop_rule_at, bullacetop_forget_at, bullacetop_query_at, bullacetop_card_at and bullacetop_keep_card_at take the struct.
+ *
+ *   rule       adds a rule of n literals in any order. Refusals, the first fault decides: 22, 20, 7, then from the left 3, 5, 6.
+ *   forget     empties what was learned. Refusal 22.
+ *   query      whether the rules are true where the n flags of these numbers are on and the others off. Refusals 22, 8.
+ *   card       all readings of the flags for which the rules are true, as lines of f bytes, f being the count of flags: 0 open, 1 off, 2 on, in
+ *              place order. Every byte of the table is written: those after the last line are zero, and all are zero after a refusal. Refusals
+ *              22, and 21 where there are more than n / f lines. With no flag a line has no byte and always fits.
+ *   keep card  the readings for which the rules are not true, in the same way: same search and visits, same table, same refusals. Where neither
+ *              card is refused and no rule is added or withdrawn between them, each reading lies on exactly one line of one of the two.
+ *
+ * What a call may write:
+ *
+ *   rule         rules, rule_sizes, pass_sizes
+ *   forget       bar_sizes, pass_sizes
+ *   query, cards bars, bar_sizes, passes, pass_sizes
+ *
+ * The other tables are only read, so that several calls may have them at once. A refusal has 0 lines and 0 visits and leaves all nine as they
+ * were, byte for byte. Only 21 differs: the search ran to its end, its visits are told, and the four tables that a card may write keep what it
+ * learned.
+ *
+ * Each table has to be readable, and writable where the call may write it, for the length declared here; none may be NULL. No table may
+ * overlap another one, the list or the card table. A table that a call may write belongs to that call alone until it returns.
  */
-struct bullacetop_answer {
+struct bullacetop_reply {
     uint16_t refusal;
     /* Of a query that is not refused: BULLACETOP_KEEP or BULLACETOP_SWAP. Else 0. */
     uint16_t verdict;
     /* Of a card. */
     size_t lines;
     /* Of a query or a card: the nodes that the search visited. */
-    uint64_t visits;
-    struct bullacetop_state state;
-};
-
-/* Adds a rule of n literals in any order. Refusals, the first fault decides: 22, 20, 7, then from the left 3, 5, 6. */
-struct bullacetop_answer bullacetop_rule(struct bullacetop_state x, const int16_t *literals, size_t n);
-
-/* Empties what was learned. Refusal 22. */
-struct bullacetop_answer bullacetop_forget(struct bullacetop_state x);
-
-/* Whether the rules are true where the n flags of these numbers are on and the others off. Refusals 22, 8. */
-struct bullacetop_answer bullacetop_query(struct bullacetop_state x, const int16_t *on, size_t n);
-
-/*
- * All readings of the flags for which the rules are true, as lines of f bytes, f being the count of flags: 0 open, 1 off, 2 on, in place
- * order. Every byte of the table is written: those after the last line are zero, and all are zero after a refusal. Refusals 22, and 21
- * where there are more than n / f lines. With no flag a line has no byte and always fits.
- */
-struct bullacetop_answer bullacetop_card(struct bullacetop_state x, uint8_t *table, size_t n);
-
-/*
- * The readings for which the rules are not true, in the same way: same search and visits, same table, same refusals. Where neither card is refused and
- * no rule is added or withdrawn between them, each reading lies on exactly one line of one of the two.
- */
-struct bullacetop_answer bullacetop_keep_card(struct bullacetop_state x, uint8_t *table, size_t n);
-
-/*
- * The five calls in place: the state stays with the caller and nothing of it is copied. It is lent as its nine tables, which need not stand
- * in one struct; bullacetop_rule_at, bullacetop_forget_at, bullacetop_query_at, bullacetop_card_at and bullacetop_keep_card_at take the struct.
- *
- * The answer, the card table and the next state are those of the same call by value. What a call may write:
- *
- *   rule         rules, rule_sizes, pass_sizes
- *   forget       bar_sizes, pass_sizes
- *   query, cards bars, bar_sizes, passes, pass_sizes
- *
- * The other tables are only read, so that several calls may have them at once. A refusal leaves all nine as they were, byte for byte; only
- * after 21 the four that a card may write keep what the search learned.
- *
- * Each table has to be readable, and writable where the call may write it, for the length declared here; none may be NULL. No table may
- * overlap another one, the list or the card table. A table that a call may write belongs to that call alone until it returns.
- */
-struct bullacetop_reply {
-    /* As in struct bullacetop_answer. */
-    uint16_t refusal;
-    uint16_t verdict;
-    size_t lines;
     uint64_t visits;
 };
 
@@ -260,8 +235,8 @@ static inline struct bullacetop_reply bullacetop_keep_card_at(struct bullacetop_
 }
 
 /*
- * Page `number`, from 1, of a card that stands in a table of n bytes and has so many lines of so many flags: the numbers that
- * bullacetop_card told. Its rows are written one after another to the first BULLACETOP_PAGE_BYTES bytes of `out`, for which the caller has m
+ * Page `number`, from 1, of a card that stands in a table of n bytes and has so many lines of so many flags: the numbers that the
+ * call told. Its rows are written one after another to the first BULLACETOP_PAGE_BYTES bytes of `out`, for which the caller has m
  * bytes; the bytes after them are zero, and all are zero after a refusal. Returns the refusal: BULLACETOP_NO_PAGE for a page that the card does
  * not have, more than 99,999 lines or than the table holds, or a byte above 2 in any line; then BULLACETOP_TEXT_TABLE_TOO_SHORT. A card has
  * lines / 22 pages, rounded up, and one where it has no line.

@@ -143,11 +143,9 @@ fn run_library(raw: &Raw, task: Task, readings: &[Vec<i16>]) -> (Found, Duration
 /// What a call takes by itself.
 pub struct CallTimes {
     /// A query that its start node decides.
-    pub query_by_value: Duration,
-    pub query_in_place: Duration,
-    /// The state is checked, and by value copied in and copied out.
-    pub forget_by_value: Duration,
-    pub forget_in_place: Duration,
+    pub query: Duration,
+    /// The state is checked.
+    pub forget: Duration,
 }
 
 pub fn call_times(formula: &Formula) -> CallTimes {
@@ -156,10 +154,8 @@ pub fn call_times(formula: &Formula) -> CallTimes {
     let decided = |on: &&Vec<i16>| bare::query(&mut raw.clone(), on).visits == 1;
     let on = readings.iter().find(decided).expect("a reading that the start node decides");
     CallTimes {
-        query_by_value: call_time(&raw, |raw| bare::query_by_value(raw, on)),
-        query_in_place: call_time(&raw, |raw| bare::query(raw, on)),
-        forget_by_value: call_time(&raw, bare::forget_by_value),
-        forget_in_place: call_time(&raw, bare::forget),
+        query: call_time(&raw, |raw| bare::query(raw, on)),
+        forget: call_time(&raw, bare::forget),
     }
 }
 

@@ -41,12 +41,8 @@ pub fn calls(measured: &[(Book, CallTimes)]) -> String {
     table += "\n|---|";
     measured.iter().for_each(|_| table += "---|");
     type Of = fn(&CallTimes) -> Duration;
-    let kinds: [(&str, Of); 4] = [
-        ("query of one visit, by value", |times| times.query_by_value),
-        ("query of one visit, in place", |times| times.query_in_place),
-        ("forget, by value", |times| times.forget_by_value),
-        ("forget, in place", |times| times.forget_in_place),
-    ];
+    let kinds: [(&str, Of); 2] =
+        [("query of one visit", |times| times.query), ("forget", |times| times.forget)];
     for (name, of) in kinds {
         let _ = write!(table, "\n| {name} |");
         for (_, times) in measured {

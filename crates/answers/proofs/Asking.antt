@@ -1,7 +1,8 @@
 -- The answers of query and card, from what the search on the state found and the next state that it left.
-use Prim.Native.Nat.{ℕ, _+_, _*_}
+use Prim.Native.Nat.{ℕ, suc, _+_, _-_, _*_}
 use native.Mathlib.Omega.{arith}
 use mathlib.Core.Path.{_≡_, refl, sym, ap, _∙_, subst}
+use mathlib.Core.Logic.{inl, inr}
 use mathlib.Core.Bool.{Bool, true, false, cond, not, Bool·beq}
 use mathlib.Core.List.{List, [], _∷_}
 use mathlib.Core.Option.{Option, none, some}
@@ -9,9 +10,10 @@ use lib.ListN.{length, drop, length-replicate}
 use lib.Dec.{leb}
 use Rattle.qbf.specs.Formula.{paper, Formula, Literal, Node, quantifiers}
 use Rattle.qbf.specs.Truth.{Outcome, decided, mixed, decidedNodes, select, outline, bound, freeVariables}
-use Rattle.qbf.specs.Learning.{Constraint, LearningResult, learningSearch}
+use Rattle.qbf.specs.Learning.{Constraint, Store, LearningResult}
+use Rattle.qbf.specs.Ceiling.{Attempt, finished, stopped, searchWithin}
 use Rattle.qbf.specs.Card.{tableOf, zeroTable}
-use Rattle.qbf.specs.Calls.{Call, query, card, keepCard, cardOf, lines, cardRefused, Answer, answer, queryFault, startNode, queryReply, learningQuery, learningCard, guarded}
+use Rattle.qbf.specs.Calls.{Call, query, card, keepCard, cardOf, Reply, refused, lines, cardRefused, Answer, answer, queryFault, startNode, queryReply, cardReplyOf, attemptAnswer, learningQuery, learningCard, guarded}
 use Rattle.qbf.specs.Demands.{refusalOf}
 use Rattle.theory.proofs.Starting.{free-rest, start-length}
 use Rattle.tables.specs.Views.{Places, Kinds}
@@ -22,14 +24,14 @@ use Rattle.node.specs.declared.Answer.{Answer as Found}
 use Rattle.node.specs.declared.Verdict.{Verdict}
 use Rattle.node.specs.declared.Verdict.the-variants.{Yes, No, Mixed}
 use Rattle.state.specs.declared.State.{State}
-use Rattle.state.specs.Reading.{valid, prefixIn, formulaIn, storeIn, stateIn}
+use Rattle.state.specs.Reading.{readState, valid, prefixIn, formulaIn, storeIn, stateIn}
 use Rattle.reading.specs.Reading.{QueryRead}
 use Rattle.serving.specs.Serves.{Said, said, saidReply, saidOf, Serves}
 use Rattle.serving.proofs.Calls.{Passes, malformed, moved-on, unchanged}
 use Rattle.answers.specs.Answers.{rulingSaid, cardSaid, rulingFor, total}
 use Rattle.answers.specs.declared.Printed.the-variants as shown
 use Rattle.answers.specs.declared.Ruling.{Ruling}
-use Rattle.answers.specs.Run.{Ends, FoundBy, Ran}
+use Rattle.answers.specs.Run.{Ends, EndsBy, TriedBy, storeLeft, FoundBy, Ran}
 use Rattle.answers.proofs.Running.{formed}
 
 -- a call served with an answer that is equal to that
@@ -53,65 +55,105 @@ pub cleared-length : (size : ℕ) {zeros : List ℕ} → zeros ≡ zeroTable siz
 cleared-length size e = ap length e ∙ length-replicate size 0
 
 -- a malformed state: 22, and the table is zero
-pub malformed-card : (x : State) (p : Bool) (size : ℕ) (zeros : List ℕ) → zeros ≡ zeroTable size → valid x ≡ false → Serves x (cardOf p size) (said (some 22) 0 0 0 zeros) x
-malformed-card x p size zeros z e = subst (λ (tb : List ℕ). Serves x (cardOf p size) (said (some 22) 0 0 0 tb) x) (sym z) (by p)
+pub malformed-card : (x : State) (p : Bool) (top size : ℕ) (zeros : List ℕ) → zeros ≡ zeroTable size → valid x ≡ false → Serves x (cardOf p top size) (said (some 22) 0 0 0 zeros) x
+malformed-card x p top size zeros z e = subst (λ (tb : List ℕ). Serves x (cardOf p top size) (said (some 22) 0 0 0 tb) x) (sym z) (by p)
   where
-    by : (q : Bool) → Serves x (cardOf q size) (said (some 22) 0 0 0 (zeroTable size)) x
-    by true = malformed x (card size) e
-    by false = malformed x (keepCard size) e
+    by : (q : Bool) → Serves x (cardOf q top size) (said (some 22) 0 0 0 (zeroTable size)) x
+    by true = malformed x (card top size) e
+    by false = malformed x (keepCard top size) e
+
+-- the store of an answer is the one that its search leaves
+left-by : (over : Reply) (top : ℕ) (tell : Outcome (Unit {0}) → Reply) (t : Attempt) → attemptAnswer over top tell t .store ≡ storeLeft t
+left-by over top tell (finished o) = refl
+left-by over top tell (stopped st) = refl
 
 module _ (x : State) (v : valid x ≡ true) where
   abbrev b : Formula
   b = formulaIn x
 
-  abbrev searchFrom : ℕ → Node → LearningResult
-  searchFrom at s = learningSearch paper (prefixIn x) (b .clauses) (drop at (quantifiers (prefixIn x))) s (storeIn x)
+  abbrev searchFrom : ℕ → ℕ → Node → Attempt
+  searchFrom n at s = searchWithin paper (prefixIn x) (b .clauses) n (drop at (quantifiers (prefixIn x))) s (storeIn x)
 
-  asked : {p : Bool} (ls : List Literal) (free : ℕ) (r : Found) (y : State) (table : List ℕ) → free ≡ freeVariables (prefixIn x) → queryFault b [] ls ≡ none
-      → FoundBy p x (searchFrom free (startNode ls (prefixIn x))) free r y table → Serves x (query ls) (rulingSaid (rulingFor (r .verdict)) (r .visits)) y
-  asked ls free r y table frees fine f =
-      subst (λ (a : Said). Serves x (query ls) a y) whole (moved-on x (query ls) v y (f .state ∙ ap some state-is) passes)
-    where
-      w : LearningResult
-      w = learningSearch paper (prefixIn x) (b .clauses) (bound (quantifiers (prefixIn x))) (startNode ls (prefixIn x)) (storeIn x)
+  -- a query by what its search comes to
+  module _ (top : ℕ) (ls : List Literal) (y : State) (fine : queryFault b [] ls ≡ none) where
+    abbrev answered : Attempt → Answer
+    answered t = attemptAnswer (refused 34) top queryReply t .out
 
-      same : searchFrom free (startNode ls (prefixIn x)) ≡ w
+    query-by : (t : Attempt) → searchWithin paper (prefixIn x) (b .clauses) top (bound (quantifiers (prefixIn x))) (startNode ls (prefixIn x)) (storeIn x) ≡ t
+        → readState y ≡ some (record { formula = b; store = storeLeft t }) → Passes (refusalOf (answered t .reply)) → Serves x (query top ls) (saidOf (answered t)) y
+    query-by t is left pass =
+        subst (λ (a : Answer). Serves x (query top ls) (saidOf a) y) out-is
+        (moved-on x (query top ls) v y (left ∙ ap some state-is) (subst (λ (a : Answer). Passes (refusalOf (a .reply))) (sym out-is) pass))
+      where
+        out-is : guarded true (stateIn x) (query top ls) .out ≡ answered t
+        out-is = ap (λ (o : Option ℕ). learningQuery o b (storeIn x) top ls .out) fine ∙ ap answered is
+
+        state-is : record { formula = b; store = storeLeft t } ≡ guarded true (stateIn x) (query top ls) .state
+        state-is =
+            ap (λ (st : Store). record { formula = b; store = st })
+            (sym (left-by (refused 34) top queryReply t) ∙ ap (λ (z : Attempt). attemptAnswer (refused 34) top queryReply z .store) (sym is))
+            ∙ sym (ap (λ (o : Option ℕ). record { formula = b; store = learningQuery o b (storeIn x) top ls .store }) fine)
+
+    module _ {p : Bool} (free budget : ℕ) (r : Found) (table : List ℕ) (frees : free ≡ freeVariables (prefixIn x)) (allowed : budget ≡ suc top)
+        (f : FoundBy p x (searchFrom (budget - 1) free (startNode ls (prefixIn x))) free budget r y table) where
+      same : searchWithin paper (prefixIn x) (b .clauses) top (bound (quantifiers (prefixIn x))) (startNode ls (prefixIn x)) (storeIn x) ≡ searchFrom (budget - 1) free (startNode ls (prefixIn x))
       same =
-          ap (λ qs. learningSearch paper (prefixIn x) (b .clauses) qs (startNode ls (prefixIn x)) (storeIn x))
-          (ap (λ (i : ℕ). drop i (quantifiers (prefixIn x))) frees ∙ free-rest (quantifiers (prefixIn x)))
+          ap (λ qs. searchWithin paper (prefixIn x) (b .clauses) top qs (startNode ls (prefixIn x)) (storeIn x))
+          (sym (ap (λ (i : ℕ). drop i (quantifiers (prefixIn x))) frees ∙ free-rest (quantifiers (prefixIn x))))
+          ∙ ap (λ (n : ℕ). searchFrom n free (startNode ls (prefixIn x))) one-less
+        where
+          one-less : top ≡ budget - 1
+          one-less = omega (arith, allowed)
 
-      state-is : record { formula = b; store = searchFrom free (startNode ls (prefixIn x)) .store } ≡ guarded true (stateIn x) (query ls) .state
-      state-is = ap (λ (z : LearningResult). record { formula = b; store = z .store }) same ∙ sym (ap (λ (o : Option ℕ). record { formula = b; store = learningQuery o b (storeIn x) ls .store }) fine)
+      -- swap or keep, where some budget is left
+      asked : (k : ℕ) → k + r .budget ≡ suc top → (r .budget ≡ 0 → ⊥) → Serves x (query top ls) (rulingSaid (rulingFor (r .verdict)) k) y
+      asked k counted some-left = by (searchFrom (budget - 1) free (startNode ls (prefixIn x))) same (f .tried) (f .state)
+        where
+          by : (t : Attempt) → searchWithin paper (prefixIn x) (b .clauses) top (bound (quantifiers (prefixIn x))) (startNode ls (prefixIn x)) (storeIn x) ≡ t → TriedBy p t free budget r table
+              → readState y ≡ some (record { formula = b; store = storeLeft t }) → Serves x (query top ls) (rulingSaid (rulingFor (r .verdict)) k) y
+          by (stopped z) is spent-all left = absurd (some-left spent-all)
+          by (finished o) is h left =
+              subst (λ (a : Said). Serves x (query top ls) a y) whole (query-by (finished o) is left (query-passes (outline (o .outcome))))
+            where
+              whole : saidReply (queryReply (outline (o .outcome))) (o .visits) ≡ rulingSaid (rulingFor (r .verdict)) k
+              whole = sym (ruling-is (r .verdict) (o .outcome) (o .visits) (h .verdict)) ∙ ap (rulingSaid (rulingFor (r .verdict))) k-is
+                where
+                  k-is : o .visits ≡ k
+                  k-is = omega (arith, counted, h .visits, allowed)
 
-      out-is : guarded true (stateIn x) (query ls) .out ≡ answer (queryReply (outline (w .outcome))) (w .visits)
-      out-is = ap (λ (o : Option ℕ). learningQuery o b (storeIn x) ls .out) fine
-
-      passes : Passes (refusalOf (guarded true (stateIn x) (query ls) .out .reply))
-      passes = subst (λ (a : Answer). Passes (refusalOf (a .reply))) (sym out-is) (query-passes (outline (w .outcome)))
-
-      whole : saidOf (guarded true (stateIn x) (query ls) .out) ≡ rulingSaid (rulingFor (r .verdict)) (r .visits)
-      whole =
-          ap saidOf out-is
-          ∙ ap (λ (z : LearningResult). saidReply (queryReply (outline (z .outcome))) (z .visits)) (sym same)
-          ∙ sym (ruling-is (r .verdict) (searchFrom free (startNode ls (prefixIn x)) .outcome) (searchFrom free (startNode ls (prefixIn x)) .visits) (f .verdict))
-          ∙ ap (rulingSaid (rulingFor (r .verdict))) (sym (f .visits))
+      -- 34, where none is left: the visits are the ceiling, and the store is kept
+      halted : r .budget ≡ 0 → Serves x (query top ls) (said (some 34) 0 0 top []) y
+      halted none-left = by (searchFrom (budget - 1) free (startNode ls (prefixIn x))) same (f .tried) (f .state)
+        where
+          by : (t : Attempt) → searchWithin paper (prefixIn x) (b .clauses) top (bound (quantifiers (prefixIn x))) (startNode ls (prefixIn x)) (storeIn x) ≡ t → TriedBy p t free budget r table
+              → readState y ≡ some (record { formula = b; store = storeLeft t }) → Serves x (query top ls) (said (some 34) 0 0 top []) y
+          by (stopped z) is h left = query-by (stopped z) is left (inr refl)
+          by (finished o) is h left = absurd (omega (arith, h .left, none-left))
 
   -- from what the code has at hand: its reading of the arguments, the search from the start node, and the ruling
   module _ {ls : List Literal} {free : ℕ} {ok : Bool} {values : List ℕ} (frees : free ≡ freeVariables (prefixIn x)) (read : QueryRead (prefixIn x) free ls ok values) where
-    pub asked-by : {p : Bool} {places kinds : List ℕ} {at : ℕ} (r : Found) (y : State) (table : List ℕ) → Places (prefixIn x) places → Kinds (prefixIn x) kinds → ok ≡ true
-        → Ran p x places kinds values at free (0 ∷ []) r y table → at ≡ free → {q : Ruling} → q ≡ rulingFor (r .verdict) → Serves x (query ls) (rulingSaid q (r .visits)) y
-    asked-by {p} {places} {kinds} {at} r y table ps ks fine ran here {q} is =
-        let good = formed x v .prefix-ok in
-        subst (λ (z : Ruling). Serves x (query ls) (rulingSaid z (r .visits)) y) (sym is)
-        (asked ls free r y table frees (read .fine b refl good frees fine)
-        (subst (λ (i : ℕ). FoundBy p x (searchFrom i (startNode ls (prefixIn x))) free r y table) here
-        (ran .found (startNode ls (prefixIn x)) ps ks (read .shown good frees fine) (start-length ls (prefixIn x) ∙ sym frees ∙ sym here) frees (covers-none free 1 (0 ∷ []) refl))))
+    module _ (top : ℕ) {p : Bool} {places kinds : List ℕ} {at budget : ℕ} (r : Found) (y : State) (table : List ℕ) (ps : Places (prefixIn x) places) (ks : Kinds (prefixIn x) kinds) (fine : ok ≡ true)
+        (ran : Ran p x places kinds values at free budget (0 ∷ []) r y table) (here : at ≡ free) (allowed : budget ≡ suc top) where
+      found-at : FoundBy p x (searchFrom (budget - 1) free (startNode ls (prefixIn x))) free budget r y table
+      found-at =
+          subst (λ (i : ℕ). FoundBy p x (searchFrom (budget - 1) i (startNode ls (prefixIn x))) free budget r y table) here
+          (ran .found (startNode ls (prefixIn x)) ps ks (read .shown (formed x v .prefix-ok) frees fine) (start-length ls (prefixIn x) ∙ sym frees ∙ sym here) frees (covers-none free 1 (0 ∷ []) refl))
+
+      no-fault : queryFault b [] ls ≡ none
+      no-fault = read .fine b refl (formed x v .prefix-ok) frees fine
+
+      pub asked-by : (k : ℕ) → k + r .budget ≡ suc top → (r .budget ≡ 0 → ⊥) → {q : Ruling} → q ≡ rulingFor (r .verdict) → Serves x (query top ls) (rulingSaid q k) y
+      asked-by k counted some-left {q} is =
+          subst (λ (z : Ruling). Serves x (query top ls) (rulingSaid z k) y) (sym is) (asked top ls y no-fault free budget r table frees allowed found-at k counted some-left)
+
+      pub halted-by : r .budget ≡ 0 → Serves x (query top ls) (said (some 34) 0 0 top []) y
+      halted-by none-left = halted top ls y no-fault free budget r table frees allowed found-at none-left
 
     -- refused with 8: the state is as given
-    pub refused-query : ok ≡ false → Serves x (query ls) (said (some 8) 0 0 0 []) x
-    refused-query bad =
-        subst (λ (a : Said). Serves x (query ls) a x) (ap (λ (o : Option ℕ). saidOf (learningQuery o b (storeIn x) ls .out)) e)
-        (unchanged x (query ls) v (ap (λ (o : Option ℕ). record { formula = b; store = learningQuery o b (storeIn x) ls .store }) e))
+    pub refused-query : (top : ℕ) → ok ≡ false → Serves x (query top ls) (said (some 8) 0 0 0 []) x
+    refused-query top bad =
+        subst (λ (a : Said). Serves x (query top ls) a x) (ap (λ (o : Option ℕ). saidOf (learningQuery o b (storeIn x) top ls .out)) e)
+        (unchanged x (query top ls) v (ap (λ (o : Option ℕ). record { formula = b; store = learningQuery o b (storeIn x) top ls .store }) e))
       where
         e : queryFault b [] ls ≡ some 8
         e = read .fault b refl (formed x v .prefix-ok) frees bad
@@ -156,51 +198,105 @@ module _ (x : State) (v : valid x ≡ true) where
       by No (e, q) = at q (cond (not p) (n + 1) n) (decided-own false (not p) (is-no p) (below q .1) (below q .0))
       by Mixed (ds, q) = at q n (below q)
 
-  module _ (p : Bool) (size free : ℕ) (r : Found) (y : State) (table : List ℕ) (frees : free ≡ freeVariables (prefixIn x)) (sized : length table ≡ size) (f : FoundBy p x (searchFrom 0 []) free r y table) (n : ℕ) (counted : n ≡ total p (r .verdict) (r .lines)) where
-    abbrev w : LearningResult
-    w = searchFrom 0 []
+  -- a card by what its search comes to
+  module _ (p : Bool) (top size : ℕ) (y : State) where
+    abbrev card-answered : Attempt → Answer
+    card-answered t = attemptAnswer (cardRefused 34 (zeroTable size)) top (cardReplyOf p (prefixIn x) size) t .out
 
-    abbrev ls : List Node
-    ls = allLines p (w .outcome)
-
-    both : Covers free table ls × (total p (r .verdict) (r .lines) ≡ length ls)
-    both = all-lines p (r .verdict) (w .outcome) free table (r .lines) (f .verdict) (f .covers) (f .lines)
-
-    test : leb (n * free) size ≡ leb (length ls * freeVariables (prefixIn x)) size
-    test = (λ i. leb ((counted ∙ both .1) i * frees i) size)
-
-    -- the definitions' card is the search's
-    called : (q : Bool) → guarded true (stateIn x) (cardOf q size) .out ≡ learningCard q b (storeIn x) size .out
-    called true = refl
-    called false = refl
-
-    next-is : (q : Bool) → record { formula = b; store = w .store } ≡ guarded true (stateIn x) (cardOf q size) .state
-    next-is true = refl
-    next-is false = refl
-
-    out-by : (t : Bool) → leb (n * free) size ≡ t
-        → guarded true (stateIn x) (cardOf p size) .out ≡ answer (cond t (lines ls (tableOf (freeVariables (prefixIn x)) size ls)) (cardRefused 21 (zeroTable size))) (w .visits)
-    out-by t e = called p ∙ ap (λ (z : Bool). answer (cond z (lines ls (tableOf (freeVariables (prefixIn x)) size ls)) (cardRefused 21 (zeroTable size))) (w .visits)) (sym test ∙ e)
-
-    -- the lines fit
-    pub shown-card : leb (n * free) size ≡ true → Serves x (cardOf p size) (cardSaid (shown.Lines n) (r .visits) table) y
-    shown-card e =
-        subst (λ (a : Said). Serves x (cardOf p size) a y) whole
-        (moved-on x (cardOf p size) v y (f .state ∙ ap some (next-is p)) (subst (λ (a : Answer). Passes (refusalOf (a .reply))) (sym (out-by true e)) tt))
+    card-by : (t : Attempt) → searchFrom top 0 [] ≡ t → readState y ≡ some (record { formula = b; store = storeLeft t }) → Passes (refusalOf (card-answered t .reply))
+        → Serves x (cardOf p top size) (saidOf (card-answered t)) y
+    card-by t is left pass =
+        subst (λ (a : Answer). Serves x (cardOf p top size) (saidOf a) y) out-is
+        (moved-on x (cardOf p top size) v y (left ∙ ap some state-is) (subst (λ (a : Answer). Passes (refusalOf (a .reply))) (sym out-is) pass))
       where
-        table-is : table ≡ tableOf (freeVariables (prefixIn x)) size ls
-        table-is =
-            covers-fits free table ls (both .0) ((λ i. leb (sym (both .1) i * free) (sized i)) ∙ ap (λ (k : ℕ). leb (k * free) size) (sym counted) ∙ e)
-            ∙ (λ i. tableOf (frees i) (sized i) ls)
+        -- the definitions' card is the search's
+        called : (q : Bool) → guarded true (stateIn x) (cardOf q top size) .out ≡ learningCard q b (storeIn x) top size .out
+        called true = refl
+        called false = refl
 
-        whole : saidOf (guarded true (stateIn x) (cardOf p size) .out) ≡ cardSaid (shown.Lines n) (r .visits) table
-        whole = ap saidOf (out-by true e) ∙ sym (λ i. said none 0 ((counted ∙ both .1) i) (f .visits i) (table-is i))
+        next-is : (q : Bool) → record { formula = b; store = learningCard q b (storeIn x) top size .store } ≡ guarded true (stateIn x) (cardOf q top size) .state
+        next-is true = refl
+        next-is false = refl
 
-    -- they do not: 21, with the visits and the store of the search
-    pub full-card : (zeros : List ℕ) → zeros ≡ zeroTable size → leb (n * free) size ≡ false → Serves x (cardOf p size) (cardSaid (shown.Refused 21) (r .visits) zeros) y
-    full-card zeros z e =
-        subst (λ (a : Said). Serves x (cardOf p size) a y) whole
-        (moved-on x (cardOf p size) v y (f .state ∙ ap some (next-is p)) (subst (λ (a : Answer). Passes (refusalOf (a .reply))) (sym (out-by false e)) refl))
+        out-is : guarded true (stateIn x) (cardOf p top size) .out ≡ card-answered t
+        out-is = called p ∙ ap card-answered is
+
+        state-is : record { formula = b; store = storeLeft t } ≡ guarded true (stateIn x) (cardOf p top size) .state
+        state-is =
+            ap (λ (st : Store). record { formula = b; store = st })
+            (sym (left-by (cardRefused 34 (zeroTable size)) top (cardReplyOf p (prefixIn x) size) t)
+            ∙ ap (λ (z : Attempt). attemptAnswer (cardRefused 34 (zeroTable size)) top (cardReplyOf p (prefixIn x) size) z .store) (sym is))
+            ∙ next-is p
+
+  module _ (p : Bool) (top size free budget : ℕ) (r : Found) (y : State) (table : List ℕ) (frees : free ≡ freeVariables (prefixIn x)) (sized : length table ≡ size) (allowed : budget ≡ suc top)
+      (f : FoundBy p x (searchFrom (budget - 1) 0 []) free budget r y table) where
+    same-card : searchFrom top 0 [] ≡ searchFrom (budget - 1) 0 []
+    same-card = ap (λ (n : ℕ). searchFrom n 0 []) one-less
       where
-        whole : saidOf (guarded true (stateIn x) (cardOf p size) .out) ≡ cardSaid (shown.Refused 21) (r .visits) zeros
-        whole = ap saidOf (out-by false e) ∙ sym (λ i. said (some 21) 0 0 (f .visits i) (z i))
+        one-less : top ≡ budget - 1
+        one-less = omega (arith, allowed)
+
+    -- 34: the visits are the ceiling, the table is zero, and the store is kept
+    pub halted-card : r .budget ≡ 0 → (zeros : List ℕ) → zeros ≡ zeroTable size → Serves x (cardOf p top size) (said (some 34) 0 0 top zeros) y
+    halted-card none-left zeros z = by (searchFrom (budget - 1) 0 []) same-card (f .tried) (f .state)
+      where
+        by : (t : Attempt) → searchFrom top 0 [] ≡ t → TriedBy p t free budget r table → readState y ≡ some (record { formula = b; store = storeLeft t }) → Serves x (cardOf p top size) (said (some 34) 0 0 top zeros) y
+        by (finished o) is h left = absurd (omega (arith, h .left, none-left))
+        by (stopped st) is h left =
+            subst (λ (tb : List ℕ). Serves x (cardOf p top size) (said (some 34) 0 0 top tb) y) (sym z) (card-by p top size y (stopped st) is left (inr refl))
+
+    -- some budget is left
+    module _ (some-left : r .budget ≡ 0 → ⊥) (k : ℕ) (spent : k + r .budget ≡ suc top) (n : ℕ) (counted : n ≡ total p (r .verdict) (r .lines)) where
+      module _ (o : LearningResult) (is : searchFrom top 0 [] ≡ finished o) (h : EndsBy p o free budget r table) (left : readState y ≡ some (record { formula = b; store = o .store })) where
+        abbrev ls : List Node
+        ls = allLines p (o .outcome)
+
+        both : Covers free table ls × (total p (r .verdict) (r .lines) ≡ length ls)
+        both = all-lines p (r .verdict) (o .outcome) free table (r .lines) (h .verdict) (h .covers) (h .lines)
+
+        k-is : k ≡ o .visits
+        k-is = omega (arith, spent, h .visits, allowed)
+
+        test : leb (n * free) size ≡ leb (length ls * freeVariables (prefixIn x)) size
+        test = (λ i. leb ((counted ∙ both .1) i * frees i) size)
+
+        out-by : (t : Bool) → leb (n * free) size ≡ t
+            → card-answered p top size y (finished o) ≡ answer (cond t (lines ls (tableOf (freeVariables (prefixIn x)) size ls)) (cardRefused 21 (zeroTable size))) (o .visits)
+        out-by t e = ap (λ (z : Bool). answer (cond z (lines ls (tableOf (freeVariables (prefixIn x)) size ls)) (cardRefused 21 (zeroTable size))) (o .visits)) (sym test ∙ e)
+
+        -- the lines fit
+        shown-ended : leb (n * free) size ≡ true → Serves x (cardOf p top size) (cardSaid (shown.Lines n) k table) y
+        shown-ended e =
+            subst (λ (a : Said). Serves x (cardOf p top size) a y) whole
+            (card-by p top size y (finished o) is left (subst (λ (a : Answer). Passes (refusalOf (a .reply))) (sym (out-by true e)) tt))
+          where
+            table-is : table ≡ tableOf (freeVariables (prefixIn x)) size ls
+            table-is =
+                covers-fits free table ls (both .0) ((λ i. leb (sym (both .1) i * free) (sized i)) ∙ ap (λ (m : ℕ). leb (m * free) size) (sym counted) ∙ e)
+                ∙ (λ i. tableOf (frees i) (sized i) ls)
+
+            whole : saidOf (card-answered p top size y (finished o)) ≡ cardSaid (shown.Lines n) k table
+            whole = ap saidOf (out-by true e) ∙ sym (λ i. said none 0 ((counted ∙ both .1) i) (k-is i) (table-is i))
+
+        -- they do not: 21, with the visits and the store of the search
+        full-ended : (zeros : List ℕ) → zeros ≡ zeroTable size → leb (n * free) size ≡ false → Serves x (cardOf p top size) (cardSaid (shown.Refused 21) k zeros) y
+        full-ended zeros z e =
+            subst (λ (a : Said). Serves x (cardOf p top size) a y) whole
+            (card-by p top size y (finished o) is left (subst (λ (a : Answer). Passes (refusalOf (a .reply))) (sym (out-by false e)) (inl refl)))
+          where
+            whole : saidOf (card-answered p top size y (finished o)) ≡ cardSaid (shown.Refused 21) k zeros
+            whole = ap saidOf (out-by false e) ∙ sym (λ i. said (some 21) 0 0 (k-is i) (z i))
+
+      -- the search came to its end
+      ended-by : {A : Type 0} → ((o : LearningResult) → searchFrom top 0 [] ≡ finished o → EndsBy p o free budget r table → readState y ≡ some (record { formula = b; store = o .store }) → A) → A
+      ended-by {A} then = by (searchFrom (budget - 1) 0 []) same-card (f .tried) (f .state)
+        where
+          by : (t : Attempt) → searchFrom top 0 [] ≡ t → TriedBy p t free budget r table → readState y ≡ some (record { formula = b; store = storeLeft t }) → A
+          by (stopped z) is spent-all left = absurd (some-left spent-all)
+          by (finished o) is h left = then o is h left
+
+      pub shown-card : leb (n * free) size ≡ true → Serves x (cardOf p top size) (cardSaid (shown.Lines n) k table) y
+      shown-card e = ended-by (λ o is h left. shown-ended o is h left e)
+
+      pub full-card : (zeros : List ℕ) → zeros ≡ zeroTable size → leb (n * free) size ≡ false → Serves x (cardOf p top size) (cardSaid (shown.Refused 21) k zeros) y
+      full-card zeros z e = ended-by (λ o is h left. full-ended o is h left zeros z e)

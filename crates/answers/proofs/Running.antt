@@ -1,25 +1,27 @@
 -- The search on the tables of a state: what it needs of the state, and what its result says of the next one.
 use Prim.Native.Nat.{ℕ, zero, suc, _-_, _*_, _^_, _≤_, _<_}
 use native.Mathlib.Omega.{arith}
-use native.Mathlib.Nat.{pow-le-pow-right}
 use mathlib.Core.Path.{_≡_, refl, sym, ap, _∙_, subst}
 use mathlib.Core.Bool.{Bool, true, false, cond, _&&_}
 use mathlib.Core.List.{List, [], map}
 use mathlib.Core.Option.{Option, none, some}
 use lib.ListN.{length, getD, drop, replicate, length-map}
 use lib.IntN.{ℤ}
-use lib.Dec.{leb}
+use lib.Dec.{eqb, leb}
 use borrow.Author.Tests.{leb-true}
-use Rattle.qbf.specs.Formula.{paper, Prefix, Literal, Clause, Node, quantifiers, place, placeOf, valueAt}
+use Rattle.qbf.specs.Formula.{paper, Quantifier, Prefix, Literal, Clause, Node, quantifiers, place, placeOf, valueAt}
 use Rattle.qbf.specs.Truth.{Outcome, decided, freeVariables}
-use Rattle.qbf.specs.Learning.{Constraint, Store, LearningResult, constraints, leaf, settle, below, firstDead}
+use Rattle.qbf.specs.Learning.{Constraint, Store, LearningResult, constraints, leaf, firstDead, learningSearch}
+use Rattle.qbf.specs.Ceiling.{highestCeiling, Attempt, finished, stopped, settleWithin, belowWithin, searchWithin}
 use Rattle.qbf.specs.Card.{Mem}
 use Rattle.qbf.specs.Calls.{numbersOk}
 use Rattle.theory.proofs.Basics.{and-both, and-left}
 use Rattle.theory.proofs.Starting.{free-fit}
-use Rattle.theory.proofs.Game.{rising-above}
+use Rattle.theory.proofs.Rest.{Rest, rest-up}
+use Rattle.theory.proofs.Game.{Rising, rising-above}
 use Rattle.theory.proofs.Stores.{ShapedStore}
-use Rattle.theory.proofs.ShapedSearch.{shaped-below}
+use Rattle.theory.proofs.ShapedSearch.{shaped-visit}
+use Rattle.theory.proofs.Ceiling.{Within, search-within}
 use Rattle.theory.proofs.WellFormed.{state-facts, shaped-store, clauses-rising, numbers-ok}
 use Rattle.tables.specs.Views.{Numbers, Places, Kinds, Values, valueCode, rowsOf}
 use Rattle.tables.specs.Formed.{Stores, Formed}
@@ -42,7 +44,8 @@ use Rattle.node.specs.declared.Position.{Position}
 use Rattle.node.specs.declared.Answer.{Answer}
 use Rattle.search_entry.specs.declared.Source.the-variants.{Area}
 use Rattle.search.proofs.Visiting.{open-alive}
-use Rattle.search.specs.Search.{Room, Counts, Followed, Result}
+use Rattle.inner.proofs.Stepping.{formulaOf, facts}
+use Rattle.search.specs.Search.{Room, Counts, Followed, Says, Result}
 use Rattle.state.specs.declared.State.{State}
 use Rattle.state.specs.Reading.{stateOf, rowsFit, prefixFits, readState, valid, recordsOf, storeOf, prefixIn, formulaIn, storeIn, stateIn}
 use Rattle.state.specs.Derived.{Sized}
@@ -50,36 +53,35 @@ use Rattle.state.proofs.Valid.{ValidFacts, valid-facts, table-rows, valid-table
 use Rattle.search_start.specs.Start.{Starts}
 use Rattle.search_start.specs.declared.Start.{Start}
 use Rattle.search_start.specs.declared.Start.the-variants.{No as NoStart, Yes as YesStart, Open}
-use Rattle.answers.specs.Run.{Ready, AtStart, Ends, FoundBy, belowStart, BelowBy, Below, Over, Searched, Ran}
+use Rattle.answers.specs.Run.{Ready, AtStart, Ends, storeLeft, FoundBy, belowStart, BelowBy, Below, Over, Searched, Ran}
 
--- a start node that is decided without branching
-abbrev decidedAt : Verdict → Answer
-decidedAt w = record { verdict = w; source = Area; start = 0; len = 0; visits = 1; lines = 0 }
+-- a start node that does not branch
+abbrev endedAt : Verdict → ℕ → Answer
+endedAt w k = record { verdict = w; source = Area; start = 0; len = 0; budget = k; lines = 0 }
 
-pub decided-few : {w : Verdict} {r : Answer} → r ≡ decidedAt w → r .lines < 2 ^ 63
-decided-few {w} {r} e = omega (arith, ap (λ (a : Answer). a .lines) e)
+pub ended-few : {w : Verdict} {k n : ℕ} {r : Answer} → r ≡ endedAt w k → k ≤ n → (r .lines < 2 ^ 63) × (r .budget ≤ n)
+ended-few {w} {k} {n} {r} e h = (omega (arith, ap (λ (a : Answer). a .lines) e), omega (arith, h, ap (λ (a : Answer). a .budget) e))
 
 -- where a search on a state starts
-abbrev pub startAt : ℕ → ℕ → ℕ → Bool → Position
-startAt at free words p = record { at = at; free = free; visits = 0; lines = 0; words = words; yes = p }
+abbrev pub startAt : ℕ → ℕ → ℕ → ℕ → Bool → Position
+startAt at free budget words p = record { at = at; free = free; budget = budget; lines = 0; words = words; yes = p }
 
-pub room : {p : Bool} (cl ql : List ℕ) (at free words : ℕ) → at ≤ paper .numbers → free ≤ paper .numbers → RowLength words
-    → newestOf cl ≤ paper .constraints → newestOf ql ≤ paper .constraints → Room (paper .numbers * paper .numbers) cl ql (startAt at free words p)
-room cl ql at free words within small long learned cubes =
+pub room : {p : Bool} (cl ql : List ℕ) (at free budget words : ℕ) → at ≤ paper .numbers → free ≤ paper .numbers → RowLength words
+    → newestOf cl ≤ paper .constraints → newestOf ql ≤ paper .constraints → budget ≤ suc highestCeiling → Room (paper .numbers * paper .numbers) cl ql (startAt at free budget words p)
+room cl ql at free budget words within small long learned cubes bounded =
     record {
       within = within;
       free = small;
       words = long;
       aside = omega arith;
-      visits = omega (arith, pow-le-pow-right {n = 2} (omega arith) {i = suc (paper .numbers - at)} {j = 62} (omega arith));
-      lines = omega arith;
-      clauses = learned;
-      cubes = cubes;
+      lines = omega (arith, bounded);
+      clauses = omega (arith, learned, bounded);
+      cubes = omega (arith, cubes, bounded);
     }
 
-pub few-lines : {p : Bool} (cl ql : List ℕ) (at free words : ℕ) (r : Answer) (cl′ ql′ : List ℕ) → Counts cl ql (startAt at free words p) r cl′ ql′ → r .lines < 2 ^ 63
-few-lines cl ql at free words r cl′ ql′ c =
-    omega (arith, c .fewer, c .lines-fewer, pow-le-pow-right {n = 2} (omega arith) {i = suc (paper .numbers - at)} {j = suc (paper .numbers)} (omega arith))
+pub few-lines : {p : Bool} (cl ql : List ℕ) (at free budget words : ℕ) (r : Answer) (cl′ ql′ : List ℕ) → Counts cl ql (startAt at free budget words p) r cl′ ql′ → budget ≤ suc highestCeiling
+    → (r .lines < 2 ^ 63) × (r .budget ≤ budget)
+few-lines cl ql at free budget words r cl′ ql′ c bounded = (omega (arith, c .lines-fewer, bounded), omega (arith, c .lines-fewer, c .lines-more))
 
 ends : (D : Prefix) (w : Verdict) (cs : List ℕ) (o : Outcome Constraint) → Reads D w cs o → Ends w o
 ends D Yes cs o h = (h .0, h .1)
@@ -87,31 +89,33 @@ ends D No cs o h = (h .0, h .1)
 ends D Mixed cs o h = h
 
 -- the search below an open start node, from what the branch there gives
-pub below-shown : {p : Bool} (rows sets : List ℕ) (count words : ℕ) (numbers quantifiers values statuses cs cl qs ql table sat marks : List ℕ) (at free : ℕ) (a : Answer)
+pub below-shown : {p : Bool} (rows sets : List ℕ) (count words : ℕ) (numbers quantifiers values statuses cs cl qs ql table sat marks : List ℕ) (at free budget : ℕ) (a : Answer)
     (up cs′ cl′ qs′ ql′ table′ : List ℕ)
     → at ≤ getD numbers 0 0 → words ≡ wordsOf count
     → ((D : Prefix) (s : Node) → Numbers D numbers → Values D s values → numbersOk paper [] D ≡ true → length s ≡ at → length s ≤ length D → Statuses s statuses)
     → ((D : Prefix) (R : List Clause) (s : Node) → StartShown D R s words at sets statuses → length R ≡ count → Descended D s R words sat marks (length s))
-    → Followed (startAt at free words p) a rows sets quantifiers statuses cs cl qs ql table sat marks up cs′ cl′ qs′ ql′ table′
-    → Below p rows sets count numbers quantifiers values cs cl qs ql table at free a cs′ cl′ qs′ ql′ table′
-below-shown {p} rows sets count words numbers quantifiers values statuses cs cl qs ql table sat marks at free a up cs′ cl′ qs′ ql′ table′ within is coded known follow =
+    → Followed (startAt at free budget words p) a rows sets quantifiers statuses cs cl qs ql table sat marks up cs′ cl′ qs′ ql′ table′
+    → Below p rows sets count numbers quantifiers values cs cl qs ql table at free budget a cs′ cl′ qs′ ql′ table′
+below-shown {p} rows sets count words numbers quantifiers values statuses cs cl qs ql table sat marks at free budget a up cs′ cl′ qs′ ql′ table′ within is coded known follow =
     record { by = shown }
   where
     shown : (D : Prefix) (R : List Clause) (s : Node) (g : Ledger) (st : Store)
         → Numbers D numbers → Values D s values → Quantified D quantifiers → MatrixShown D R (wordsOf count) rows sets → length R ≡ count → StoreKept D g st cs cl qs ql → g .clauses ≡ length R
         → Formed D R st → length s ≡ at → free ≡ freeVariables D → Covers free table [] → firstDead D s R ≡ none
-        → BelowBy p D g (belowStart D R at s st) free a cs′ cl′ qs′ ql′ table′
+        → BelowBy p D g (belowStart D R at budget s st) free budget a cs′ cl′ qs′ ql′ table′
     shown D R s g st ns vs qs-shown m counted stored ruled form long frees cov alive =
-        record {
-          verdict = ends D (a .verdict) (entryOf a rows cs′ qs′ up) _ (r .verdict);
-          visits = omega (arith, r .visited);
-          stored = r .stored;
-          covers = r .covers;
-          lines = r .counted;
-        }
+        by (belowStart D R at budget s st) (r .says)
       where
+        by : (t : Attempt) → Says D g [] t (startAt at free budget words p) a rows up cs′ cl′ qs′ ql′ table′ → BelowBy p D g t free budget a cs′ cl′ qs′ ql′ table′
+        by (finished o) h =
+            record {
+              tried = record { verdict = ends D (a .verdict) (entryOf a rows cs′ qs′ up) (o .outcome) (h .verdict); visits = h .visited; left = h .left; covers = h .covers; lines = h .counted };
+              stored = h .stored;
+            }
+        by (stopped z) h = record { tried = h .spent; stored = h .stored }
+
         ok : numbersOk paper [] D ≡ true
-        ok = numbers-ok (record { limits = paper; prefix = D; clauses = R }) (record { limits-ok = refl; prefix-ok = form .prefix-ok; clauses-ok = form .clauses-ok })
+        ok = numbers-ok (formulaOf D R) (facts form)
 
         inside : at ≤ length D
         inside = omega (arith, within, ns .count)
@@ -122,7 +126,7 @@ below-shown {p} rows sets count words numbers quantifiers values statuses cs cl 
         matrix : MatrixShown D R words rows sets
         matrix = matrix-words (sym is) m
 
-        r : Result D g [] (belowStart D R at s st) (startAt at free words p) a rows up cs′ cl′ qs′ ql′ table′
+        r : Result D g [] (belowStart D R at budget s st) (startAt at free budget words p) a rows up cs′ cl′ qs′ ql′ table′
         r =
             follow .result D s [] R g st
             (record {
@@ -157,11 +161,11 @@ module _ (x : State) (v : valid x ≡ true) where
   few-variables = leb-true (getD (x .numbers) 0 0) (paper .numbers) (and-left (leb (getD (x .numbers) 0 0) (paper .numbers)) _ (f .prefix-fits))
 
   -- what a search asks of its tables
-  pub ready : Sized x → (at free : ℕ) → at ≤ getD (x .numbers) 0 0 → free ≤ paper .numbers
-      → Ready (x .numbers) (x .clauses) (x .«clause_sizes») (x .«learned_clauses») (x .«learned_clause_sizes») (x .«learned_cubes») (x .«learned_cube_sizes») at free
-  ready sized at free within small =
+  pub ready : Sized x → (at free budget : ℕ) → at ≤ getD (x .numbers) 0 0 → free ≤ paper .numbers → budget ≤ suc highestCeiling
+      → Ready (x .numbers) (x .clauses) (x .«clause_sizes») (x .«learned_clauses») (x .«learned_clause_sizes») (x .«learned_cubes») (x .«learned_cube_sizes») at free budget
+  ready sized at free budget within small bounded =
       let t = valid-tables x v sized in
-      record { few = few-variables; within = within; frees = small; clauses-in = t .clauses; learned-in = record { clauses = t .learned-clauses; cubes = t .learned-cubes } }
+      record { few = few-variables; within = within; frees = small; clauses-in = t .clauses; learned-in = record { clauses = t .learned-clauses; cubes = t .learned-cubes }; bounded = bounded }
 
   pub variables-numbered : numbersOk paper [] (prefixIn x) ≡ true
   variables-numbered = numbers-ok (formulaIn x) (state-facts (stateIn x) (f .formed) .formula-ok)
@@ -182,24 +186,44 @@ module _ (x : State) (v : valid x ≡ true) where
       (table-rows (paper .numbers) (paper .constraints) cs css (s .clauses)))
       (table-rows (paper .numbers) (paper .constraints) qs qss (s .cubes)))
 
-  -- what is learned below a node is declared
-  learned-declared : (at : ℕ) (s : Node) → length s ≡ at → at ≤ getD (x .numbers) 0 0
-      → (v : Bool) (e : Constraint) → Mem e (constraints v (belowStart (prefixIn x) (formulaIn x .clauses) at s (storeIn x) .store)) → (l : Literal) → Mem l e → 1 ≤ place (prefixIn x) l
-  learned-declared at s long within v e m l i = rising-above (prefixIn x) 0 e (shaped .each v e m .rising) l i
+  -- what is learned below an open node is declared, where the search ends and where it stops
+  learned-declared : (at budget : ℕ) (s : Node) → length s ≡ at → leaf (prefixIn x) (formulaIn x .clauses) leb s (storeIn x) ≡ none
+      → (v : Bool) (e : Constraint) → Mem e (constraints v (storeLeft (belowStart (prefixIn x) (formulaIn x .clauses) at budget s (storeIn x)))) → (l : Literal) → Mem l e → 1 ≤ place (prefixIn x) l
+  learned-declared at budget s long opened v e m l i = rising-above (prefixIn x) 0 e (by (belowStart (prefixIn x) (formulaIn x .clauses) at budget s (storeIn x)) within .each v e m .rising) l i
     where
-      shaped : ShapedStore paper (prefixIn x) (belowStart (prefixIn x) (formulaIn x .clauses) at s (storeIn x) .store)
-      shaped =
-          shaped-below paper (omega arith) (prefixIn x) (formulaIn x .clauses) (clauses-rising (formulaIn x) (state-facts (stateIn x) (f .formed) .formula-ok)) (drop at (quantifiers (prefixIn x))) s (storeIn x)
-          (ap (λ (i : ℕ). drop i (quantifiers (prefixIn x))) long) (state-facts (stateIn x) (f .formed) .store-ok) .store-ok
+      ks : List Quantifier
+      ks = drop at (quantifiers (prefixIn x))
+
+      rest : Rest (prefixIn x) s ks
+      rest = ap (λ (i : ℕ). drop i (quantifiers (prefixIn x))) long
+
+      up : (r : Clause) → Mem r (formulaIn x .clauses) → Rising (prefixIn x) 0 r
+      up = clauses-rising (formulaIn x) (state-facts (stateIn x) (f .formed) .formula-ok)
+
+      one : 1 ≤ paper .constraints
+      one = omega arith
+
+      given : ShapedStore paper (prefixIn x) (storeIn x)
+      given = state-facts (stateIn x) (f .formed) .store-ok
+
+      within : Within (ShapedStore paper (prefixIn x)) (suc (budget - 2)) (learningSearch paper (prefixIn x) (formulaIn x .clauses) ks s (storeIn x)) (belowStart (prefixIn x) (formulaIn x .clauses) at budget s (storeIn x))
+      within =
+          subst (λ (o : Option (Outcome Constraint)). Within (ShapedStore paper (prefixIn x)) (suc (budget - 2)) (learningSearch paper (prefixIn x) (formulaIn x .clauses) ks s (storeIn x)) (settleWithin o (belowWithin paper (prefixIn x) (formulaIn x .clauses) ks) (budget - 2) s (storeIn x))) opened
+          (search-within paper (prefixIn x) (formulaIn x .clauses) (ShapedStore paper (prefixIn x)) (λ qs t. Rest (prefixIn x) t qs) (λ κ qs t c k. rest-up (prefixIn x) t c κ qs k)
+          (λ qs t st k h. shaped-visit paper one (prefixIn x) (formulaIn x .clauses) up eqb qs t st k h .store-ok) (suc (budget - 2)) ks s (storeIn x) rest given)
+
+      by : (t : Attempt) → Within (ShapedStore paper (prefixIn x)) (suc (budget - 2)) (learningSearch paper (prefixIn x) (formulaIn x .clauses) ks s (storeIn x)) t → ShapedStore paper (prefixIn x) (storeLeft t)
+      by (finished q) w =
+          subst (λ (r : LearningResult). ShapedStore paper (prefixIn x) (r .store)) (sym (w .0)) (shaped-visit paper one (prefixIn x) (formulaIn x .clauses) up leb ks s (storeIn x) rest given .store-ok)
+      by (stopped z) w = w .1
 
   -- the search on the state, over derived tables of its clauses
-  module _ {p : Bool} (rows sets : List ℕ) (count : ℕ) (quantifiers places values : List ℕ) (at free : ℕ) (table table′ : List ℕ) (a : Answer)
+  module _ {p : Bool} (rows sets : List ℕ) (count : ℕ) (quantifiers places values : List ℕ) (at free budget : ℕ) (table table′ : List ℕ) (a : Answer)
       (cs cl qs ql cs′ cl′ qs′ ql′ : List ℕ) (lc : List ℤ) (lcs : List ℕ) (lq : List ℤ) (lqs : List ℕ)
-      (within : at ≤ getD (x .numbers) 0 0)
       (loaded : (D : Prefix) → Places D places → length D ≤ paper .numbers → entriesOf cs cl ≡ map (codes D) (rowsOf (paper .numbers) (x .«learned_clauses») (x .«learned_clause_sizes»)))
       (loaded-cubes : (D : Prefix) → Places D places → length D ≤ paper .numbers → entriesOf qs ql ≡ map (codes D) (rowsOf (paper .numbers) (x .«learned_cubes») (x .«learned_cube_sizes»)))
       (numbered : newestOf cl ≡ getD (x .«learned_clause_sizes») 0 0)
-      (run : Below p rows sets count (x .numbers) quantifiers values cs cl qs ql table at free a cs′ cl′ qs′ ql′ table′)
+      (run : Below p rows sets count (x .numbers) quantifiers values cs cl qs ql table at free budget a cs′ cl′ qs′ ql′ table′)
       (stores : Stores lc lcs lq lqs)
       (unloaded : (D : Prefix) (es : List Constraint) → Numbers D (x .numbers) → numbersOk paper [] D ≡ true → entriesOf cs′ cl′ ≡ map (codes D) es
       → ((e : Constraint) → Mem e es → (l : Literal) → Mem l e → 1 ≤ place D l) → rowsOf (paper .numbers) lc lcs ≡ es)
@@ -208,10 +232,10 @@ module _ (x : State) (v : valid x ≡ true) where
       → ((e : Constraint) → Mem e es → (l : Literal) → Mem l e → 1 ≤ place D l) → rowsOf (paper .numbers) lq lqs ≡ es)
     where
       module _ (s : Node) (matrix : MatrixShown (prefixIn x) (formulaIn x .clauses) (wordsOf count) rows sets) (counted : length (formulaIn x .clauses) ≡ count) (quantified : Quantified (prefixIn x) quantifiers) (ps : Places (prefixIn x) places) (vs : Values (prefixIn x) s values)
-          (long : length s ≡ at) (frees : free ≡ freeVariables (prefixIn x)) (cov : Covers free table []) (alive : firstDead (prefixIn x) s (formulaIn x .clauses) ≡ none)
+          (long : length s ≡ at) (frees : free ≡ freeVariables (prefixIn x)) (cov : Covers free table []) (opened : leaf (prefixIn x) (formulaIn x .clauses) leb s (storeIn x) ≡ none)
         where
-          abbrev o : LearningResult
-          o = belowStart (prefixIn x) (formulaIn x .clauses) at s (storeIn x)
+          abbrev t : Attempt
+          t = belowStart (prefixIn x) (formulaIn x .clauses) at budget s (storeIn x)
 
           -- the records before the search
           abbrev g : Ledger
@@ -220,7 +244,7 @@ module _ (x : State) (v : valid x ≡ true) where
           newest : newestOf cl ≡ length (g .before)
           newest = numbered ∙ sym (records-length (x .«learned_clause_sizes»))
 
-          r : BelowBy p (prefixIn x) g o free a cs′ cl′ qs′ ql′ table′
+          r : BelowBy p (prefixIn x) g t free budget a cs′ cl′ qs′ ql′ table′
           r =
               run .by (prefixIn x) (formulaIn x .clauses) s g (storeIn x) (valid-numbers x v) vs quantified matrix counted
               (record {
@@ -228,73 +252,96 @@ module _ (x : State) (v : valid x ≡ true) where
                 since = omega (arith, newest);
                 records = sym (ap (recordsAt g) newest ∙ ledger-start g);
               })
-              refl formed long frees cov alive
+              refl formed long frees cov (open-alive (prefixIn x) (formulaIn x .clauses) leb s (storeIn x) opened)
 
-          written : recordsOf lcs ≡ o .store .records
+          written : recordsOf lcs ≡ storeLeft t .records
           written =
               records-back (x .«learned_clause_sizes») lcs (newestOf cl′) (length (formulaIn x .clauses))
               (leb-true (getD (x .«learned_clause_sizes») 0 0) (paper .constraints) (and-left (leb (getD (x .«learned_clause_sizes») 0 0) (paper .constraints)) _ (f .learned-clauses-fit))) (omega (arith, r .stored .since, records-length (x .«learned_clause_sizes»)))
               (subst (λ (n : ℕ). Recorded (x .«learned_clause_sizes») (newestOf cl′) n lcs) (sym counted) recorded)
               ∙ sym (r .stored .records)
 
-          same : storeOf lc lcs lq lqs ≡ o .store
+          same : storeOf lc lcs lq lqs ≡ storeLeft t
           same i =
               record {
-                clauses = unloaded (prefixIn x) (o .store .clauses) (valid-numbers x v) variables-numbered (r .stored .shown .clauses) (learned-declared at s long within false) i;
+                clauses = unloaded (prefixIn x) (storeLeft t .clauses) (valid-numbers x v) variables-numbered (r .stored .shown .clauses) (learned-declared at budget s long opened false) i;
                 records = written i;
-                cubes = unloaded-cubes (prefixIn x) (o .store .cubes) (valid-numbers x v) variables-numbered (r .stored .shown .cubes) (learned-declared at s long within true) i;
+                cubes = unloaded-cubes (prefixIn x) (storeLeft t .cubes) (valid-numbers x v) variables-numbered (r .stored .shown .cubes) (learned-declared at budget s long opened true) i;
               }
 
-          found-over : FoundBy p x o free a (withStore x lc lcs lq lqs) table′
+          found-over : FoundBy p x t free budget a (withStore x lc lcs lq lqs) table′
           found-over =
               record {
-                verdict = r .verdict;
-                visits = r .visits;
+                tried = r .tried;
                 state = next-reads lc lcs lq lqs stores ∙ ap (λ (st : Store). some (record { formula = formulaIn x; store = st })) same;
-                covers = r .covers;
-                lines = r .lines;
               }
 
-      pub over-found : Over p x rows sets count quantifiers places values at free table a (withStore x lc lcs lq lqs) table′
+      pub over-found : Over p x rows sets count quantifiers places values at free budget table a (withStore x lc lcs lq lqs) table′
       over-found = record { found = found-over }
 
   -- ---- the whole search
-  module _ (places kinds values : List ℕ) (at free : ℕ) (table : List ℕ) where
-    -- a start node that is decided
-    decided-found : {p : Bool} (w : Verdict) (b : Bool) → ((e : Constraint) → Ends w (decided b e))
-        → ((s : Node) → Places (prefixIn x) places → Kinds (prefixIn x) kinds → Values (prefixIn x) s values → length s ≡ at
-        → (e : Constraint) × (leaf (prefixIn x) (formulaIn x .clauses) leb s (storeIn x) ≡ some (decided b e)))
-        → {y : Answer} → y ≡ decidedAt w → Ran p x places kinds values at free table y x table
-    decided-found {p} w b is start {y} q =
-        subst (λ (z : Answer). Ran p x places kinds values at free table z x table) (sym q)
+  module _ (places kinds values : List ℕ) (at free budget : ℕ) (table : List ℕ) where
+    -- the start node's own visit is not made
+    pub start-stopped : {p : Bool} → budget ≤ 1 → {y : Answer} → y ≡ endedAt Mixed 0 → Ran p x places kinds values at free budget table y x table
+    start-stopped {p} less {y} q =
+        subst (λ (z : Answer). Ran p x places kinds values at free budget table z x table) (sym q)
         (record {
           found = λ s ps ks vs long frees cov.
-              subst (λ (o : Option (Outcome Constraint)). FoundBy p x (settle o (below paper (prefixIn x) (formulaIn x .clauses) (drop at (quantifiers (prefixIn x)))) s (storeIn x)) free (decidedAt w) x table)
-              (sym (start s ps ks vs long .1))
-              (record { verdict = is (start s ps ks vs long .0); visits = refl; state = f .read; covers = cov; lines = refl });
+              subst (λ (n : ℕ). FoundBy p x (searchWithin paper (prefixIn x) (formulaIn x .clauses) n (drop at (quantifiers (prefixIn x))) s (storeIn x)) free budget (endedAt Mixed 0) x table) (sym spent)
+              (record { tried = refl; state = f .read });
         })
+      where
+        spent : budget - 1 ≡ 0
+        spent = omega (arith, less)
 
-    module _ (r : Start) (start : AtStart x places kinds values at r) where
-      by-start : {l : Start} → r ≡ l → (s : Node) → Places (prefixIn x) places → Kinds (prefixIn x) kinds → Values (prefixIn x) s values → length s ≡ at
-          → Starts l (leaf (prefixIn x) (formulaIn x .clauses) leb s (storeIn x))
-      by-start e s ps ks vs long = subst (λ (l : Start). Starts l (leaf (prefixIn x) (formulaIn x .clauses) leb s (storeIn x))) e (start .read s ps ks vs long)
+    -- it is made
+    module _ (made : 2 ≤ budget) where
+      found-made : {p : Bool} (s : Node) {r : Answer} {y : State} {table′ : List ℕ} (o : Option (Outcome Constraint)) → leaf (prefixIn x) (formulaIn x .clauses) leb s (storeIn x) ≡ o
+          → FoundBy p x (settleWithin o (belowWithin paper (prefixIn x) (formulaIn x .clauses) (drop at (quantifiers (prefixIn x)))) (budget - 2) s (storeIn x)) free budget r y table′
+          → FoundBy p x (searchWithin paper (prefixIn x) (formulaIn x .clauses) (budget - 1) (drop at (quantifiers (prefixIn x))) s (storeIn x)) free budget r y table′
+      found-made {p} s {r} {y} {table′} o e h =
+          subst (λ (n : ℕ). FoundBy p x (searchWithin paper (prefixIn x) (formulaIn x .clauses) n (drop at (quantifiers (prefixIn x))) s (storeIn x)) free budget r y table′) (sym one-less)
+          (subst (λ (z : Option (Outcome Constraint)). FoundBy p x (settleWithin z (belowWithin paper (prefixIn x) (formulaIn x .clauses) (drop at (quantifiers (prefixIn x)))) (budget - 2) s (storeIn x)) free budget r y table′) (sym e) h)
+        where
+          one-less : budget - 1 ≡ suc (budget - 2)
+          one-less = omega (arith, made)
 
-      pub start-no : {p : Bool} → r ≡ NoStart → {y : Answer} → y ≡ decidedAt No → Ran p x places kinds values at free table y x table
-      start-no e q = decided-found No false (λ c. (c, refl)) (by-start e) q
-
-      pub start-yes : {p : Bool} → r ≡ YesStart → {y : Answer} → y ≡ decidedAt Yes → Ran p x places kinds values at free table y x table
-      start-yes e q = decided-found Yes true (λ c. (c, refl)) (by-start e) q
-
-      -- one that is open
-      pub start-open : {p : Bool} → r ≡ Open → (a : Answer) (y : State) (table′ : List ℕ) → Searched p x places kinds values at free table a y table′ → Ran p x places kinds values at free table a y table′
-      start-open {p} e a y table′ h =
-          record {
+      -- a start node that is decided
+      decided-found : {p : Bool} (w : Verdict) (b : Bool) → ((e : Constraint) → Ends w (decided b e))
+          → ((s : Node) → Places (prefixIn x) places → Kinds (prefixIn x) kinds → Values (prefixIn x) s values → length s ≡ at
+          → (e : Constraint) × (leaf (prefixIn x) (formulaIn x .clauses) leb s (storeIn x) ≡ some (decided b e)))
+          → {y : Answer} → y ≡ endedAt w (budget - 1) → Ran p x places kinds values at free budget table y x table
+      decided-found {p} w b is start {y} q =
+          subst (λ (z : Answer). Ran p x places kinds values at free budget table z x table) (sym q)
+          (record {
             found = λ s ps ks vs long frees cov.
-                let none-yet = by-start e s ps ks vs long in
-                subst (λ (o : Option (Outcome Constraint)). FoundBy p x (settle o (below paper (prefixIn x) (formulaIn x .clauses) (drop at (quantifiers (prefixIn x)))) s (storeIn x)) free a y table′)
-                (sym none-yet)
-                (h .found s ps ks vs long frees cov (open-alive (prefixIn x) (formulaIn x .clauses) leb s (storeIn x) none-yet));
-          }
+                found-made s (some (decided b (start s ps ks vs long .0))) (start s ps ks vs long .1)
+                (record {
+                  tried = record { verdict = is (start s ps ks vs long .0); visits = omega (arith, made); left = omega (arith, made); covers = cov; lines = refl };
+                  state = f .read;
+                });
+          })
+
+      module _ (r : Start) (start : AtStart x places kinds values at r) where
+        by-start : {l : Start} → r ≡ l → (s : Node) → Places (prefixIn x) places → Kinds (prefixIn x) kinds → Values (prefixIn x) s values → length s ≡ at
+            → Starts l (leaf (prefixIn x) (formulaIn x .clauses) leb s (storeIn x))
+        by-start e s ps ks vs long = subst (λ (l : Start). Starts l (leaf (prefixIn x) (formulaIn x .clauses) leb s (storeIn x))) e (start .read s ps ks vs long)
+
+        pub start-no : {p : Bool} → r ≡ NoStart → {y : Answer} → y ≡ endedAt No (budget - 1) → Ran p x places kinds values at free budget table y x table
+        start-no e q = decided-found No false (λ c. (c, refl)) (by-start e) q
+
+        pub start-yes : {p : Bool} → r ≡ YesStart → {y : Answer} → y ≡ endedAt Yes (budget - 1) → Ran p x places kinds values at free budget table y x table
+        start-yes e q = decided-found Yes true (λ c. (c, refl)) (by-start e) q
+
+        -- one that is open
+        pub start-open : {p : Bool} → r ≡ Open → (a : Answer) (y : State) (table′ : List ℕ) → Searched p x places kinds values at free budget table a y table′
+            → Ran p x places kinds values at free budget table a y table′
+        start-open {p} e a y table′ h =
+            record {
+              found = λ s ps ks vs long frees cov.
+                  let none-yet = by-start e s ps ks vs long in
+                  found-made s none none-yet (h .found s ps ks vs long frees cov none-yet);
+            }
 
   -- the free variables are among the declared ones
   pub free-within : (free : ℕ) → free ≡ freeVariables (prefixIn x) → free ≤ getD (x .numbers) 0 0

@@ -2,8 +2,9 @@
 ghost use mathlib.Core.Path.{_≡_};
 ghost use mathlib.Core.List.{List, []};
 ghost use mathlib.Core.Option.{none, some};
-ghost use Prim.Native.Nat.{ℕ};
+ghost use Prim.Native.Nat.{ℕ, suc, _+_, _≤_};
 ghost use lib.ListN.{length};
+ghost use Rattle.qbf.specs.Ceiling.{highestCeiling};
 ghost use Rattle.qbf.specs.Calls.{query, card, keepCard, cardOf};
 ghost use Rattle.state.specs.Reading.{stateOf};
 ghost use Rattle.serving.specs.Serves.{said, Serves};
@@ -12,6 +13,7 @@ use crate::MALFORMED;
 use crate::NOT_FREE;
 use crate::Printed;
 use crate::Ruling;
+use crate::STOPPED;
 use crate::TOO_MANY_LINES;
 use crate::ruling_for;
 use crate::run::run;
@@ -27,17 +29,31 @@ pub struct Listed {
     pub visits: u64,
 }
 
-// "A refusal returns its number, 0 lines, 0 visits and the state as given": a query's.
-fn not_ruled(number: u16) -> Ruled
-    ensures { λ r. ⌜ rulingSaid (r .ruling) (r .visits) ≡ said (some number) 0 0 0 [] ⌝ }
+// The budget of a search under that ceiling; and the visits of one that left so much of it.
+fn budget_of(ceiling: u32) -> u64
+    ensures { λ r. ⌜ (r ≡ suc ceiling) × (r ≤ suc highestCeiling) ⌝ }
+{
+    ceiling as u64 + 1
+}
+
+fn visits_of(ceiling: u32, left: u64) -> u64
+    requires { ⌜ left ≤ suc ceiling ⌝ }
+    ensures { λ r. ⌜ r + left ≡ suc ceiling ⌝ }
+{
+    ceiling as u64 + 1 - left
+}
+
+// "A refusal returns its number, 0 lines, 0 visits and the state as given": a query's. Where it stopped, "visits equal to the ceiling".
+fn not_ruled(number: u16, visits: u64) -> Ruled
+    ensures { λ r. ⌜ rulingSaid (r .ruling) (r .visits) ≡ said (some number) 0 0 visits [] ⌝ }
 {
     Ruled {
         ruling: Ruling::Refused(number),
-        visits: 0,
+        visits: visits,
     }
 }
 
-// A card's: "Only 21 differs: the walk runs to its end first, its visits are returned and its store is kept."
+// A card's: "Only 21 differs: the walk runs to its end first, its visits are returned and its store is kept.", and 34.
 fn not_listed(number: u16, visits: u64) -> Listed
     ensures { λ r. ⌜ ((tb : List ℕ) → cardSaid (r .printed) (r .visits) tb ≡ said (some number) 0 0 visits tb) ⌝ }
 {
@@ -70,6 +86,7 @@ pub fn query<'a>(
     learned_cubes: &mut [i16; tables::CONSTRAINT_CELLS],
     learned_cube_sizes: &mut [u16; tables::CONSTRAINT_SIZES],
     on: &'a [i16],
+    ceiling: u32,
 ) -> Ruled
     ensures { λ r. ⌜
         Serves
@@ -83,7 +100,7 @@ pub fn query<'a>(
         (now («learned_clause_sizes» .entry))
         (now («learned_cubes» .entry))
         (now («learned_cube_sizes» .entry)))
-        (query (now (on .entry)))
+        (query ceiling (now (on .entry)))
         (rulingSaid (r .ruling) (r .visits))
         (stateOf
         (now (numbers .entry))
@@ -109,12 +126,12 @@ pub fn query<'a>(
         learned_cube_sizes,
     );
     if !prefix.ok {
-        return not_ruled(MALFORMED);
+        return not_ruled(MALFORMED, 0);
     }
     let free = state::kinds::free_count(numbers, levels, kinds);
     let reading = reading::read(numbers, &prefix.places, free, on);
     if !reading.ok {
-        return not_ruled(NOT_FREE);
+        return not_ruled(NOT_FREE, 0);
     }
     let at = free; // each free variable has its value at the start node
     let mut no_table = [0u8; 1];
@@ -133,11 +150,15 @@ pub fn query<'a>(
         free,
         &mut no_table,
         true, // there are no lines
+        budget_of(ceiling),
     );
+    if found.budget == 0 {
+        return not_ruled(STOPPED, ceiling as u64);
+    }
     let verdict = found.verdict;
     Ruled {
         ruling: ruling_for(verdict),
-        visits: found.visits,
+        visits: visits_of(ceiling, found.budget),
     }
 }
 
@@ -155,6 +176,7 @@ pub fn card_of<'a>(
     learned_cube_sizes: &mut [u16; tables::CONSTRAINT_SIZES],
     table: &mut [u8],
     yes: bool,
+    ceiling: u32,
 ) -> Listed
     ensures { λ r. ⌜
         Serves
@@ -168,7 +190,7 @@ pub fn card_of<'a>(
         (now («learned_clause_sizes» .entry))
         (now («learned_cubes» .entry))
         (now («learned_cube_sizes» .entry)))
-        (cardOf yes (length (now (table .entry))))
+        (cardOf yes ceiling (length (now (table .entry))))
         (cardSaid (r .printed) (r .visits) (now (table .exit)))
         (stateOf
         (now (numbers .entry))
@@ -214,10 +236,15 @@ pub fn card_of<'a>(
         free,
         table,
         yes,
+        budget_of(ceiling),
     );
+    if found.budget == 0 {
+        cover::clear(table);
+        return not_listed(STOPPED, ceiling as u64);
+    }
     let verdict = found.verdict;
     let lines = total_lines(verdict, found.lines, yes);
-    let visits = found.visits;
+    let visits = visits_of(ceiling, found.budget);
     if cover::fits(table.len(), free, lines) {
         return with_lines(lines, visits);
     }
@@ -237,6 +264,7 @@ pub fn card<'a>(
     learned_cubes: &mut [i16; tables::CONSTRAINT_CELLS],
     learned_cube_sizes: &mut [u16; tables::CONSTRAINT_SIZES],
     table: &mut [u8],
+    ceiling: u32,
 ) -> Listed
     ensures { λ r. ⌜
         Serves
@@ -250,7 +278,7 @@ pub fn card<'a>(
         (now («learned_clause_sizes» .entry))
         (now («learned_cubes» .entry))
         (now («learned_cube_sizes» .entry)))
-        (card (length (now (table .entry))))
+        (card ceiling (length (now (table .entry))))
         (cardSaid (r .printed) (r .visits) (now (table .exit)))
         (stateOf
         (now (numbers .entry))
@@ -276,6 +304,7 @@ pub fn card<'a>(
         learned_cube_sizes,
         table,
         true,
+        ceiling,
     )
 }
 
@@ -291,6 +320,7 @@ pub fn keep_card<'a>(
     learned_cubes: &mut [i16; tables::CONSTRAINT_CELLS],
     learned_cube_sizes: &mut [u16; tables::CONSTRAINT_SIZES],
     table: &mut [u8],
+    ceiling: u32,
 ) -> Listed
     ensures { λ r. ⌜
         Serves
@@ -304,7 +334,7 @@ pub fn keep_card<'a>(
         (now («learned_clause_sizes» .entry))
         (now («learned_cubes» .entry))
         (now («learned_cube_sizes» .entry)))
-        (keepCard (length (now (table .entry))))
+        (keepCard ceiling (length (now (table .entry))))
         (cardSaid (r .printed) (r .visits) (now (table .exit)))
         (stateOf
         (now (numbers .entry))
@@ -330,5 +360,6 @@ pub fn keep_card<'a>(
         learned_cube_sizes,
         table,
         false,
+        ceiling,
     )
 }

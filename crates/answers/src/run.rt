@@ -4,10 +4,11 @@
 ghost use mathlib.Core.Path.{_≡_};
 ghost use mathlib.Core.Bool.{true};
 ghost use mathlib.Core.List.{List};
-ghost use Prim.Native.Nat.{ℕ, _^_, _≤_, _<_};
+ghost use Prim.Native.Nat.{ℕ, suc, _^_, _≤_, _<_};
 ghost use lib.ListN.{length, getD};
 ghost use lib.IntN.{ℤ};
 ghost use Rattle.qbf.specs.Formula.{paper};
+ghost use Rattle.qbf.specs.Ceiling.{highestCeiling};
 ghost use Rattle.state.specs.Reading.{stateOf, valid};
 ghost use Rattle.tables.specs.Formed.{Clauses, Stores};
 ghost use Rattle.tables.specs.Shelves.{Shelves, newestOf};
@@ -93,16 +94,16 @@ fn at_start<'a>(
     )
 }
 
-// A start node that is decided without branching: one visit, and no line below it.
-fn decided(verdict: Verdict) -> Answer
-    ensures { λ r. ⌜ r ≡ record { verdict = verdict; source = Source.Area; start = 0; len = 0; visits = 1; lines = 0 } ⌝ }
+// A start node that does not branch: no line is below it, and that budget is left.
+fn ended(verdict: Verdict, budget: u64) -> Answer
+    ensures { λ r. ⌜ r ≡ record { verdict = verdict; source = Source.Area; start = 0; len = 0; budget = budget; lines = 0 } ⌝ }
 {
     Answer {
         verdict: verdict,
         source: Source::Area,
         start: 0,
         len: 0,
-        visits: 1,
+        budget: budget,
         lines: 0,
     }
 }
@@ -123,6 +124,7 @@ fn below<'a>(
     at: usize,
     free: usize,
     yes: bool,
+    budget: u64,
 ) -> Answer
     requires { ⌜
         (count ≤ paper .clauses)
@@ -132,11 +134,14 @@ fn below<'a>(
         × (free ≤ paper .numbers)
         × (newestOf (now «learned_links») ≤ paper .constraints)
         × (newestOf (now «cube_links») ≤ paper .constraints)
+        × (2 ≤ budget)
+        × (budget ≤ suc highestCeiling)
         ⌝ }
     ensures { λ r. ⌜
         (length (now (table .exit)) ≡ length (now (table .entry)))
         × (r .lines < 2 ^ 63)
         × Shelves (now (learned .exit)) (now («learned_links» .exit)) (now (cubes .exit)) (now («cube_links» .exit))
+        × (r .budget ≤ budget)
         ⌝ }
     ensures { λ r. ⌜
         Below
@@ -154,6 +159,7 @@ fn below<'a>(
         (now (table .entry))
         at
         free
+        budget
         r
         (now (learned .exit))
         (now («learned_links» .exit))
@@ -172,7 +178,7 @@ fn below<'a>(
     let start = Position {
         at: at,
         free: free,
-        visits: 0,
+        budget: budget,
         lines: 0,
         words: words,
         yes: yes,
@@ -212,6 +218,7 @@ fn over_clauses<'a>(
     free: usize,
     table: &mut [u8],
     yes: bool,
+    budget: u64,
 ) -> Answer
     requires { ⌜
         (count ≤ paper .clauses)
@@ -219,8 +226,10 @@ fn over_clauses<'a>(
         × (getD (now numbers) 0 0 ≤ paper .numbers)
         × (at ≤ getD (now numbers) 0 0)
         × (free ≤ paper .numbers)
+        × (2 ≤ budget)
+        × (budget ≤ suc highestCeiling)
         ⌝ }
-    ensures { λ r. ⌜ (length (now (table .exit)) ≡ length (now (table .entry))) × (r .lines < 2 ^ 63) ⌝ }
+    ensures { λ r. ⌜ (length (now (table .exit)) ≡ length (now (table .entry))) × (r .lines < 2 ^ 63) × (r .budget ≤ budget) ⌝ }
     ensures { λ r. ⌜
         ((levels kinds : List ℕ) (clauses : List ℤ) (sizes : List ℕ) →
         valid
@@ -255,6 +264,7 @@ fn over_clauses<'a>(
         (now (values .entry))
         at
         free
+        budget
         (now (table .entry))
         r
         (stateOf
@@ -303,6 +313,7 @@ fn over_clauses<'a>(
         at,
         free,
         yes,
+        budget,
     );
     unload_clauses(
         &learned,
@@ -338,6 +349,7 @@ fn searched<'a>(
     free: usize,
     table: &mut [u8],
     yes: bool,
+    budget: u64,
 ) -> Answer
     requires { ⌜
         Ready
@@ -350,8 +362,10 @@ fn searched<'a>(
         (now «learned_cube_sizes»)
         at
         free
+        budget
+        × (2 ≤ budget)
         ⌝ }
-    ensures { λ r. ⌜ (length (now (table .exit)) ≡ length (now (table .entry))) × (r .lines < 2 ^ 63) ⌝ }
+    ensures { λ r. ⌜ (length (now (table .exit)) ≡ length (now (table .entry))) × (r .lines < 2 ^ 63) × (r .budget ≤ budget) ⌝ }
     ensures { λ r. ⌜
         ((levels kinds : List ℕ) →
         valid
@@ -383,6 +397,7 @@ fn searched<'a>(
         (now (values .entry))
         at
         free
+        budget
         (now (table .entry))
         r
         (stateOf
@@ -426,9 +441,11 @@ fn searched<'a>(
         free,
         table,
         yes,
+        budget,
     )
 }
 
+// The whole search: the start node's own visit is made where the budget allows it.
 pub fn run<'a>(
     numbers: &'a [u16; tables::BY_NUMBER],
     clauses: &'a [i16; tables::CLAUSE_CELLS],
@@ -444,6 +461,7 @@ pub fn run<'a>(
     free: usize,
     table: &mut [u8],
     yes: bool,
+    budget: u64,
 ) -> Answer
     requires { ⌜
         Ready
@@ -456,8 +474,9 @@ pub fn run<'a>(
         (now «learned_cube_sizes»)
         at
         free
+        budget
         ⌝ }
-    ensures { λ r. ⌜ (length (now (table .exit)) ≡ length (now (table .entry))) × (r .lines < 2 ^ 63) ⌝ }
+    ensures { λ r. ⌜ (length (now (table .exit)) ≡ length (now (table .entry))) × (r .lines < 2 ^ 63) × (r .budget ≤ budget) ⌝ }
     ensures { λ r. ⌜
         ((levels kinds : List ℕ) →
         valid
@@ -489,6 +508,7 @@ pub fn run<'a>(
         (now (values .entry))
         at
         free
+        budget
         (now (table .entry))
         r
         (stateOf
@@ -504,6 +524,9 @@ pub fn run<'a>(
         (now (table .exit)))
         ⌝ }
 {
+    if budget <= 1 {
+        return ended(Verdict::Mixed, 0);
+    }
     let start = at_start(
         clauses,
         clause_sizes,
@@ -517,8 +540,8 @@ pub fn run<'a>(
         at,
     );
     match start {
-        Start::No => decided(Verdict::No),
-        Start::Yes => decided(Verdict::Yes),
+        Start::No => ended(Verdict::No, budget - 1),
+        Start::Yes => ended(Verdict::Yes, budget - 1),
         Start::Open => {
             searched(
                 numbers,
@@ -535,6 +558,7 @@ pub fn run<'a>(
                 free,
                 table,
                 yes,
+                budget,
             )
         }
     }

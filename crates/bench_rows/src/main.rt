@@ -36,26 +36,62 @@ fn change(c: Change) {
     text(b"\n");
 }
 
-fn rule(x: State, lits: &[i16]) -> State {
-    text(b"rule: ");
-    let r = rules::rule(x, lits);
-    let c = r.change;
-    change(c);
-    r.state
+// A rule added; the answer is told where it is asked for, not for the clauses of the formula as it is opened.
+fn add(x: State, lits: &[i16], told: bool) -> State {
+    let mut clauses = x.clauses;
+    let mut clause_sizes = x.clause_sizes;
+    let mut cube_sizes = x.learned_cube_sizes;
+    let c = rules::in_place::rule(
+        &x.numbers,
+        &x.levels,
+        &x.kinds,
+        &mut clauses,
+        &mut clause_sizes,
+        &x.learned_clauses,
+        &x.learned_clause_sizes,
+        &x.learned_cubes,
+        &mut cube_sizes,
+        lits,
+    );
+    if told {
+        text(b"rule: ");
+        change(c);
+    }
+    let mut next = x;
+    next.clauses = clauses;
+    next.clause_sizes = clause_sizes;
+    next.learned_cube_sizes = cube_sizes;
+    next
 }
 
-// A clause of the formula as it is opened: the call without a line of output.
+fn rule(x: State, lits: &[i16]) -> State {
+    add(x, lits, true)
+}
+
 fn clause(x: State, lits: &[i16]) -> State {
-    let r = rules::rule(x, lits);
-    r.state
+    add(x, lits, false)
 }
 
 fn forget(x: State) -> State {
+    let mut clause_sizes = x.learned_clause_sizes;
+    let mut cube_sizes = x.learned_cube_sizes;
+    let c = rules::in_place::forget(
+        &x.numbers,
+        &x.levels,
+        &x.kinds,
+        &x.clauses,
+        &x.clause_sizes,
+        &x.learned_clauses,
+        &mut clause_sizes,
+        &x.learned_cubes,
+        &mut cube_sizes,
+    );
     text(b"forget: ");
-    let r = rules::forget(x);
-    let c = r.change;
     change(c);
-    r.state
+    let mut next = x;
+    next.learned_clause_sizes = clause_sizes;
+    next.learned_cube_sizes = cube_sizes;
+    next
 }
 
 fn visits(n: u64) {
@@ -66,7 +102,27 @@ fn visits(n: u64) {
 
 fn query(x: State, on: &[i16]) -> State {
     text(b"query: ");
-    let r = answers::query(x, on);
+    let mut learned_clauses = x.learned_clauses;
+    let mut learned_clause_sizes = x.learned_clause_sizes;
+    let mut learned_cubes = x.learned_cubes;
+    let mut learned_cube_sizes = x.learned_cube_sizes;
+    let r = answers::in_place::query(
+        &x.numbers,
+        &x.levels,
+        &x.kinds,
+        &x.clauses,
+        &x.clause_sizes,
+        &mut learned_clauses,
+        &mut learned_clause_sizes,
+        &mut learned_cubes,
+        &mut learned_cube_sizes,
+        on,
+    );
+    let mut next = x;
+    next.learned_clauses = learned_clauses;
+    next.learned_clause_sizes = learned_clause_sizes;
+    next.learned_cubes = learned_cubes;
+    next.learned_cube_sizes = learned_cube_sizes;
     let q = r.ruling;
     match q {
         Ruling::Swap => text(b"swap"),
@@ -77,7 +133,7 @@ fn query(x: State, on: &[i16]) -> State {
         }
     }
     visits(r.visits);
-    r.state
+    next
 }
 
 fn cells(t: &[u8]) {
@@ -91,7 +147,27 @@ fn cells(t: &[u8]) {
 
 fn card(x: State, table: &mut [u8]) -> State {
     text(b"card: ");
-    let r = answers::card(x, table);
+    let mut learned_clauses = x.learned_clauses;
+    let mut learned_clause_sizes = x.learned_clause_sizes;
+    let mut learned_cubes = x.learned_cubes;
+    let mut learned_cube_sizes = x.learned_cube_sizes;
+    let r = answers::in_place::card(
+        &x.numbers,
+        &x.levels,
+        &x.kinds,
+        &x.clauses,
+        &x.clause_sizes,
+        &mut learned_clauses,
+        &mut learned_clause_sizes,
+        &mut learned_cubes,
+        &mut learned_cube_sizes,
+        table,
+    );
+    let mut next = x;
+    next.learned_clauses = learned_clauses;
+    next.learned_clause_sizes = learned_clause_sizes;
+    next.learned_cubes = learned_cubes;
+    next.learned_cube_sizes = learned_cube_sizes;
     let c = r.printed;
     match c {
         Printed::Lines(k) => {
@@ -106,7 +182,7 @@ fn card(x: State, table: &mut [u8]) -> State {
     text(b", table");
     cells(table);
     visits(r.visits);
-    r.state
+    next
 }
 
 // A table is lent with a byte that is none of the card's in each cell.

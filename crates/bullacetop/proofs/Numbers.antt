@@ -15,11 +15,7 @@ use Rattle.answers.specs.declared.Printed.{Printed}
 use Rattle.answers.specs.Answers.{rulingSaid, cardSaid}
 use Rattle.answers.proofs.Told.{card-said}
 
--- the same answer, as its numbers tell it, and the same state
-pub serves-as : (x : State) (c : Call) {a b : Said} {y z : State} → Serves x c a y → b ≡ told a → z ≡ y → Serves x c b z
-serves-as x c {a} {b} {y} {z} s p q = subst (λ (w : State). Serves x c b w) (sym q) (subst (λ (r : Said). Serves x c r y) (sym (p ∙ served-told s)) s)
-
--- .. where the state stays with the caller
+-- the same answer, as its numbers tell it
 pub says-as : {x : State} {c : Call} {a b : Said} {y : State} → Serves x c a y → b ≡ told a → Serves x c b y
 says-as {x} {c} {a} {b} {y} s p = subst (λ (r : Said). Serves x c r y) (sym (p ∙ served-told s)) s
 

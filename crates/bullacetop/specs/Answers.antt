@@ -2,13 +2,8 @@
 use Prim.Native.Nat.{ℕ}
 use mathlib.Core.List.{List}
 use Rattle.serving.specs.Serves.{Said, said, faultOf}
-use Rattle.bullacetop.specs.declared.calls.Answer.{Answer}
 use Rattle.bullacetop.specs.declared.in_place.Reply.{Reply}
 
 -- with the bytes of the card table; a refusal of 0 is none
-abbrev pub answerSaid : Answer → List ℕ → Said
-answerSaid r table = said (faultOf (r .refusal)) (r .verdict) (r .lines) (r .visits) table
-
--- .. of a call in place
 abbrev pub replySaid : Reply → List ℕ → Said
 replySaid r table = said (faultOf (r .refusal)) (r .verdict) (r .lines) (r .visits) table

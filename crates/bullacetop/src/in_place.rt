@@ -1,8 +1,6 @@
 // The calls on a state whose tables the caller lends, in the order of the state: what a call changes is written where it stands, and
 // nothing is copied.
-use crate::calls::NONE;
-use crate::calls::ruling_refusal;
-use crate::calls::verdict_of;
+use answers::Ruling;
 use book_writer::Written;
 use rules::Change;
 ghost use mathlib.Core.Path.{_≡_};
@@ -10,18 +8,46 @@ ghost use mathlib.Core.List.{[]};
 ghost use lib.ListN.{length};
 ghost use Rattle.qbf.specs.Calls.{rule, query, card, keepCard, cardOf, forget};
 ghost use Rattle.state.specs.Reading.{stateOf};
-ghost use Rattle.serving.specs.Serves.{told, Serves};
+ghost use Rattle.serving.specs.Serves.{number, told, Serves};
 ghost use Rattle.book_writer.specs.Writes.{Writes};
 ghost use Rattle.rules.specs.Rules.{changeSaid};
+ghost use Rattle.answers.specs.Answers.{rulingSaid};
 ghost use Rattle.bullacetop.specs.Answers.{replySaid};
 
-// The numbers of an answer, as those of `Answer`; the state stays with the caller.
+// The numbers of an answer; the state stays with the caller. A refusal of 0 is none; a verdict is 1 for keep and 2 for swap, 0 where the call is no
+// query.
 #[repr(C)]
 pub struct Reply {
     pub refusal: u16,
     pub verdict: u16,
     pub lines: usize,
     pub visits: u64,
+}
+
+const NONE: u16 = 0;
+
+const KEEP: u16 = 1;
+
+const SWAP: u16 = 2;
+
+fn ruling_refusal(r: Ruling) -> u16
+    ensures { λ n. ⌜ n ≡ number (rulingSaid r 0 .refusal) ⌝ }
+{
+    match r {
+        Ruling::Swap => NONE,
+        Ruling::Keep => NONE,
+        Ruling::Refused(n) => n,
+    }
+}
+
+fn verdict_of(r: Ruling) -> u16
+    ensures { λ n. ⌜ n ≡ rulingSaid r 0 .verdict ⌝ }
+{
+    match r {
+        Ruling::Swap => SWAP,
+        Ruling::Keep => KEEP,
+        Ruling::Refused(n) => NONE,
+    }
 }
 
 fn changed(c: Change) -> Reply

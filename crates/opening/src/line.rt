@@ -15,6 +15,7 @@ use literal::number_of;
 use reader::keyword::Line;
 use reader::line::kept;
 use reader::line::read_line;
+use rules::in_place;
 use rules::refusal_of;
 use state::State;
 
@@ -89,9 +90,25 @@ pub fn take_rule(x: State, stage: usize, lits: &[i16]) -> Taken
     if !stage::may_stand(stage, stage::RULE) {
         return refuse(x, NOT_IN_LAYOUT);
     }
-    let changed = rules::rule(x, lits);
-    let change = changed.change;
-    let next = changed.state;
+    let mut clauses = x.clauses;
+    let mut clause_sizes = x.clause_sizes;
+    let mut cube_sizes = x.learned_cube_sizes;
+    let change = in_place::rule(
+        &x.numbers,
+        &x.levels,
+        &x.kinds,
+        &mut clauses,
+        &mut clause_sizes,
+        &x.learned_clauses,
+        &x.learned_clause_sizes,
+        &x.learned_cubes,
+        &mut cube_sizes,
+        lits,
+    );
+    let mut next = x;
+    next.clauses = clauses;
+    next.clause_sizes = clause_sizes;
+    next.learned_cube_sizes = cube_sizes;
     Taken {
         refusal: refusal_of(change),
         stage: stage::RULE,

@@ -32,12 +32,27 @@ const NO_LINE: usize = 0;
 fn card_of(x: State, table: &mut [u8]) -> Made
     ensures { λ r. ⌜ ((b : Formula) → readState x ≡ some (fresh b) → formulaOk b ≡ true → CardMade (length (now (table .entry))) (opened b) r (now (table .exit))) ⌝ }
 {
-    let shown = answers::card(x, table);
-    let printed = shown.printed;
     let numbers = x.numbers;
     let levels = x.levels;
     let kinds = x.kinds;
     let free = state::kinds::free_count(&numbers, &levels, &kinds);
+    let mut learned_clauses = x.learned_clauses;
+    let mut learned_clause_sizes = x.learned_clause_sizes;
+    let mut learned_cubes = x.learned_cubes;
+    let mut learned_cube_sizes = x.learned_cube_sizes;
+    let shown = answers::in_place::card(
+        &x.numbers,
+        &x.levels,
+        &x.kinds,
+        &x.clauses,
+        &x.clause_sizes,
+        &mut learned_clauses,
+        &mut learned_clause_sizes,
+        &mut learned_cubes,
+        &mut learned_cube_sizes,
+        table,
+    );
+    let printed = shown.printed;
     Made {
         refusal: refusal_of(printed),
         line: NO_LINE,

@@ -57,7 +57,22 @@ fn print_in(x: State, table: &mut [u8], out: &mut [u8]) -> usize
         → formulaOk b ≡ true
         → Wrote (now (out .entry)) 0 (answerPrinted (b .prefix) (learningCard true b emptyStore (length (now (table .entry))) .out)) (now (out .exit)) r) ⌝ }
 {
-    let shown = answers::card(x, table);
+    let mut learned_clauses = x.learned_clauses;
+    let mut learned_clause_sizes = x.learned_clause_sizes;
+    let mut learned_cubes = x.learned_cubes;
+    let mut learned_cube_sizes = x.learned_cube_sizes;
+    let shown = answers::in_place::card(
+        &x.numbers,
+        &x.levels,
+        &x.kinds,
+        &x.clauses,
+        &x.clause_sizes,
+        &mut learned_clauses,
+        &mut learned_clause_sizes,
+        &mut learned_cubes,
+        &mut learned_cube_sizes,
+        table,
+    );
     let printed = shown.printed;
     let visits = shown.visits;
     let refusal = refusal_of(printed);

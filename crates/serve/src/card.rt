@@ -63,10 +63,30 @@ fn serve_in(x: State, table: &mut [u8], line: u64, out: &mut [u8], yes: bool) ->
     ensures { λ r. ⌜ ((s : Shown) (t after : Bytes)
         → Turned x (some (cardOf yes (length (now (table .entry))))) line s t r (now (table .exit) ++ after) (now (out .exit))) ⌝ }
 {
-    let shown = answers::card_of(x, table, yes);
+    let mut learned_clauses = x.learned_clauses;
+    let mut learned_clause_sizes = x.learned_clause_sizes;
+    let mut learned_cubes = x.learned_cubes;
+    let mut learned_cube_sizes = x.learned_cube_sizes;
+    let shown = answers::in_place::card_of(
+        &x.numbers,
+        &x.levels,
+        &x.kinds,
+        &x.clauses,
+        &x.clause_sizes,
+        &mut learned_clauses,
+        &mut learned_clause_sizes,
+        &mut learned_cubes,
+        &mut learned_cube_sizes,
+        table,
+        yes,
+    );
+    let mut next = x;
+    next.learned_clauses = learned_clauses;
+    next.learned_clause_sizes = learned_clause_sizes;
+    next.learned_cubes = learned_cubes;
+    next.learned_cube_sizes = learned_cube_sizes;
     let printed = shown.printed;
     let visits = shown.visits;
-    let next = shown.state;
     let refusal = refusal_of(printed);
     let made = card_of(x, printed, table.len());
     if refusal != 0 {

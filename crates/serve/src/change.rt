@@ -1,8 +1,9 @@
-// The lines of rule and forget: accepted, forgotten, or refused.
+// The lines of rule and forget: accepted, forgotten, or refused. The tables of the state are lent to the call, those that it may write as copies.
 use crate::Turn;
 use crate::refusal::refuse;
 use crate::shown::Shown;
 use crate::shown::after_rule;
+use rules::in_place;
 use rules::refusal_of;
 use state::State;
 use writer::bytes::put_word;
@@ -30,9 +31,25 @@ pub fn serve_rule(x: State, lits: &[i16], line: u64, shown: Shown, out: &mut [u8
     requires { ⌜ answerBytes ≤ length (now out) ⌝ }
     ensures { λ r. ⌜ TurnedBeside x (some (rule (now (lits .entry)))) line shown r (now (out .exit)) ⌝ }
 {
-    let changed = rules::rule(x, lits);
-    let change = changed.change;
-    let next = changed.state;
+    let mut clauses = x.clauses;
+    let mut clause_sizes = x.clause_sizes;
+    let mut cube_sizes = x.learned_cube_sizes;
+    let change = in_place::rule(
+        &x.numbers,
+        &x.levels,
+        &x.kinds,
+        &mut clauses,
+        &mut clause_sizes,
+        &x.learned_clauses,
+        &x.learned_clause_sizes,
+        &x.learned_cubes,
+        &mut cube_sizes,
+        lits,
+    );
+    let mut next = x;
+    next.clauses = clauses;
+    next.clause_sizes = clause_sizes;
+    next.learned_cube_sizes = cube_sizes;
     let refusal = refusal_of(change);
     let length = put_change(out, b"(accepted)\n", refusal, line);
     Turn {
@@ -46,9 +63,22 @@ pub fn serve_forget(x: State, line: u64, shown: Shown, out: &mut [u8]) -> Turn
     requires { ⌜ answerBytes ≤ length (now out) ⌝ }
     ensures { λ r. ⌜ TurnedBeside x (some forget) line shown r (now (out .exit)) ⌝ }
 {
-    let changed = rules::forget(x);
-    let change = changed.change;
-    let next = changed.state;
+    let mut clause_sizes = x.learned_clause_sizes;
+    let mut cube_sizes = x.learned_cube_sizes;
+    let change = in_place::forget(
+        &x.numbers,
+        &x.levels,
+        &x.kinds,
+        &x.clauses,
+        &x.clause_sizes,
+        &x.learned_clauses,
+        &mut clause_sizes,
+        &x.learned_cubes,
+        &mut cube_sizes,
+    );
+    let mut next = x;
+    next.learned_clause_sizes = clause_sizes;
+    next.learned_cube_sizes = cube_sizes;
     let refusal = refusal_of(change);
     let length = put_change(out, b"(forgotten)\n", refusal, line);
     Turn {

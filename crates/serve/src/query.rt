@@ -28,10 +28,29 @@ pub fn serve_query(x: State, on: &[i16], line: u64, shown: Shown, out: &mut [u8]
     requires { ⌜ answerBytes ≤ length (now out) ⌝ }
     ensures { λ r. ⌜ TurnedBeside x (some (query (now (on .entry)))) line shown r (now (out .exit)) ⌝ }
 {
-    let asked = answers::query(x, on);
+    let mut learned_clauses = x.learned_clauses;
+    let mut learned_clause_sizes = x.learned_clause_sizes;
+    let mut learned_cubes = x.learned_cubes;
+    let mut learned_cube_sizes = x.learned_cube_sizes;
+    let asked = answers::in_place::query(
+        &x.numbers,
+        &x.levels,
+        &x.kinds,
+        &x.clauses,
+        &x.clause_sizes,
+        &mut learned_clauses,
+        &mut learned_clause_sizes,
+        &mut learned_cubes,
+        &mut learned_cube_sizes,
+        on,
+    );
+    let mut next = x;
+    next.learned_clauses = learned_clauses;
+    next.learned_clause_sizes = learned_clause_sizes;
+    next.learned_cubes = learned_cubes;
+    next.learned_cube_sizes = learned_cube_sizes;
     let ruling = asked.ruling;
     let visits = asked.visits;
-    let next = asked.state;
     let length = put_ruling(out, ruling, visits, line);
     Turn {
         state: next,

@@ -1,4 +1,4 @@
-// The state by value or in lent tables, as anyone may hand it in: its check (refusal 22), and the tables that are derived from it.
+// The state as anyone may hand it in: its check (refusal 22), and the tables that are derived from it.
 ghost use mathlib.Core.Path.{_≡_};
 ghost use mathlib.Core.Bool.{true, false};
 ghost use mathlib.Core.Option.{some};
@@ -72,7 +72,7 @@ pub fn closed() -> State
     x
 }
 
-// The check of a state whose tables are lent, with the prefix that it reads on the way.
+// "22 the state is malformed": it is not valid. The tables are lent, and the prefix is read on the way.
 pub fn check_tables<'a>(
     numbers: &'a [u16; tables::BY_NUMBER],
     levels: &'a [u16; tables::BY_NUMBER],
@@ -134,22 +134,4 @@ pub fn check_tables<'a>(
         places: places,
         kinds: by_number,
     }
-}
-
-// "22 the state is malformed": it is not valid.
-pub fn check(x: State) -> bool
-    ensures { λ r. ⌜ r ≡ valid x ⌝ }
-{
-    let read = check_tables(
-        &x.numbers,
-        &x.levels,
-        &x.kinds,
-        &x.clauses,
-        &x.clause_sizes,
-        &x.learned_clauses,
-        &x.learned_clause_sizes,
-        &x.learned_cubes,
-        &x.learned_cube_sizes,
-    );
-    read.ok
 }

@@ -1,4 +1,4 @@
-//! The library's calls, each both by value and in place. Every lent table stands between guard bytes.
+//! The library's calls. Every lent table stands between guard bytes.
 
 use crate::in_place::{self, FORGET, RULE, SEARCH, WRITE};
 use crate::raw::{Raw, Reply, Returned, Written, KEEP, SWAP};
@@ -6,14 +6,6 @@ use crate::reading;
 use compare::answer::LENT_BYTE;
 use compare::{Answer, Call, Formula, Said, State, Store, Subject};
 use std::ptr;
-
-extern "C" {
-    fn bullacetop_rule(x: Raw, literals: *const i16, count: usize) -> Returned;
-    fn bullacetop_forget(x: Raw) -> Returned;
-    fn bullacetop_query(x: Raw, on: *const i16, count: usize) -> Returned;
-    fn bullacetop_card(x: Raw, table: *mut u8, length: usize) -> Returned;
-    fn bullacetop_keep_card(x: Raw, table: *mut u8, length: usize) -> Returned;
-}
 
 const GUARD: u8 = 0x5C;
 const GUARDS: usize = 96;
@@ -33,66 +25,41 @@ impl Native {
         Native::new(reading::write(&State { formula, store: Store::default() }))
     }
 
-    /// An error says which bytes the call should not have touched, which number of its reply belongs
-    /// to no answer, or where the call in place differs from the one by value.
+    /// An error says which bytes the call should not have touched, or which number of its reply belongs
+    /// to no answer.
     pub fn answer(&mut self, call: &Call) -> Result<Answer, String> {
         let state = &*self.state;
         let mut table = vec![];
-        let (by_value, in_place) = match call {
-            Call::Rule(literals) => (
-                lend(literals, |list, count| Ok(unsafe { bullacetop_rule(*state, list, count) }))?,
-                lend(literals, |list, count| {
-                    in_place::lend(state, RULE, |at| unsafe { in_place::rule(at, list, count) })
-                })?,
-            ),
-            Call::Forget => (
-                unsafe { bullacetop_forget(*state) },
-                in_place::lend(state, FORGET, |at| unsafe { in_place::forget(at) })?,
-            ),
-            Call::Query(on) => (
-                lend(on, |list, count| Ok(unsafe { bullacetop_query(*state, list, count) }))?,
-                lend(on, |list, count| {
-                    in_place::lend(state, SEARCH, |at| unsafe { in_place::query(at, list, count) })
-                })?,
-            ),
+        let Returned { reply, state: next } = match call {
+            Call::Rule(literals) => lend(literals, |list, count| {
+                in_place::lend(state, RULE, |at| unsafe { in_place::rule(at, list, count) })
+            })?,
+            Call::Forget => in_place::lend(state, FORGET, |at| unsafe { in_place::forget(at) })?,
+            Call::Query(on) => lend(on, |list, count| {
+                in_place::lend(state, SEARCH, |at| unsafe { in_place::query(at, list, count) })
+            })?,
             Call::Card(length) | Call::KeepCard(length) => {
                 let keeps = matches!(call, Call::KeepCard(_));
                 table = vec![LENT_BYTE; *length];
-                let mut other = table.clone();
-                let by_value = lend_table(&mut table, |bytes, length| {
-                    Ok(unsafe {
-                        match keeps {
-                            true => bullacetop_keep_card(*state, bytes, length),
-                            false => bullacetop_card(*state, bytes, length),
-                        }
-                    })
-                })?;
-                let in_place = lend_table(&mut other, |bytes, length| {
+                lend_table(&mut table, |bytes, length| {
                     in_place::lend(state, SEARCH, |at| unsafe {
                         match keeps {
                             true => in_place::keep_card(at, bytes, length),
                             false => in_place::card(at, bytes, length),
                         }
                     })
-                })?;
-                if table != other {
-                    return Err("the card tables by value and in place differ".into());
-                }
-                (by_value, in_place)
+                })?
             }
             Call::Withdraw => return Err(format!("the library has no {call}")),
             Call::Write(length) => {
-                // There is no such call by value: a call line is one, and is compared with the others.
                 table = vec![LENT_BYTE; *length];
-                let in_place = lend_table(&mut table, |bytes, length| {
+                lend_table(&mut table, |bytes, length| {
                     in_place::lend(state, WRITE, |at| {
                         as_reply(unsafe { in_place::write(at, bytes, length) })
                     })
-                })?;
-                (in_place, in_place)
+                })?
             }
         };
-        let Returned { reply, state: next } = same(by_value, in_place)?;
         *self.state = next;
         Ok(Answer { said: said(call, &reply)?, table, visits: reply.visits })
     }
@@ -101,17 +68,6 @@ impl Native {
 /// The length of a text in the place of the count of lines.
 fn as_reply(Written { refusal, length }: Written) -> Reply {
     Reply { refusal, verdict: 0, lines: length, visits: 0 }
-}
-
-/// A call that was made both ways.
-fn same(by_value: Returned, in_place: Returned) -> Result<Returned, String> {
-    if by_value.reply != in_place.reply {
-        return Err(format!("by value {:?}, in place {:?}", by_value.reply, in_place.reply));
-    }
-    match by_value.state == in_place.state {
-        true => Ok(by_value),
-        false => Err("the next states by value and in place differ".into()),
-    }
 }
 
 impl Subject for Native {
@@ -124,35 +80,18 @@ impl Subject for Native {
 pub mod bare {
     use super::*;
 
-    pub fn forget_by_value(state: &mut Raw) -> Reply {
-        let Returned { reply, state: next } = unsafe { bullacetop_forget(*state) };
-        *state = next;
-        reply
-    }
-
-    pub fn query_by_value(state: &mut Raw, on: &[i16]) -> Reply {
-        let Returned { reply, state: next } =
-            unsafe { bullacetop_query(*state, on.as_ptr(), on.len()) };
-        *state = next;
-        reply
-    }
-
-    /// In place.
     pub fn rule(state: &mut Raw, literals: &[i16]) -> Reply {
         unsafe { in_place::rule(in_place::tables_of(state), literals.as_ptr(), literals.len()) }
     }
 
-    /// In place.
     pub fn forget(state: &mut Raw) -> Reply {
         unsafe { in_place::forget(in_place::tables_of(state)) }
     }
 
-    /// In place.
     pub fn query(state: &mut Raw, on: &[i16]) -> Reply {
         unsafe { in_place::query(in_place::tables_of(state), on.as_ptr(), on.len()) }
     }
 
-    /// In place.
     pub fn card(state: &mut Raw, table: &mut [u8]) -> Reply {
         unsafe { in_place::card(in_place::tables_of(state), table.as_mut_ptr(), table.len()) }
     }

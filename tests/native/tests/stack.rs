@@ -1,8 +1,8 @@
-//! The calls and the functions on texts run on a stack of 512 KiB, calls in place on one of 128 KiB,
-//! as the C header says.
+//! The calls run on a stack of 128 KiB and the functions on texts on one of 512 KiB, as the C header
+//! says.
 
-use compare::{Call, Formula, Quantifier, Said, State, Store, Subject, Variable};
-use native::library::{bare, Native};
+use compare::{Formula, Quantifier, State, Store, Variable};
+use native::library::bare;
 use native::raw::{Reply, SWAP};
 use native::reading;
 use std::thread;
@@ -20,20 +20,7 @@ fn on_a_stack_of(size: usize, run: impl FnOnce() + Send + 'static) {
 }
 
 #[test]
-fn a_call_needs_less_than_512_kib() {
-    on_a_stack_of(512 << 10, || {
-        let mut native = Native::opened(deepest());
-        let card = native.call(&Call::Card(65_536));
-        assert_eq!((card.said, card.visits), (Said::Lines(1), 42));
-        let query = native.call(&Call::Query(vec![]));
-        assert_eq!((query.said, query.visits), (Said::Swap, 42));
-        assert_eq!(native.call(&Call::Rule(vec![1, -2, 3])).said, Said::Added);
-        assert_eq!(native.call(&Call::Forget).said, Said::Forgotten);
-    });
-}
-
-#[test]
-fn a_call_in_place_needs_less_than_128_kib() {
+fn a_call_needs_less_than_128_kib() {
     let mut state = reading::write(&State { formula: deepest(), store: Store::default() });
     let mut table = vec![0; 65_536];
     on_a_stack_of(128 << 10, move || {

@@ -70,7 +70,7 @@ fn hold_text(input: &[u8], page: &mut Page) -> Option<Formula> {
     }
 }
 
-/// "22 the state is malformed", for every call, by value and in place.
+/// "22 the state is malformed", for every call.
 fn no_book(state: &Raw) {
     let cards = [Call::Card(3), Call::KeepCard(3)];
     let calls = [Call::Rule(vec![1]), Call::Query(vec![]), Call::Forget];

@@ -15,7 +15,7 @@ use Rattle.qbf.specs.Card.{zeroTable}
 use Rattle.cover.proofs.Laws.{covers-none}
 use Rattle.state.proofs.Valid.{valid-numbers, valid-quantified}
 use Rattle.answers.proofs.Running.{ready, free-small, open-values}
-use Rattle.answers.proofs.Asking.{cleared-length, served-as, malformed-card, shown-card, full-card}
+use Rattle.answers.proofs.Asking.{cleared-length, served-as, malformed-card, halted-card, shown-card, full-card}
 
 clear-requires : tie.Need-clear-requires
 clear-requires c κs = search needs
@@ -30,37 +30,28 @@ same-length : tie.Need-same-length
 same-length c = search needs
 
 returns : tie.Need-returns
-returns c = served-as _ (cardOf (c .before .before .before .before .before .before .before .before .before .before .before .before .args .yes) _) (c .not-listed .ensures _) (malformed-card _ (c .before .before .before .before .before .before .before .before .before .before .before .before .args .yes) _ _ (c .before .before .before .before .before .before .before .before .before .clear .ensures) (sym (c .before .before .check-tables .ensures .said) ∙ not-true _ (c .before .if1 .taken)))
+returns c =
+    let entry = c .before .before .before .before .before .before .before .before .before .before .before .before in
+    let not-listed = c .not-listed in
+    let clear = c .before .before .before .before .before .before .before .before .before .clear in
+    let check-tables = c .before .before .check-tables in
+    let if1 = c .before .if1 in
+    served-as _ (cardOf (entry .args .yes) (entry .args .ceiling) _) (not-listed .ensures _) (malformed-card _ (entry .args .yes) (entry .args .ceiling) _ _ (clear .ensures) (sym (check-tables .ensures .said) ∙ not-true _ (if1 .taken)))
 
 free-count-requires : tie.Need-free-count-requires
 free-count-requires c κs = search needs
 
+budget-of-requires : tie.Need-budget-of-requires
+budget-of-requires c κs = search needs
+
 run-requires : tie.Need-run-requires
 run-requires c κs =
-    let v = sym (c .before .before .before .before .before .before .before .before .before .before .before .before .before .before .check-tables .ensures .said) ∙ not-false _ (c .before .before .before .before .before .before .before .before .before .before .before .before .before .if1 .left) in
-    ready _ v (c .before .before .before .before .before .before .before .before .before .before .before .before .before .before .check-tables .ensures .sized) _ _ (omega arith) (free-small _ v _ (c .before .before .before .before .before .before .before .before .before .free-count .ensures _ (valid-numbers _ v) (valid-quantified _ v)))
-
-total-lines-requires : tie.Need-total-lines-requires
-total-lines-requires c κs = search needs
-
-fits-requires : tie.Need-fits-requires
-fits-requires c κs = search needs
-
-with-lines-requires : tie.Need-with-lines-requires
-with-lines-requires c κs = search needs
-
-same-length-2 : tie.Need-same-length-2
-same-length-2 c = c .before .before .before .before .before .before .run .ensures .0 .0 ∙ cleared-length (length (now (c .before .before .before .before .before .before .before .before .before .before .before .before .before .before .before .before .before .before .before .before .before .before .before .before .before .before .before .before .before .before .before .args .table))) (c .before .before .before .before .before .before .before .before .before .before .before .before .before .before .before .before .before .before .before .before .before .before .before .before .before .before .before .before .clear .ensures)
-
-returns-2 : tie.Need-returns-2
-returns-2 c =
-    let v = sym (c .before .before .before .before .before .before .before .before .before .before .before .before .before .before .before .before .before .before .before .before .before .check-tables .ensures .said) ∙ not-false _ (c .before .before .before .before .before .before .before .before .before .before .before .before .before .before .before .before .before .before .before .before .if1 .left) in
-    let frees = c .before .before .before .before .before .before .before .before .before .before .before .before .before .before .before .before .free-count .ensures _ (valid-numbers _ v) (valid-quantified _ v) in
-    let sized = c .before .before .before .before .before .before .run .ensures .0 .0 ∙ cleared-length (length (now (c .before .before .before .before .before .before .before .before .before .before .before .before .before .before .before .before .before .before .before .before .before .before .before .before .before .before .before .before .before .before .before .args .table))) (c .before .before .before .before .before .before .before .before .before .before .before .before .before .before .before .before .before .before .before .before .before .before .before .before .before .before .before .before .clear .ensures) in
-    served-as _ (cardOf (c .before .before .before .before .before .before .before .before .before .before .before .before .before .before .before .before .before .before .before .before .before .before .before .before .before .before .before .before .before .before .before .args .yes) _) (c .with-lines .ensures _)
-    (shown-card _ v (c .before .before .before .before .before .before .before .before .before .before .before .before .before .before .before .before .before .before .before .before .before .before .before .before .before .before .before .before .before .before .before .args .yes) _ (c .before .before .before .before .before .before .before .before .before .before .before .before .before .before .before .before .free-count .result) (c .before .before .before .before .before .before .run .result) _ _ frees sized
-    (c .before .before .before .before .before .before .run .ensures .1 _ _ v .found [] (c .before .before .before .before .before .before .before .before .before .before .before .before .before .before .before .before .before .before .before .before .before .check-tables .ensures .placed v) (c .before .before .before .before .before .before .before .before .before .before .before .before .before .before .before .before .before .before .before .before .before .check-tables .ensures .kinded v) (open-values _) refl frees (covers-none (c .before .before .before .before .before .before .before .before .before .before .before .before .before .before .before .before .free-count .result) (length (now (c .before .before .before .before .before .before .before .before .before .before .before .before .before .before .before .before .before .before .before .before .before .before .before .before .before .before .before .before .before .before .before .args .table))) _ (c .before .before .before .before .before .before .before .before .before .before .before .before .before .before .before .before .before .before .before .before .before .before .before .before .before .before .before .before .clear .ensures)))
-    (c .before .before .before .total-lines .result) (c .before .before .before .total-lines .ensures) (ap (λ k. leb (c .before .before .before .total-lines .result * c .before .before .before .before .before .before .before .before .before .before .before .before .before .before .before .before .free-count .result) k) (sym sized) ∙ sym (c .before .before .fits2 .ensures) ∙ c .before .if2 .taken))
+    let check-tables = c .before .before .before .before .before .before .before .before .before .before .before .before .before .before .before .check-tables in
+    let if1 = c .before .before .before .before .before .before .before .before .before .before .before .before .before .before .if1 in
+    let free-count = c .before .before .before .before .before .before .before .before .before .before .free-count in
+    let budget-of = c .budget-of in
+    let v = sym (check-tables .ensures .said) ∙ not-false _ (if1 .left) in
+    ready _ v (check-tables .ensures .sized) _ _ _ (omega arith) (free-small _ v _ (free-count .ensures _ (valid-numbers _ v) (valid-quantified _ v))) (budget-of .ensures .1)
 
 clear-requires-2 : tie.Need-clear-requires-2
 clear-requires-2 c κs = search needs
@@ -68,18 +59,112 @@ clear-requires-2 c κs = search needs
 not-listed-requires-2 : tie.Need-not-listed-requires-2
 not-listed-requires-2 c κs = search needs
 
+same-length-2 : tie.Need-same-length-2
+same-length-2 c =
+    let clear2 = c .before .before .before .clear2 in
+    let run = c .before .before .before .before .before .before .before .before .before .run in
+    let entry = c .before .before .before .before .before .before .before .before .before .before .before .before .before .before .before .before .before .before .before .before .before .before .before .before .before .before .before .before .before .before .before .before .before .before .before in
+    let clear = c .before .before .before .before .before .before .before .before .before .before .before .before .before .before .before .before .before .before .before .before .before .before .before .before .before .before .before .before .before .before .before .before .clear in
+    cleared-length _ (clear2 .ensures) ∙ run .ensures .0 .0 ∙ cleared-length (length (now (entry .args .table))) (clear .ensures)
+
+returns-2 : tie.Need-returns-2
+returns-2 c =
+    let check-tables = c .before .before .before .before .before .before .before .before .before .before .before .before .before .before .before .before .before .before .before .before .before .before .before .before .before .check-tables in
+    let if1 = c .before .before .before .before .before .before .before .before .before .before .before .before .before .before .before .before .before .before .before .before .before .before .before .before .if1 in
+    let free-count = c .before .before .before .before .before .before .before .before .before .before .before .before .before .before .before .before .before .before .before .before .free-count in
+    let run = c .before .before .before .before .before .before .before .before .before .run in
+    let entry = c .before .before .before .before .before .before .before .before .before .before .before .before .before .before .before .before .before .before .before .before .before .before .before .before .before .before .before .before .before .before .before .before .before .before .before in
+    let clear = c .before .before .before .before .before .before .before .before .before .before .before .before .before .before .before .before .before .before .before .before .before .before .before .before .before .before .before .before .before .before .before .before .clear in
+    let not-listed2 = c .not-listed2 in
+    let clear2 = c .before .before .before .clear2 in
+    let budget-of = c .before .before .before .before .before .before .before .before .before .before .budget-of in
+    let if2 = c .before .before .before .before .before .if2 in
+    let v = sym (check-tables .ensures .said) ∙ not-false _ (if1 .left) in
+    let frees = free-count .ensures _ (valid-numbers _ v) (valid-quantified _ v) in
+    let sized = run .ensures .0 .0 ∙ cleared-length (length (now (entry .args .table))) (clear .ensures) in
+    served-as _ (cardOf (entry .args .yes) (entry .args .ceiling) _) (not-listed2 .ensures (clear2 .last .0))
+    (halted-card _ v (entry .args .yes) (entry .args .ceiling) _ (free-count .result) (budget-of .result) (run .result) _ _ frees sized (budget-of .ensures .0) (run .ensures .1 _ _ v .found [] (check-tables .ensures .placed v) (check-tables .ensures .kinded v) (open-values _) refl frees (covers-none (free-count .result) (length (now (entry .args .table))) _ (clear .ensures))) (if2 .taken) _ (clear2 .ensures ∙ ap zeroTable sized))
+
+total-lines-requires : tie.Need-total-lines-requires
+total-lines-requires c κs = search needs
+
+visits-of-requires : tie.Need-visits-of-requires
+visits-of-requires c κs =
+    let run = c .before .before .before .before .before .run in
+    let budget-of = c .before .before .before .before .before .before .budget-of in
+    omega (arith, run .ensures .0 .2, budget-of .ensures .0)
+
+fits-requires : tie.Need-fits-requires
+fits-requires c κs = search needs
+
+with-lines-requires : tie.Need-with-lines-requires
+with-lines-requires c κs = search needs
+
 same-length-3 : tie.Need-same-length-3
-same-length-3 c = cleared-length _ (c .before .before .before .clear2 .ensures) ∙ c .before .before .before .before .before .before .before .before .before .before .run .ensures .0 .0 ∙ cleared-length (length (now (c .before .before .before .before .before .before .before .before .before .before .before .before .before .before .before .before .before .before .before .before .before .before .before .before .before .before .before .before .before .before .before .before .before .before .before .args .table))) (c .before .before .before .before .before .before .before .before .before .before .before .before .before .before .before .before .before .before .before .before .before .before .before .before .before .before .before .before .before .before .before .before .clear .ensures)
+same-length-3 c =
+    let run = c .before .before .before .before .before .before .before .before .before .run in
+    let entry = c .before .before .before .before .before .before .before .before .before .before .before .before .before .before .before .before .before .before .before .before .before .before .before .before .before .before .before .before .before .before .before .before .before .before .before in
+    let clear = c .before .before .before .before .before .before .before .before .before .before .before .before .before .before .before .before .before .before .before .before .before .before .before .before .before .before .before .before .before .before .before .before .clear in
+    run .ensures .0 .0 ∙ cleared-length (length (now (entry .args .table))) (clear .ensures)
 
 returns-3 : tie.Need-returns-3
 returns-3 c =
-    let v = sym (c .before .before .before .before .before .before .before .before .before .before .before .before .before .before .before .before .before .before .before .before .before .before .before .before .before .check-tables .ensures .said) ∙ not-false _ (c .before .before .before .before .before .before .before .before .before .before .before .before .before .before .before .before .before .before .before .before .before .before .before .before .if1 .left) in
-    let frees = c .before .before .before .before .before .before .before .before .before .before .before .before .before .before .before .before .before .before .before .before .free-count .ensures _ (valid-numbers _ v) (valid-quantified _ v) in
-    let sized = c .before .before .before .before .before .before .before .before .before .before .run .ensures .0 .0 ∙ cleared-length (length (now (c .before .before .before .before .before .before .before .before .before .before .before .before .before .before .before .before .before .before .before .before .before .before .before .before .before .before .before .before .before .before .before .before .before .before .before .args .table))) (c .before .before .before .before .before .before .before .before .before .before .before .before .before .before .before .before .before .before .before .before .before .before .before .before .before .before .before .before .before .before .before .before .clear .ensures) in
-    served-as _ (cardOf (c .before .before .before .before .before .before .before .before .before .before .before .before .before .before .before .before .before .before .before .before .before .before .before .before .before .before .before .before .before .before .before .before .before .before .before .args .yes) _) (c .not-listed2 .ensures (c .before .before .before .clear2 .last .0))
-    (full-card _ v (c .before .before .before .before .before .before .before .before .before .before .before .before .before .before .before .before .before .before .before .before .before .before .before .before .before .before .before .before .before .before .before .before .before .before .before .args .yes) _ (c .before .before .before .before .before .before .before .before .before .before .before .before .before .before .before .before .before .before .before .before .free-count .result) (c .before .before .before .before .before .before .before .before .before .before .run .result) _ _ frees sized
-    (c .before .before .before .before .before .before .before .before .before .before .run .ensures .1 _ _ v .found [] (c .before .before .before .before .before .before .before .before .before .before .before .before .before .before .before .before .before .before .before .before .before .before .before .before .before .check-tables .ensures .placed v) (c .before .before .before .before .before .before .before .before .before .before .before .before .before .before .before .before .before .before .before .before .before .before .before .before .before .check-tables .ensures .kinded v) (open-values _) refl frees (covers-none (c .before .before .before .before .before .before .before .before .before .before .before .before .before .before .before .before .before .before .before .before .free-count .result) (length (now (c .before .before .before .before .before .before .before .before .before .before .before .before .before .before .before .before .before .before .before .before .before .before .before .before .before .before .before .before .before .before .before .before .before .before .before .args .table))) _ (c .before .before .before .before .before .before .before .before .before .before .before .before .before .before .before .before .before .before .before .before .before .before .before .before .before .before .before .before .before .before .before .before .clear .ensures)))
-    (c .before .before .before .before .before .before .before .total-lines .result) (c .before .before .before .before .before .before .before .total-lines .ensures) _ (c .before .before .before .clear2 .ensures ∙ ap zeroTable sized) (ap (λ k. leb (c .before .before .before .before .before .before .before .total-lines .result * c .before .before .before .before .before .before .before .before .before .before .before .before .before .before .before .before .before .before .before .before .free-count .result) k) (sym sized) ∙ sym (c .before .before .before .before .before .before .fits2 .ensures) ∙ c .before .before .before .before .before .if2 .left))
+    let check-tables = c .before .before .before .before .before .before .before .before .before .before .before .before .before .before .before .before .before .before .before .before .before .before .before .before .before .check-tables in
+    let if1 = c .before .before .before .before .before .before .before .before .before .before .before .before .before .before .before .before .before .before .before .before .before .before .before .before .if1 in
+    let free-count = c .before .before .before .before .before .before .before .before .before .before .before .before .before .before .before .before .before .before .before .before .free-count in
+    let run = c .before .before .before .before .before .before .before .before .before .run in
+    let entry = c .before .before .before .before .before .before .before .before .before .before .before .before .before .before .before .before .before .before .before .before .before .before .before .before .before .before .before .before .before .before .before .before .before .before .before in
+    let clear = c .before .before .before .before .before .before .before .before .before .before .before .before .before .before .before .before .before .before .before .before .before .before .before .before .before .before .before .before .before .before .before .before .clear in
+    let with-lines = c .with-lines in
+    let budget-of = c .before .before .before .before .before .before .before .before .before .before .budget-of in
+    let if2 = c .before .before .before .before .before .if2 in
+    let visits-of = c .before .before .before .visits-of in
+    let total-lines = c .before .before .before .before .total-lines in
+    let fits2 = c .before .before .fits2 in
+    let if3 = c .before .if3 in
+    let v = sym (check-tables .ensures .said) ∙ not-false _ (if1 .left) in
+    let frees = free-count .ensures _ (valid-numbers _ v) (valid-quantified _ v) in
+    let sized = run .ensures .0 .0 ∙ cleared-length (length (now (entry .args .table))) (clear .ensures) in
+    served-as _ (cardOf (entry .args .yes) (entry .args .ceiling) _) (with-lines .ensures _)
+    (shown-card _ v (entry .args .yes) (entry .args .ceiling) _ (free-count .result) (budget-of .result) (run .result) _ _ frees sized (budget-of .ensures .0) (run .ensures .1 _ _ v .found [] (check-tables .ensures .placed v) (check-tables .ensures .kinded v) (open-values _) refl frees (covers-none (free-count .result) (length (now (entry .args .table))) _ (clear .ensures))) (if2 .left) (visits-of .result) (visits-of .ensures)
+    (total-lines .result) (total-lines .ensures) (ap (λ k. leb (total-lines .result * free-count .result) k) (sym sized) ∙ sym (fits2 .ensures) ∙ if3 .taken))
+
+clear-requires-3 : tie.Need-clear-requires-3
+clear-requires-3 c κs = search needs
+
+not-listed-requires-3 : tie.Need-not-listed-requires-3
+not-listed-requires-3 c κs = search needs
+
+same-length-4 : tie.Need-same-length-4
+same-length-4 c =
+    let clear3 = c .before .before .before .clear3 in
+    let run = c .before .before .before .before .before .before .before .before .before .before .before .before .before .run in
+    let entry = c .before .before .before .before .before .before .before .before .before .before .before .before .before .before .before .before .before .before .before .before .before .before .before .before .before .before .before .before .before .before .before .before .before .before .before .before .before .before .before in
+    let clear = c .before .before .before .before .before .before .before .before .before .before .before .before .before .before .before .before .before .before .before .before .before .before .before .before .before .before .before .before .before .before .before .before .before .before .before .before .clear in
+    cleared-length _ (clear3 .ensures) ∙ run .ensures .0 .0 ∙ cleared-length (length (now (entry .args .table))) (clear .ensures)
+
+returns-4 : tie.Need-returns-4
+returns-4 c =
+    let check-tables = c .before .before .before .before .before .before .before .before .before .before .before .before .before .before .before .before .before .before .before .before .before .before .before .before .before .before .before .before .before .check-tables in
+    let if1 = c .before .before .before .before .before .before .before .before .before .before .before .before .before .before .before .before .before .before .before .before .before .before .before .before .before .before .before .before .if1 in
+    let free-count = c .before .before .before .before .before .before .before .before .before .before .before .before .before .before .before .before .before .before .before .before .before .before .before .before .free-count in
+    let run = c .before .before .before .before .before .before .before .before .before .before .before .before .before .run in
+    let entry = c .before .before .before .before .before .before .before .before .before .before .before .before .before .before .before .before .before .before .before .before .before .before .before .before .before .before .before .before .before .before .before .before .before .before .before .before .before .before .before in
+    let clear = c .before .before .before .before .before .before .before .before .before .before .before .before .before .before .before .before .before .before .before .before .before .before .before .before .before .before .before .before .before .before .before .before .before .before .before .before .clear in
+    let not-listed3 = c .not-listed3 in
+    let clear3 = c .before .before .before .clear3 in
+    let budget-of = c .before .before .before .before .before .before .before .before .before .before .before .before .before .before .budget-of in
+    let if2 = c .before .before .before .before .before .before .before .before .before .if2 in
+    let visits-of = c .before .before .before .before .before .before .before .visits-of in
+    let total-lines = c .before .before .before .before .before .before .before .before .total-lines in
+    let fits2 = c .before .before .before .before .before .before .fits2 in
+    let if3 = c .before .before .before .before .before .if3 in
+    let v = sym (check-tables .ensures .said) ∙ not-false _ (if1 .left) in
+    let frees = free-count .ensures _ (valid-numbers _ v) (valid-quantified _ v) in
+    let sized = run .ensures .0 .0 ∙ cleared-length (length (now (entry .args .table))) (clear .ensures) in
+    served-as _ (cardOf (entry .args .yes) (entry .args .ceiling) _) (not-listed3 .ensures (clear3 .last .0))
+    (full-card _ v (entry .args .yes) (entry .args .ceiling) _ (free-count .result) (budget-of .result) (run .result) _ _ frees sized (budget-of .ensures .0) (run .ensures .1 _ _ v .found [] (check-tables .ensures .placed v) (check-tables .ensures .kinded v) (open-values _) refl frees (covers-none (free-count .result) (length (now (entry .args .table))) _ (clear .ensures))) (if2 .left) (visits-of .result) (visits-of .ensures)
+    (total-lines .result) (total-lines .ensures) _ (clear3 .ensures ∙ ap zeroTable sized) (ap (λ k. leb (total-lines .result * free-count .result) k) (sym sized) ∙ sym (fits2 .ensures) ∙ if3 .left))
 
 pub card-of-spec : {M : Type 1} → statement M
 card-of-spec =
@@ -91,13 +176,19 @@ card-of-spec =
     same-length
     returns
     free-count-requires
+    budget-of-requires
     run-requires
-    total-lines-requires
-    fits-requires
-    with-lines-requires
-    same-length-2
-    returns-2
     clear-requires-2
     not-listed-requires-2
+    same-length-2
+    returns-2
+    total-lines-requires
+    visits-of-requires
+    fits-requires
+    with-lines-requires
     same-length-3
-    returns-3)
+    returns-3
+    clear-requires-3
+    not-listed-requires-3
+    same-length-4
+    returns-4)

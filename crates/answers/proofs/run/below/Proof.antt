@@ -24,16 +24,30 @@ slice-aggregate-start : tie.Need-slice-aggregate-start
 slice-aggregate-start c = search needs
 
 start-requires : tie.Need-start-requires
-start-requires c κs = record { shelves = c .before .before .before .before .before .before .before .before .before .before .before .before .before .before .before .before .before .before .before .pre .1; room = room _ _ (c .before .before .before .before .before .before .before .before .before .before .before .before .before .before .before .before .before .before .before .args .at) (c .before .before .before .before .before .before .before .before .before .before .before .before .before .before .before .before .before .before .before .args .free) (c .before .before .before .before .before .before .before .before .before .before .before .before .before .before .before .before .before .words-of .result) (omega (arith, c .before .before .before .before .before .before .before .before .before .before .before .before .before .before .before .before .before .before .before .pre .2, c .before .before .before .before .before .before .before .before .before .before .before .before .before .before .before .before .before .before .before .pre .3)) (c .before .before .before .before .before .before .before .before .before .before .before .before .before .before .before .before .before .before .before .pre .4) (row-length (c .before .before .before .before .before .before .before .before .before .before .before .before .before .before .before .before .before .words-of .ensures) (c .before .before .before .before .before .before .before .before .before .before .before .before .before .before .before .before .before .before .before .pre .0)) (c .before .before .before .before .before .before .before .before .before .before .before .before .before .before .before .before .before .before .before .pre .5) (c .before .before .before .before .before .before .before .before .before .before .before .before .before .before .before .before .before .before .before .pre .6) }
+start-requires c κs =
+    let entry = c .before .before .before .before .before .before .before .before .before .before .before .before .before .before .before .before .before .before .before in
+    let words = c .before .before .before .before .before .before .before .before .before .before .before .before .before .before .before .before .before .words-of in
+    record {
+      shelves = entry .pre .1;
+      room =
+          room _ _ (entry .args .at) (entry .args .free) (entry .args .budget) (words .result) (omega (arith, entry .pre .2, entry .pre .3)) (entry .pre .4)
+          (row-length (words .ensures) (entry .pre .0)) (entry .pre .5) (entry .pre .6) (entry .pre .8);
+      made = entry .pre .7;
+    }
 
 same-length : tie.Need-same-length
 same-length c = search needs
 
 returns : tie.Need-returns
-returns c = (
-  (c .before .before .before .start .ensures .0 .kept .size, few-lines _ _ (c .before .before .before .before .before .before .before .before .before .before .before .before .before .before .before .before .before .before .before .before .before .before .before .args .at) (c .before .before .before .before .before .before .before .before .before .before .before .before .before .before .before .before .before .before .before .before .before .before .before .args .free) (c .before .before .before .before .before .before .before .before .before .before .before .before .before .before .before .before .before .before .before .before .before .words-of .result) (c .before .before .before .start .result) _ _ (c .before .before .before .start .ensures .0 .counts), c .before .before .before .start .ensures .0 .shelves),
-  below-shown _ _ (c .before .before .before .before .before .before .before .before .before .before .before .before .before .before .before .before .before .before .before .before .before .before .before .args .count) (c .before .before .before .before .before .before .before .before .before .before .before .before .before .before .before .before .before .before .before .before .before .words-of .result) _ _ _ _ _ _ _ _ _ _ _ (c .before .before .before .before .before .before .before .before .before .before .before .before .before .before .before .before .before .before .before .before .before .before .before .args .at) (c .before .before .before .before .before .before .before .before .before .before .before .before .before .before .before .before .before .before .before .before .before .before .before .args .free) (c .before .before .before .start .result) _ _ _ _ _ _ (c .before .before .before .before .before .before .before .before .before .before .before .before .before .before .before .before .before .before .before .before .before .before .before .pre .3) (c .before .before .before .before .before .before .before .before .before .before .before .before .before .before .before .before .before .before .before .before .before .words-of .ensures) (c .before .before .before .before .before .before .before .before .before .before .before .before .before .before .before .before .before .before .statuses-of .ensures) (c .before .before .before .before .before .before .before .before .before .before .before .before .before .before .start-rows .ensures) (c .before .before .before .start .ensures .1),
-)
+returns c =
+    let entry = c .before .before .before .before .before .before .before .before .before .before .before .before .before .before .before .before .before .before .before .before .before .before .before in
+    let words = c .before .before .before .before .before .before .before .before .before .before .before .before .before .before .before .before .before .before .before .before .before .words-of in
+    let found = c .before .before .before .start in
+    let few = few-lines _ _ (entry .args .at) (entry .args .free) (entry .args .budget) (words .result) (found .result) _ _ (found .ensures .0 .counts) (entry .pre .8) in (
+      (found .ensures .0 .kept .size, few .0, found .ensures .0 .shelves, few .1),
+      below-shown _ _ (entry .args .count) (words .result) _ _ _ _ _ _ _ _ _ _ _ (entry .args .at) (entry .args .free) (entry .args .budget) (found .result) _ _ _ _ _ _ (entry .pre .3) (words .ensures)
+          (c .before .before .before .before .before .before .before .before .before .before .before .before .before .before .before .before .before .before .statuses-of .ensures) (c .before .before .before .before .before .before .before .before .before .before .before .before .before .before .start-rows .ensures) (found .ensures .1),
+    )
 
 pub below-spec : {M : Type 1} → statement M
 below-spec =

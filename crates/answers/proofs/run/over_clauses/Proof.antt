@@ -29,6 +29,8 @@ below-requires c κs =
       start .pre .4,
       omega (arith, first .load .ensures .1, start .pre .1 .clauses .few),
       omega (arith, second .load2 .ensures .1, start .pre .1 .cubes .few),
+      start .pre .5,
+      start .pre .6,
     )
 
 cast-unload-clauses : tie.Need-cast-unload-clauses
@@ -52,9 +54,9 @@ returns c =
     let second = searched .before .before .before .before .before .before in
     let first = second .before .before .before .before .before .before in
     let start = first .before .before .before .before .before .before .before in (
-      (searched .below .ensures .0 .0, searched .below .ensures .0 .1),
+      (searched .below .ensures .0 .0, searched .below .ensures .0 .1, searched .below .ensures .0 .3),
       λ ls ks cs css v.
-          over-found _ v _ _ (start .args .count) _ _ _ (start .args .at) (start .args .free) _ _ (searched .below .result) _ _ _ _ _ _ _ _ _ _ _ _ (start .pre .3)
+          over-found _ v _ _ (start .args .count) _ _ _ (start .args .at) (start .args .free) (start .args .budget) _ _ (searched .below .result) _ _ _ _ _ _ _ _ _ _ _ _
           (first .load .ensures .2) (second .load2 .ensures .2) (first .load .ensures .1) (searched .below .ensures .1)
           (record { clauses = clauses .unload-clauses .ensures .0; cubes = c .unload .ensures .0 }) (clauses .unload-clauses .ensures .1) (clauses .unload-clauses .ensures .2) (c .unload .ensures .1),
     )

@@ -38,12 +38,12 @@ same-length c = search needs
 
 returns : tie.Need-returns
 returns c = (
-  (c .before .before .over-clauses .ensures .0 .0, c .before .before .over-clauses .ensures .0 .1),
+  (c .before .before .over-clauses .ensures .0 .0, c .before .before .over-clauses .ensures .0 .1, c .before .before .over-clauses .ensures .0 .2),
   λ ls ks v.
       record {
-        found = λ s ps kk vs long frees cov alive.
+        found = λ s ps kk vs long frees cov opened.
             let q = c .before .before .before .before .before .before .before .before .before .before .before .before .before .before .before .before .before .before .quantifiers-of .ensures _ (valid-numbers _ v) kk (variables-numbered _ v) in
-            c .before .before .over-clauses .ensures .1 ls ks _ _ v .found s (c .before .before .before .before .before .before .before .before .before .before .before .before .load-clauses .ensures _ ps q (omega (arith, valid-numbers _ v .count))) (rows-length (paper .literals) _ _ _) q ps vs long frees cov alive;
+            c .before .before .over-clauses .ensures .1 ls ks _ _ v .found s (c .before .before .before .before .before .before .before .before .before .before .before .before .load-clauses .ensures _ ps q (omega (arith, valid-numbers _ v .count))) (rows-length (paper .literals) _ _ _) q ps vs long frees cov opened;
       },
 )
 

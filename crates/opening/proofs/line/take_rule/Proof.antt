@@ -22,8 +22,9 @@ refusal-of-requires c κs = search needs
 
 returns-2 : tie.Need-returns-2
 returns-2 c =
-    let s = c .before .before .before .before .before in
-    rule-taken (s .pre) (c .before .before .before .before .may-stand .ensures) (now (s .args .lits)) (c .before .before .before .if1 .left) (c .before .before .rule .ensures) (c .refusal-of .ensures)
+    let judged = c .before .before .before .before .before .before .before .before .before .before .before .before .before .before .before in
+    let s = judged .before .before in
+    rule-taken (s .pre) (judged .before .may-stand .ensures) (now (s .args .lits)) (judged .if1 .left) (c .before .rule .ensures) (c .refusal-of .ensures)
 
 pub take-rule-spec : {M : Type 1} → statement M
 take-rule-spec =

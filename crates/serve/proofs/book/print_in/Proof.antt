@@ -31,19 +31,26 @@ same-length-2 : tie.Need-same-length-2
 same-length-2 c = search needs
 
 returns : tie.Need-returns
-returns c = λ b e ok. wrote-as {d = c .before .before .refuse .last .0} {r = c .before .before .refuse .result} (refused-printed (c .before .before .before .before .before .before .before .before .before .before .before .before .args .x) (length (now (c .before .before .before .before .before .before .before .before .before .before .before .before .args .table))) (c .before .before .before .before .before .before .before .before .card .result .printed) (c .before .before .before .before .before .before .before .before .card .result .visits) (c .before .before .before .before .before .before .before .before .card .last .1 .0) (c .before .before .before .before .before .before .before .before .card .result .state) (c .before .before .before .before .before .before .before .before .card .ensures) (c .before .before .before .before .before .refusal-of .result) (c .before .before .before .before .before .refusal-of .ensures) b e ok (c .before .before .before .before .if1 .taken)) (c .before .before .refuse .ensures)
+returns c = λ b e ok.
+    let told = c .before .before .before .before .before .refusal-of in
+    let made = c .before .before .before .before .before .before .before .before .card in
+    let args = c .before .before .before .before .before .before .before .before .before .before .before .before .before .before .before .before .before .before .before .before .before .before .before .before .before .before .args in
+    wrote-as {d = c .before .before .refuse .last .0} {r = c .before .before .refuse .result} (refused-printed (args .t1) (length (now (c .before .before .before .before .before .before .before .before .before .before .before .before .before .before .before .before .before .before .before .before .before .before .before .before .before .before .args .table))) (made .result .printed) (made .result .visits) (made .last .1 .1 .1 .1 .1 .1 .1 .1 .1 .0) _ (made .ensures) (told .result) (told .ensures) b e ok (c .before .before .before .before .if1 .taken)) (c .before .before .refuse .ensures)
 
 lines-of-requires : tie.Need-lines-of-requires
 lines-of-requires c κs = search needs
 
 put-shown-requires : tie.Need-put-shown-requires
-put-shown-requires c κs = (
-  (let q : length (c .before .before .before .before .before .before .before .card .last .1 .0) ≡ length (now (c .before .before .before .before .before .before .before .before .before .before .before .args .table)) = search needs in omega (arith, q, c .before .before .before .before .before .before .before .before .before .before .before .pre .0)),
-  (
-    shown-said true (c .before .before .before .before .before .before .before .before .before .before .before .args .x) (length (now (c .before .before .before .before .before .before .before .before .before .before .before .args .table))) (c .before .before .before .before .refusal-of .result) (c .before .before .lines-of .result) (c .before .before .before .before .before .before .before .card .result .printed) (c .before .before .before .before .before .before .before .card .result .visits) (c .before .before .before .before .before .before .before .card .last .1 .0) (c .before .before .before .before .before .before .before .card .result .state) (search needs) (c .before .before .before .before .before .before .before .card .ensures) (c .before .before .before .before .refusal-of .ensures) (c .before .before .before .if1 .left) (c .before .before .lines-of .ensures),
-    omega arith,
-  ),
-)
+put-shown-requires c κs =
+    let told = c .before .before .before .before .refusal-of in
+    let made = c .before .before .before .before .before .before .before .card in
+    let long : length (c .before .before .before .before .before .before .before .card .last .1 .1 .1 .1 .1 .1 .1 .1 .1 .0) ≡ length (now (c .before .before .before .before .before .before .before .before .before .before .before .before .before .before .before .before .before .before .before .before .before .before .before .before .before .args .table)) = search needs in (
+      omega (arith, long, c .before .before .before .before .before .before .before .before .before .before .before .before .before .before .before .before .before .before .before .before .before .before .before .before .before .pre .0),
+      (
+        shown-said true (c .before .before .before .before .before .before .before .before .before .before .before .before .before .before .before .before .before .before .before .before .before .before .before .before .before .args .t1) (length (now (c .before .before .before .before .before .before .before .before .before .before .before .before .before .before .before .before .before .before .before .before .before .before .before .before .before .args .table))) (told .result) (c .before .before .lines-of .result) (made .result .printed) (made .result .visits) (made .last .1 .1 .1 .1 .1 .1 .1 .1 .1 .0) _ long (made .ensures) (told .ensures) (c .before .before .before .if1 .left) (c .before .before .lines-of .ensures),
+        c .before .before .before .before .before .before .before .before .before .before .before .before .before .before .before .before .before .before .before .before .before .before .before .before .before .pre .1,
+      ),
+    )
 
 same-length-3 : tie.Need-same-length-3
 same-length-3 c = search needs
@@ -53,8 +60,12 @@ same-length-4 c = search needs
 
 returns-2 : tie.Need-returns-2
 returns-2 c = λ b e ok.
-    let q : length (c .before .before .before .before .before .before .before .before .before .before .card .last .1 .0) ≡ length (now (c .before .before .before .before .before .before .before .before .before .before .before .before .before .before .args .table)) = search needs in
-    wrote-as (ap (λ m. lineAnswer (readState (c .before .before .before .before .before .before .before .before .before .before .before .before .before .before .args .x)) 0 (some (card m))) q ∙ shown-printed (c .before .before .before .before .before .before .before .before .before .before .before .before .before .before .args .x) (length (now (c .before .before .before .before .before .before .before .before .before .before .before .before .before .before .args .table))) (c .before .before .before .before .before .before .before .before .before .before .card .result .printed) (c .before .before .before .before .before .before .before .before .before .before .card .result .visits) (c .before .before .before .before .before .before .before .before .before .before .card .last .1 .0) (c .before .before .before .before .before .before .before .before .before .before .card .result .state) (c .before .before .before .before .before .before .before .before .before .before .card .ensures) (c .before .before .before .before .before .before .before .refusal-of .result) (c .before .before .before .before .before .before .before .refusal-of .ensures) b e ok (c .before .before .before .before .before .before .if1 .left) 0) (c .before .before .put-shown .ensures 0)
+    let told = c .before .before .before .before .before .before .before .refusal-of in
+    let made = c .before .before .before .before .before .before .before .before .before .before .card in
+    let args = c .before .before .before .before .before .before .before .before .before .before .before .before .before .before .before .before .before .before .before .before .before .before .before .before .before .before .before .before .args in
+    let size = length (now (c .before .before .before .before .before .before .before .before .before .before .before .before .before .before .before .before .before .before .before .before .before .before .before .before .before .before .before .before .args .table)) in
+    let long : length (c .before .before .before .before .before .before .before .before .before .before .card .last .1 .1 .1 .1 .1 .1 .1 .1 .1 .0) ≡ length (now (c .before .before .before .before .before .before .before .before .before .before .before .before .before .before .before .before .before .before .before .before .before .before .before .before .before .before .before .before .args .table)) = search needs in
+    wrote-as (ap (λ m. lineAnswer (readState (args .t1)) 0 (some (card m))) long ∙ shown-printed (args .t1) size (made .result .printed) (made .result .visits) (made .last .1 .1 .1 .1 .1 .1 .1 .1 .1 .0) _ (made .ensures) (told .result) (told .ensures) b e ok (c .before .before .before .before .before .before .if1 .left) 0) (c .before .before .put-shown .ensures 0)
 
 pub print-in-spec : {M : Type 1} → statement M
 print-in-spec =

@@ -37,27 +37,31 @@ same-length-2 c = search needs
 
 returns : tie.Need-returns
 returns c = λ s t after.
-    let args = c .before .before .before .before .before .before .before .before .before .before .before .before .before .before .args in
-    let size = length (now (c .before .before .before .before .before .before .before .before .before .before .before .before .before .before .args .table)) in
-    let made = c .before .before .before .before .before .before .before .before .before .before .card-of in
-    turned (args .x) (some (cardOf (args .yes) size)) (args .line) (made .result .state) s (c .before .before .before .before .before .card-of2 .result) (c .before .before .put-card-refusal .ensures)
-    (λ u e. refused-served (args .yes) (args .x) size (args .line) (c .before .before .before .before .before .before .refusal-of .result) (made .result .printed) (made .result .visits) (made .last .1 .0) (made .result .state) u (made .ensures) (c .before .before .before .before .before .before .refusal-of .ensures) (c .before .before .before .before .if1 .taken) e)
-    t (made .last .1 .0 ++ after)
-    (card-left (args .yes) (args .x) size (made .result .printed) (made .result .visits) (made .last .1 .0) (made .result .state) (made .ensures) (c .before .before .before .before .before .card-of2 .result) (c .before .before .before .before .before .card-of2 .ensures) after (cardIn s t))
+    let told = c .before .before .before .before .before .before .refusal-of in
+    let made = c .before .before .before .before .before .before .before .before .before .card-of in
+    let table = made .last .1 .1 .1 .1 .1 .1 .1 .1 .1 .0 in
+    let args = c .before .before .before .before .before .before .before .before .before .before .before .before .before .before .before .before .before .before .before .before .before .before .before .before .before .before .before .args in
+    let size = length (now (c .before .before .before .before .before .before .before .before .before .before .before .before .before .before .before .before .before .before .before .before .before .before .before .before .before .before .before .args .table)) in
+    turned (args .t1) (some (cardOf (args .yes) size)) (args .line) _ s (c .before .before .before .before .before .card-of2 .result) (c .before .before .put-card-refusal .ensures)
+    (λ u e. refused-served (args .yes) (args .t1) size (args .line) (told .result) (made .result .printed) (made .result .visits) table _ u (made .ensures) (told .ensures) (c .before .before .before .before .if1 .taken) e)
+    t (table ++ after)
+    (card-left (args .yes) (args .t1) size (made .result .printed) (made .result .visits) table _ (made .ensures) (c .before .before .before .before .before .card-of2 .result) (c .before .before .before .before .before .card-of2 .ensures) after (cardIn s t))
 
 lines-of-requires : tie.Need-lines-of-requires
 lines-of-requires c κs = search needs
 
 put-shown-requires : tie.Need-put-shown-requires
 put-shown-requires c κs =
-    let args = c .before .before .before .before .before .before .before .before .before .before .before .before .before .args in
-    let size = length (now (c .before .before .before .before .before .before .before .before .before .before .before .before .before .args .table)) in
-    let made = c .before .before .before .before .before .before .before .before .before .card-of in
-    let long : length (c .before .before .before .before .before .before .before .before .before .card-of .last .1 .0) ≡ length (now (c .before .before .before .before .before .before .before .before .before .before .before .before .before .args .table)) = search needs in (
-      omega (arith, long, c .before .before .before .before .before .before .before .before .before .before .before .before .before .pre .0),
+    let told = c .before .before .before .before .before .refusal-of in
+    let made = c .before .before .before .before .before .before .before .before .card-of in
+    let table = made .last .1 .1 .1 .1 .1 .1 .1 .1 .1 .0 in
+    let args = c .before .before .before .before .before .before .before .before .before .before .before .before .before .before .before .before .before .before .before .before .before .before .before .before .before .before .args in
+    let size = length (now (c .before .before .before .before .before .before .before .before .before .before .before .before .before .before .before .before .before .before .before .before .before .before .before .before .before .before .args .table)) in
+    let long : length (c .before .before .before .before .before .before .before .before .card-of .last .1 .1 .1 .1 .1 .1 .1 .1 .1 .0) ≡ length (now (c .before .before .before .before .before .before .before .before .before .before .before .before .before .before .before .before .before .before .before .before .before .before .before .before .before .before .args .table)) = search needs in (
+      omega (arith, long, c .before .before .before .before .before .before .before .before .before .before .before .before .before .before .before .before .before .before .before .before .before .before .before .before .before .before .pre .0),
       (
-        shown-said (args .yes) (args .x) size (c .before .before .before .before .before .refusal-of .result) (c .before .before .lines-of .result) (made .result .printed) (made .result .visits) (made .last .1 .0) (made .result .state) long (made .ensures) (c .before .before .before .before .before .refusal-of .ensures) (c .before .before .before .if1 .left) (c .before .before .lines-of .ensures),
-        c .before .before .before .before .before .before .before .before .before .before .before .before .before .pre .1,
+        shown-said (args .yes) (args .t1) size (told .result) (c .before .before .lines-of .result) (made .result .printed) (made .result .visits) table _ long (made .ensures) (told .ensures) (c .before .before .before .if1 .left) (c .before .before .lines-of .ensures),
+        c .before .before .before .before .before .before .before .before .before .before .before .before .before .before .before .before .before .before .before .before .before .before .before .before .before .before .pre .1,
       ),
     )
 
@@ -69,14 +73,15 @@ same-length-4 c = search needs
 
 returns-2 : tie.Need-returns-2
 returns-2 c = λ s t after.
-    let args = c .before .before .before .before .before .before .before .before .before .before .before .before .before .before .before .before .args in
-    let size = length (now (c .before .before .before .before .before .before .before .before .before .before .before .before .before .before .before .before .args .table)) in
-    let made = c .before .before .before .before .before .before .before .before .before .before .before .before .card-of in
-    let long : length (c .before .before .before .before .before .before .before .before .before .before .before .before .card-of .last .1 .0) ≡ length (now (c .before .before .before .before .before .before .before .before .before .before .before .before .before .before .before .before .args .table)) = search needs in
-    turned (args .x) (some (cardOf (args .yes) size)) (args .line) (made .result .state) s (c .before .before .before .before .before .before .before .card-of2 .result) (c .before .before .put-shown .ensures (args .line))
-    (λ u e. shown-served (args .yes) (args .x) size (args .line) (cardSaid (made .result .printed) (made .result .visits) (made .last .1 .0)) (made .result .state) u (made .ensures) (e ∙ ap (λ m. lineAnswer (readState (args .x)) (args .line) (some (cardOf (args .yes) m))) long))
-    t (made .last .1 .0 ++ after)
-    (card-left (args .yes) (args .x) size (made .result .printed) (made .result .visits) (made .last .1 .0) (made .result .state) (made .ensures) (c .before .before .before .before .before .before .before .card-of2 .result) (c .before .before .before .before .before .before .before .card-of2 .ensures) after (cardIn s t))
+    let made = c .before .before .before .before .before .before .before .before .before .before .before .card-of in
+    let table = made .last .1 .1 .1 .1 .1 .1 .1 .1 .1 .0 in
+    let args = c .before .before .before .before .before .before .before .before .before .before .before .before .before .before .before .before .before .before .before .before .before .before .before .before .before .before .before .before .before .args in
+    let size = length (now (c .before .before .before .before .before .before .before .before .before .before .before .before .before .before .before .before .before .before .before .before .before .before .before .before .before .before .before .before .before .args .table)) in
+    let long : length (c .before .before .before .before .before .before .before .before .before .before .before .card-of .last .1 .1 .1 .1 .1 .1 .1 .1 .1 .0) ≡ length (now (c .before .before .before .before .before .before .before .before .before .before .before .before .before .before .before .before .before .before .before .before .before .before .before .before .before .before .before .before .before .args .table)) = search needs in
+    turned (args .t1) (some (cardOf (args .yes) size)) (args .line) _ s (c .before .before .before .before .before .before .before .card-of2 .result) (c .before .before .put-shown .ensures (args .line))
+    (λ u e. shown-served (args .yes) (args .t1) size (args .line) (cardSaid (made .result .printed) (made .result .visits) table) _ u (made .ensures) (e ∙ ap (λ m. lineAnswer (readState (args .t1)) (args .line) (some (cardOf (args .yes) m))) long))
+    t (table ++ after)
+    (card-left (args .yes) (args .t1) size (made .result .printed) (made .result .visits) table _ (made .ensures) (c .before .before .before .before .before .before .before .card-of2 .result) (c .before .before .before .before .before .before .before .card-of2 .ensures) after (cardIn s t))
 
 pub serve-in-spec : {M : Type 1} → statement M
 serve-in-spec =

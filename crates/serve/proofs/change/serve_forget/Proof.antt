@@ -27,10 +27,11 @@ same-length c = search needs
 
 returns : tie.Need-returns
 returns c = λ t.
-    let args = c .before .before .before .before .before .before .before .before .before .args in
-    let made = c .before .before .before .before .before .before .before .forget in
-    turned (args .x) (some forget) (args .line) (made .result .state) (args .shown) (args .shown) (c .before .before .put-change .ensures)
-    (λ u e. change-served (args .x) forget (args .line) (made .result .change) (made .result .state) u forget-changing (made .ensures) (e ∙ ap (λ k. changeText forgottenText k (args .line)) (c .before .before .before .before .before .refusal-of .ensures)))
+    let told = c .before .before .before .before .before .refusal-of in
+    let made = c .before .before .before .before .before .before .forget in
+    let args = c .before .before .before .before .before .before .before .before .before .before .before .before .before .before .before .before .before .before .before .before .args in
+    turned (args .t1) (some forget) (args .line) _ (args .shown) (args .shown) (c .before .before .put-change .ensures)
+    (λ u e. change-served (args .t1) forget (args .line) (made .result) _ u forget-changing (made .ensures) (e ∙ ap (λ k. changeText forgottenText k (args .line)) (told .ensures)))
     t t refl
 
 pub serve-forget-spec : {M : Type 1} → statement M

@@ -33,12 +33,12 @@ same-length c = search needs
 
 returns : tie.Need-returns
 returns c = λ t.
-    let args = c .before .before .before .before .before .before .before .before .before .before .args in
-    let made = c .before .before .before .before .before .before .before .before .rule in
     let told = c .before .before .before .before .before .before .refusal-of in
-    turned (args .x) (some (rule (now (args .lits)))) (args .line) (made .result .state) (args .shown) (c .after-rule .result) (c .before .before .before .put-change .ensures)
-    (λ u e. change-served (args .x) (rule (now (args .lits))) (args .line) (made .result .change) (made .result .state) u (rule-changing (now (args .lits))) (made .ensures) (e ∙ ap (λ k. changeText acceptedText k (args .line)) (told .ensures)))
-    t t (rule-leaves (args .x) (rule (now (args .lits))) (made .result .change) (made .result .state) (args .shown) (told .result) (rule-changing (now (args .lits)) (readState (args .x))) (made .ensures) (told .ensures) (c .after-rule .result) (c .after-rule .ensures) t)
+    let made = c .before .before .before .before .before .before .before .rule in
+    let args = c .before .before .before .before .before .before .before .before .before .before .before .before .before .before .before .before .before .before .before .before .before .before .args in
+    turned (args .t1) (some (rule (now (args .lits)))) (args .line) _ (args .shown) (c .after-rule .result) (c .before .before .before .put-change .ensures)
+    (λ u e. change-served (args .t1) (rule (now (args .lits))) (args .line) (made .result) _ u (rule-changing (now (args .lits))) (made .ensures) (e ∙ ap (λ k. changeText acceptedText k (args .line)) (told .ensures)))
+    t t (rule-leaves (args .t1) (rule (now (args .lits))) (made .result) _ (args .shown) (told .result) (rule-changing (now (args .lits)) (readState (args .t1))) (made .ensures) (told .ensures) (c .after-rule .result) (c .after-rule .ensures) t)
 
 pub serve-rule-spec : {M : Type 1} → statement M
 serve-rule-spec =

@@ -20,10 +20,10 @@ same-length c = search needs
 
 returns : tie.Need-returns
 returns c = λ t.
-    let args = c .before .before .before .before .before .before .before .args in
-    let asked = c .before .before .before .before .before .query in
-    turned (args .x) (some (query (now (args .on)))) (args .line) (asked .result .state) (args .shown) (args .shown) (c .before .before .put-ruling .ensures)
-    (λ u e. query-answered (args .x) (now (args .on)) (args .line) (asked .result .ruling) (asked .result .visits) (asked .result .state) u (asked .ensures) e)
+    let asked = c .before .before .before .before .query in
+    let args = c .before .before .before .before .before .before .before .before .before .before .before .before .before .before .before .before .before .before .before .before .args in
+    turned (args .t1) (some (query (now (args .on)))) (args .line) _ (args .shown) (args .shown) (c .before .before .put-ruling .ensures)
+    (λ u e. query-answered (args .t1) (now (args .on)) (args .line) (asked .result .ruling) (asked .result .visits) _ u (asked .ensures) e)
     t t refl
 
 pub serve-query-spec : {M : Type 1} → statement M
