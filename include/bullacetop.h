@@ -69,6 +69,7 @@ extern "C" {
 #define BULLACETOP_TEXT_TABLE_TOO_SHORT 31
 #define BULLACETOP_NO_PAGE 36
 #define BULLACETOP_TAG_RANGE 39
+#define BULLACETOP_TAG_LOST 40
 
 /* A printed page: its rows, the bytes of a row, each row's last one being '\n', and all of them. */
 #define BULLACETOP_PAGE_ROWS 24
@@ -344,6 +345,28 @@ struct bullacetop_opened bullacetop_open(const uint8_t *text, size_t n);
  * where there is no header, and 30 where the count of clauses is not the header's.
  */
 struct bullacetop_opened bullacetop_open_qdimacs(const uint8_t *text, size_t n);
+
+/*
+ * A text converted from one edition into the other, into a table of m bytes. Converted: refusal and line are 0, the text is the first `length` bytes,
+ * and the rest of the table is zero. Refused: the number, the line from 1 (0 for 9 and 31), no length, and the whole table zero.
+ */
+struct bullacetop_converted {
+    uint16_t refusal;
+    size_t line;
+    size_t length;
+};
+
+/*
+ * From edition 1 to 2: the rule forms are tagged 1, 2, 3 and so on, every other byte is copied. Refusals as opening a text, with 2 for an edition
+ * that is not 1; last 31 where the converted text is longer than the table or 65,536 bytes. No text grows by more than 11 bytes for a rule.
+ */
+struct bullacetop_converted bullacetop_tag(const uint8_t *text, size_t n, uint8_t *table, size_t m);
+
+/*
+ * From edition 2 to 1, where the tags are 1, 2, 3 and so on. Refusals as opening a text, with 2 for an edition that is not 2; then 40 at the first
+ * rule form with another tag; last 31. Where neither is refused, each of the two undoes the other.
+ */
+struct bullacetop_converted bullacetop_untag(const uint8_t *text, size_t n, uint8_t *table, size_t m);
 
 /* The arrays follow one another without a gap. */
 typedef char bullacetop_state_has_no_gap[sizeof(struct bullacetop_state) == 19546 ? 1 : -1];

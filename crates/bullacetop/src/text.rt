@@ -1,6 +1,7 @@
 // Books and call lines as text. A text is written into a lent table of at least as many bytes as `bullacetop_room` says; a shorter one is zeroed
 // and refused with 31.
 use book_writer::Written;
+use edition_conversion::Converted;
 use edition_opening::Editions;
 use edition_opening::open_editions;
 use opening::Opened;
@@ -9,9 +10,12 @@ use serve::shown::Shown;
 use session_line::Spoken;
 use state::State;
 ghost use mathlib.Core.Path.{_≡_};
+ghost use lib.ListN.{length};
 ghost use Rattle.qbf.specs.Formula.{paper};
 ghost use Rattle.editions.specs.Opening.{both, openEditions};
+ghost use Rattle.editions.specs.Converting.{toTagged, toUntagged};
 ghost use Rattle.opening.specs.Opened.{OpenedAs};
+ghost use Rattle.edition_conversion.specs.Converted.{ConvertedAs};
 ghost use Rattle.qdimacs_form.specs.Opening.{openQdimacs};
 ghost use Rattle.serve.specs.Line.{answerBytes};
 ghost use Rattle.serve.specs.Shown.{noCard};
@@ -47,6 +51,26 @@ pub extern "C" fn bullacetop_open_qdimacs(text: &[u8]) -> Opened
     ensures { λ r. ⌜ OpenedAs (openQdimacs paper (now (text .entry))) r ⌝ }
 {
     qdimacs_opening::open_qdimacs(text)
+}
+
+// A text of edition 1 in edition 2: its rule forms are tagged 1, 2, 3 and so on.
+#[no_mangle]
+pub extern "C" fn bullacetop_tag(text: &[u8], table: &mut [u8]) -> Converted
+    ensures { λ r. ⌜
+        ConvertedAs (length (now (table .entry))) (toTagged paper (length (now (table .entry))) (now (text .entry))) r (now (table .exit))
+        ⌝ }
+{
+    edition_conversion::tag(text, table)
+}
+
+// A text of edition 2 in edition 1, where its tags are those.
+#[no_mangle]
+pub extern "C" fn bullacetop_untag(text: &[u8], table: &mut [u8]) -> Converted
+    ensures { λ r. ⌜
+        ConvertedAs (length (now (table .entry))) (toUntagged paper (length (now (table .entry))) (now (text .entry))) r (now (table .exit))
+        ⌝ }
+{
+    edition_conversion::untag(text, table)
 }
 
 // No card has been answered yet: what a session begins with.

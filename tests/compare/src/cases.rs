@@ -3,7 +3,7 @@
 
 use crate::options::Options;
 use crate::page::pages_program;
-use crate::{qdimacs, session, text};
+use crate::{editions, qdimacs, session, text};
 use std::path::{Path, PathBuf};
 use std::process::Command;
 use std::{fs, io};
@@ -14,6 +14,8 @@ pub enum Program {
     Session,
     Pages,
     Qdimacs,
+    Tag,
+    Untag,
 }
 
 #[derive(Clone, Debug)]
@@ -36,6 +38,8 @@ pub fn stored(program: Program) -> io::Result<Vec<StoredCase>> {
         Program::Session => "tests/cases/session",
         Program::Pages => "tests/cases/pages",
         Program::Qdimacs => "tests/cases/qdimacs",
+        Program::Tag => "tests/cases/tag",
+        Program::Untag => "tests/cases/untag",
     });
     read_all(&folder, program, "in", "out")
 }
@@ -89,6 +93,8 @@ impl StoredCase {
             Program::Card => text::card_program(&self.input, options).into_bytes(),
             Program::Pages => pages_program(&self.input, options, None),
             Program::Qdimacs => qdimacs::program(&self.input, options, None).into_bytes(),
+            Program::Tag => editions::tag_program(&self.input, options, None),
+            Program::Untag => editions::untag_program(&self.input, options, None),
             Program::Session => {
                 let mut output = vec![];
                 session::run(&self.input[..], &mut output, options).expect("bytes in, bytes out");

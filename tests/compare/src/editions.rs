@@ -272,6 +272,21 @@ pub fn untagged(
     fitted(converted, table, slip)
 }
 
+/// What the program `tag` prints for a text.
+pub fn tag_program(text: &[u8], options: &Options, slip: Option<Slip>) -> Vec<u8> {
+    printed(tagged(text, LARGEST_TEXT, options, slip))
+}
+
+/// What the program `untag` prints for a text.
+pub fn untag_program(text: &[u8], options: &Options, slip: Option<Slip>) -> Vec<u8> {
+    printed(untagged(text, LARGEST_TEXT, options, slip))
+}
+
+fn printed(converted: Result<Vec<u8>, TextRefusal>) -> Vec<u8> {
+    let refused = |fault: TextRefusal| format!("(refused {} {})\n", fault.number, fault.line);
+    converted.unwrap_or_else(|fault| refused(fault).into_bytes())
+}
+
 /// The lines after the first, each with the number of the next rule form; "exactly-one forms not
 /// counted".
 fn numbered(text: &[u8], slip: Option<Slip>) -> Vec<(&[u8], usize)> {

@@ -1,6 +1,7 @@
 //! The stored cases, the examples and the vectors of the source documents, on this implementation.
 
 use compare::cases::{self, Program, StoredCase};
+use compare::editions::{self, EditionSlip, Reads};
 use compare::last_card;
 use compare::page::{self, PageSlip};
 use compare::qdimacs;
@@ -42,6 +43,37 @@ fn pages() {
 #[test]
 fn books_that_come_as_qdimacs() {
     hold(cases::stored(Program::Qdimacs).expect("cases can be read"), 100, as_printed);
+}
+
+#[test]
+fn books_converted() {
+    hold(cases::stored(Program::Tag).expect("cases can be read"), 20, as_printed);
+    hold(cases::stored(Program::Untag).expect("cases can be read"), 25, as_printed);
+}
+
+/// Every slip of reading and converting editions changes what some case of `card`, `tag` or `untag`
+/// prints, but for those of a table: no converted text of 255 rules is longer than the programs'.
+#[test]
+fn every_slip_of_editions_changes_a_case() {
+    let read = |program| cases::stored(program).expect("cases can be read");
+    let cases: Vec<StoredCase> =
+        [Program::Card, Program::Tag, Program::Untag].into_iter().flat_map(read).collect();
+    for (slip, words) in editions::ALL {
+        let options = Options::paper();
+        let differs = |case: &StoredCase| match case.program {
+            Program::Tag => editions::tag_program(&case.input, &options, Some(*slip)) != case.expected,
+            Program::Untag => {
+                editions::untag_program(&case.input, &options, Some(*slip)) != case.expected
+            }
+            _ => {
+                let opened = |slip| editions::open(&case.input, Reads::Both, &options, slip);
+                opened(Some(*slip)).ok() != opened(None).ok()
+                    || opened(Some(*slip)).err() != opened(None).err()
+            }
+        };
+        let of_tables = matches!(slip, EditionSlip::TableOneMore | EditionSlip::LongTextConverted);
+        assert!(cases.iter().any(differs) || of_tables, "{slip:?}: {words}");
+    }
 }
 
 /// Every slip of reading QDIMACS changes what some case prints.

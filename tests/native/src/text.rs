@@ -36,6 +36,8 @@ extern "C" {
     fn bullacetop_print(text: *const u8, count: usize, out: *mut u8, room: usize) -> Written;
     fn bullacetop_open(text: *const u8, count: usize) -> RawOpened;
     fn bullacetop_open_qdimacs(text: *const u8, count: usize) -> RawOpened;
+    fn bullacetop_tag(text: *const u8, count: usize, table: *mut u8, size: usize) -> Converted;
+    fn bullacetop_untag(text: *const u8, count: usize, table: *mut u8, size: usize) -> Converted;
     fn bullacetop_no_card() -> Shown;
     fn bullacetop_line(
         x: Raw,
@@ -115,6 +117,39 @@ pub fn open(text: &[u8]) -> Result<Opened, String> {
 
 pub fn open_qdimacs(text: &[u8]) -> Result<Opened, String> {
     open_by(bullacetop_open_qdimacs, text)
+}
+
+/// What a conversion answers: where the refusal is 0 the length of the converted text.
+#[derive(Clone, Copy, Debug, PartialEq, Eq)]
+#[repr(C)]
+pub struct Converted {
+    pub refusal: u16,
+    pub line: usize,
+    pub length: usize,
+}
+
+pub fn tag(text: &[u8], size: usize) -> Result<(Converted, Vec<u8>), String> {
+    convert_by(bullacetop_tag, text, size)
+}
+
+pub fn untag(text: &[u8], size: usize) -> Result<(Converted, Vec<u8>), String> {
+    convert_by(bullacetop_untag, text, size)
+}
+
+type ConvertCall = unsafe extern "C" fn(*const u8, usize, *mut u8, usize) -> Converted;
+
+/// The answer and the whole table; an error where the text or a byte outside the table changed.
+fn convert_by(call: ConvertCall, text: &[u8], size: usize) -> Result<(Converted, Vec<u8>), String> {
+    let lent = Lent::new(text);
+    let mut bytes = vec![GUARD; GUARDS + size + GUARDS];
+    let table = bytes[GUARDS..].as_mut_ptr();
+    let told = unsafe { call(lent.address(), text.len(), table, size) };
+    lent.kept(text)?;
+    let guarded = bytes[..GUARDS].iter().chain(&bytes[GUARDS + size..]).all(|&b| b == GUARD);
+    match guarded {
+        true => Ok((told, bytes[GUARDS..GUARDS + size].to_vec())),
+        false => Err("a byte outside the table changed".into()),
+    }
 }
 
 type OpenCall = unsafe extern "C" fn(*const u8, usize) -> RawOpened;
