@@ -104,10 +104,19 @@ listsYes (keepCard n size) = false
 abbrev pub searchRefusalText : ℕ → ℕ → ℕ → Bytes
 searchRefusalText n line visits = cond (eqb n 21 || eqb n 34) (overflowText n line visits) (refusalText n line)
 
+-- a refused call; only a query has searched
+abbrev pub refusedText : Call → ℕ → ℕ → ℕ → Bytes
+refusedText (query m ls) n line visits = searchRefusalText n line visits
+refusedText (rule ls) n line visits = refusalText n line
+refusedText forget n line visits = refusalText n line
+refusedText withdraw n line visits = refusalText n line
+refusedText (card m size) n line visits = refusalText n line
+refusedText (keepCard m size) n line visits = refusalText n line
+
 -- the reply to a call on some line
 abbrev pub replyPrinted : Prefix → Call → ℕ → Reply → ℕ → Bytes
 replyPrinted D c line done visits = doneText c
-replyPrinted D c line (refused n) visits = searchRefusalText n line visits
+replyPrinted D c line (refused n) visits = refusedText c n line visits
 replyPrinted D c line swap visits = queryText true visits
 replyPrinted D c line keep visits = queryText false visits
 replyPrinted D c line (lines ls table) visits = cardText (listsYes c) D ls visits

@@ -9,6 +9,7 @@ use Rattle.qbf.specs.Formula.{paper, Prefix, Formula}
 use Rattle.qbf.specs.Truth.{freeVariables}
 use Rattle.qbf.specs.Learning.{emptyStore}
 use Rattle.qbf.specs.Card.{tableOf, zeroTable}
+use Rattle.qbf.specs.Ceiling.{highestCeiling}
 use Rattle.qbf.specs.Calls.{card, Reply, lines, cardRefused, Answer, learningCard, formulaOk, guarded, State as Read, wellFormed}
 use Rattle.qbf.specs.Runs.{fresh}
 use Rattle.theory.proofs.WellFormed.{formula-facts}
@@ -50,24 +51,24 @@ module _ (x : State) (b : Formula) (e : readState x ≡ some (fresh b)) (ok : fo
       h (prefixIn x) (valid-numbers x is-valid) (valid-quantified x is-valid)
       ∙ ap (λ (o : Option Read). freeVariables (prefixRead o)) (sym (valid-facts x is-valid .read) ∙ e)
 
-  module _ (size : ℕ) (p : Printed) (k : ℕ) (tb : Bytes) (x′ : State) (s : Serves x (card size) (cardSaid p k tb) x′) where
+  module _ (size : ℕ) (p : Printed) (k : ℕ) (tb : Bytes) (x′ : State) (s : Serves x (card highestCeiling size) (cardSaid p k tb) x′) where
     abbrev a : Answer
-    a = learningCard true b emptyStore size .out
+    a = learningCard true b emptyStore highestCeiling size .out
 
     abbrev shown : Reply
     shown = lines (cardLines (fresh b) true) (tableOf (freeVariables (b .prefix)) size (cardLines (fresh b) true))
 
-    out-is : outOf (readState x) (card size) ≡ a
-    out-is = ap (λ (o : Option Read). outOf o (card size)) e ∙ ap (λ (g : Bool). guarded g (fresh b) (card size) .out) (opened-formed b ok)
+    out-is : outOf (readState x) (card highestCeiling size) ≡ a
+    out-is = ap (λ (o : Option Read). outOf o (card highestCeiling size)) e ∙ ap (λ (g : Bool). guarded g (fresh b) (card highestCeiling size) .out) (opened-formed b ok)
 
     said-is : (reply : Reply) → a .reply ≡ reply → said (cardSaid p 0 [] .refusal) 0 (cardSaid p 0 [] .lines) k tb ≡ saidReply reply (a .visits)
     said-is reply z = sym (card-said p k tb) ∙ s .answered ∙ ap saidOf out-is ∙ said-by a reply z
 
     pub card-made : (r : Made) → r .refusal ≡ number (cardSaid p 0 [] .refusal) → r .line ≡ 0 → r .lines ≡ cardSaid p 0 [] .lines → r .free ≡ freeVariables (b .prefix)
         → CardMade size (opened b) r tb
-    card-made r refusal line count free = by (formed-cases true size (fresh b))
+    card-made r refusal line count free = by (formed-cases highestCeiling true size (fresh b))
       where
-        by : Refused (a .reply) ⊎ Listed true size (fresh b) (a .reply) → ReplyMade (b .prefix) (a .reply) r tb
+        by : Refused (a .reply) ⊎ Listed highestCeiling true size (fresh b) (a .reply) → ReplyMade (b .prefix) (a .reply) r tb
         by (inl (m, tb′, z)) =
             let w = said-is (cardRefused (suc m) tb′) z in
             subst (λ (q : Reply). ReplyMade (b .prefix) q r tb) (sym z) (refusal ∙ ap (λ (q : Said). number (q .refusal)) w, line, ap (λ (q : Said). q .table) w)

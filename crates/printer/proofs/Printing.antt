@@ -13,6 +13,7 @@ use Rattle.qbf.specs.Formula.{paper, Node, Prefix, Formula}
 use Rattle.qbf.specs.Truth.{freeVariables}
 use Rattle.qbf.specs.Learning.{emptyStore}
 use Rattle.qbf.specs.Card.{tableOf, zeroTable}
+use Rattle.qbf.specs.Ceiling.{highestCeiling}
 use Rattle.qbf.specs.Calls.{Reply, lines, cardRefused, learningCard, formulaOk, wellFormed}
 use Rattle.qbf.specs.Runs.{fresh}
 use Rattle.theory.proofs.Basics.{le-or-lt}
@@ -80,15 +81,15 @@ module _ (size : ℕ) (r : Made) (t : Bytes) (ds : List Bytes) (p : PagesOf r t 
       ∙ (λ i. pagesText (q i) (c i) (g i))
 
   of-reply : (b : Formula) → formulaOk b ≡ true → CardMade size (opened b) r t → printedBy r ds ≡ openedPages size (opened b)
-  of-reply b ok h = by (formed-cases true size (fresh b))
+  of-reply b ok h = by (formed-cases highestCeiling true size (fresh b))
     where
       a : Reply
-      a = learningCard true b emptyStore size .out .reply
+      a = learningCard true b emptyStore highestCeiling size .out .reply
 
       D : Prefix
       D = b .prefix
 
-      by : Refused a ⊎ Listed true size (fresh b) a → printedBy r ds ≡ pagesPrinted D a
+      by : Refused a ⊎ Listed highestCeiling true size (fresh b) a → printedBy r ds ≡ pagesPrinted D a
       by (inl (m, tb, z)) = let w = subst (λ (q : Reply). ReplyMade D q r t) z h in told m 0 (w .0) (w .1) ∙ ap (pagesPrinted D) (sym z)
       by (inr (z, fits)) =
           let w = subst (λ (q : Reply). ReplyMade D q r t) z h in
@@ -110,12 +111,12 @@ few-lines n zero h one = omega (arith, one refl)
 few-lines n (suc f) h one = let k : n ≤ n * suc f = le-mul-of-pos-right n (omega arith) in omega (arith, h, k)
 
 -- The card that the program makes can be printed whatever its book: its lines are few, stand in the table, and have no byte above 2.
-pub program-printable : (s : Bytes) (b : Formula) → openEditions both paper s ≡ opened b → (ls : List Node) (tb : Bytes) → learningCard true b emptyStore tableBytes .out .reply ≡ lines ls tb
+pub program-printable : (s : Bytes) (b : Formula) → openEditions both paper s ≡ opened b → (ls : List Node) (tb : Bytes) → learningCard true b emptyStore highestCeiling tableBytes .out .reply ≡ lines ls tb
     → noCard tb (length ls) (freeVariables (b .prefix)) ≡ false
-program-printable s b i ls tb e = by (formed-cases true tableBytes (fresh b))
+program-printable s b i ls tb e = by (formed-cases highestCeiling true tableBytes (fresh b))
   where
     a : Reply
-    a = learningCard true b emptyStore tableBytes .out .reply
+    a = learningCard true b emptyStore highestCeiling tableBytes .out .reply
 
     formed : wellFormed (fresh b) ≡ true
     formed = opened-formed b (opened-formula both paper refl s b i)
@@ -123,7 +124,7 @@ program-printable s b i ls tb e = by (formed-cases true tableBytes (fresh b))
     f : ℕ
     f = freeVariables (b .prefix)
 
-    by : Refused a ⊎ Listed true tableBytes (fresh b) a → noCard tb (length ls) f ≡ false
+    by : Refused a ⊎ Listed highestCeiling true tableBytes (fresh b) a → noCard tb (length ls) f ≡ false
     by (inl (m, tb′, z)) = absurd (omega (arith, ap (λ (q : Said). number (q .refusal)) (ap (λ (q : Reply). saidReply q 0) (sym e ∙ z))))
     by (inr (z, fits)) =
         ap (λ (q : Said). noCard (q .table) (q .lines) f) (ap (λ (q : Reply). saidReply q 0) (sym e ∙ z))

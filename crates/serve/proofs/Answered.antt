@@ -7,10 +7,11 @@ use mathlib.Core.List.{List, []}
 use mathlib.Core.Option.{Option, none, some}
 use Rattle.qbf.specs.Formula.{Prefix, Literal, quantifiers}
 use Rattle.qbf.specs.Truth.{Outcome, decided, mixed, outline, bound}
-use Rattle.qbf.specs.Learning.{learningSearch}
-use Rattle.qbf.specs.Calls.{Call, rule, query, forget, Reply, done, refused, swap, keep, lines, cardRefused, Answer, answer, ruleFault, ruleReply, queryFault, startNode, queryReply, learningQuery, State as Read, guarded, wellFormed}
+use Rattle.qbf.specs.Ceiling.{Attempt, finished, stopped, searchWithin}
+use Rattle.qbf.specs.Calls.{Call, rule, query, forget, Reply, done, refused, swap, keep, lines, cardRefused, Answer, answer, ruleFault, ruleReply, queryFault, startNode, queryReply, attemptAnswer, learningQuery, State as Read, guarded, wellFormed}
 use Rattle.layout.specs.Words.{Bytes}
-use Rattle.layout.specs.Session.{doneText, answerText}
+use Rattle.layout.specs.Output.{refusalText}
+use Rattle.layout.specs.Session.{doneText, refusedText, answerText}
 use Rattle.state.specs.declared.State.{State}
 use Rattle.state.specs.Reading.{readState}
 use Rattle.serving.specs.Serves.{Said, saidReply, saidOf, number, outOf, Serves}
@@ -56,25 +57,29 @@ forget-changing (some y) = by (wellFormed y)
     by true = tt
     by false = tt
 
-change-text : (D : Prefix) (c : Call) (n : ℕ) (a : Answer) → Changing (a .reply) → changeText (doneText c) (number (saidOf a .refusal)) n ≡ answerText D c n a
+-- a call that searches nothing tells no visits
+abbrev pub Searchless : Call → Type 0
+Searchless c = (m line k : ℕ) → refusalText m line ≡ refusedText c m line k
+
+change-text : (D : Prefix) (c : Call) (n : ℕ) (a : Answer) → Searchless c → Changing (a .reply) → changeText (doneText c) (number (saidOf a .refusal)) n ≡ answerText D c n a
 unfolding answerText
-change-text D c n a h = by (a .reply) (a .visits) h
+change-text D c n a plain h = by (a .reply) (a .visits) h
   where
     by : (r : Reply) (k : ℕ) → Changing r → changeText (doneText c) (number (saidReply r k .refusal)) n ≡ answerText D c n (answer r k)
     by done k h = refl
     by (refused zero) k h = absurd h
-    by (refused (suc m)) k h = refl
+    by (refused (suc m)) k h = plain (suc m) n k
     by swap k h = absurd h
     by keep k h = absurd h
     by (lines ls tb) k h = absurd h
     by (cardRefused m tb) k h = absurd h
 
 -- a call that is done or refused, from its contract and the text
-pub change-served : (x : State) (c : Call) (n : ℕ) (ch : Change) (x′ : State) (t : Bytes) → ((o : Option Read) → Changing (outOf o c .reply)) → Serves x c (changeSaid ch) x′
+pub change-served : (x : State) (c : Call) (n : ℕ) (ch : Change) (x′ : State) (t : Bytes) → Searchless c → ((o : Option Read) → Changing (outOf o c .reply)) → Serves x c (changeSaid ch) x′
     → t ≡ changeText (doneText c) (number (changeSaid ch .refusal)) n → CallServed x (some c) n t x′
-change-served x c n ch x′ t h s e =
+change-served x c n ch x′ t plain h s e =
     record {
-      text = e ∙ ap (λ (q : Said). changeText (doneText c) (number (q .refusal)) n) (s .answered) ∙ change-text (prefixRead (readState x)) c n (outOf (readState x) c) (h (readState x));
+      text = e ∙ ap (λ (q : Said). changeText (doneText c) (number (q .refusal)) n) (s .answered) ∙ change-text (prefixRead (readState x)) c n (outOf (readState x) c) plain (h (readState x));
       next = s .next;
       kept = s .kept;
     }
@@ -88,34 +93,38 @@ Asking keep = Unit {0}
 Asking (lines ls tb) = ⊥
 Asking (cardRefused n tb) = ⊥
 
-query-asking : (ls : List Literal) (o : Option Read) → Asking (outOf o (query ls) .reply)
-query-asking ls none = tt
-query-asking ls (some y) = by (wellFormed y)
+query-asking : (top : ℕ) (ls : List Literal) (o : Option Read) → Asking (outOf o (query top ls) .reply)
+query-asking top ls none = tt
+query-asking top ls (some y) = by (wellFormed y)
   where
     verdict : (o : Outcome (Unit {0})) → Asking (queryReply o)
     verdict (decided true e) = tt
     verdict (decided false e) = tt
     verdict (mixed ds) = tt
 
-    asked : (o : Option ℕ) → Asking (learningQuery o (y .formula) (y .store) ls .out .reply)
-    asked none = verdict (outline (learningSearch (y .formula .limits) (y .formula .prefix) (y .formula .clauses) (bound (quantifiers (y .formula .prefix))) (startNode ls (y .formula .prefix)) (y .store) .outcome))
+    asked : (o : Option ℕ) → Asking (learningQuery o (y .formula) (y .store) top ls .out .reply)
+    asked none = by-end (searchWithin (y .formula .limits) (y .formula .prefix) (y .formula .clauses) top (bound (quantifiers (y .formula .prefix))) (startNode ls (y .formula .prefix)) (y .store))
+      where
+        by-end : (t : Attempt) → Asking (attemptAnswer (refused 34) top queryReply t .out .reply)
+        by-end (finished o) = verdict (outline (o .outcome))
+        by-end (stopped st) = tt
     asked (some n) = tt
 
-    by : (g : Bool) → Asking (guarded g y (query ls) .out .reply)
+    by : (g : Bool) → Asking (guarded g y (query top ls) .out .reply)
     by true = asked (queryFault (y .formula) [] ls)
     by false = tt
 
-query-text : (D : Prefix) (c : Call) (n : ℕ) (q : Ruling) (k : ℕ) (a : Answer) → Asking (a .reply) → rulingSaid q k ≡ saidOf a → rulingText q k n ≡ answerText D c n a
+query-text : (D : Prefix) (top : ℕ) (ls : List Literal) (n : ℕ) (q : Ruling) (k : ℕ) (a : Answer) → Asking (a .reply) → rulingSaid q k ≡ saidOf a → rulingText q k n ≡ answerText D (query top ls) n a
 unfolding answerText
-query-text D c n q k a h e = by q (a .reply) (a .visits) h e
+query-text D top ls n q k a h e = by q (a .reply) (a .visits) h e
   where
-    by : (q : Ruling) (r : Reply) (v : ℕ) → Asking r → rulingSaid q k ≡ saidReply r v → rulingText q k n ≡ answerText D c n (answer r v)
+    by : (q : Ruling) (r : Reply) (v : ℕ) → Asking r → rulingSaid q k ≡ saidReply r v → rulingText q k n ≡ answerText D (query top ls) n (answer r v)
     by q done v h e = absurd h
-    by q (lines ls tb) v h e = absurd h
+    by q (lines ns tb) v h e = absurd h
     by q (cardRefused m tb) v h e = absurd h
     by ruling.Swap swap v h e = ap (λ (s : Said). rulingText ruling.Swap (s .visits) n) e
     by ruling.Keep keep v h e = ap (λ (s : Said). rulingText ruling.Keep (s .visits) n) e
-    by (ruling.Refused m) (refused p) v h e = ap (λ (s : Said). rulingText (ruling.Refused (number (s .refusal))) 0 n) e
+    by (ruling.Refused m) (refused p) v h e = ap (λ (s : Said). rulingText (ruling.Refused (number (s .refusal))) (s .visits) n) e
     by ruling.Swap keep v h e = absurd (omega (arith, ap (λ (s : Said). s .verdict) e))
     by ruling.Swap (refused p) v h e = absurd (omega (arith, ap (λ (s : Said). s .verdict) e))
     by ruling.Keep swap v h e = absurd (omega (arith, ap (λ (s : Said). s .verdict) e))
@@ -123,10 +132,10 @@ query-text D c n q k a h e = by q (a .reply) (a .visits) h e
     by (ruling.Refused m) swap v h e = absurd (omega (arith, ap (λ (s : Said). s .verdict) e))
     by (ruling.Refused m) keep v h e = absurd (omega (arith, ap (λ (s : Said). s .verdict) e))
 
-pub query-answered : (x : State) (ls : List Literal) (n : ℕ) (q : Ruling) (k : ℕ) (x′ : State) (t : Bytes) → Serves x (query ls) (rulingSaid q k) x′ → t ≡ rulingText q k n → CallServed x (some (query ls)) n t x′
-query-answered x ls n q k x′ t s e =
+pub query-answered : (top : ℕ) (x : State) (ls : List Literal) (n : ℕ) (q : Ruling) (k : ℕ) (x′ : State) (t : Bytes) → Serves x (query top ls) (rulingSaid q k) x′ → t ≡ rulingText q k n → CallServed x (some (query top ls)) n t x′
+query-answered top x ls n q k x′ t s e =
     record {
-      text = e ∙ query-text (prefixRead (readState x)) (query ls) n q k (outOf (readState x) (query ls)) (query-asking ls (readState x)) (s .answered);
+      text = e ∙ query-text (prefixRead (readState x)) top ls n q k (outOf (readState x) (query top ls)) (query-asking top ls (readState x)) (s .answered);
       next = s .next;
       kept = s .kept;
     }

@@ -10,6 +10,7 @@ use Rattle.qbf.specs.Formula.{paper, Formula}
 use Rattle.qbf.specs.Truth.{freeVariables}
 use Rattle.qbf.specs.Learning.{emptyStore}
 use Rattle.qbf.specs.Card.{tableOf}
+use Rattle.qbf.specs.Ceiling.{highestCeiling}
 use Rattle.qbf.specs.Calls.{card, Reply, lines, cardRefused, Answer, learningCard, formulaOk, guarded, State as Read, wellFormed}
 use Rattle.qbf.specs.Runs.{fresh}
 use Rattle.theory.proofs.WellFormed.{formula-facts}
@@ -49,7 +50,7 @@ module _ (s : Bytes) (q : Answered) (told : OpenedAs (openEditions both paper s)
       by (opened b) (e, l, x) = absurd (h e)
 
   -- a text that opens
-  pub text-printed : q .refusal ≡ 0 → ((b : Formula) → readState (q .state) ≡ some (fresh b) → formulaOk b ≡ true → Wrote d₀ 0 (answerPrinted (b .prefix) (learningCard true b emptyStore tableBytes .out)) d r)
+  pub text-printed : q .refusal ≡ 0 → ((b : Formula) → readState (q .state) ≡ some (fresh b) → formulaOk b ≡ true → Wrote d₀ 0 (answerPrinted (b .prefix) (learningCard true b emptyStore highestCeiling tableBytes .out)) d r)
       → Wrote d₀ 0 (cardProgram paper tableBytes s) d r
   unfolding cardProgram
   text-printed h w = by (edition-apart both s q told h)
@@ -58,9 +59,9 @@ module _ (s : Bytes) (q : Answered) (told : OpenedAs (openEditions both paper s)
       by (b, i) = subst (λ (o : Opened). Wrote d₀ 0 (openedPrinted tableBytes o) d r) (sym i) (w b (subst (λ (o : Opened). OpenedAs o q) i told .2) (opened-formula both paper refl s b i))
 
 -- ---- the card of a state with an empty store
-module _ (x : State) (size : ℕ) (p : Printed) (k : ℕ) (tb : List ℕ) (x′ : State) (s : Serves x (card size) (cardSaid p k tb) x′) (r : ℕ) (q : r ≡ number (cardSaid p 0 [] .refusal)) (b : Formula) (e : readState x ≡ some (fresh b)) (ok : formulaOk b ≡ true) where
+module _ (x : State) (size : ℕ) (p : Printed) (k : ℕ) (tb : List ℕ) (x′ : State) (s : Serves x (card highestCeiling size) (cardSaid p k tb) x′) (r : ℕ) (q : r ≡ number (cardSaid p 0 [] .refusal)) (b : Formula) (e : readState x ≡ some (fresh b)) (ok : formulaOk b ≡ true) where
   abbrev a : Answer
-  a = learningCard true b emptyStore size .out
+  a = learningCard true b emptyStore highestCeiling size .out
 
   abbrev shown : Reply
   shown = lines (cardLines (fresh b) true) (tableOf (freeVariables (b .prefix)) size (cardLines (fresh b) true))
@@ -68,8 +69,8 @@ module _ (x : State) (size : ℕ) (p : Printed) (k : ℕ) (tb : List ℕ) (x′ 
   formed : wellFormed (fresh b) ≡ true
   formed = fresh-formed b (formula-facts b ok)
 
-  out-is : outOf (readState x) (card size) ≡ a
-  out-is = ap (λ (o : Option Read). outOf o (card size)) e ∙ ap (λ (g : Bool). guarded g (fresh b) (card size) .out) formed
+  out-is : outOf (readState x) (card highestCeiling size) ≡ a
+  out-is = ap (λ (o : Option Read). outOf o (card highestCeiling size)) e ∙ ap (λ (g : Bool). guarded g (fresh b) (card highestCeiling size) .out) formed
 
   refusal-is : (reply : Reply) → a .reply ≡ reply → r ≡ number (saidOf (record { reply = reply; visits = a .visits }) .refusal)
   refusal-is reply z = q ∙ ap (λ (w : Said). number (w .refusal)) (sym (card-said p k tb) ∙ s .answered ∙ ap saidOf out-is ∙ said-by a reply z)
@@ -78,20 +79,20 @@ module _ (x : State) (size : ℕ) (p : Printed) (k : ℕ) (tb : List ℕ) (x′ 
   printed-by reply z = ap (λ (w : Reply). cardPrinted (b .prefix) w (a .visits)) z
 
   pub refused-printed : (r ≡ 0 → ⊥) → refusalText r 0 ≡ answerPrinted (b .prefix) a
-  refused-printed h = by (formed-cases true size (fresh b))
+  refused-printed h = by (formed-cases highestCeiling true size (fresh b))
     where
-      by : Refused (a .reply) ⊎ Listed true size (fresh b) (a .reply) → refusalText r 0 ≡ answerPrinted (b .prefix) a
+      by : Refused (a .reply) ⊎ Listed highestCeiling true size (fresh b) (a .reply) → refusalText r 0 ≡ answerPrinted (b .prefix) a
       by (inl (m, tb′, z)) = ap (λ (n : ℕ). refusalText n 0) (refusal-is (cardRefused (suc m) tb′) z) ∙ sym (printed-by (cardRefused (suc m) tb′) z)
       by (inr (z, fits)) = absurd (h (refusal-is shown z))
 
   -- the line does not matter
-  pub shown-printed : r ≡ 0 → (line : ℕ) → lineAnswer (readState x) line (some (card size)) ≡ answerPrinted (b .prefix) a
-  shown-printed h line = by (formed-cases true size (fresh b))
+  pub shown-printed : r ≡ 0 → (line : ℕ) → lineAnswer (readState x) line (some (card highestCeiling size)) ≡ answerPrinted (b .prefix) a
+  shown-printed h line = by (formed-cases highestCeiling true size (fresh b))
     where
-      by : Refused (a .reply) ⊎ Listed true size (fresh b) (a .reply) → lineAnswer (readState x) line (some (card size)) ≡ answerPrinted (b .prefix) a
+      by : Refused (a .reply) ⊎ Listed highestCeiling true size (fresh b) (a .reply) → lineAnswer (readState x) line (some (card highestCeiling size)) ≡ answerPrinted (b .prefix) a
       by (inl (m, tb′, z)) = absurd (omega (arith, h, refusal-is (cardRefused (suc m) tb′) z))
       by (inr (z, fits)) =
-          ap (λ (o : Option Read). answerText (prefixRead o) (card size) line (outOf o (card size))) e
-          ∙ ap (λ (g : Bool). answerText (b .prefix) (card size) line (guarded g (fresh b) (card size) .out)) formed
-          ∙ text-by (b .prefix) (card size) line a shown z
+          ap (λ (o : Option Read). answerText (prefixRead o) (card highestCeiling size) line (outOf o (card highestCeiling size))) e
+          ∙ ap (λ (g : Bool). answerText (b .prefix) (card highestCeiling size) line (guarded g (fresh b) (card highestCeiling size) .out)) formed
+          ∙ text-by (b .prefix) (card highestCeiling size) line a shown z
           ∙ sym (printed-by shown z)

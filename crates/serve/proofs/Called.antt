@@ -10,16 +10,18 @@ use lib.IntN.{ℤ, pos}
 use lib.ListN.{length, take}
 use lib.Dec.{leb, ltb}
 use Rattle.qbf.specs.Formula.{paper, Literal, numberOf}
-use Rattle.qbf.specs.Calls.{Call, rule, query, card, forget, withdraw, keepCard, cardOf}
+use Rattle.qbf.specs.Ceiling.{highestCeiling}
+use Rattle.qbf.specs.Calls.{Call, rule, query, card, keepCard, cardOf, forget, withdraw}
 use Rattle.layout.specs.Words.{Bytes, space, split, same, inside}
 use Rattle.layout.specs.Forms.{then, items, ruleWord}
 use Rattle.layout.specs.Output.{refusalText}
 use Rattle.layout.specs.Opening as opening
 use Rattle.layout.specs.Program.{tableBytes}
-use Rattle.layout.specs.Session.{queryWord, cardWord, keepCardWord, forgetWord, ruleCall, queryCall, cardCall, forgetCall, callFrom, callOf}
+use Rattle.layout.specs.Ceilings.{ceiled}
+use Rattle.layout.specs.Session.{queryWord, cardWord, keepCardWord, forgetWord, ruleCall, queryCall, cardCall, forgetCall, callFrom, under, underGiven, ceiledCall, callOf}
 use Rattle.state.specs.declared.State.{State}
 use Rattle.reader.specs.Items.{Kept}
-use Rattle.reader.specs.Calls.{CallRead}
+use Rattle.reader.specs.Calls.{CallUnder}
 use Rattle.reader.specs.declared.call.CallLine.{CallLine}
 use Rattle.reader.specs.declared.call.CallLine.the-variants as line
 use Rattle.serve.specs.declared.Turn.{Turn}
@@ -33,9 +35,9 @@ use Rattle.serve.proofs.Cut.{rule-served, rule-card, query-served}
 abbrev Fits : Option Call → Type 0
 Fits none = Unit {0}
 Fits (some (rule ls)) = Unit {0}
-Fits (some (query ls)) = Unit {0}
-Fits (some (card size)) = size ≤ tableBytes
-Fits (some (keepCard size)) = size ≤ tableBytes
+Fits (some (query top ls)) = Unit {0}
+Fits (some (card top size)) = size ≤ tableBytes
+Fits (some (keepCard top size)) = size ≤ tableBytes
 Fits (some forget) = Unit {0}
 Fits (some withdraw) = Unit {0}
 
@@ -47,16 +49,16 @@ fits-cond : (t : Bool) (a c : Option Call) → Fits a → Fits c → Fits (cond 
 fits-cond true a c h k = h
 fits-cond false a c h k = k
 
-fits-size : (p : Bool) (size : ℕ) → size ≤ tableBytes → Fits (some (cardOf p size))
-fits-size true size h = h
-fits-size false size h = h
+fits-size : (top : ℕ) (p : Bool) (size : ℕ) → size ≤ tableBytes → Fits (some (cardOf p top size))
+fits-size top true size h = h
+fits-size top false size h = h
 
 fits-card : (p : Bool) (ls : List Literal) → Fits (cardCall p ls)
-fits-card p [] = fits-size p tableBytes (omega arith)
+fits-card p [] = fits-size highestCeiling p tableBytes (omega arith)
 fits-card p (l ∷ []) = by (leb (numberOf l) tableBytes) refl
   where
-    by : (t : Bool) → leb (numberOf l) tableBytes ≡ t → Fits (cond t (some (cardOf p (numberOf l))) none)
-    by true e = fits-size p (numberOf l) (leb-true (numberOf l) tableBytes e)
+    by : (t : Bool) → leb (numberOf l) tableBytes ≡ t → Fits (cond t (some (cardOf p highestCeiling (numberOf l))) none)
+    by true e = fits-size highestCeiling p (numberOf l) (leb-true (numberOf l) tableBytes e)
     by false e = tt
 fits-card p (l ∷ m ∷ ls) = tt
 
@@ -74,17 +76,35 @@ fits-from (w ∷ ws) =
     (fits-cond (same w keepCardWord) _ _ (fits-then (items false ws) (cardCall false) (fits-card false))
     (fits-cond (same w forgetWord) _ none (fits-then (items false ws) forgetCall fits-forget) tt))))
 
+-- under any ceiling
+fits-under : (n : ℕ) (o : Option Call) → Fits o → Fits (then o (under n))
+fits-under n none h = tt
+fits-under n (some (rule ls)) h = tt
+fits-under n (some (query m ls)) h = tt
+fits-under n (some (card m size)) h = h
+fits-under n (some (keepCard m size)) h = h
+fits-under n (some forget) h = tt
+fits-under n (some withdraw) h = tt
+
+fits-given : (g : Option ℕ) (o : Option Call) → Fits o → Fits (underGiven g o)
+fits-given none o h = h
+fits-given (some n) o h = fits-under n o h
+
+fits-ceiled : (ws : List Bytes) → Fits (ceiledCall ws)
+unfolding ceiledCall
+fits-ceiled ws = fits-then (ceiled ws) (λ z. underGiven (z .ceiling) (callFrom (z .words))) (λ z. fits-given (z .ceiling) (callFrom (z .words)) (fits-from (z .words)))
+
 fits-call : (l : Bytes) → Fits (callOf l)
 unfolding callOf
-fits-call l = fits-cond (ltb opening.textBytes (length l)) none _ tt (fits-then (inside l) (λ s. callFrom (split space s)) (λ s. fits-from (split space s)))
+fits-call l = fits-cond (ltb opening.textBytes (length l)) none _ tt (fits-then (inside l) (λ s. ceiledCall (split space s)) (λ s. fits-ceiled (split space s)))
 
-pub small-call : (l : Bytes) (q : CallLine) (out : List ℤ) → CallRead (callOf l) q out → Small q
-small-call l (line.Rule n) out h = tt
-small-call l (line.Query n) out h = tt
-small-call l (line.Card size) out h = subst Fits h (fits-call l)
-small-call l (line.KeepCard size) out h = subst Fits h (fits-call l)
-small-call l line.Forget out h = tt
-small-call l line.NotCall out h = tt
+pub small-call : (l : Bytes) (top : ℕ) (q : CallLine) (out : List ℤ) → CallUnder top (callOf l) q out → Small q
+small-call l top (line.Rule n) out h = tt
+small-call l top (line.Query n) out h = tt
+small-call l top (line.Card size) out h = subst Fits h (fits-call l)
+small-call l top (line.KeepCard size) out h = subst Fits h (fits-call l)
+small-call l top line.Forget out h = tt
+small-call l top line.NotCall out h = tt
 
 -- ---- by the literals that stand in the table
 module _ {x : State} {number : ℕ} {s : Shown} {r : Turn} {d : Bytes} (n : ℕ) (lits : List ℤ) (room : length lits ≡ suc (paper .numbers)) where
@@ -99,41 +119,41 @@ module _ {x : State} {number : ℕ} {s : Shown} {r : Turn} {d : Bytes} (n : ℕ)
             shown = u .shown ∙ rule-card x n lits room ls q (cardIn s t);
           }
 
-  pub query-turned : (k : ℕ) → k ≡ min n (suc (paper .numbers)) → TurnedBeside x (some (query (take k lits))) number s r d → (ns : List ℕ) → Kept n lits (map pos ns) → TurnedBeside x (some (query (map pos ns))) number s r d
-  query-turned k e h ns q = λ t. by (subst (λ (m : ℕ). Turned x (some (query (take m lits))) number s t r t d) e (h t))
+  pub query-turned : (top k : ℕ) → k ≡ min n (suc (paper .numbers)) → TurnedBeside x (some (query top (take k lits))) number s r d → (ns : List ℕ) → Kept n lits (map pos ns) → TurnedBeside x (some (query top (map pos ns))) number s r d
+  query-turned top k e h ns q = λ t. by (subst (λ (m : ℕ). Turned x (some (query top (take m lits))) number s t r t d) e (h t))
     where
-      by : {t : Bytes} → Turned x (some (query (take (min n (suc (paper .numbers))) lits))) number s t r t d → Turned x (some (query (map pos ns))) number s t r t d
-      by {t} u = record { within = u .within; served = query-served x n lits room number (take (r .length) d) (r .state) ns q (u .served); shown = u .shown }
+      by : {t : Bytes} → Turned x (some (query top (take (min n (suc (paper .numbers))) lits))) number s t r t d → Turned x (some (query top (map pos ns))) number s t r t d
+      by {t} u = record { within = u .within; served = query-served x n lits room number (take (r .length) d) (r .state) top ns q (u .served); shown = u .shown }
 
 -- ---- by the kind of the call
 module _ {x : State} {number : ℕ} {s₀ : Shown} {t₀ : Bytes} {r : Turn} {t d : Bytes} where
   meant : (c c′ : Option Call) → c ≡ c′ → Turned x c′ number s₀ t₀ r t d → Turned x c number s₀ t₀ r t d
   meant c c′ e h = subst (λ (o : Option Call). Turned x o number s₀ t₀ r t d) (sym e) h
 
-  module _ (lits : List ℤ) (q : CallLine) (c : Option Call) (h : CallRead c q lits) where
+  module _ (lits : List ℤ) (top : ℕ) (q : CallLine) (c : Option Call) (h : CallUnder top c q lits) where
     pub called-rule : (n : ℕ) → q ≡ line.Rule n → ((ls : List Literal) → Kept n lits ls → Turned x (some (rule ls)) number s₀ t₀ r t d) → Turned x c number s₀ t₀ r t d
-    called-rule n e u = by (subst (λ (z : CallLine). CallRead c z lits) e h)
+    called-rule n e u = by (subst (λ (z : CallLine). CallUnder top c z lits) e h)
       where
-        by : CallRead c (line.Rule n) lits → Turned x c number s₀ t₀ r t d
+        by : CallUnder top c (line.Rule n) lits → Turned x c number s₀ t₀ r t d
         by (ls, i, k) = meant c (some (rule ls)) i (u ls k)
 
-    pub called-query : (n : ℕ) → q ≡ line.Query n → ((ns : List ℕ) → Kept n lits (map pos ns) → Turned x (some (query (map pos ns))) number s₀ t₀ r t d) → Turned x c number s₀ t₀ r t d
-    called-query n e u = by (subst (λ (z : CallLine). CallRead c z lits) e h)
+    pub called-query : (n : ℕ) → q ≡ line.Query n → ((ns : List ℕ) → Kept n lits (map pos ns) → Turned x (some (query top (map pos ns))) number s₀ t₀ r t d) → Turned x c number s₀ t₀ r t d
+    called-query n e u = by (subst (λ (z : CallLine). CallUnder top c z lits) e h)
       where
-        by : CallRead c (line.Query n) lits → Turned x c number s₀ t₀ r t d
-        by (ns, i, k) = meant c (some (query (map pos ns))) i (u ns k)
+        by : CallUnder top c (line.Query n) lits → Turned x c number s₀ t₀ r t d
+        by (ns, i, k) = meant c (some (query top (map pos ns))) i (u ns k)
 
-    pub called-card : (size : ℕ) → q ≡ line.Card size → Turned x (some (card size)) number s₀ t₀ r t d → Turned x c number s₀ t₀ r t d
-    called-card size e u = meant c (some (card size)) (subst (λ (z : CallLine). CallRead c z lits) e h) u
+    pub called-card : (size : ℕ) → q ≡ line.Card size → Turned x (some (card top size)) number s₀ t₀ r t d → Turned x c number s₀ t₀ r t d
+    called-card size e u = meant c (some (card top size)) (subst (λ (z : CallLine). CallUnder top c z lits) e h) u
 
-    pub called-keep-card : (size : ℕ) → q ≡ line.KeepCard size → Turned x (some (keepCard size)) number s₀ t₀ r t d → Turned x c number s₀ t₀ r t d
-    called-keep-card size e u = meant c (some (keepCard size)) (subst (λ (z : CallLine). CallRead c z lits) e h) u
+    pub called-keep-card : (size : ℕ) → q ≡ line.KeepCard size → Turned x (some (keepCard top size)) number s₀ t₀ r t d → Turned x c number s₀ t₀ r t d
+    called-keep-card size e u = meant c (some (keepCard top size)) (subst (λ (z : CallLine). CallUnder top c z lits) e h) u
 
     pub called-forget : q ≡ line.Forget → Turned x (some forget) number s₀ t₀ r t d → Turned x c number s₀ t₀ r t d
-    called-forget e u = meant c (some forget) (subst (λ (z : CallLine). CallRead c z lits) e h) u
+    called-forget e u = meant c (some forget) (subst (λ (z : CallLine). CallUnder top c z lits) e h) u
 
     pub called-none : q ≡ line.NotCall → Turned x none number s₀ t₀ r t d → Turned x c number s₀ t₀ r t d
-    called-none e u = meant c none (subst (λ (z : CallLine). CallRead c z lits) e h) u
+    called-none e u = meant c none (subst (λ (z : CallLine). CallUnder top c z lits) e h) u
 
 -- a line that is no call
 pub none-served : (x : State) (n : ℕ) (t : Bytes) → t ≡ refusalText 1 n → CallServed x none n t x

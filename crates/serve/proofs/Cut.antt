@@ -14,7 +14,7 @@ use Rattle.qbf.specs.Demands.{refusalOf}
 use Rattle.theory.proofs.WellFormed.{state-facts, numbers-ok}
 use Rattle.layout.specs.Words.{Bytes}
 use Rattle.layout.specs.Output.{cardText}
-use Rattle.layout.specs.Session.{doneText, listsYes, answerText}
+use Rattle.layout.specs.Session.{doneText, refusedText, listsYes, answerText}
 use Rattle.state.specs.declared.State.{State}
 use Rattle.state.specs.Reading.{fits, stateIn, readState}
 use Rattle.serving.specs.Serves.{outOf, nextOf}
@@ -44,27 +44,27 @@ module _ (y : Read) where
           go true = ap (ruleStep a) (e ∙ q) ∙ sym (ap (ruleStep c) q)
           go false = refl
 
-  abbrev queryStep : List Literal → Option ℕ → Stepped
-  queryStep a o = record { state = record { formula = b; store = learningQuery o b (y .store) a .store }; out = learningQuery o b (y .store) a .out }
+  abbrev queryStep : ℕ → List Literal → Option ℕ → Stepped
+  queryStep top a o = record { state = record { formula = b; store = learningQuery o b (y .store) top a .store }; out = learningQuery o b (y .store) top a .out }
 
-  query-step : (a c : List Literal) → (wellFormed y ≡ true → (queryFault b [] a ≡ queryFault b [] c) × (queryFault b [] c ≡ none → a ≡ c)) → step y (query a) ≡ step y (query c)
-  query-step a c h = go (wellFormed y) refl
+  query-step : (top : ℕ) (a c : List Literal) → (wellFormed y ≡ true → (queryFault b [] a ≡ queryFault b [] c) × (queryFault b [] c ≡ none → a ≡ c)) → step y (query top a) ≡ step y (query top c)
+  query-step top a c h = go (wellFormed y) refl
     where
-      go : (g : Bool) → wellFormed y ≡ g → guarded g y (query a) ≡ guarded g y (query c)
+      go : (g : Bool) → wellFormed y ≡ g → guarded g y (query top a) ≡ guarded g y (query top c)
       go false e = refl
       go true e = by (queryFault b [] c) refl
         where
-          by : (o : Option ℕ) → queryFault b [] c ≡ o → guarded true y (query a) ≡ guarded true y (query c)
-          by none q = ap (λ (ls : List Literal). guarded true y (query ls)) (h e .1 q)
-          by (some n) q = ap (queryStep a) (h e .0 ∙ q) ∙ sym (ap (queryStep c) q)
+          by : (o : Option ℕ) → queryFault b [] c ≡ o → guarded true y (query top a) ≡ guarded true y (query top c)
+          by none q = ap (λ (ls : List Literal). guarded true y (query top ls)) (h e .1 q)
+          by (some n) q = ap (queryStep top a) (h e .0 ∙ q) ∙ sym (ap (queryStep top c) q)
 
 module _ (y : Read) (is-paper : y .formula .limits ≡ paper) (n : ℕ) (out : List ℤ) (room : length out ≡ suc (paper .numbers)) where
   pub rule-same-step : (ls : List Literal) → Kept n out ls → step y (rule (take (min n (suc (paper .numbers))) out)) ≡ step y (rule ls)
   rule-same-step ls k = rule-step y (take (min n (suc (paper .numbers))) out) ls (rule-cut (y .formula) is-paper n out ls room k) (rule-cut-same (y .formula) is-paper n out ls room k)
 
-  module _ (ns : List ℕ) (k : Kept n out (map pos ns)) where
-    pub query-cut : step y (query (take (min n (suc (paper .numbers))) out)) ≡ step y (query (map pos ns))
-    query-cut = ap (λ (a : List Literal). step y (query a)) standing ∙ query-step y (take (suc (paper .numbers)) (map narrowed (map pos ns))) (map pos ns) (λ w. (judged w, same w))
+  module _ (top : ℕ) (ns : List ℕ) (k : Kept n out (map pos ns)) where
+    pub query-cut : step y (query top (take (min n (suc (paper .numbers))) out)) ≡ step y (query top (map pos ns))
+    query-cut = ap (λ (a : List Literal). step y (query top a)) standing ∙ query-step y top (take (suc (paper .numbers)) (map narrowed (map pos ns))) (map pos ns) (λ w. (judged w, same w))
       where
         standing : take (min n (suc (paper .numbers))) out ≡ take (suc (paper .numbers)) (map narrowed (map pos ns))
         standing = cut-same n (suc (paper .numbers)) out room ∙ k .first ∙ ap (λ (m : ℕ). take m (map narrowed (map pos ns))) room
@@ -82,13 +82,13 @@ module _ (y : Read) (is-paper : y .formula .limits ≡ paper) (n : ℕ) (out : L
 
 -- ---- a call as served
 -- the text of an answer names the call only where nothing else is said, and where lines are listed
-answer-same : (D : Prefix) (c c′ : Call) (n : ℕ) (a : Answer) → doneText c ≡ doneText c′ → listsYes c ≡ listsYes c′ → answerText D c n a ≡ answerText D c′ n a
+answer-same : (D : Prefix) (c c′ : Call) (n : ℕ) (a : Answer) → doneText c ≡ doneText c′ → refusedText c ≡ refusedText c′ → listsYes c ≡ listsYes c′ → answerText D c n a ≡ answerText D c′ n a
 unfolding answerText
-answer-same D c c′ n a e lists = by (a .reply) (a .visits)
+answer-same D c c′ n a e refusals lists = by (a .reply) (a .visits)
   where
     by : (r : Reply) (v : ℕ) → answerText D c n (answer r v) ≡ answerText D c′ n (answer r v)
     by done v = e
-    by (refused m) v = refl
+    by (refused m) v = ap (λ (f : ℕ → ℕ → ℕ → Bytes). f m n v) refusals
     by swap v = refl
     by keep v = refl
     by (lines ls tb) v = ap (λ (p : Bool). cardText p D ls v) lists
@@ -107,7 +107,7 @@ papered x = by (fits x)
     by false = tt
 
 -- two calls whose steps are the same
-module _ (c c′ : Call) (word : doneText c ≡ doneText c′) (lists : listsYes c ≡ listsYes c′) (malformed : outOf none c ≡ outOf none c′) (same : (y : Read) → y .formula .limits ≡ paper → step y c ≡ step y c′) where
+module _ (c c′ : Call) (word : doneText c ≡ doneText c′) (refusals : refusedText c ≡ refusedText c′) (lists : listsYes c ≡ listsYes c′) (malformed : outOf none c ≡ outOf none c′) (same : (y : Read) → y .formula .limits ≡ paper → step y c ≡ step y c′) where
   same-out : (o : Option Read) → Papered o → outOf o c ≡ outOf o c′
   same-out none h = malformed
   same-out (some y) h = ap (λ (s : Stepped). s .out) (same y h)
@@ -119,7 +119,7 @@ module _ (c c′ : Call) (word : doneText c ≡ doneText c′) (lists : listsYes
   served-as : (x : State) (n : ℕ) (t : Bytes) (x′ : State) → CallServed x (some c) n t x′ → CallServed x (some c′) n t x′
   served-as x n t x′ s =
       record {
-        text = s .text ∙ answer-same D c c′ n (outOf (readState x) c) word lists ∙ ap (answerText D c′ n) (same-out (readState x) (papered x));
+        text = s .text ∙ answer-same D c c′ n (outOf (readState x) c) word refusals lists ∙ ap (answerText D c′ n) (same-out (readState x) (papered x));
         next = s .next ∙ same-next (readState x) (papered x);
         kept = λ k e. s .kept k (ap (λ (a : Answer). refusalOf (a .reply)) (same-out (readState x) (papered x)) ∙ e);
       }
@@ -131,13 +131,13 @@ module _ (c c′ : Call) (word : doneText c ≡ doneText c′) (lists : listsYes
 pub rule-card : (x : State) (n : ℕ) (out : List ℤ) → length out ≡ suc (paper .numbers) → (ls : List Literal) → Kept n out ls → (z : Option Card)
     → lineCard (readState x) (some (rule (take (min n (suc (paper .numbers))) out))) z ≡ lineCard (readState x) (some (rule ls)) z
 rule-card x n out room ls k z =
-    ap (λ (a : Answer). cardAfterRule (a .reply) z) (same-out (rule (take (min n (suc (paper .numbers))) out)) (rule ls) refl refl refl (λ y p. rule-same-step y p n out room ls k) (readState x) (papered x))
+    ap (λ (a : Answer). cardAfterRule (a .reply) z) (same-out (rule (take (min n (suc (paper .numbers))) out)) (rule ls) refl refl refl refl (λ y p. rule-same-step y p n out room ls k) (readState x) (papered x))
 
 module _ (x : State) (n : ℕ) (out : List ℤ) (room : length out ≡ suc (paper .numbers)) (line : ℕ) (t : Bytes) (x′ : State) where
   -- a rule by what stands in the table
   pub rule-served : (ls : List Literal) → Kept n out ls → CallServed x (some (rule (take (min n (suc (paper .numbers))) out))) line t x′ → CallServed x (some (rule ls)) line t x′
-  rule-served ls k s = served-as (rule (take (min n (suc (paper .numbers))) out)) (rule ls) refl refl refl (λ y p. rule-same-step y p n out room ls k) x line t x′ s
+  rule-served ls k s = served-as (rule (take (min n (suc (paper .numbers))) out)) (rule ls) refl refl refl refl (λ y p. rule-same-step y p n out room ls k) x line t x′ s
 
   -- a query likewise
-  pub query-served : (ns : List ℕ) → Kept n out (map pos ns) → CallServed x (some (query (take (min n (suc (paper .numbers))) out))) line t x′ → CallServed x (some (query (map pos ns))) line t x′
-  query-served ns k s = served-as (query (take (min n (suc (paper .numbers))) out)) (query (map pos ns)) refl refl refl (λ y p. query-cut y p n out room ns k) x line t x′ s
+  pub query-served : (top : ℕ) (ns : List ℕ) → Kept n out (map pos ns) → CallServed x (some (query top (take (min n (suc (paper .numbers))) out))) line t x′ → CallServed x (some (query top (map pos ns))) line t x′
+  query-served top ns k s = served-as (query top (take (min n (suc (paper .numbers))) out)) (query top (map pos ns)) refl refl refl refl (λ y p. query-cut y p n out room top ns k) x line t x′ s

@@ -57,9 +57,9 @@ readable : (x : State) (y : Read) → readState x ≡ some y → wellFormed y �
 unfolding valid
 readable x y i g = ap wellFormedRead i ∙ g
 
-module _ (v : Bool) (x : State) (size : ℕ) (p : Printed) (k : ℕ) (tb : Bytes) (x′ : State) (w : Serves x (cardOf v size) (cardSaid p k tb) x′) (r : Shown) (told : CardTold x p (length tb) r) (after : Bytes) where
+module _ (top : ℕ) (v : Bool) (x : State) (size : ℕ) (p : Printed) (k : ℕ) (tb : Bytes) (x′ : State) (w : Serves x (cardOf v top size) (cardSaid p k tb) x′) (r : Shown) (told : CardTold x p (length tb) r) (after : Bytes) where
   abbrev a : Answer
-  a = outOf (readState x) (cardOf v size)
+  a = outOf (readState x) (cardOf v top size)
 
   said-is : (reply : Reply) → a .reply ≡ reply → said (cardSaid p 0 [] .refusal) 0 (cardSaid p 0 [] .lines) k tb ≡ saidReply reply (a .visits)
   said-is reply z = sym (card-said p k tb) ∙ w .answered ∙ said-by a reply z
@@ -68,17 +68,17 @@ module _ (v : Bool) (x : State) (size : ℕ) (p : Printed) (k : ℕ) (tb : Bytes
   front = take-append-le (r .size) tb after (omega (arith, told .size)) ∙ take-all (r .size) tb (omega (arith, told .size))
 
   -- the card that the table shows is the answer's
-  pub card-left : (z : Option Card) → cardIn r (tb ++ after) ≡ lineCard (readState x) (some (cardOf v size)) z
-  card-left z = by (card-cases v size (readState x)) ∙ sym (after-card v)
+  pub card-left : (z : Option Card) → cardIn r (tb ++ after) ≡ lineCard (readState x) (some (cardOf v top size)) z
+  card-left z = by (card-cases top v size (readState x)) ∙ sym (after-card v)
     where
-      after-card : (q : Bool) → cardAfter (prefixRead (readState x)) (cardOf q size) (a .reply) z ≡ shownOf (prefixRead (readState x)) (a .reply)
+      after-card : (q : Bool) → cardAfter (prefixRead (readState x)) (cardOf q top size) (a .reply) z ≡ shownOf (prefixRead (readState x)) (a .reply)
       after-card true = refl
       after-card false = refl
 
       held : Option Card
       held = some (record { table = take (r .size) (tb ++ after); lines = r .lines; free = r .free })
 
-      by : Refused (a .reply) ⊎ ListedBy v size (readState x) (a .reply) → cardIn r (tb ++ after) ≡ shownOf (prefixRead (readState x)) (a .reply)
+      by : Refused (a .reply) ⊎ ListedBy top v size (readState x) (a .reply) → cardIn r (tb ++ after) ≡ shownOf (prefixRead (readState x)) (a .reply)
       by (inl (m, tb′, e)) =
           let q = said-is (cardRefused (suc m) tb′) e in
           ap (λ (n : ℕ). cond (eqb n 0) held none) (told .refusal ∙ ap (λ (v : Said). number (v .refusal)) q)

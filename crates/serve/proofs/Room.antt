@@ -64,5 +64,5 @@ pub prints-short : (t d₀ : Bytes) {d : Bytes} {r : Written} → length d₀ < 
 prints-short t d₀ h s = record { short = λ q. s; printed = λ q. absurd (omega (arith, h, q)) }
 
 -- a card in a part of a table
-pub card-sized : {x : State} {line : ℕ} {s₀ : Shown} {t₀ : Bytes} {r : Turn} {t d : Bytes} (v : Bool) (m size : ℕ) → m ≡ size → Turned x (some (cardOf v m)) line s₀ t₀ r t d → Turned x (some (cardOf v size)) line s₀ t₀ r t d
-card-sized {x} {line} {s₀} {t₀} {r} {t} {d} v m size e h = subst (λ (k : ℕ). Turned x (some (cardOf v k)) line s₀ t₀ r t d) e h
+pub card-sized : {x : State} {line : ℕ} {s₀ : Shown} {t₀ : Bytes} {r : Turn} {t d : Bytes} (top : ℕ) (v : Bool) (m size : ℕ) → m ≡ size → Turned x (some (cardOf v top m)) line s₀ t₀ r t d → Turned x (some (cardOf v top size)) line s₀ t₀ r t d
+card-sized {x} {line} {s₀} {t₀} {r} {t} {d} top v m size e h = subst (λ (k : ℕ). Turned x (some (cardOf v top k)) line s₀ t₀ r t d) e h

@@ -9,7 +9,7 @@ use crate::refusal::refuse;
 use crate::shown::Shown;
 use reader::call::CallLine;
 use reader::call::TABLE;
-use reader::call::read_call;
+use reader::ceiling::read_call;
 use reader::line::kept;
 use state::State;
 ghost use mathlib.Core.Path.{_≡_};
@@ -22,7 +22,7 @@ ghost use Rattle.qbf.specs.Formula.{paper, Literal};
 ghost use Rattle.qbf.specs.Calls.{Call, rule, query};
 ghost use Rattle.layout.specs.Session.{callOf};
 ghost use Rattle.reader.specs.Items.{Kept};
-ghost use Rattle.reader.specs.Calls.{CallRead};
+ghost use Rattle.reader.specs.Calls.{CallUnder};
 ghost use Rattle.serve.specs.Line.{answerBytes, Turned, TurnedBeside};
 ghost use Rattle.serve.specs.Calls.{Small};
 
@@ -40,15 +40,23 @@ fn rule_of(x: State, lits: &[i16], n: usize, line: u64, shown: Shown, out: &mut 
     serve_rule(x, &lits[..k], line, shown, out)
 }
 
-fn query_of(x: State, lits: &[i16], n: usize, line: u64, shown: Shown, out: &mut [u8]) -> Turn
+fn query_of(
+    x: State,
+    lits: &[i16],
+    n: usize,
+    line: u64,
+    shown: Shown,
+    out: &mut [u8],
+    ceiling: u32,
+) -> Turn
     requires { ⌜ length (now lits) ≡ suc (paper .numbers) ⌝ }
     requires { ⌜ answerBytes ≤ length (now out) ⌝ }
     ensures { λ r. ⌜ ((ns : List ℕ)
         → Kept n (now (lits .entry)) (map pos ns)
-        → TurnedBeside x (some (query (map pos ns))) line shown r (now (out .exit))) ⌝ }
+        → TurnedBeside x (some (query ceiling (map pos ns))) line shown r (now (out .exit))) ⌝ }
 {
     let k = kept(n);
-    serve_query(x, &lits[..k], line, shown, out)
+    serve_query(x, &lits[..k], line, shown, out, ceiling)
 }
 
 // A line that is no call leaves the state.
@@ -72,19 +80,20 @@ fn serve_call(
     shown: Shown,
     cards: &mut [u8; TABLE],
     out: &mut [u8],
+    ceiling: u32,
 ) -> Turn
     requires { ⌜ Small call ⌝ }
     requires { ⌜ length (now lits) ≡ suc (paper .numbers) ⌝ }
     requires { ⌜ answerBytes ≤ length (now out) ⌝ }
     ensures { λ r. ⌜ ((c : Option Call)
-        → CallRead c call (now (lits .entry))
+        → CallUnder ceiling c call (now (lits .entry))
         → Turned x c line shown (now (cards .entry)) r (now (cards .exit)) (now (out .exit))) ⌝ }
 {
     match call {
         CallLine::Rule(n) => rule_of(x, lits, n, line, shown, out),
-        CallLine::Query(n) => query_of(x, lits, n, line, shown, out),
-        CallLine::Card(size) => serve_card(x, size, true, line, cards, out),
-        CallLine::KeepCard(size) => serve_card(x, size, false, line, cards, out),
+        CallLine::Query(n) => query_of(x, lits, n, line, shown, out, ceiling),
+        CallLine::Card(size) => serve_card(x, size, true, line, cards, out, ceiling),
+        CallLine::KeepCard(size) => serve_card(x, size, false, line, cards, out, ceiling),
         CallLine::Forget => serve_forget(x, line, shown, out),
         CallLine::NotCall => no_call(x, line, shown, out),
     }
@@ -103,6 +112,7 @@ pub fn serve_made(
     ensures { λ r. ⌜ Turned x (callOf (now (line .entry))) number shown (now (cards .entry)) r (now (cards .exit)) (now (out .exit)) ⌝ }
 {
     let mut lits = [0i16; tables::BY_NUMBER];
-    let call = read_call(line, &mut lits);
-    serve_call(x, call, &lits, number, shown, cards, out)
+    let read = read_call(line, &mut lits);
+    let call = read.line;
+    serve_call(x, call, &lits, number, shown, cards, out, read.ceiling)
 }

@@ -16,19 +16,22 @@ ghost use lib.ListN.{length};
 ghost use Rattle.qbf.specs.Calls.{cardOf};
 ghost use Rattle.layout.specs.Words.{Bytes};
 ghost use Rattle.layout.specs.Program.{tableBytes};
-ghost use Rattle.layout.specs.Session.{cardRefusalText};
+ghost use Rattle.layout.specs.Session.{searchRefusalText};
 ghost use Rattle.state.specs.Reading.{readState};
 ghost use Rattle.serving.specs.Serves.{said, saidOf, outOf};
 ghost use Rattle.writer.specs.Wrote.{Wrote};
 ghost use Rattle.serve.specs.declared.shown.Shown.{Shown};
 ghost use Rattle.serve.specs.Line.{lineAnswer, answerBytes, Turned};
 
-// A card too large tells its visits.
-fn put_card_refusal(out: &mut [u8], refusal: u16, visits: u64, line: u64) -> usize
+// A card too large and a stopped call tell their visits.
+pub fn put_search_refusal(out: &mut [u8], refusal: u16, visits: u64, line: u64) -> usize
     requires { ⌜ answerBytes ≤ length (now out) ⌝ }
-    ensures { λ r. ⌜ Wrote (now (out .entry)) 0 (cardRefusalText refusal line visits) (now (out .exit)) r ⌝ }
+    ensures { λ r. ⌜ Wrote (now (out .entry)) 0 (searchRefusalText refusal line visits) (now (out .exit)) r ⌝ }
 {
     if refusal == answers::TOO_MANY_LINES {
+        return put_overflow(out, 0, refusal as u64, line, visits);
+    }
+    if refusal == answers::STOPPED {
         return put_overflow(out, 0, refusal as u64, line, visits);
     }
     refuse(out, refusal, line)
@@ -42,12 +45,13 @@ pub fn put_shown(
     lines: usize,
     visits: u64,
     yes: bool,
+    ceiling: u32,
 ) -> usize
     requires { ⌜ length (now table) ≤ tableBytes ⌝ }
-    requires { ⌜ said none 0 lines visits (now table) ≡ saidOf (outOf (readState x) (cardOf yes (length (now table)))) ⌝ }
+    requires { ⌜ said none 0 lines visits (now table) ≡ saidOf (outOf (readState x) (cardOf yes ceiling (length (now table)))) ⌝ }
     requires { ⌜ answerBytes ≤ length (now out) ⌝ }
     ensures { λ r. ⌜ ((n : ℕ)
-        → Wrote (now (out .entry)) 0 (lineAnswer (readState x) n (some (cardOf yes (length (now (table .entry)))))) (now (out .exit)) r) ⌝ }
+        → Wrote (now (out .entry)) 0 (lineAnswer (readState x) n (some (cardOf yes ceiling (length (now (table .entry)))))) (now (out .exit)) r) ⌝ }
 {
     let numbers = x.numbers;
     let levels = x.levels;
@@ -57,11 +61,11 @@ pub fn put_shown(
 }
 
 // A card in a lent table.
-fn serve_in(x: State, table: &mut [u8], line: u64, out: &mut [u8], yes: bool) -> Turn
+fn serve_in(x: State, table: &mut [u8], line: u64, out: &mut [u8], yes: bool, ceiling: u32) -> Turn
     requires { ⌜ length (now table) ≤ tableBytes ⌝ }
     requires { ⌜ answerBytes ≤ length (now out) ⌝ }
     ensures { λ r. ⌜ ((s : Shown) (t after : Bytes)
-        → Turned x (some (cardOf yes (length (now (table .entry))))) line s t r (now (table .exit) ++ after) (now (out .exit))) ⌝ }
+        → Turned x (some (cardOf yes ceiling (length (now (table .entry))))) line s t r (now (table .exit) ++ after) (now (out .exit))) ⌝ }
 {
     let mut learned_clauses = x.learned_clauses;
     let mut learned_clause_sizes = x.learned_clause_sizes;
@@ -79,6 +83,7 @@ fn serve_in(x: State, table: &mut [u8], line: u64, out: &mut [u8], yes: bool) ->
         &mut learned_cube_sizes,
         table,
         yes,
+        ceiling,
     );
     let mut next = x;
     next.learned_clauses = learned_clauses;
@@ -90,7 +95,7 @@ fn serve_in(x: State, table: &mut [u8], line: u64, out: &mut [u8], yes: bool) ->
     let refusal = refusal_of(printed);
     let made = card_of(x, printed, table.len());
     if refusal != 0 {
-        let length = put_card_refusal(out, refusal, visits, line);
+        let length = put_search_refusal(out, refusal, visits, line);
         return Turn {
             state: next,
             length: length,
@@ -98,7 +103,7 @@ fn serve_in(x: State, table: &mut [u8], line: u64, out: &mut [u8], yes: bool) ->
         };
     }
     let lines = lines_of(printed);
-    let length = put_shown(out, x, table, lines, visits, yes);
+    let length = put_shown(out, x, table, lines, visits, yes, ceiling);
     Turn {
         state: next,
         length: length,
@@ -107,12 +112,20 @@ fn serve_in(x: State, table: &mut [u8], line: u64, out: &mut [u8], yes: bool) ->
 }
 
 // The first bytes of the table of cards, as many as the call asks for.
-fn serve_part(x: State, cards: &mut [u8], size: usize, line: u64, out: &mut [u8], yes: bool) -> Turn
+fn serve_part(
+    x: State,
+    cards: &mut [u8],
+    size: usize,
+    line: u64,
+    out: &mut [u8],
+    yes: bool,
+    ceiling: u32,
+) -> Turn
     requires { ⌜ (size ≤ tableBytes) × (size ≤ length (now cards)) ⌝ }
     requires { ⌜ answerBytes ≤ length (now out) ⌝ }
-    ensures { λ r. ⌜ ((s : Shown) (t : Bytes) → Turned x (some (cardOf yes size)) line s t r (now (cards .exit)) (now (out .exit))) ⌝ }
+    ensures { λ r. ⌜ ((s : Shown) (t : Bytes) → Turned x (some (cardOf yes ceiling size)) line s t r (now (cards .exit)) (now (out .exit))) ⌝ }
 {
-    serve_in(x, &mut cards[..size], line, out, yes)
+    serve_in(x, &mut cards[..size], line, out, yes, ceiling)
 }
 
 pub fn serve_card(
@@ -122,10 +135,11 @@ pub fn serve_card(
     line: u64,
     cards: &mut [u8; TABLE],
     out: &mut [u8],
+    ceiling: u32,
 ) -> Turn
     requires { ⌜ size ≤ tableBytes ⌝ }
     requires { ⌜ answerBytes ≤ length (now out) ⌝ }
-    ensures { λ r. ⌜ ((s : Shown) (t : Bytes) → Turned x (some (cardOf yes size)) line s t r (now (cards .exit)) (now (out .exit))) ⌝ }
+    ensures { λ r. ⌜ ((s : Shown) (t : Bytes) → Turned x (some (cardOf yes ceiling size)) line s t r (now (cards .exit)) (now (out .exit))) ⌝ }
 {
-    serve_part(x, cards, size, line, out, yes)
+    serve_part(x, cards, size, line, out, yes, ceiling)
 }

@@ -1,6 +1,6 @@
 // The line of a query: swap or keep with the visits, or refused.
 use crate::Turn;
-use crate::refusal::refuse;
+use crate::card::put_search_refusal;
 use crate::shown::Shown;
 use answers::Ruling;
 use state::State;
@@ -20,13 +20,20 @@ fn put_ruling(out: &mut [u8], ruling: Ruling, visits: u64, line: u64) -> usize
     match ruling {
         Ruling::Swap => put_query(out, 0, true, visits),
         Ruling::Keep => put_query(out, 0, false, visits),
-        Ruling::Refused(n) => refuse(out, n, line),
+        Ruling::Refused(n) => put_search_refusal(out, n, visits, line),
     }
 }
 
-pub fn serve_query(x: State, on: &[i16], line: u64, shown: Shown, out: &mut [u8]) -> Turn
+pub fn serve_query(
+    x: State,
+    on: &[i16],
+    line: u64,
+    shown: Shown,
+    out: &mut [u8],
+    ceiling: u32,
+) -> Turn
     requires { ⌜ answerBytes ≤ length (now out) ⌝ }
-    ensures { λ r. ⌜ TurnedBeside x (some (query (now (on .entry)))) line shown r (now (out .exit)) ⌝ }
+    ensures { λ r. ⌜ TurnedBeside x (some (query ceiling (now (on .entry)))) line shown r (now (out .exit)) ⌝ }
 {
     let mut learned_clauses = x.learned_clauses;
     let mut learned_clause_sizes = x.learned_clause_sizes;
@@ -43,6 +50,7 @@ pub fn serve_query(x: State, on: &[i16], line: u64, shown: Shown, out: &mut [u8]
         &mut learned_cubes,
         &mut learned_cube_sizes,
         on,
+        ceiling,
     );
     let mut next = x;
     next.learned_clauses = learned_clauses;

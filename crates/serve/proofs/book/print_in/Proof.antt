@@ -8,6 +8,7 @@ use mathlib.Core.Path.{_≡_, _∙_, ap}
 use mathlib.Core.Option.{some}
 use denote.Ref.{now}
 use lib.ListN.{length}
+use Rattle.qbf.specs.Ceiling.{highestCeiling}
 use Rattle.qbf.specs.Calls.{card}
 use Rattle.state.specs.Reading.{readState}
 use Rattle.serve.specs.Line.{lineAnswer}
@@ -47,7 +48,7 @@ put-shown-requires c κs =
     let long : length (c .before .before .before .before .before .before .before .card .last .1 .1 .1 .1 .1 .1 .1 .1 .1 .0) ≡ length (now (c .before .before .before .before .before .before .before .before .before .before .before .before .before .before .before .before .before .before .before .before .before .before .before .before .before .args .table)) = search needs in (
       omega (arith, long, c .before .before .before .before .before .before .before .before .before .before .before .before .before .before .before .before .before .before .before .before .before .before .before .before .before .pre .0),
       (
-        shown-said true (c .before .before .before .before .before .before .before .before .before .before .before .before .before .before .before .before .before .before .before .before .before .before .before .before .before .args .t1) (length (now (c .before .before .before .before .before .before .before .before .before .before .before .before .before .before .before .before .before .before .before .before .before .before .before .before .before .args .table))) (told .result) (c .before .before .lines-of .result) (made .result .printed) (made .result .visits) (made .last .1 .1 .1 .1 .1 .1 .1 .1 .1 .0) _ long (made .ensures) (told .ensures) (c .before .before .before .if1 .left) (c .before .before .lines-of .ensures),
+        shown-said highestCeiling true (c .before .before .before .before .before .before .before .before .before .before .before .before .before .before .before .before .before .before .before .before .before .before .before .before .before .args .t1) (length (now (c .before .before .before .before .before .before .before .before .before .before .before .before .before .before .before .before .before .before .before .before .before .before .before .before .before .args .table))) (told .result) (c .before .before .lines-of .result) (made .result .printed) (made .result .visits) (made .last .1 .1 .1 .1 .1 .1 .1 .1 .1 .0) _ long (made .ensures) (told .ensures) (c .before .before .before .if1 .left) (c .before .before .lines-of .ensures),
         c .before .before .before .before .before .before .before .before .before .before .before .before .before .before .before .before .before .before .before .before .before .before .before .before .before .pre .1,
       ),
     )
@@ -65,7 +66,7 @@ returns-2 c = λ b e ok.
     let args = c .before .before .before .before .before .before .before .before .before .before .before .before .before .before .before .before .before .before .before .before .before .before .before .before .before .before .before .before .args in
     let size = length (now (c .before .before .before .before .before .before .before .before .before .before .before .before .before .before .before .before .before .before .before .before .before .before .before .before .before .before .before .before .args .table)) in
     let long : length (c .before .before .before .before .before .before .before .before .before .before .card .last .1 .1 .1 .1 .1 .1 .1 .1 .1 .0) ≡ length (now (c .before .before .before .before .before .before .before .before .before .before .before .before .before .before .before .before .before .before .before .before .before .before .before .before .before .before .before .before .args .table)) = search needs in
-    wrote-as (ap (λ m. lineAnswer (readState (args .t1)) 0 (some (card m))) long ∙ shown-printed (args .t1) size (made .result .printed) (made .result .visits) (made .last .1 .1 .1 .1 .1 .1 .1 .1 .1 .0) _ (made .ensures) (told .result) (told .ensures) b e ok (c .before .before .before .before .before .before .if1 .left) 0) (c .before .before .put-shown .ensures 0)
+    wrote-as (ap (λ m. lineAnswer (readState (args .t1)) 0 (some (card highestCeiling m))) long ∙ shown-printed (args .t1) size (made .result .printed) (made .result .visits) (made .last .1 .1 .1 .1 .1 .1 .1 .1 .1 .0) _ (made .ensures) (told .result) (told .ensures) b e ok (c .before .before .before .before .before .before .if1 .left) 0) (c .before .before .put-shown .ensures 0)
 
 pub print-in-spec : {M : Type 1} → statement M
 print-in-spec =

@@ -20,7 +20,7 @@ same-length : tie.Need-same-length
 same-length c = search needs
 
 returns : tie.Need-returns
-returns c = query-turned (c .before .before .before .before .before .before .before .args .n) (now (c .before .before .before .before .before .before .before .args .lits)) (c .before .before .before .before .before .before .before .pre .0) (c .before .before .before .before .before .kept .result) (c .before .before .before .before .before .kept .ensures) (c .before .before .serve-query .ensures)
+returns c = query-turned (c .before .before .before .before .before .before .before .args .n) (now (c .before .before .before .before .before .before .before .args .lits)) (c .before .before .before .before .before .before .before .pre .0) (c .before .before .before .before .before .before .before .args .ceiling) (c .before .before .before .before .before .kept .result) (c .before .before .before .before .before .kept .ensures) (c .before .before .serve-query .ensures)
 
 pub query-of-spec : {M : Type 1} → statement M
 query-of-spec =

@@ -50,7 +50,7 @@ same-length c = search needs
 returns : tie.Need-returns
 returns c = λ o h.
     let args = c .before .before .before .before .before .before .before .before .args in
-    called-rule (now (args .lits)) (args .call) o h (c .before .before .before .before .before .call .given .0 .0) (c .before .before .before .before .before .call .given .1) (λ ls k. c .before .before .rule-of .ensures ls k (now (args .cards)))
+    called-rule (now (args .lits)) (args .ceiling) (args .call) o h (c .before .before .before .before .before .call .given .0 .0) (c .before .before .before .before .before .call .given .1) (λ ls k. c .before .before .rule-of .ensures ls k (now (args .cards)))
 
 same-length-2 : tie.Need-same-length-2
 same-length-2 c = search needs
@@ -58,7 +58,7 @@ same-length-2 c = search needs
 returns-2 : tie.Need-returns-2
 returns-2 c = λ o h.
     let args = c .before .before .before .before .before .before .before .before .args in
-    called-query (now (args .lits)) (args .call) o h (c .before .before .before .before .before .call2 .given .0 .0) (c .before .before .before .before .before .call2 .given .1) (λ ns k. c .before .before .query-of .ensures ns k (now (args .cards)))
+    called-query (now (args .lits)) (args .ceiling) (args .call) o h (c .before .before .before .before .before .call2 .given .0 .0) (c .before .before .before .before .before .call2 .given .1) (λ ns k. c .before .before .query-of .ensures ns k (now (args .cards)))
 
 same-length-3 : tie.Need-same-length-3
 same-length-3 c = search needs
@@ -66,7 +66,7 @@ same-length-3 c = search needs
 returns-3 : tie.Need-returns-3
 returns-3 c = λ o h.
     let args = c .before .before .before .before .before .before .before .before .before .args in
-    called-card (now (args .lits)) (args .call) o h (c .before .before .before .before .before .before .call3 .given .0 .0) (c .before .before .before .before .before .before .call3 .given .1) (c .before .before .serve-card .ensures (args .shown) (now (args .cards)))
+    called-card (now (args .lits)) (args .ceiling) (args .call) o h (c .before .before .before .before .before .before .call3 .given .0 .0) (c .before .before .before .before .before .before .call3 .given .1) (c .before .before .serve-card .ensures (args .shown) (now (args .cards)))
 
 same-length-4 : tie.Need-same-length-4
 same-length-4 c = search needs
@@ -74,7 +74,7 @@ same-length-4 c = search needs
 returns-4 : tie.Need-returns-4
 returns-4 c = λ o h.
     let args = c .before .before .before .before .before .before .before .before .before .args in
-    called-keep-card (now (args .lits)) (args .call) o h (c .before .before .before .before .before .before .call4 .given .0 .0) (c .before .before .before .before .before .before .call4 .given .1) (c .before .before .serve-card2 .ensures (args .shown) (now (args .cards)))
+    called-keep-card (now (args .lits)) (args .ceiling) (args .call) o h (c .before .before .before .before .before .before .call4 .given .0 .0) (c .before .before .before .before .before .before .call4 .given .1) (c .before .before .serve-card2 .ensures (args .shown) (now (args .cards)))
 
 same-length-5 : tie.Need-same-length-5
 same-length-5 c = search needs
@@ -82,7 +82,7 @@ same-length-5 c = search needs
 returns-5 : tie.Need-returns-5
 returns-5 c = λ o h.
     let args = c .before .before .before .before .before .before .before .args in
-    called-forget (now (args .lits)) (args .call) o h (c .before .before .before .before .enum-told .given .1) (c .before .before .serve-forget .ensures (now (args .cards)))
+    called-forget (now (args .lits)) (args .ceiling) (args .call) o h (c .before .before .before .before .enum-told .given .1) (c .before .before .serve-forget .ensures (now (args .cards)))
 
 same-length-6 : tie.Need-same-length-6
 same-length-6 c = search needs
@@ -90,7 +90,7 @@ same-length-6 c = search needs
 returns-6 : tie.Need-returns-6
 returns-6 c = λ o h.
     let args = c .before .before .before .before .before .before .before .args in
-    called-none (now (args .lits)) (args .call) o h (c .before .before .before .before .enum-told2 .given .1) (c .before .before .no-call .ensures (now (args .cards)))
+    called-none (now (args .lits)) (args .ceiling) (args .call) o h (c .before .before .before .before .enum-told2 .given .1) (c .before .before .no-call .ensures (now (args .cards)))
 
 pub serve-call-spec : {M : Type 1} → statement M
 serve-call-spec =

@@ -20,7 +20,7 @@ serve-call-requires : tie.Need-serve-call-requires
 serve-call-requires c κs =
     let args = c .before .before .before .before .before .before .before .before .args in
     let read-call = c .before .before .before .before .read-call in
-    (small-call (now (args .line)) (read-call .result) (read-call .last .1 .0) (read-call .ensures), (search needs, omega arith))
+    (small-call (now (args .line)) (read-call .result .ceiling) (read-call .result .line) (read-call .last .1 .0) (read-call .ensures), (search needs, omega arith))
 
 same-length : tie.Need-same-length
 same-length c = search needs

@@ -28,7 +28,7 @@ slice-aggregate-put-card c = search needs
 
 put-card-requires : tie.Need-put-card-requires
 put-card-requires c κs =
-    let w = card-written (c .before .before .before .before .before .before .before .before .before .before .before .args .yes) (c .before .before .before .before .before .before .before .before .before .before .before .args .x) (now (c .before .before .before .before .before .before .before .before .before .before .before .args .table)) (c .before .before .before .before .before .before .before .before .before .before .before .args .lines) (c .before .before .before .before .before .before .before .before .before .before .before .args .visits) (c .before .before .before .before .before .before .before .before .before .before .before .pre .1 .0) (c .before .before .before .before .before .before .before .before .before .before .before .pre .0) (omega (arith, c .before .before .before .before .before .before .before .before .before .before .before .fits .visits)) (c .before .before .free-count .result) (c .before .before .free-count .ensures) in
+    let w = card-written (c .before .before .before .before .before .before .before .before .before .before .before .args .ceiling) (c .before .before .before .before .before .before .before .before .before .before .before .args .yes) (c .before .before .before .before .before .before .before .before .before .before .before .args .x) (now (c .before .before .before .before .before .before .before .before .before .before .before .args .table)) (c .before .before .before .before .before .before .before .before .before .before .before .args .lines) (c .before .before .before .before .before .before .before .before .before .before .before .args .visits) (c .before .before .before .before .before .before .before .before .before .before .before .pre .1 .0) (c .before .before .before .before .before .before .before .before .before .before .before .pre .0) (omega (arith, c .before .before .before .before .before .before .before .before .before .before .before .fits .visits)) (c .before .before .free-count .result) (c .before .before .free-count .ensures) in
     let long : length (c .before .before .before .before .before .before .before .before .before .before .before .args .x .numbers) ≡ suc (paper .numbers) = search needs in
     ((omega (arith, w .few, long), w .room), omega (arith, w .short, c .before .before .before .before .before .before .before .before .before .before .before .pre .1 .1))
 
@@ -37,7 +37,7 @@ same-length c = search needs
 
 returns : tie.Need-returns
 returns c = λ n.
-    let w = card-written (c .before .before .before .before .before .before .before .before .before .before .before .before .before .before .args .yes) (c .before .before .before .before .before .before .before .before .before .before .before .before .before .before .args .x) (now (c .before .before .before .before .before .before .before .before .before .before .before .before .before .before .args .table)) (c .before .before .before .before .before .before .before .before .before .before .before .before .before .before .args .lines) (c .before .before .before .before .before .before .before .before .before .before .before .before .before .before .args .visits) (c .before .before .before .before .before .before .before .before .before .before .before .before .before .before .pre .1 .0) (c .before .before .before .before .before .before .before .before .before .before .before .before .before .before .pre .0) (omega (arith, c .before .before .before .before .before .before .before .before .before .before .before .before .before .before .fits .visits)) (c .before .before .before .before .before .free-count .result) (c .before .before .before .before .before .free-count .ensures) in
+    let w = card-written (c .before .before .before .before .before .before .before .before .before .before .before .before .before .before .args .ceiling) (c .before .before .before .before .before .before .before .before .before .before .before .before .before .before .args .yes) (c .before .before .before .before .before .before .before .before .before .before .before .before .before .before .args .x) (now (c .before .before .before .before .before .before .before .before .before .before .before .before .before .before .args .table)) (c .before .before .before .before .before .before .before .before .before .before .before .before .before .before .args .lines) (c .before .before .before .before .before .before .before .before .before .before .before .before .before .before .args .visits) (c .before .before .before .before .before .before .before .before .before .before .before .before .before .before .pre .1 .0) (c .before .before .before .before .before .before .before .before .before .before .before .before .before .before .pre .0) (omega (arith, c .before .before .before .before .before .before .before .before .before .before .before .before .before .before .fits .visits)) (c .before .before .before .before .before .free-count .result) (c .before .before .before .before .before .free-count .ensures) in
     wrote-as (w .text n) (c .before .before .put-card .ensures)
 
 pub put-shown-spec : {M : Type 1} → statement M

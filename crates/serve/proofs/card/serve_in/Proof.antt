@@ -26,8 +26,8 @@ refusal-of-requires c κs = search needs
 card-of-requires-2 : tie.Need-card-of-requires-2
 card-of-requires-2 c κs = search needs
 
-put-card-refusal-requires : tie.Need-put-card-refusal-requires
-put-card-refusal-requires c κs = search needs
+put-search-refusal-requires : tie.Need-put-search-refusal-requires
+put-search-refusal-requires c κs = c .before .before .before .before .before .before .before .before .before .before .before .before .before .before .before .before .before .before .before .before .before .before .before .before .pre .1
 
 same-length : tie.Need-same-length
 same-length c = search needs
@@ -42,10 +42,10 @@ returns c = λ s t after.
     let table = made .last .1 .1 .1 .1 .1 .1 .1 .1 .1 .0 in
     let args = c .before .before .before .before .before .before .before .before .before .before .before .before .before .before .before .before .before .before .before .before .before .before .before .before .before .before .before .args in
     let size = length (now (c .before .before .before .before .before .before .before .before .before .before .before .before .before .before .before .before .before .before .before .before .before .before .before .before .before .before .before .args .table)) in
-    turned (args .t1) (some (cardOf (args .yes) size)) (args .line) _ s (c .before .before .before .before .before .card-of2 .result) (c .before .before .put-card-refusal .ensures)
-    (λ u e. refused-served (args .yes) (args .t1) size (args .line) (told .result) (made .result .printed) (made .result .visits) table _ u (made .ensures) (told .ensures) (c .before .before .before .before .if1 .taken) e)
+    turned (args .t1) (some (cardOf (args .yes) (args .ceiling) size)) (args .line) _ s (c .before .before .before .before .before .card-of2 .result) (c .before .before .put-search-refusal .ensures)
+    (λ u e. refused-served (args .ceiling) (args .yes) (args .t1) size (args .line) (told .result) (made .result .printed) (made .result .visits) table _ u (made .ensures) (told .ensures) (c .before .before .before .before .if1 .taken) e)
     t (table ++ after)
-    (card-left (args .yes) (args .t1) size (made .result .printed) (made .result .visits) table _ (made .ensures) (c .before .before .before .before .before .card-of2 .result) (c .before .before .before .before .before .card-of2 .ensures) after (cardIn s t))
+    (card-left (args .ceiling) (args .yes) (args .t1) size (made .result .printed) (made .result .visits) table _ (made .ensures) (c .before .before .before .before .before .card-of2 .result) (c .before .before .before .before .before .card-of2 .ensures) after (cardIn s t))
 
 lines-of-requires : tie.Need-lines-of-requires
 lines-of-requires c κs = search needs
@@ -60,7 +60,7 @@ put-shown-requires c κs =
     let long : length (c .before .before .before .before .before .before .before .before .card-of .last .1 .1 .1 .1 .1 .1 .1 .1 .1 .0) ≡ length (now (c .before .before .before .before .before .before .before .before .before .before .before .before .before .before .before .before .before .before .before .before .before .before .before .before .before .before .args .table)) = search needs in (
       omega (arith, long, c .before .before .before .before .before .before .before .before .before .before .before .before .before .before .before .before .before .before .before .before .before .before .before .before .before .before .pre .0),
       (
-        shown-said (args .yes) (args .t1) size (told .result) (c .before .before .lines-of .result) (made .result .printed) (made .result .visits) table _ long (made .ensures) (told .ensures) (c .before .before .before .if1 .left) (c .before .before .lines-of .ensures),
+        shown-said (args .ceiling) (args .yes) (args .t1) size (told .result) (c .before .before .lines-of .result) (made .result .printed) (made .result .visits) table _ long (made .ensures) (told .ensures) (c .before .before .before .if1 .left) (c .before .before .lines-of .ensures),
         c .before .before .before .before .before .before .before .before .before .before .before .before .before .before .before .before .before .before .before .before .before .before .before .before .before .before .pre .1,
       ),
     )
@@ -78,10 +78,10 @@ returns-2 c = λ s t after.
     let args = c .before .before .before .before .before .before .before .before .before .before .before .before .before .before .before .before .before .before .before .before .before .before .before .before .before .before .before .before .before .args in
     let size = length (now (c .before .before .before .before .before .before .before .before .before .before .before .before .before .before .before .before .before .before .before .before .before .before .before .before .before .before .before .before .before .args .table)) in
     let long : length (c .before .before .before .before .before .before .before .before .before .before .before .card-of .last .1 .1 .1 .1 .1 .1 .1 .1 .1 .0) ≡ length (now (c .before .before .before .before .before .before .before .before .before .before .before .before .before .before .before .before .before .before .before .before .before .before .before .before .before .before .before .before .before .args .table)) = search needs in
-    turned (args .t1) (some (cardOf (args .yes) size)) (args .line) _ s (c .before .before .before .before .before .before .before .card-of2 .result) (c .before .before .put-shown .ensures (args .line))
-    (λ u e. shown-served (args .yes) (args .t1) size (args .line) (cardSaid (made .result .printed) (made .result .visits) table) _ u (made .ensures) (e ∙ ap (λ m. lineAnswer (readState (args .t1)) (args .line) (some (cardOf (args .yes) m))) long))
+    turned (args .t1) (some (cardOf (args .yes) (args .ceiling) size)) (args .line) _ s (c .before .before .before .before .before .before .before .card-of2 .result) (c .before .before .put-shown .ensures (args .line))
+    (λ u e. shown-served (args .ceiling) (args .yes) (args .t1) size (args .line) (cardSaid (made .result .printed) (made .result .visits) table) _ u (made .ensures) (e ∙ ap (λ m. lineAnswer (readState (args .t1)) (args .line) (some (cardOf (args .yes) (args .ceiling) m))) long))
     t (table ++ after)
-    (card-left (args .yes) (args .t1) size (made .result .printed) (made .result .visits) table _ (made .ensures) (c .before .before .before .before .before .before .before .card-of2 .result) (c .before .before .before .before .before .before .before .card-of2 .ensures) after (cardIn s t))
+    (card-left (args .ceiling) (args .yes) (args .t1) size (made .result .printed) (made .result .visits) table _ (made .ensures) (c .before .before .before .before .before .before .before .card-of2 .result) (c .before .before .before .before .before .before .before .card-of2 .ensures) after (cardIn s t))
 
 pub serve-in-spec : {M : Type 1} → statement M
 serve-in-spec =
@@ -90,7 +90,7 @@ serve-in-spec =
     card-of-requires
     refusal-of-requires
     card-of-requires-2
-    put-card-refusal-requires
+    put-search-refusal-requires
     same-length
     same-length-2
     returns

@@ -25,7 +25,7 @@ same-length-2 c = search needs
 returns : tie.Need-returns
 returns c = λ s t.
     let args = c .before .before .before .before .before .before .before .before .before .args in
-    card-sized (args .yes) (length (take (args .size) (now (args .cards)))) (args .size) (omega (arith, length-take (args .size) (now (args .cards)), c .before .before .before .before .before .before .before .before .before .pre .0 .1)) (c .before .before .before .before .serve-in .ensures s t (drop (args .size) (now (args .cards))))
+    card-sized (args .ceiling) (args .yes) (length (take (args .size) (now (args .cards)))) (args .size) (omega (arith, length-take (args .size) (now (args .cards)), c .before .before .before .before .before .before .before .before .before .pre .0 .1)) (c .before .before .before .before .serve-in .ensures s t (drop (args .size) (now (args .cards))))
 
 pub serve-part-spec : {M : Type 1} → statement M
 serve-part-spec =

@@ -31,7 +31,7 @@ returns c = λ t.
     let made = c .before .before .before .before .before .before .forget in
     let args = c .before .before .before .before .before .before .before .before .before .before .before .before .before .before .before .before .before .before .before .before .args in
     turned (args .t1) (some forget) (args .line) _ (args .shown) (args .shown) (c .before .before .put-change .ensures)
-    (λ u e. change-served (args .t1) forget (args .line) (made .result) _ u forget-changing (made .ensures) (e ∙ ap (λ k. changeText forgottenText k (args .line)) (told .ensures)))
+    (λ u e. change-served (args .t1) forget (args .line) (made .result) _ u (λ m l k. refl) forget-changing (made .ensures) (e ∙ ap (λ k. changeText forgottenText k (args .line)) (told .ensures)))
     t t refl
 
 pub serve-forget-spec : {M : Type 1} → statement M

@@ -2,7 +2,7 @@
 use borrow.Author.Needs.{needs}
 use Rattle.serve.proofs.change.serve_rule.Statement.{statement}
 use Rattle.serve.proofs.change.serve_rule.Tie as tie
-use mathlib.Core.Path.{_∙_, ap}
+use mathlib.Core.Path.{refl, _∙_, ap}
 use mathlib.Core.Option.{some}
 use denote.Ref.{now}
 use Rattle.qbf.specs.Calls.{rule}
@@ -37,7 +37,7 @@ returns c = λ t.
     let made = c .before .before .before .before .before .before .before .rule in
     let args = c .before .before .before .before .before .before .before .before .before .before .before .before .before .before .before .before .before .before .before .before .before .before .args in
     turned (args .t1) (some (rule (now (args .lits)))) (args .line) _ (args .shown) (c .after-rule .result) (c .before .before .before .put-change .ensures)
-    (λ u e. change-served (args .t1) (rule (now (args .lits))) (args .line) (made .result) _ u (rule-changing (now (args .lits))) (made .ensures) (e ∙ ap (λ k. changeText acceptedText k (args .line)) (told .ensures)))
+    (λ u e. change-served (args .t1) (rule (now (args .lits))) (args .line) (made .result) _ u (λ m l k. refl) (rule-changing (now (args .lits))) (made .ensures) (e ∙ ap (λ k. changeText acceptedText k (args .line)) (told .ensures)))
     t t (rule-leaves (args .t1) (rule (now (args .lits))) (made .result) _ (args .shown) (told .result) (rule-changing (now (args .lits)) (readState (args .t1))) (made .ensures) (told .ensures) (c .after-rule .result) (c .after-rule .ensures) t)
 
 pub serve-rule-spec : {M : Type 1} → statement M

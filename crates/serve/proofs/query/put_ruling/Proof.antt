@@ -23,8 +23,8 @@ put-query-requires-2 c κs = omega (arith, query-room false (c .before .before .
 enum-known-ruling : tie.Need-enum-known-ruling
 enum-known-ruling c = search needs
 
-refuse-requires : tie.Need-refuse-requires
-refuse-requires c κs = search needs
+put-search-refusal-requires : tie.Need-put-search-refusal-requires
+put-search-refusal-requires c κs = search needs
 
 same-length : tie.Need-same-length
 same-length c = search needs
@@ -42,7 +42,7 @@ same-length-3 : tie.Need-same-length-3
 same-length-3 c = search needs
 
 returns-3 : tie.Need-returns-3
-returns-3 c = wrote-as (ap (λ q. rulingText q (c .before .before .before .before .before .before .before .before .args .visits) (c .before .before .before .before .before .before .before .before .args .line)) (sym (c .before .before .before .before .before .ruling .given .1))) (c .before .before .refuse .ensures)
+returns-3 c = wrote-as (ap (λ q. rulingText q (c .before .before .before .before .before .before .before .before .args .visits) (c .before .before .before .before .before .before .before .before .args .line)) (sym (c .before .before .before .before .before .ruling .given .1))) (c .before .before .put-search-refusal .ensures)
 
 pub put-ruling-spec : {M : Type 1} → statement M
 put-ruling-spec =
@@ -53,7 +53,7 @@ put-ruling-spec =
     enum-told-2
     put-query-requires-2
     enum-known-ruling
-    refuse-requires
+    put-search-refusal-requires
     same-length
     returns
     same-length-2

@@ -22,8 +22,8 @@ returns : tie.Need-returns
 returns c = λ t.
     let asked = c .before .before .before .before .query in
     let args = c .before .before .before .before .before .before .before .before .before .before .before .before .before .before .before .before .before .before .before .before .args in
-    turned (args .t1) (some (query (now (args .on)))) (args .line) _ (args .shown) (args .shown) (c .before .before .put-ruling .ensures)
-    (λ u e. query-answered (args .t1) (now (args .on)) (args .line) (asked .result .ruling) (asked .result .visits) _ u (asked .ensures) e)
+    turned (args .t1) (some (query (args .ceiling) (now (args .on)))) (args .line) _ (args .shown) (args .shown) (c .before .before .put-ruling .ensures)
+    (λ u e. query-answered (args .ceiling) (args .t1) (now (args .on)) (args .line) (asked .result .ruling) (asked .result .visits) _ u (asked .ensures) e)
     t t refl
 
 pub serve-query-spec : {M : Type 1} → statement M
