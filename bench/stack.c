@@ -38,12 +38,12 @@ static void forget(void)
 
 static void query(void)
 {
-    reply = bullacetop_query_at(&lent, NULL, 0);
+    reply = bullacetop_query_at(&lent, NULL, 0, BULLACETOP_HIGHEST_CEILING);
 }
 
 static void card(void)
 {
-    reply = bullacetop_card_at(&lent, table, sizeof table);
+    reply = bullacetop_card_at(&lent, table, sizeof table, BULLACETOP_HIGHEST_CEILING);
 }
 
 static void print(void)

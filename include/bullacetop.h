@@ -67,7 +67,11 @@ extern "C" {
 #define BULLACETOP_MALFORMED 22
 #define BULLACETOP_CLAUSE_COUNT 30
 #define BULLACETOP_TEXT_TABLE_TOO_SHORT 31
+#define BULLACETOP_STOPPED 34
 #define BULLACETOP_NO_PAGE 36
+
+/* The highest ceiling on the visits of a call. */
+#define BULLACETOP_HIGHEST_CEILING 4294967295u
 
 /* A printed page: its rows, the bytes of a row, each row's last one being '\n', and all of them. */
 #define BULLACETOP_PAGE_ROWS 24
@@ -110,12 +114,16 @@ struct bullacetop_state {
  *
  *   rule       adds a rule of n literals in any order. Refusals, the first fault decides: 22, 20, 7, then from the left 3, 5, 6.
  *   forget     empties what was learned. Refusal 22.
- *   query      whether the rules are true where the n flags of these numbers are on and the others off. Refusals 22, 8.
+ *   query      whether the rules are true where the n flags of these numbers are on and the others off.
+ *              Refusals 22, 8, 34.
  *   card       all readings of the flags for which the rules are true, as lines of f bytes, f being the count of flags: 0 open, 1 off, 2 on, in
  *              place order. Every byte of the table is written: those after the last line are zero, and all are zero after a refusal. Refusals
- *              22, and 21 where there are more than n / f lines. With no flag a line has no byte and always fits.
+ *              22, 34, and 21 where there are more than n / f lines. With no flag a line has no byte and always fits.
  *   keep card  the readings for which the rules are not true, in the same way: same search and visits, same table, same refusals. Where neither
  *              card is refused and no rule is added or withdrawn between them, each reading lies on exactly one line of one of the two.
+ *
+ * A query and a card take a ceiling on their visits as their last argument, BULLACETOP_HIGHEST_CEILING being the highest. A search that would make
+ * more is stopped before that visit: 34, with visits equal to the ceiling.
  *
  * What a call may write:
  *
@@ -124,8 +132,8 @@ struct bullacetop_state {
  *   query, cards bars, bar_sizes, passes, pass_sizes
  *
  * The other tables are only read, so that several calls may have them at once. A refusal has 0 lines and 0 visits and leaves all nine as they
- * were, byte for byte. Only 21 differs: the search ran to its end, its visits are told, and the four tables that a card may write keep what it
- * learned.
+ * were, byte for byte. Only 21 and 34 differ: the search ran, to its end or to the ceiling, its visits are told, and the four tables that a query or
+ * a card may write keep what it learned.
  *
  * Each table has to be readable, and writable where the call may write it, for the length declared here; none may be NULL. No table may
  * overlap another one, the list or the card table. A table that a call may write belongs to that call alone until it returns.
@@ -175,7 +183,8 @@ struct bullacetop_reply bullacetop_query_in_place(
     int16_t passes[BULLACETOP_ENTRIES * BULLACETOP_NUMBERS],
     uint16_t pass_sizes[BULLACETOP_ENTRIES + 1],
     const int16_t *on,
-    size_t n);
+    size_t n,
+    uint32_t ceiling);
 
 struct bullacetop_reply bullacetop_card_in_place(
     const uint16_t numbers[BULLACETOP_NUMBERS + 1],
@@ -188,7 +197,8 @@ struct bullacetop_reply bullacetop_card_in_place(
     int16_t passes[BULLACETOP_ENTRIES * BULLACETOP_NUMBERS],
     uint16_t pass_sizes[BULLACETOP_ENTRIES + 1],
     uint8_t *table,
-    size_t n);
+    size_t n,
+    uint32_t ceiling);
 
 struct bullacetop_reply bullacetop_keep_card_in_place(
     const uint16_t numbers[BULLACETOP_NUMBERS + 1],
@@ -201,7 +211,8 @@ struct bullacetop_reply bullacetop_keep_card_in_place(
     int16_t passes[BULLACETOP_ENTRIES * BULLACETOP_NUMBERS],
     uint16_t pass_sizes[BULLACETOP_ENTRIES + 1],
     uint8_t *table,
-    size_t n);
+    size_t n,
+    uint32_t ceiling);
 
 static inline struct bullacetop_reply bullacetop_rule_at(struct bullacetop_state *x, const int16_t *literals, size_t n)
 {
@@ -215,22 +226,22 @@ static inline struct bullacetop_reply bullacetop_forget_at(struct bullacetop_sta
         x->numbers, x->levels, x->kinds, x->rules, x->rule_sizes, x->bars, x->bar_sizes, x->passes, x->pass_sizes);
 }
 
-static inline struct bullacetop_reply bullacetop_query_at(struct bullacetop_state *x, const int16_t *on, size_t n)
+static inline struct bullacetop_reply bullacetop_query_at(struct bullacetop_state *x, const int16_t *on, size_t n, uint32_t ceiling)
 {
     return bullacetop_query_in_place(
-        x->numbers, x->levels, x->kinds, x->rules, x->rule_sizes, x->bars, x->bar_sizes, x->passes, x->pass_sizes, on, n);
+        x->numbers, x->levels, x->kinds, x->rules, x->rule_sizes, x->bars, x->bar_sizes, x->passes, x->pass_sizes, on, n, ceiling);
 }
 
-static inline struct bullacetop_reply bullacetop_card_at(struct bullacetop_state *x, uint8_t *table, size_t n)
+static inline struct bullacetop_reply bullacetop_card_at(struct bullacetop_state *x, uint8_t *table, size_t n, uint32_t ceiling)
 {
     return bullacetop_card_in_place(
-        x->numbers, x->levels, x->kinds, x->rules, x->rule_sizes, x->bars, x->bar_sizes, x->passes, x->pass_sizes, table, n);
+        x->numbers, x->levels, x->kinds, x->rules, x->rule_sizes, x->bars, x->bar_sizes, x->passes, x->pass_sizes, table, n, ceiling);
 }
 
-static inline struct bullacetop_reply bullacetop_keep_card_at(struct bullacetop_state *x, uint8_t *table, size_t n)
+static inline struct bullacetop_reply bullacetop_keep_card_at(struct bullacetop_state *x, uint8_t *table, size_t n, uint32_t ceiling)
 {
     return bullacetop_keep_card_in_place(
-        x->numbers, x->levels, x->kinds, x->rules, x->rule_sizes, x->bars, x->bar_sizes, x->passes, x->pass_sizes, table, n);
+        x->numbers, x->levels, x->kinds, x->rules, x->rule_sizes, x->bars, x->bar_sizes, x->passes, x->pass_sizes, table, n, ceiling);
 }
 
 /*

@@ -45,7 +45,7 @@ static void forget(struct bullacetop_state *x)
 
 static void query(struct bullacetop_state *x, const int16_t *on, size_t n)
 {
-    struct bullacetop_reply a = bullacetop_query_at(x, on, n);
+    struct bullacetop_reply a = bullacetop_query_at(x, on, n, BULLACETOP_HIGHEST_CEILING);
 
     if (a.refusal)
         printf("query refused with %u\n", (unsigned)a.refusal);
@@ -56,7 +56,7 @@ static void query(struct bullacetop_state *x, const int16_t *on, size_t n)
 static void card(struct bullacetop_state *x, uint8_t *table, size_t length, size_t flags)
 {
     static const char *const words[] = {"open", "off", "on"};
-    struct bullacetop_reply a = bullacetop_card_at(x, table, length);
+    struct bullacetop_reply a = bullacetop_card_at(x, table, length, BULLACETOP_HIGHEST_CEILING);
 
     if (a.refusal) {
         printf("card refused with %u, visits %" PRIu64 "\n", (unsigned)a.refusal, a.visits);

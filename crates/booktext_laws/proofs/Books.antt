@@ -10,12 +10,12 @@ use borrow.Author.Tests.{le-leb, leb-true}
 use lib.IntN.{pos}
 use lib.ListN.{length, length-append}
 use lib.Dec.{eqb, leb}
-use Rattle.qbf.specs.Formula.{Limits, Quantifier, free, exists, forall, isFree, sameQuantifier, Prefix, quantifiers, numberOf, Clause, Formula, any, all, place}
+use Rattle.qbf.specs.Formula.{Limits, highest, Quantifier, free, exists, forall, isFree, sameQuantifier, Prefix, quantifiers, numberOf, Clause, Formula, any, all, place}
 use Rattle.qbf.specs.Card.{Mem}
-use Rattle.qbf.specs.Calls.{ruleFault, clauseOf, clauseOk, inOrder, numbersOk, noFree, freeFirst, formulaOk}
+use Rattle.qbf.specs.Calls.{ruleFault, clauseOf, clauseOk, inOrder, numbersOk, noFree, freeFirst, limitsOk, formulaOk}
 use Rattle.theory.proofs.Basics.{and-left, and-right, and-both, all→, →all}
 use Rattle.theory.proofs.Game.{Rising}
-use Rattle.theory.proofs.WellFormed.{FormulaFacts, formula-facts, facts-formula, numbers-ok, clause-count, each-clause, clauses-rising}
+use Rattle.theory.proofs.WellFormed.{FormulaFacts, formula-facts, facts-formula, numbers-ok, clause-count, each-clause, clauses-rising, capacity, numbers-capped, clauses-capped}
 use Rattle.theory.proofs.Prefixes.{numbers, fine}
 use Rattle.layout.specs.Forms.{Form, book, block, clause, end}
 use Rattle.layout.specs.Opening.{textBytes, variable, declareFault, lineFault, Opened, opened, emptyFormula, openText}
@@ -220,7 +220,6 @@ record Within (L M : Limits) : Type 0 where
   numbers-within : L .numbers ≤ M .numbers
   clauses-within : L .clauses ≤ M .clauses
   literals-within : L .literals ≤ M .literals
-  constraints-within : L .constraints ≤ M .constraints
 
 module _ (L M : Limits) (w : Within L M) where
   within-numbers : (seen : List ℕ) (D : Prefix) → numbersOk L seen D ≡ true → numbersOk M seen D ≡ true
@@ -252,10 +251,11 @@ module _ (L M : Limits) (w : Within L M) where
       sized : (leb 1 (length r) && leb (length r) (L .literals)) ≡ true
       sized = and-left (leb 1 (length r) && leb (length r) (L .literals)) (inOrder D 0 r) h
 
-  within-formula : (D : Prefix) (R : List Clause) → FormulaFacts (formula L D R) → FormulaFacts (formula M D R)
-  within-formula D R h =
+  within-formula : limitsOk M ≡ true → (D : Prefix) (R : List Clause) → FormulaFacts (formula L D R) → FormulaFacts (formula M D R)
+  within-formula room D R h =
       record {
-        limits-ok = le-leb 1 (M .constraints) (omega (arith, w .constraints-within, leb-true 1 (L .constraints) (h .limits-ok)));
+        limits-ok = room;
+        free-ok = h .free-ok;
         prefix-ok = and-both (numbersOk M [] D) (freeFirst (quantifiers D)) (within-numbers [] D (and-left (numbersOk L [] D) (freeFirst (quantifiers D)) (h .prefix-ok))) (and-right (numbersOk L [] D) (freeFirst (quantifiers D)) (h .prefix-ok));
         clauses-ok =
             and-both (leb (length R) (M .clauses)) (all (clauseOk M D) R)
@@ -266,9 +266,9 @@ module _ (L M : Limits) (w : Within L M) where
 abbrev higher : Limits → Limits → Limits
 higher L M = record { numbers = max (L .numbers) (M .numbers); clauses = max (L .clauses) (M .clauses); literals = max (L .literals) (M .literals); constraints = max (L .constraints) (M .constraints) }
 
-under-read : (M : Limits) (b : Formula) → formulaOk b ≡ true → Within (b .limits) M → ShortNumbers M → readText M (bookText b) ≡ opened (under M b)
+under-read : (M : Limits) → limitsOk M ≡ true → (b : Formula) → formulaOk b ≡ true → Within (b .limits) M → ShortNumbers M → readText M (bookText b) ≡ opened (under M b)
 unfolding bookText bookForms
-under-read M b ok w short = read-back (under M b) (facts-formula (under M b) (within-formula (b .limits) M w (b .prefix) (b .clauses) (formula-facts b ok))) short
+under-read M room b ok w short = read-back (under M b) (facts-formula (under M b) (within-formula (b .limits) M w room (b .prefix) (b .clauses) (formula-facts b ok))) short
 
 opened-same : (b c : Formula) → opened b ≡ opened c → b ≡ c
 opened-same b c e = cc
@@ -280,11 +280,24 @@ module _ (b c : Formula) (b-ok : formulaOk b ≡ true) (c-ok : formulaOk c ≡ t
       M : Limits
       M = higher (b .limits) (c .limits)
 
+      bf : FormulaFacts b
+      bf = formula-facts b b-ok
+
+      cf : FormulaFacts c
+      cf = formula-facts c c-ok
+
+      room : limitsOk M ≡ true
+      room =
+          and-both (leb 1 (M .constraints)) (leb (M .numbers) (highest .numbers) && leb (M .clauses) (highest .clauses)) (le-leb 1 (M .constraints) (omega (arith, capacity b bf)))
+          (and-both (leb (M .numbers) (highest .numbers)) (leb (M .clauses) (highest .clauses))
+          (le-leb (M .numbers) (highest .numbers) (omega (arith, numbers-capped b bf, numbers-capped c cf)))
+          (le-leb (M .clauses) (highest .clauses) (omega (arith, clauses-capped b bf, clauses-capped c cf))))
+
       both : opened (under M b) ≡ opened (under M c)
       both =
-          sym (under-read M b b-ok (record { numbers-within = omega arith; clauses-within = omega arith; literals-within = omega arith; constraints-within = omega arith }) (omega (arith, b-short, c-short)))
+          sym (under-read M room b b-ok (record { numbers-within = omega arith; clauses-within = omega arith; literals-within = omega arith }) (omega (arith, b-short, c-short)))
           ∙ ap (readText M) e
-          ∙ under-read M c c-ok (record { numbers-within = omega arith; clauses-within = omega arith; literals-within = omega arith; constraints-within = omega arith }) (omega (arith, b-short, c-short))
+          ∙ under-read M room c c-ok (record { numbers-within = omega arith; clauses-within = omega arith; literals-within = omega arith }) (omega (arith, b-short, c-short))
 
   same-text : SameBook b c → bookText b ≡ bookText c
   unfolding bookText bookForms

@@ -179,6 +179,7 @@ pub extern "C" fn bullacetop_query_in_place<'a>(
     learned_cubes: &mut [i16; tables::CONSTRAINT_CELLS],
     learned_cube_sizes: &mut [u16; tables::CONSTRAINT_SIZES],
     on: &'a [i16],
+    ceiling: u32,
 ) -> Reply
     ensures { λ r. ⌜
         Serves
@@ -192,7 +193,7 @@ pub extern "C" fn bullacetop_query_in_place<'a>(
         (now («learned_clause_sizes» .entry))
         (now («learned_cubes» .entry))
         (now («learned_cube_sizes» .entry)))
-        (query (now (on .entry)))
+        (query ceiling (now (on .entry)))
         (replySaid r [])
         (stateOf
         (now (numbers .entry))
@@ -217,6 +218,7 @@ pub extern "C" fn bullacetop_query_in_place<'a>(
         learned_cubes,
         learned_cube_sizes,
         on,
+        ceiling,
     );
     let ruling = asked.ruling;
     Reply {
@@ -240,6 +242,7 @@ fn card_of<'a>(
     learned_cube_sizes: &mut [u16; tables::CONSTRAINT_SIZES],
     table: &mut [u8],
     yes: bool,
+    ceiling: u32,
 ) -> Reply
     ensures { λ r. ⌜
         Serves
@@ -253,7 +256,7 @@ fn card_of<'a>(
         (now («learned_clause_sizes» .entry))
         (now («learned_cubes» .entry))
         (now («learned_cube_sizes» .entry)))
-        (cardOf yes (length (now (table .entry))))
+        (cardOf yes ceiling (length (now (table .entry))))
         (replySaid r (now (table .exit)))
         (stateOf
         (now (numbers .entry))
@@ -279,6 +282,7 @@ fn card_of<'a>(
         learned_cube_sizes,
         table,
         yes,
+        ceiling,
     );
     let printed = shown.printed;
     Reply {
@@ -301,6 +305,7 @@ pub extern "C" fn bullacetop_card_in_place<'a>(
     learned_cubes: &mut [i16; tables::CONSTRAINT_CELLS],
     learned_cube_sizes: &mut [u16; tables::CONSTRAINT_SIZES],
     table: &mut [u8],
+    ceiling: u32,
 ) -> Reply
     ensures { λ r. ⌜
         Serves
@@ -314,7 +319,7 @@ pub extern "C" fn bullacetop_card_in_place<'a>(
         (now («learned_clause_sizes» .entry))
         (now («learned_cubes» .entry))
         (now («learned_cube_sizes» .entry)))
-        (card (length (now (table .entry))))
+        (card ceiling (length (now (table .entry))))
         (replySaid r (now (table .exit)))
         (stateOf
         (now (numbers .entry))
@@ -340,6 +345,7 @@ pub extern "C" fn bullacetop_card_in_place<'a>(
         learned_cube_sizes,
         table,
         true,
+        ceiling,
     )
 }
 
@@ -355,6 +361,7 @@ pub extern "C" fn bullacetop_keep_card_in_place<'a>(
     learned_cubes: &mut [i16; tables::CONSTRAINT_CELLS],
     learned_cube_sizes: &mut [u16; tables::CONSTRAINT_SIZES],
     table: &mut [u8],
+    ceiling: u32,
 ) -> Reply
     ensures { λ r. ⌜
         Serves
@@ -368,7 +375,7 @@ pub extern "C" fn bullacetop_keep_card_in_place<'a>(
         (now («learned_clause_sizes» .entry))
         (now («learned_cubes» .entry))
         (now («learned_cube_sizes» .entry)))
-        (keepCard (length (now (table .entry))))
+        (keepCard ceiling (length (now (table .entry))))
         (replySaid r (now (table .exit)))
         (stateOf
         (now (numbers .entry))
@@ -394,6 +401,7 @@ pub extern "C" fn bullacetop_keep_card_in_place<'a>(
         learned_cube_sizes,
         table,
         false,
+        ceiling,
     )
 }
 

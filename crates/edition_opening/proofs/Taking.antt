@@ -139,7 +139,7 @@ module _ (a : Accepted) {stage : ℕ} {x : State} (s : Standing stage x) (editio
         at-book = let w = allowed-is stage 0 (sym q ∙ not-false t g) in omega (arith, w .0)
 
         stands : Standing 1 x
-        stands = record { read = s .read; reached = record { facts = s .reached .facts; no-variables = λ w. s .reached .no-variables (omega (arith, at-book)); no-clauses = λ w. s .reached .no-clauses (omega (arith, at-book)) } }
+        stands = record { read = s .read; reached = record { facts = s .reached .facts; no-variables = λ w. s .reached .no-variables (omega (arith, at-book)); no-clauses = λ w. s .reached .no-clauses (omega (arith, at-book)); few = s .reached .few } }
 
 -- ---- rules
 module _ (stage e : ℕ) (x : State) (lits : List ℤ) where

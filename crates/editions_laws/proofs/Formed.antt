@@ -8,7 +8,7 @@ use native.Mathlib.Omega.{arith}
 use lib.ListN.{length}
 use lib.Dec.{eqb, leb, ltb}
 use Rattle.qbf.specs.Formula.{Limits, Formula}
-use Rattle.qbf.specs.Calls.{given, ruleFault, withOne, _orElse_, limitsOk, formulaOk, wellFormed}
+use Rattle.qbf.specs.Calls.{given, ruleFault, withOne, _orElse_, formulaOk, wellFormed}
 use Rattle.qbf.specs.Runs.{fresh}
 use Rattle.theory.proofs.AcceptedRule.{given-none}
 use Rattle.theory.proofs.OneAdded.{one-formed}
@@ -17,7 +17,7 @@ use Rattle.layout.specs.Words.{Bytes, newline, split}
 use Rattle.layout.specs.Forms.{Form, book, block, clause, end}
 use Rattle.layout.specs.Opening.{allowed, stageAfter, Opened, opened, atEnd, emptyFormula}
 use Rattle.layout.specs.Opening as own
-use Rattle.layout_laws.proofs.Opened.{Reached, line-reached, reached-none, fresh-formed}
+use Rattle.layout_laws.proofs.Opened.{Reached, roomy, line-reached, reached-none, fresh-formed}
 use Rattle.editions.specs.Lines.{Line, says, tagged, one, lineOf}
 use Rattle.editions.specs.Opening.{Editions, rankOf, tagsFit, saidFault, lineFault, withLine, editionAfter, isEnd, readLine, readLines, openEditions}
 use Rattle.editions_laws.proofs.Reading.{never, went}
@@ -46,7 +46,7 @@ line-formed a e stage b f i z = by f z
         let w = order (tagged k ls) z in
         let t = given-none (leb (b .limits .clauses) (length (b .clauses))) 20 (given (eqb k 0 || ltb 65535 k) 39 orElse ruleFault b ls) (w .1) in
         as-form (clause ls) (w .0) (given-none (eqb k 0 || ltb 65535 k) 39 (ruleFault b ls) (t .1) .1)
-    by (one ls) z = record { facts = subst (λ (o : Option ℕ). FormulaFacts (withOne o b ls)) (order (one ls) z .1) (one-formed b (i .facts) ls); no-variables = λ h. absurd (omega arith); no-clauses = λ h. absurd (omega arith) }
+    by (one ls) z = record { facts = subst (λ (o : Option ℕ). FormulaFacts (withOne o b ls)) (order (one ls) z .1) (one-formed b (i .facts) ls); no-variables = λ h. absurd (omega arith); no-clauses = λ h. absurd (omega arith); few = i .few }
 
 -- ---- the text
 at-end : (n : ℕ) (b : Formula) (ls : List Bytes) (c : Formula) → atEnd n b ls ≡ opened c → b ≡ c
@@ -79,7 +79,7 @@ lines-formed a n e stage b (l ∷ m ∷ ls) c i z = by (lineOf l) z (λ x s y. l
         let r = last f (isEnd f) (line-formed a e stage b f i (w .0)) (w .1) ih in
         (r .0, r .1 ∙ line-grows b f .1)
 
-module _ (a : Editions) (L : Limits) (room : limitsOk L ≡ true) (s : Bytes) (b : Formula) (e : openEditions a L s ≡ opened b) where
+module _ (a : Editions) (L : Limits) (room : roomy L ≡ true) (s : Bytes) (b : Formula) (e : openEditions a L s ≡ opened b) where
   facts : FormulaFacts b × (b .limits ≡ L)
   facts = lines-formed a 1 0 0 (emptyFormula L) (split newline s) b (reached-none L room) (fits-text a L s b e .1)
 

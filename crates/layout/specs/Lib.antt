@@ -4,4 +4,5 @@ pub mod Opening
 pub mod Output
 pub mod Page
 pub mod Program
+pub mod Highest
 pub mod Session

@@ -6,6 +6,7 @@ use lib.ListN.{length}
 use Rattle.qbf.specs.Formula.{Limits, Prefix}
 use Rattle.qbf.specs.Truth.{freeVariables}
 use Rattle.qbf.specs.Learning.{emptyStore}
+use Rattle.qbf.specs.Ceiling.{highestCeiling}
 use Rattle.qbf.specs.Calls.{Reply, done, refused, swap, keep, lines, cardRefused, Answer, learningCard}
 use Rattle.layout.specs.Words.{Bytes, joined}
 use Rattle.layout.specs.Output.{cardText, refusalText}
@@ -30,7 +31,7 @@ answerPrinted D a = cardPrinted D (a .reply) (a .visits)
 
 abbrev pub openedPrinted : ℕ → opening.Opened → Bytes
 openedPrinted size (opening.refused n line) = refusalText n line
-openedPrinted size (opening.opened b) = answerPrinted (b .prefix) (learningCard true b emptyStore size .out)
+openedPrinted size (opening.opened b) = answerPrinted (b .prefix) (learningCard true b emptyStore highestCeiling size .out)
 
 -- the output for an input, with a card table of so many bytes
 unfoldable pub cardProgram : Limits → ℕ → Bytes → Bytes
@@ -57,7 +58,7 @@ pagesPrinted D keep = []
 
 abbrev pub openedPages : ℕ → opening.Opened → Bytes
 openedPages size (opening.refused n line) = refusalText n line
-openedPages size (opening.opened b) = pagesPrinted (b .prefix) (learningCard true b emptyStore size .out .reply)
+openedPages size (opening.opened b) = pagesPrinted (b .prefix) (learningCard true b emptyStore highestCeiling size .out .reply)
 
 unfoldable pub pagesProgram : Limits → ℕ → Bytes → Bytes
 pagesProgram L size s = openedPages size (opening.openText L s)

@@ -7,11 +7,13 @@ use mathlib.Core.Option.{Option, none, some}
 use lib.ListN.{length}
 use lib.Dec.{leb, ltb, eqb}
 use Rattle.qbf.specs.Formula.{Prefix, Literal, numberOf}
-use Rattle.qbf.specs.Calls.{Call, rule, query, card, forget, withdraw, Reply, done, refused, swap, keep, lines, cardRefused, Answer, keepCard, cardOf}
+use Rattle.qbf.specs.Calls.{Call, rule, forget, withdraw, Reply, done, refused, swap, keep, lines, cardRefused, Answer}
+use Rattle.qbf.specs.Calls as call
 use Rattle.layout.specs.Words.{Bytes, ascii, newline, space, split, same, inside}
 use Rattle.layout.specs.Forms.{then, items, ruleWord}
 use Rattle.layout.specs.Output.{cardText, refusalText, overflowText, queryText, acceptedText, forgottenText, withdrawnText}
 use Rattle.layout.specs.Program.{tableBytes}
+use Rattle.layout.specs.Highest.{query, cardOf}
 use Rattle.layout.specs.Opening as opening
 
 -- ---- the call of a line
@@ -68,18 +70,18 @@ abbrev pub doneText : Call → Bytes
 doneText (rule ls) = acceptedText
 doneText forget = forgottenText
 doneText withdraw = withdrawnText
-doneText (query ls) = []
-doneText (card size) = []
-doneText (keepCard size) = []
+doneText (call.query top ls) = []
+doneText (call.card top size) = []
+doneText (call.keepCard top size) = []
 
 -- the verdict of a card's lines, which its text begins with; the other calls have none
 abbrev pub listsYes : Call → Bool
 listsYes (rule ls) = true
-listsYes (query ls) = true
-listsYes (card size) = true
+listsYes (call.query top ls) = true
+listsYes (call.card top size) = true
 listsYes forget = true
 listsYes withdraw = true
-listsYes (keepCard size) = false
+listsYes (call.keepCard top size) = false
 
 -- a card too large tells its visits
 abbrev pub cardRefusalText : ℕ → ℕ → ℕ → Bytes

@@ -8,12 +8,13 @@ use native.Mathlib.Omega.{arith}
 use borrow.Author.Tests.{eqb-true, ltb-false, leb-true, le-leb}
 use lib.ListN.{length}
 use lib.Dec.{eqb, leb, ltb}
-use Rattle.qbf.specs.Formula.{Limits, Quantifier, free, exists, forall, Prefix, quantifiers, Clause, Formula}
+use Rattle.qbf.specs.Formula.{Limits, mostFree, Quantifier, free, exists, forall, Prefix, quantifiers, Clause, Formula}
 use Rattle.qbf.specs.Learning.{emptyStore}
-use Rattle.qbf.specs.Calls.{limitsOk, clausesOk, formulaOk, storeOk, recordsOk, wellFormed}
+use Rattle.qbf.specs.Calls.{limitsOk, numbersOk, freeFirst, prefixOk, clausesOk, formulaOk, storeOk, recordsOk, wellFormed}
 use Rattle.qbf.specs.Runs.{fresh}
-use Rattle.theory.proofs.Basics.{and-both, not-false}
+use Rattle.theory.proofs.Basics.{and-both, and-left, and-right, not-false}
 use Rattle.theory.proofs.WellFormed.{FormulaFacts, facts-formula}
+use Rattle.theory.proofs.Widths.{free-fits}
 use Rattle.theory.proofs.AcceptedRule.{given-none, rule-formula}
 use Rattle.layout.specs.Words.{Bytes, split, newline}
 use Rattle.layout.specs.Forms.{Form, book, block, clause, end, formOf}
@@ -26,13 +27,26 @@ pub record Reached (stage : ℕ) (b : Formula) : Type 0 where
   pub facts : FormulaFacts b
   pub no-variables : stage ≤ 1 → b .prefix ≡ []
   pub no-clauses : stage ≤ 2 → b .clauses ≡ []
+  pub few : b .limits .numbers ≤ mostFree
+
+-- the limits of a formula that is opened: no more numbers than variables may be free
+abbrev pub roomy : Limits → Bool
+roomy L = limitsOk L && leb (L .numbers) mostFree
 
 none-ok : (L : Limits) (D : Prefix) (R : List Clause) → R ≡ [] → clausesOk L D R ≡ true
 none-ok L D R e = subst (λ (R : List Clause). clausesOk L D R ≡ true) (sym e) (and-both (leb 0 (L .clauses)) true (le-leb 0 (L .clauses) zero-le) refl)
 
-block-facts : (b : Formula) (κ : Quantifier) (ns : List ℕ) → FormulaFacts b → b .clauses ≡ [] → Before κ (quantifiers (b .prefix)) → declareFault (b .limits) κ (b .prefix) ns ≡ none
+block-facts : (b : Formula) (κ : Quantifier) (ns : List ℕ) → FormulaFacts b → b .limits .numbers ≤ mostFree → b .clauses ≡ [] → Before κ (quantifiers (b .prefix)) → declareFault (b .limits) κ (b .prefix) ns ≡ none
     → FormulaFacts (withBlock κ b ns)
-block-facts b κ ns h r g e = record { limits-ok = h .limits-ok; prefix-ok = block-prefix (b .limits) κ (b .prefix) ns (h .prefix-ok) g e; clauses-ok = none-ok (b .limits) (b .prefix ++ map (variable κ) ns) (b .clauses) r }
+block-facts b κ ns h few r g e = record {
+  limits-ok = h .limits-ok;
+  free-ok = free-fits (b .limits) few (b .prefix ++ map (variable κ) ns) (and-left (numbersOk (b .limits) [] (b .prefix ++ map (variable κ) ns)) (freeFirst (quantifiers (b .prefix ++ map (variable κ) ns))) longer);
+  prefix-ok = longer;
+  clauses-ok = none-ok (b .limits) (b .prefix ++ map (variable κ) ns) (b .clauses) r;
+}
+  where
+    longer : prefixOk (b .limits) (b .prefix ++ map (variable κ) ns) ≡ true
+    longer = block-prefix (b .limits) κ (b .prefix) ns (h .prefix-ok) g e
 
 pub allowed-is : (stage r : ℕ) → allowed stage r ≡ true → (stage ≤ r) × (r < 2 → stage ≡ r)
 allowed-is stage r e = by (ltb stage 2) refl e
@@ -44,20 +58,21 @@ allowed-is stage r e = by (ltb stage 2) refl e
 form-reached : (stage : ℕ) (b : Formula) (f : Form) → Reached stage b → (stage ≤ rank f) × (rank f < 2 → stage ≡ rank f) → formFault b f ≡ none → Reached (stageAfter (rank f)) (withForm b f)
 unfolding Before
 form-reached stage b (book e) i a q =
-    record { facts = i .facts; no-variables = λ h. i .no-variables (omega (arith, a .0)); no-clauses = λ h. i .no-clauses (omega (arith, a .0)) }
+    record { facts = i .facts; no-variables = λ h. i .no-variables (omega (arith, a .0)); no-clauses = λ h. i .no-clauses (omega (arith, a .0)); few = i .few }
 form-reached stage b (block free ns) i a q =
     record {
-      facts = block-facts b free ns (i .facts) (i .no-clauses (omega (arith, a .0))) (rw (i .no-variables (a .0))) q;
+      facts = block-facts b free ns (i .facts) (i .few) (i .no-clauses (omega (arith, a .0))) (rw (i .no-variables (a .0))) q;
       no-variables = λ h. absurd (omega arith);
       no-clauses = λ h. i .no-clauses (omega (arith, a .0));
+      few = i .few;
     }
 form-reached stage b (block exists ns) i a q =
-    record { facts = block-facts b exists ns (i .facts) (i .no-clauses (a .0)) tt q; no-variables = λ h. absurd (omega arith); no-clauses = λ h. i .no-clauses (a .0) }
+    record { facts = block-facts b exists ns (i .facts) (i .few) (i .no-clauses (a .0)) tt q; no-variables = λ h. absurd (omega arith); no-clauses = λ h. i .no-clauses (a .0); few = i .few }
 form-reached stage b (block forall ns) i a q =
-    record { facts = block-facts b forall ns (i .facts) (i .no-clauses (a .0)) tt q; no-variables = λ h. absurd (omega arith); no-clauses = λ h. i .no-clauses (a .0) }
+    record { facts = block-facts b forall ns (i .facts) (i .few) (i .no-clauses (a .0)) tt q; no-variables = λ h. absurd (omega arith); no-clauses = λ h. i .no-clauses (a .0); few = i .few }
 form-reached stage b (clause ls) i a q =
-    record { facts = rule-formula b ls (i .facts) none q; no-variables = λ h. absurd (omega arith); no-clauses = λ h. absurd (omega arith) }
-form-reached stage b end i a q = record { facts = i .facts; no-variables = λ h. absurd (omega arith); no-clauses = λ h. absurd (omega arith) }
+    record { facts = rule-formula b ls (i .facts) none q; no-variables = λ h. absurd (omega arith); no-clauses = λ h. absurd (omega arith); few = i .few }
+form-reached stage b end i a q = record { facts = i .facts; no-variables = λ h. absurd (omega arith); no-clauses = λ h. absurd (omega arith); few = i .few }
 
 pub line-reached : (stage : ℕ) (b : Formula) (f : Form) → Reached stage b → lineFault stage b f ≡ none → Reached (stageAfter (rank f)) (withForm b f)
 line-reached stage b f i e =
@@ -65,8 +80,13 @@ line-reached stage b f i e =
     form-reached stage b f i (allowed-is stage (rank f) (not-false (allowed stage (rank f)) (q .0))) (q .1)
 
 -- before the first line
-pub reached-none : (L : Limits) → limitsOk L ≡ true → Reached 0 (emptyFormula L)
-reached-none L room = record { facts = record { limits-ok = room; prefix-ok = refl; clauses-ok = none-ok L [] [] refl }; no-variables = λ h. refl; no-clauses = λ h. refl }
+pub reached-none : (L : Limits) → roomy L ≡ true → Reached 0 (emptyFormula L)
+reached-none L room = record {
+  facts = record { limits-ok = and-left (limitsOk L) (leb (L .numbers) mostFree) room; free-ok = refl; prefix-ok = refl; clauses-ok = none-ok L [] [] refl };
+  no-variables = λ h. refl;
+  no-clauses = λ h. refl;
+  few = leb-true (L .numbers) mostFree (and-right (limitsOk L) (leb (L .numbers) mostFree) room);
+}
 
 -- a well-formed formula with an empty store is a well-formed state
 pub fresh-formed : (b : Formula) → FormulaFacts b → wellFormed (fresh b) ≡ true
@@ -118,7 +138,7 @@ lines-facts n stage b (l ∷ m ∷ ls) b′ i e = by (formOf l) e (λ s x. lines
     by none z ih = absurd (never-opened 1 n b′ z)
     by (some f) z ih = go f (lineFault stage b f) refl z ih
 
-module _ (L : Limits) (room : limitsOk L ≡ true) (s : Bytes) (b : Formula) (e : openText L s ≡ opened b) where
+module _ (L : Limits) (room : roomy L ≡ true) (s : Bytes) (b : Formula) (e : openText L s ≡ opened b) where
   facts : FormulaFacts b × (b .limits ≡ L)
   unfolding openText
   facts = by (ltb textBytes (length s)) e

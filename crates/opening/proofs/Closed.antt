@@ -3,12 +3,13 @@
 use Prim.Native.Nat.{ℕ}
 use native.Mathlib.Omega.{arith}
 use mathlib.Core.Path.{_≡_, refl, sym, ap, subst, _∙_}
+use mathlib.Core.Logic.{inl, inr}
 use mathlib.Core.Bool.{Bool, false}
 use mathlib.Core.List.{List, [], _∷_, map}
 use mathlib.Core.Option.{Option, none, some}
 use Rattle.qbf.specs.Formula.{paper}
 use Rattle.qbf.specs.Calls.{Call, rule, query, card, forget, withdraw, answer, refusal, guarded, State as Read, keepCard}
-use Rattle.qbf.specs.Demands.{refusalOf}
+use Rattle.qbf.specs.Demands.{AfterSearch, refusalOf}
 use Rattle.layout.specs.Words.{Bytes}
 use Rattle.layout.specs.Opening.{refused, openText}
 use Rattle.state.specs.declared.State.{State}
@@ -24,9 +25,9 @@ saidMalformed c = saidOf (answer (refusal 22 c) 0)
 
 refusal-22 : (c : Call) → refusalOf (refusal 22 c) ≡ some 22
 refusal-22 (rule ls) = refl
-refusal-22 (query ls) = refl
-refusal-22 (card size) = refl
-refusal-22 (keepCard size) = refl
+refusal-22 (query top ls) = refl
+refusal-22 (card top size) = refl
+refusal-22 (keepCard top size) = refl
 refusal-22 forget = refl
 refusal-22 withdraw = refl
 
@@ -37,7 +38,11 @@ refused-22 c (some y) e = ap (λ (g : Bool). refusalOf (guarded g y c .out .repl
 -- one call on a malformed state
 pub closed-refused : (x : State) → valid x ≡ false → (c : Call) (a : Said) (x′ : State) → Serves x c a x′ → (a ≡ saidMalformed c) × (x′ ≡ x)
 unfolding valid
-closed-refused x e c a x′ s = (s .answered ∙ sym (malformed x c e .answered), s .kept 22 (refused-22 c (readState x) e) (λ q. omega (arith, q)))
+closed-refused x e c a x′ s = (s .answered ∙ sym (malformed x c e .answered), s .kept 22 (refused-22 c (readState x) e) not-searched)
+  where
+    not-searched : AfterSearch 22 → ⊥
+    not-searched (inl q) = omega (arith, q)
+    not-searched (inr q) = omega (arith, q)
 
 -- any list of calls, each on the state that the last one returned
 pub closed-served : (x : State) → valid x ≡ false → (cs : List Call) (qs : List Said) → Served x cs qs → qs ≡ map saidMalformed cs

@@ -105,7 +105,7 @@ module _ {stage : ℕ} {x : State} (s : Standing stage x) (no-clauses : formulaI
   grown-standing =
       record {
         read = grown-read;
-        reached = record { facts = formula-facts (formulaIn y) (and-left (formulaOk (formulaIn y)) _ formed); no-variables = λ h. absurd (omega (arith, h)); no-clauses = λ h. absurd (omega (arith, h)) };
+        reached = record { facts = formula-facts (formulaIn y) (and-left (formulaOk (formulaIn y)) _ formed); no-variables = λ h. absurd (omega (arith, h)); no-clauses = λ h. absurd (omega (arith, h)); few = omega arith };
       }
     where
       y : State

@@ -9,7 +9,9 @@ use Rattle.qbf.specs.Formula.{paper, Prefix, Formula}
 use Rattle.qbf.specs.Truth.{freeVariables}
 use Rattle.qbf.specs.Learning.{emptyStore}
 use Rattle.qbf.specs.Card.{tableOf, zeroTable}
-use Rattle.qbf.specs.Calls.{card, Reply, lines, cardRefused, Answer, learningCard, formulaOk, guarded, State as Read, wellFormed}
+use Rattle.qbf.specs.Ceiling.{highestCeiling}
+use Rattle.qbf.specs.Calls.{Reply, lines, cardRefused, Answer, learningCard, formulaOk, guarded, State as Read, wellFormed}
+use Rattle.layout.specs.Highest.{card}
 use Rattle.qbf.specs.Runs.{fresh}
 use Rattle.theory.proofs.WellFormed.{formula-facts}
 use Rattle.tables.specs.Views.{Numbers}
@@ -50,7 +52,7 @@ module _ (x : State) (b : Formula) (e : readState x ≡ some (fresh b)) (ok : fo
 
   module _ (size : ℕ) (p : Printed) (k : ℕ) (tb : Bytes) (x′ : State) (s : Serves x (card size) (cardSaid p k tb) x′) where
     abbrev a : Answer
-    a = learningCard true b emptyStore size .out
+    a = learningCard true b emptyStore highestCeiling size .out
 
     abbrev shown : Reply
     shown = lines (cardLines (fresh b) true) (tableOf (freeVariables (b .prefix)) size (cardLines (fresh b) true))

@@ -13,6 +13,7 @@ use Rattle.qbf.specs.Formula.{paper, Node, Prefix, Formula}
 use Rattle.qbf.specs.Truth.{freeVariables}
 use Rattle.qbf.specs.Learning.{emptyStore}
 use Rattle.qbf.specs.Card.{tableOf, zeroTable}
+use Rattle.qbf.specs.Ceiling.{highestCeiling}
 use Rattle.qbf.specs.Calls.{Reply, lines, cardRefused, learningCard, formulaOk, wellFormed}
 use Rattle.qbf.specs.Runs.{fresh}
 use Rattle.theory.proofs.Basics.{le-or-lt}
@@ -80,7 +81,7 @@ module _ (size : ℕ) (r : Made) (t : Bytes) (ds : List Bytes) (p : PagesOf r t 
   of-reply b ok h = by (formed-cases true size (fresh b))
     where
       a : Reply
-      a = learningCard true b emptyStore size .out .reply
+      a = learningCard true b emptyStore highestCeiling size .out .reply
 
       D : Prefix
       D = b .prefix
@@ -107,12 +108,12 @@ few-lines n zero h one = omega (arith, one refl)
 few-lines n (suc f) h one = let k : n ≤ n * suc f = le-mul-of-pos-right n (omega arith) in omega (arith, h, k)
 
 -- The card that the program makes can be printed whatever its book: its lines are few, stand in the table, and have no byte above 2.
-pub program-printable : (s : Bytes) (b : Formula) → openText paper s ≡ opened b → (ls : List Node) (tb : Bytes) → learningCard true b emptyStore tableBytes .out .reply ≡ lines ls tb
+pub program-printable : (s : Bytes) (b : Formula) → openText paper s ≡ opened b → (ls : List Node) (tb : Bytes) → learningCard true b emptyStore highestCeiling tableBytes .out .reply ≡ lines ls tb
     → noCard tb (length ls) (freeVariables (b .prefix)) ≡ false
 program-printable s b i ls tb e = by (formed-cases true tableBytes (fresh b))
   where
     a : Reply
-    a = learningCard true b emptyStore tableBytes .out .reply
+    a = learningCard true b emptyStore highestCeiling tableBytes .out .reply
 
     formed : wellFormed (fresh b) ≡ true
     formed = opened-formed b (opened-formula paper refl s b i)

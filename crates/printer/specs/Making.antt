@@ -9,6 +9,7 @@ use Rattle.qbf.specs.Formula.{paper, Prefix}
 use Rattle.qbf.specs.Truth.{freeVariables}
 use Rattle.qbf.specs.Learning.{emptyStore}
 use Rattle.qbf.specs.Card.{zeroTable}
+use Rattle.qbf.specs.Ceiling.{highestCeiling}
 use Rattle.qbf.specs.Calls.{Reply, done, refused, swap, keep, lines, cardRefused, learningCard}
 use Rattle.layout.specs.Words.{Bytes, joined}
 use Rattle.layout.specs.Output.{refusalText}
@@ -29,7 +30,7 @@ ReplyMade D keep r t = ⊥
 
 abbrev pub CardMade : ℕ → opening.Opened → Made → Bytes → Type 0
 CardMade size (opening.refused n line) r t = (r .refusal ≡ n) × (r .line ≡ line) × (t ≡ zeroTable size)
-CardMade size (opening.opened b) r t = ReplyMade (b .prefix) (learningCard true b emptyStore size .out .reply) r t
+CardMade size (opening.opened b) r t = ReplyMade (b .prefix) (learningCard true b emptyStore highestCeiling size .out .reply) r t
 
 abbrev pub MakesCard : Bytes → ℕ → Made → Bytes → Type 0
 MakesCard s size r t = CardMade size (opening.openText paper s) r t

@@ -49,6 +49,7 @@ fn card_of(x: State, table: &mut [u8]) -> Made
         &mut learned_cubes,
         &mut learned_cube_sizes,
         table,
+        answers::HIGHEST_CEILING,
     );
     let printed = shown.printed;
     Made {

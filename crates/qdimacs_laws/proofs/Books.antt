@@ -9,13 +9,13 @@ use lib.IntN.{pos}
 use lib.ListN.{length}
 use lib.Dec.{eqb, ltb}
 use Rattle.qbf.specs.Formula.{Limits, Prefix, Formula, placeOf}
-use Rattle.qbf.specs.Calls.{limitsOk, formulaOk, wellFormed}
+use Rattle.qbf.specs.Calls.{formulaOk, wellFormed}
 use Rattle.qbf.specs.Runs.{fresh}
 use Rattle.theory.proofs.WellFormed.{FormulaFacts, facts-formula}
 use Rattle.layout.specs.Words.{Bytes, newline, split}
 use Rattle.layout.specs.Forms.{end}
 use Rattle.layout.specs.Opening.{textBytes, Opened, refused, opened, emptyFormula, openText}
-use Rattle.layout_laws.proofs.Opened.{lines-facts, reached-none, fresh-formed}
+use Rattle.layout_laws.proofs.Opened.{roomy, lines-facts, reached-none, fresh-formed}
 use Rattle.booktext.specs.Texts.{formsText, readText}
 use Rattle.booktext.specs.Books.{textRoom}
 use Rattle.booktext_laws.proofs.Lines.{Short}
@@ -106,26 +106,26 @@ module _ (L : Limits) (s : Bytes) (b : Formula) (e : openQdimacs L s ≡ opened 
   translates = same-book L s b read-opened
 
   -- and it is well formed
-  facts : limitsOk L ≡ true → FormulaFacts b × (b .limits ≡ L)
+  facts : roomy L ≡ true → FormulaFacts b × (b .limits ≡ L)
   unfolding readText
   facts room = lines-facts 1 0 (emptyFormula L) (split newline (formsText (translated (translates .lines)))) b (reached-none L room) (translates .same)
 
-  pub opened-formula : limitsOk L ≡ true → formulaOk b ≡ true
+  pub opened-formula : roomy L ≡ true → formulaOk b ≡ true
   opened-formula room = facts-formula b (facts room .0)
 
-  pub opened-limits : limitsOk L ≡ true → b .limits ≡ L
+  pub opened-limits : roomy L ≡ true → b .limits ≡ L
   opened-limits room = facts room .1
 
-  pub opened-state : limitsOk L ≡ true → wellFormed (fresh b) ≡ true
+  pub opened-state : roomy L ≡ true → wellFormed (fresh b) ≡ true
   opened-state room = fresh-formed b (facts room .0)
 
   -- our own text is no longer than the text of a book under these limits can be
-  text-most : (t : Translates L s b) → limitsOk L ≡ true → length (formsText (translated (t .lines))) ≤ textRoom L
+  text-most : (t : Translates L s b) → roomy L ≡ true → length (formsText (translated (t .lines))) ≤ textRoom L
   unfolding readText
   text-most t room =
       let legible = translated-legible (t .lines) (parsed-spoken (split newline s) (t .lines) (t .are)) in
       forms-room 1 L (translated (t .lines)) b legible (sym (forms-read 1 0 (emptyFormula L) (translated (t .lines)) legible) ∙ t .same) (facts room .0) (facts room .1)
 
   -- and opens the same book
-  pub own-text : (t : Translates L s b) → limitsOk L ≡ true → textRoom L ≤ textBytes → openText L (formsText (translated (t .lines))) ≡ opened b
+  pub own-text : (t : Translates L s b) → roomy L ≡ true → textRoom L ≤ textBytes → openText L (formsText (translated (t .lines))) ≡ opened b
   own-text t room fits = text-fits L (formsText (translated (t .lines))) (omega (arith, text-most t room, fits)) ∙ t .same

@@ -71,5 +71,5 @@ module _ {h : Head} {x : State} (s : Stands h x) where
       (record {
         formula = refl;
         stands =
-            record { read = s .stands .read; reached = record { facts = s .stands .reached .facts; no-variables = λ q. absurd (omega (arith, q)); no-clauses = λ q. absurd (omega (arith, q)) } };
+            record { read = s .stands .read; reached = record { facts = s .stands .reached .facts; no-variables = λ q. absurd (omega (arith, q)); no-clauses = λ q. absurd (omega (arith, q)); few = s .stands .reached .few } };
       })

@@ -66,7 +66,7 @@ module _ {h : Head} {x : State} (s : Stands h x) where
           empty = subst (λ (k : ℕ). Standing (ownStage k) x) e (s .stands)
 
           start : Standing 2 x
-          start = record { read = empty .read; reached = record { facts = empty .reached .facts; no-variables = λ z. absurd (omega (arith, z)); no-clauses = λ _. empty .reached .no-clauses (omega arith) } }
+          start = record { read = empty .read; reached = record { facts = empty .reached .facts; no-variables = λ z. absurd (omega (arith, z)); no-clauses = λ _. empty .reached .no-clauses (omega arith); few = empty .reached .few } }
 
 -- ---- a quantifier line
 none-free-block : (κ : Quantifier) → isFree κ ≡ false → (ns : List ℕ) → noFree (quantifiers (map (variable κ) ns)) ≡ true

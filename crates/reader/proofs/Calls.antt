@@ -11,7 +11,8 @@ use lib.Dec.{leb, eqb}
 use lib.IntN.{ℤ, pos}
 use lib.ListN.{length, getD, take, drop}
 use Rattle.qbf.specs.Formula.{Literal, numberOf}
-use Rattle.qbf.specs.Calls.{Call, query, cardOf, forget}
+use Rattle.qbf.specs.Calls.{Call, forget}
+use Rattle.layout.specs.Highest.{query, cardOf}
 use Rattle.layout.specs.Words.{Bytes, same, onFirst, split, space, isDigit, digits, number, inside}
 use Rattle.layout.specs.Forms.{then, consed, items, ruleWord}
 use Rattle.layout.specs.Opening.{textBytes}

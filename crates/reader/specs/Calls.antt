@@ -9,6 +9,7 @@ use lib.Dec.{leb}
 use Rattle.qbf.specs.Formula.{Literal}
 use Rattle.qbf.specs.Calls.{Call}
 use Rattle.qbf.specs.Calls as call
+use Rattle.layout.specs.Highest as highest
 use Rattle.layout.specs.Words.{Bytes, same, number}
 use Rattle.layout.specs.Forms.{ruleWord}
 use Rattle.layout.specs.Program.{tableBytes}
@@ -69,7 +70,7 @@ cardLine p NotNumber = line.NotCall
 abbrev pub CallRead : Option Call → CallLine → List ℤ → Type 0
 CallRead o line.NotCall out = o ≡ none
 CallRead o (line.Rule n) out = (ls : List Literal) × (o ≡ some (call.rule ls)) × Kept n out ls
-CallRead o (line.Query n) out = (ns : List ℕ) × (o ≡ some (call.query (map pos ns))) × Kept n out (map pos ns)
-CallRead o (line.Card size) out = o ≡ some (call.card size)
-CallRead o (line.KeepCard size) out = o ≡ some (call.keepCard size)
+CallRead o (line.Query n) out = (ns : List ℕ) × (o ≡ some (highest.query (map pos ns))) × Kept n out (map pos ns)
+CallRead o (line.Card size) out = o ≡ some (highest.card size)
+CallRead o (line.KeepCard size) out = o ≡ some (highest.keepCard size)
 CallRead o line.Forget out = o ≡ some call.forget

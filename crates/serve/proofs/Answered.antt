@@ -7,8 +7,9 @@ use mathlib.Core.List.{List, []}
 use mathlib.Core.Option.{Option, none, some}
 use Rattle.qbf.specs.Formula.{Prefix, Literal, quantifiers}
 use Rattle.qbf.specs.Truth.{Outcome, decided, mixed, outline, bound}
-use Rattle.qbf.specs.Learning.{learningSearch}
-use Rattle.qbf.specs.Calls.{Call, rule, query, forget, Reply, done, refused, swap, keep, lines, cardRefused, Answer, answer, ruleFault, ruleReply, queryFault, startNode, queryReply, learningQuery, State as Read, guarded, wellFormed}
+use Rattle.qbf.specs.Ceiling.{highestCeiling, Attempt, finished, stopped, searchWithin}
+use Rattle.qbf.specs.Calls.{Call, rule, forget, Reply, done, refused, swap, keep, lines, cardRefused, Answer, answer, ruleFault, ruleReply, queryFault, startNode, queryReply, attemptAnswer, learningQuery, State as Read, guarded, wellFormed}
+use Rattle.layout.specs.Highest.{query}
 use Rattle.layout.specs.Words.{Bytes}
 use Rattle.layout.specs.Session.{doneText, answerText}
 use Rattle.state.specs.declared.State.{State}
@@ -97,8 +98,12 @@ query-asking ls (some y) = by (wellFormed y)
     verdict (decided false e) = tt
     verdict (mixed ds) = tt
 
-    asked : (o : Option ℕ) → Asking (learningQuery o (y .formula) (y .store) ls .out .reply)
-    asked none = verdict (outline (learningSearch (y .formula .limits) (y .formula .prefix) (y .formula .clauses) (bound (quantifiers (y .formula .prefix))) (startNode ls (y .formula .prefix)) (y .store) .outcome))
+    asked : (o : Option ℕ) → Asking (learningQuery o (y .formula) (y .store) highestCeiling ls .out .reply)
+    asked none = by-end (searchWithin (y .formula .limits) (y .formula .prefix) (y .formula .clauses) highestCeiling (bound (quantifiers (y .formula .prefix))) (startNode ls (y .formula .prefix)) (y .store))
+      where
+        by-end : (t : Attempt) → Asking (attemptAnswer (refused 34) highestCeiling queryReply t .out .reply)
+        by-end (finished o) = verdict (outline (o .outcome))
+        by-end (stopped st) = tt
     asked (some n) = tt
 
     by : (g : Bool) → Asking (guarded g y (query ls) .out .reply)

@@ -10,7 +10,9 @@ use Rattle.qbf.specs.Formula.{paper, Formula}
 use Rattle.qbf.specs.Truth.{freeVariables}
 use Rattle.qbf.specs.Learning.{emptyStore}
 use Rattle.qbf.specs.Card.{tableOf}
-use Rattle.qbf.specs.Calls.{card, Reply, lines, cardRefused, Answer, learningCard, formulaOk, guarded, State as Read, wellFormed}
+use Rattle.qbf.specs.Ceiling.{highestCeiling}
+use Rattle.qbf.specs.Calls.{Reply, lines, cardRefused, Answer, learningCard, formulaOk, guarded, State as Read, wellFormed}
+use Rattle.layout.specs.Highest.{card}
 use Rattle.qbf.specs.Runs.{fresh}
 use Rattle.theory.proofs.WellFormed.{formula-facts}
 use Rattle.layout.specs.Words.{Bytes}
@@ -46,7 +48,7 @@ module _ (s : Bytes) (q : Answered) (told : OpenedAs (openText paper s) q) {d₀
       by (opened b) (e, l, x) = absurd (h e)
 
   -- a text that opens
-  pub text-printed : q .refusal ≡ 0 → ((b : Formula) → readState (q .state) ≡ some (fresh b) → formulaOk b ≡ true → Wrote d₀ 0 (answerPrinted (b .prefix) (learningCard true b emptyStore tableBytes .out)) d r)
+  pub text-printed : q .refusal ≡ 0 → ((b : Formula) → readState (q .state) ≡ some (fresh b) → formulaOk b ≡ true → Wrote d₀ 0 (answerPrinted (b .prefix) (learningCard true b emptyStore highestCeiling tableBytes .out)) d r)
       → Wrote d₀ 0 (cardProgram paper tableBytes s) d r
   unfolding cardProgram
   text-printed h w = by (text-apart s q told h)
@@ -57,7 +59,7 @@ module _ (s : Bytes) (q : Answered) (told : OpenedAs (openText paper s) q) {d₀
 -- ---- the card of a state with an empty store
 module _ (x : State) (size : ℕ) (p : Printed) (k : ℕ) (tb : List ℕ) (x′ : State) (s : Serves x (card size) (cardSaid p k tb) x′) (r : ℕ) (q : r ≡ number (cardSaid p 0 [] .refusal)) (b : Formula) (e : readState x ≡ some (fresh b)) (ok : formulaOk b ≡ true) where
   abbrev a : Answer
-  a = learningCard true b emptyStore size .out
+  a = learningCard true b emptyStore highestCeiling size .out
 
   abbrev shown : Reply
   shown = lines (cardLines (fresh b) true) (tableOf (freeVariables (b .prefix)) size (cardLines (fresh b) true))

@@ -10,7 +10,9 @@ use lib.IntN.{ℤ, pos}
 use lib.ListN.{length, take}
 use lib.Dec.{leb, ltb}
 use Rattle.qbf.specs.Formula.{paper, Literal, numberOf}
-use Rattle.qbf.specs.Calls.{Call, rule, query, card, forget, withdraw, keepCard, cardOf}
+use Rattle.qbf.specs.Calls.{Call, rule, forget, withdraw}
+use Rattle.qbf.specs.Calls as call
+use Rattle.layout.specs.Highest.{query, card, keepCard, cardOf}
 use Rattle.layout.specs.Words.{Bytes, space, split, same, inside}
 use Rattle.layout.specs.Forms.{then, items, ruleWord}
 use Rattle.layout.specs.Output.{refusalText}
@@ -33,9 +35,9 @@ use Rattle.serve.proofs.Cut.{rule-served, rule-card, query-served}
 abbrev Fits : Option Call → Type 0
 Fits none = Unit {0}
 Fits (some (rule ls)) = Unit {0}
-Fits (some (query ls)) = Unit {0}
-Fits (some (card size)) = size ≤ tableBytes
-Fits (some (keepCard size)) = size ≤ tableBytes
+Fits (some (call.query top ls)) = Unit {0}
+Fits (some (call.card top size)) = size ≤ tableBytes
+Fits (some (call.keepCard top size)) = size ≤ tableBytes
 Fits (some forget) = Unit {0}
 Fits (some withdraw) = Unit {0}
 

@@ -10,11 +10,15 @@ use mathlib.Core.Option.{Option, none, some}
 use borrow.Author.Tests.{leb-true, ne-eqb}
 use lib.ListN.{length}
 use lib.Dec.{leb}
-use Rattle.qbf.specs.Formula.{paper, Prefix}
+use Rattle.qbf.specs.Formula.{paper, Limits, Prefix, Clause, quantifiers}
 use Rattle.qbf.specs.Truth.{freeVariables}
+use Rattle.qbf.specs.Learning.{LearningResult, learningSearch}
+use Rattle.qbf.specs.Ceiling.{highestCeiling, Attempt, finished, stopped, searchWithin}
 use Rattle.qbf.specs.Card.{tableOf, zeroTable}
-use Rattle.qbf.specs.Calls.{Call, cardOf, Reply, lines, cardRefused, Answer, refusal, learningCard, guarded, numbersOk, State as Read, wellFormed}
+use Rattle.qbf.specs.Calls.{Call, Reply, lines, cardRefused, Answer, refusal, cardReplyOf, attemptAnswer, learningCard, guarded, numbersOk, State as Read, wellFormed}
+use Rattle.layout.specs.Highest.{cardOf}
 use Rattle.theory.proofs.AcceptedRule.{some-none}
+use Rattle.theory.proofs.Ceiling.{Any, Within, search-within-any}
 use Rattle.theory.proofs.WellFormed.{state-facts, numbers-ok}
 use Rattle.layout.specs.Words.{Bytes}
 use Rattle.layout.specs.Output.{refusalText, overflowText, cardText}
@@ -46,7 +50,7 @@ pub other-text : (n line visits : ℕ) → (n ≡ 21 → ⊥) → refusalText n 
 other-text n line visits h = ap (λ (t : Bool). cond t (overflowText n line visits) (refusalText n line)) (sym (ne-eqb n 21 h))
 
 -- ---- a card by the verdict of its lines
-pub card-called : (p : Bool) (size : ℕ) (y : Read) → guarded true y (cardOf p size) .out ≡ learningCard p (y .formula) (y .store) size .out
+pub card-called : (p : Bool) (size : ℕ) (y : Read) → guarded true y (cardOf p size) .out ≡ learningCard p (y .formula) (y .store) highestCeiling size .out
 card-called true size y = refl
 card-called false size y = refl
 
@@ -69,15 +73,34 @@ module _ (p : Bool) (size : ℕ) where
   pub formed-cases : (y : Read) → Refused (guarded true y (cardOf p size) .out .reply) ⊎ Listed y (guarded true y (cardOf p size) .out .reply)
   formed-cases y =
       subst (λ (a : Answer). Refused (a .reply) ⊎ Listed y (a .reply)) (sym (card-called p size y))
-      (by (leb (length (cardLines y p) * freeVariables (y .formula .prefix)) size) refl)
+      (by-end (searchWithin L D R highestCeiling (quantifiers D) [] (y .store)) (search-within-any L D R highestCeiling (quantifiers D) [] (y .store)))
     where
+      L : Limits
+      L = y .formula .limits
+
+      D : Prefix
+      D = y .formula .prefix
+
+      R : List Clause
+      R = y .formula .clauses
+
       shown : Reply
       shown = lines (cardLines y p) (tableOf (freeVariables (y .formula .prefix)) size (cardLines y p))
 
       by : (t : Bool) → leb (length (cardLines y p) * freeVariables (y .formula .prefix)) size ≡ t
-          → Refused (learningCard p (y .formula) (y .store) size .out .reply) ⊎ Listed y (learningCard p (y .formula) (y .store) size .out .reply)
-      by true e = inr (ap (λ (t : Bool). cond t shown (cardRefused 21 (zeroTable size))) e, leb-true (length (cardLines y p) * freeVariables (y .formula .prefix)) size e)
-      by false e = inl (20, zeroTable size, ap (λ (t : Bool). cond t shown (cardRefused 21 (zeroTable size))) e)
+          → Refused (cond t shown (cardRefused 21 (zeroTable size))) ⊎ Listed y (cond t shown (cardRefused 21 (zeroTable size)))
+      by true e = inr (refl, leb-true (length (cardLines y p) * freeVariables (y .formula .prefix)) size e)
+      by false e = inl (20, zeroTable size, refl)
+
+      tell : Attempt → Reply
+      tell t = attemptAnswer (cardRefused 34 (zeroTable size)) highestCeiling (cardReplyOf p D size) t .out .reply
+
+      -- the search stopped, or is the full one
+      by-end : (t : Attempt) → Within Any highestCeiling (learningSearch L D R (quantifiers D) [] (y .store)) t → Refused (tell t) ⊎ Listed y (tell t)
+      by-end (stopped st) w = inl (33, zeroTable size, refl)
+      by-end (finished o) w =
+          subst (λ (z : LearningResult). Refused (tell (finished z)) ⊎ Listed y (tell (finished z))) (sym (w .0))
+          (by (leb (length (cardLines y p) * freeVariables (y .formula .prefix)) size) refl)
 
   abbrev pub ListedBy : Option Read → Reply → Type 0
   ListedBy o r = (y : Read) × (o ≡ some y) × (wellFormed y ≡ true) × Listed y r

@@ -9,7 +9,9 @@ use lib.IntN.{ℤ, pos}
 use lib.ListN.{length, take, length-map}
 use lib.Seq.{take-all}
 use Rattle.qbf.specs.Formula.{Limits, paper, Prefix, Literal, Formula}
-use Rattle.qbf.specs.Calls.{Call, rule, query, Reply, done, refused, swap, keep, lines, cardRefused, Answer, answer, ruleFault, ruleReply, withRule, storeAfterRule, queryFault, learningQuery, numbersOk, State as Read, Stepped, step, guarded, wellFormed}
+use Rattle.qbf.specs.Calls.{Call, rule, Reply, done, refused, swap, keep, lines, cardRefused, Answer, answer, ruleFault, ruleReply, withRule, storeAfterRule, queryFault, learningQuery, numbersOk, State as Read, Stepped, step, guarded, wellFormed}
+use Rattle.qbf.specs.Ceiling.{highestCeiling}
+use Rattle.layout.specs.Highest.{query}
 use Rattle.qbf.specs.Demands.{refusalOf}
 use Rattle.theory.proofs.WellFormed.{state-facts, numbers-ok}
 use Rattle.layout.specs.Words.{Bytes}
@@ -45,7 +47,7 @@ module _ (y : Read) where
           go false = refl
 
   abbrev queryStep : List Literal → Option ℕ → Stepped
-  queryStep a o = record { state = record { formula = b; store = learningQuery o b (y .store) a .store }; out = learningQuery o b (y .store) a .out }
+  queryStep a o = record { state = record { formula = b; store = learningQuery o b (y .store) highestCeiling a .store }; out = learningQuery o b (y .store) highestCeiling a .out }
 
   query-step : (a c : List Literal) → (wellFormed y ≡ true → (queryFault b [] a ≡ queryFault b [] c) × (queryFault b [] c ≡ none → a ≡ c)) → step y (query a) ≡ step y (query c)
   query-step a c h = go (wellFormed y) refl

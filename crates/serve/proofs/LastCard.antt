@@ -12,7 +12,8 @@ use native.Mathlib.Omega.{arith}
 use lib.Dec.{eqb}
 use Rattle.qbf.specs.Truth.{freeVariables}
 use Rattle.qbf.specs.Card.{tableOf}
-use Rattle.qbf.specs.Calls.{Call, cardOf, Reply, done, refused, swap, keep, lines, cardRefused, Answer, State as Read, wellFormed}
+use Rattle.qbf.specs.Calls.{Call, Reply, done, refused, swap, keep, lines, cardRefused, Answer, State as Read, wellFormed}
+use Rattle.layout.specs.Highest.{cardOf}
 use Rattle.layout.specs.Words.{Bytes}
 use Rattle.sessions.specs.Session.{Card, cardOf as shownOf, cardAfterRule, cardAfter}
 use Rattle.state.specs.declared.State.{State}

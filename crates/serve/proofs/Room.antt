@@ -5,7 +5,8 @@ use mathlib.Core.Path.{_≡_, refl, ap, subst, _∙_}
 use mathlib.Core.Bool.{Bool}
 use mathlib.Core.Option.{Option, some}
 use lib.ListN.{length, take, length-take}
-use Rattle.qbf.specs.Calls.{Call, cardOf}
+use Rattle.qbf.specs.Calls.{Call}
+use Rattle.layout.specs.Highest.{cardOf}
 use Rattle.layout.specs.Words.{Bytes}
 use Rattle.layout.specs.Output.{decimal, refusalText, overflowText, queryText}
 use Rattle.layout_laws.proofs.Decimal.{decimal-length}

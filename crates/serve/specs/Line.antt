@@ -8,7 +8,7 @@ use lib.ListN.{length, take}
 use Rattle.qbf.specs.Formula.{Prefix}
 use Rattle.qbf.specs.Card.{zeroTable}
 use Rattle.qbf.specs.Calls.{Call, State as Read}
-use Rattle.qbf.specs.Demands.{refusalOf}
+use Rattle.qbf.specs.Demands.{AfterSearch, refusalOf}
 use Rattle.layout.specs.Words.{Bytes}
 use Rattle.layout.specs.Output.{refusalText}
 use Rattle.layout.specs.Program.{tableBytes}
@@ -44,8 +44,8 @@ lineRefusal o (some c) = refusalOf (outOf o c .reply)
 pub record CallServed (x : State) (c : Option Call) (n : ℕ) (t : Bytes) (x′ : State) : Type 0 where
   pub text : t ≡ lineAnswer (readState x) n c
   pub next : readState x′ ≡ lineNext (readState x) c
-  -- "A refusal returns .. the state as given .. Only 21 differs": every cell of it
-  pub kept : (k : ℕ) → lineRefusal (readState x) c ≡ some k → (k ≡ 21 → ⊥) → x′ ≡ x
+  -- "A refusal returns .. the state as given .. Only 21 differs", and 34: every cell of it
+  pub kept : (k : ℕ) → lineRefusal (readState x) c ≡ some k → (AfterSearch k → ⊥) → x′ ≡ x
 
 -- ---- the book's text
 -- the table that holds every text is as large as the book's limits ask; a state that does not read has none, and is 22 in any table

@@ -14,6 +14,7 @@ ghost use Prim.Native.Nat.{_≤_};
 ghost use lib.ListN.{length};
 ghost use Rattle.qbf.specs.Formula.{Formula, paper};
 ghost use Rattle.qbf.specs.Learning.{emptyStore};
+ghost use Rattle.qbf.specs.Ceiling.{highestCeiling};
 ghost use Rattle.qbf.specs.Calls.{formulaOk, learningCard};
 ghost use Rattle.qbf.specs.Runs.{fresh};
 ghost use Rattle.layout.specs.Program.{tableBytes, answerPrinted, cardProgram};
@@ -52,7 +53,7 @@ fn print_in(x: State, table: &mut [u8], out: &mut [u8]) -> usize
     ensures { λ r. ⌜ ((b : Formula)
         → readState x ≡ some (fresh b)
         → formulaOk b ≡ true
-        → Wrote (now (out .entry)) 0 (answerPrinted (b .prefix) (learningCard true b emptyStore (length (now (table .entry))) .out)) (now (out .exit)) r) ⌝ }
+        → Wrote (now (out .entry)) 0 (answerPrinted (b .prefix) (learningCard true b emptyStore highestCeiling (length (now (table .entry))) .out)) (now (out .exit)) r) ⌝ }
 {
     let mut learned_clauses = x.learned_clauses;
     let mut learned_clause_sizes = x.learned_clause_sizes;
@@ -69,6 +70,7 @@ fn print_in(x: State, table: &mut [u8], out: &mut [u8]) -> usize
         &mut learned_cubes,
         &mut learned_cube_sizes,
         table,
+        answers::HIGHEST_CEILING,
     );
     let printed = shown.printed;
     let visits = shown.visits;
@@ -86,7 +88,7 @@ fn print_opened(x: State, out: &mut [u8]) -> usize
     ensures { λ r. ⌜ ((b : Formula)
         → readState x ≡ some (fresh b)
         → formulaOk b ≡ true
-        → Wrote (now (out .entry)) 0 (answerPrinted (b .prefix) (learningCard true b emptyStore tableBytes .out)) (now (out .exit)) r) ⌝ }
+        → Wrote (now (out .entry)) 0 (answerPrinted (b .prefix) (learningCard true b emptyStore highestCeiling tableBytes .out)) (now (out .exit)) r) ⌝ }
 {
     let mut table = [tables::OPEN; reader::call::TABLE];
     print_in(x, &mut table, out)

@@ -13,7 +13,7 @@ ghost use mathlib.Core.List.{_++_};
 ghost use mathlib.Core.Option.{none, some};
 ghost use Prim.Native.Nat.{ℕ, _≤_};
 ghost use lib.ListN.{length};
-ghost use Rattle.qbf.specs.Calls.{cardOf};
+ghost use Rattle.layout.specs.Highest.{cardOf};
 ghost use Rattle.layout.specs.Words.{Bytes};
 ghost use Rattle.layout.specs.Program.{tableBytes};
 ghost use Rattle.layout.specs.Session.{cardRefusalText};
@@ -79,6 +79,7 @@ fn serve_in(x: State, table: &mut [u8], line: u64, out: &mut [u8], yes: bool) ->
         &mut learned_cube_sizes,
         table,
         yes,
+        answers::HIGHEST_CEILING,
     );
     let mut next = x;
     next.learned_clauses = learned_clauses;

@@ -8,7 +8,7 @@ use writer::answer::put_query;
 ghost use mathlib.Core.Option.{some};
 ghost use Prim.Native.Nat.{_≤_};
 ghost use lib.ListN.{length};
-ghost use Rattle.qbf.specs.Calls.{query};
+ghost use Rattle.layout.specs.Highest.{query};
 ghost use Rattle.writer.specs.Wrote.{Wrote};
 ghost use Rattle.serve.specs.Line.{answerBytes, TurnedBeside};
 ghost use Rattle.serve.specs.Texts.{rulingText};
@@ -43,6 +43,7 @@ pub fn serve_query(x: State, on: &[i16], line: u64, shown: Shown, out: &mut [u8]
         &mut learned_cubes,
         &mut learned_cube_sizes,
         on,
+        answers::HIGHEST_CEILING,
     );
     let mut next = x;
     next.learned_clauses = learned_clauses;

@@ -5,7 +5,7 @@ use mathlib.Core.Bool.{Bool, true, false}
 use mathlib.Core.List.{List, [], _∷_}
 use mathlib.Core.Option.{Option, none, some}
 use Rattle.qbf.specs.Formula.{Formula, Literal}
-use Rattle.qbf.specs.Calls.{Call, rule, query, card, forget, withdraw, Reply, done, refused, swap, keep, lines, cardRefused, State, Stepped, step, guarded, formulaOk, ruleFault, ruleReply, withRule, withdrawFault, withoutLast, keepCard}
+use Rattle.qbf.specs.Calls.{Call, rule, forget, withdraw, Reply, done, refused, swap, keep, lines, cardRefused, query, card, keepCard, State, Stepped, step, guarded, formulaOk, ruleFault, ruleReply, withRule, withdrawFault, withoutLast}
 use Rattle.qbf.specs.Runs.{fresh}
 use Rattle.qbf.specs.Demands.{CardOwed}
 use Rattle.theory.proofs.Runs.{Reached, fresh-reached, reached-formed, call-ok}
@@ -45,13 +45,13 @@ module _ (x : State) (reached : Reached x) (z : Option Card) (h : Holds (x .form
 
   call-holds : (c : Call) → Kept c (step x c)
   call-holds (rule ls) = as-step (rule ls) (call-ok x reached (rule ls) .next, rule-holds (x .formula) ls z h (ruleFault (x .formula) ls))
-  call-holds (query ls) = as-step (query ls) (call-ok x reached (query ls) .next, h)
-  call-holds (card size) =
-      as-step (card size)
-      (call-ok x reached (card size) .next, card-holds true (x .formula) size (guarded true x (card size) .out .reply) (subst (λ (f : Call → Stepped). CardOwed true (x .formula .prefix) (x .formula .clauses) size (f (card size) .out .reply)) stepped (card-owed x reached true size)))
-  call-holds (keepCard size) =
-      as-step (keepCard size)
-      (call-ok x reached (keepCard size) .next, card-holds false (x .formula) size (guarded true x (keepCard size) .out .reply) (subst (λ (f : Call → Stepped). CardOwed false (x .formula .prefix) (x .formula .clauses) size (f (keepCard size) .out .reply)) stepped (card-owed x reached false size)))
+  call-holds (query top ls) = as-step (query top ls) (call-ok x reached (query top ls) .next, h)
+  call-holds (card top size) =
+      as-step (card top size)
+      (call-ok x reached (card top size) .next, card-holds true (x .formula) size (guarded true x (card top size) .out .reply) (subst (λ (f : Call → Stepped). CardOwed true (x .formula .prefix) (x .formula .clauses) size (f (card top size) .out .reply)) stepped (card-owed x reached true top size)))
+  call-holds (keepCard top size) =
+      as-step (keepCard top size)
+      (call-ok x reached (keepCard top size) .next, card-holds false (x .formula) size (guarded true x (keepCard top size) .out .reply) (subst (λ (f : Call → Stepped). CardOwed false (x .formula .prefix) (x .formula .clauses) size (f (keepCard top size) .out .reply)) stepped (card-owed x reached false top size)))
   call-holds forget = as-step forget (call-ok x reached forget .next, h)
   call-holds withdraw = as-step withdraw (call-ok x reached withdraw .next, withdraw-holds (x .formula) z h (withdrawFault (x .formula)))
 

@@ -93,9 +93,9 @@ cardAfterRule keep z = z
 -- the card answered last, after a call: "36 also where no card has been answered yet, the last one was refused, or a rule .. was accepted or a rule withdrawn since"
 abbrev pub cardAfter : Prefix → Call → Reply → Option Card → Option Card
 cardAfter D (rule ls) r z = cardAfterRule r z
-cardAfter D (query ls) r z = z
-cardAfter D (card size) r z = cardOf D r
-cardAfter D (keepCard size) r z = cardOf D r
+cardAfter D (query top ls) r z = z
+cardAfter D (card top size) r z = cardOf D r
+cardAfter D (keepCard top size) r z = cardOf D r
 cardAfter D forget r z = z
 cardAfter D withdraw r z = cardAfterRule r z
 

@@ -2,6 +2,9 @@
 
 use crate::raw::{Raw, Reply, Returned, Written, CELLS, LENGTHS};
 
+/// A ceiling on visits that asks for none.
+pub const HIGHEST_CEILING: u32 = u32::MAX;
+
 extern "C" {
     fn bullacetop_rule_in_place(
         numbers: *const u16,
@@ -39,6 +42,7 @@ extern "C" {
         learned_cube_sizes: *mut u16,
         on: *const i16,
         count: usize,
+        ceiling: u32,
     ) -> Reply;
     fn bullacetop_card_in_place(
         numbers: *const u16,
@@ -52,6 +56,7 @@ extern "C" {
         learned_cube_sizes: *mut u16,
         table: *mut u8,
         length: usize,
+        ceiling: u32,
     ) -> Reply;
     fn bullacetop_keep_card_in_place(
         numbers: *const u16,
@@ -65,6 +70,7 @@ extern "C" {
         learned_cube_sizes: *mut u16,
         table: *mut u8,
         length: usize,
+        ceiling: u32,
     ) -> Reply;
     fn bullacetop_write_in_place(
         numbers: *const u16,
@@ -154,7 +160,7 @@ pub unsafe fn forget(at: Tables) -> Reply {
 
 /// # Safety
 /// As for a rule, with the tables that a search may write.
-pub unsafe fn query(at: Tables, on: *const i16, count: usize) -> Reply {
+pub unsafe fn query(at: Tables, on: *const i16, count: usize, ceiling: u32) -> Reply {
     let [numbers, levels, kinds, clauses, sizes, learned, learned_sizes, cubes, cube_sizes] = at;
     bullacetop_query_in_place(
         numbers,
@@ -168,12 +174,13 @@ pub unsafe fn query(at: Tables, on: *const i16, count: usize) -> Reply {
         cube_sizes,
         on,
         count,
+        ceiling,
     )
 }
 
 /// # Safety
 /// As for a query; the card table can be written.
-pub unsafe fn card(at: Tables, table: *mut u8, length: usize) -> Reply {
+pub unsafe fn card(at: Tables, table: *mut u8, length: usize, ceiling: u32) -> Reply {
     let [numbers, levels, kinds, clauses, sizes, learned, learned_sizes, cubes, cube_sizes] = at;
     bullacetop_card_in_place(
         numbers,
@@ -187,12 +194,13 @@ pub unsafe fn card(at: Tables, table: *mut u8, length: usize) -> Reply {
         cube_sizes,
         table,
         length,
+        ceiling,
     )
 }
 
 /// # Safety
 /// As for a card.
-pub unsafe fn keep_card(at: Tables, table: *mut u8, length: usize) -> Reply {
+pub unsafe fn keep_card(at: Tables, table: *mut u8, length: usize, ceiling: u32) -> Reply {
     let [numbers, levels, kinds, clauses, sizes, learned, learned_sizes, cubes, cube_sizes] = at;
     bullacetop_keep_card_in_place(
         numbers,
@@ -206,6 +214,7 @@ pub unsafe fn keep_card(at: Tables, table: *mut u8, length: usize) -> Reply {
         cube_sizes,
         table,
         length,
+        ceiling,
     )
 }
 

@@ -1,6 +1,6 @@
 //! The library's calls. Every lent table stands between guard bytes.
 
-use crate::in_place::{self, FORGET, RULE, SEARCH, WRITE};
+use crate::in_place::{self, FORGET, HIGHEST_CEILING, RULE, SEARCH, WRITE};
 use crate::raw::{Raw, Reply, Returned, Written, KEEP, SWAP};
 use crate::reading;
 use compare::answer::LENT_BYTE;
@@ -36,7 +36,9 @@ impl Native {
             })?,
             Call::Forget => in_place::lend(state, FORGET, |at| unsafe { in_place::forget(at) })?,
             Call::Query(on) => lend(on, |list, count| {
-                in_place::lend(state, SEARCH, |at| unsafe { in_place::query(at, list, count) })
+                in_place::lend(state, SEARCH, |at| unsafe {
+                    in_place::query(at, list, count, HIGHEST_CEILING)
+                })
             })?,
             Call::Card(length) | Call::KeepCard(length) => {
                 let keeps = matches!(call, Call::KeepCard(_));
@@ -44,8 +46,8 @@ impl Native {
                 lend_table(&mut table, |bytes, length| {
                     in_place::lend(state, SEARCH, |at| unsafe {
                         match keeps {
-                            true => in_place::keep_card(at, bytes, length),
-                            false => in_place::card(at, bytes, length),
+                            true => in_place::keep_card(at, bytes, length, HIGHEST_CEILING),
+                            false => in_place::card(at, bytes, length, HIGHEST_CEILING),
                         }
                     })
                 })?
@@ -89,11 +91,20 @@ pub mod bare {
     }
 
     pub fn query(state: &mut Raw, on: &[i16]) -> Reply {
-        unsafe { in_place::query(in_place::tables_of(state), on.as_ptr(), on.len()) }
+        unsafe {
+            in_place::query(in_place::tables_of(state), on.as_ptr(), on.len(), HIGHEST_CEILING)
+        }
     }
 
     pub fn card(state: &mut Raw, table: &mut [u8]) -> Reply {
-        unsafe { in_place::card(in_place::tables_of(state), table.as_mut_ptr(), table.len()) }
+        unsafe {
+            in_place::card(
+                in_place::tables_of(state),
+                table.as_mut_ptr(),
+                table.len(),
+                HIGHEST_CEILING,
+            )
+        }
     }
 }
 

@@ -8,7 +8,7 @@ use mathlib.Core.Path.{_≡_, _∙_, ap}
 use mathlib.Core.Option.{some}
 use denote.Ref.{now}
 use lib.ListN.{length}
-use Rattle.qbf.specs.Calls.{card}
+use Rattle.layout.specs.Highest.{card}
 use Rattle.state.specs.Reading.{readState}
 use Rattle.serve.specs.Line.{lineAnswer}
 use Rattle.serve.proofs.Room.{wrote-as}

@@ -8,7 +8,7 @@ use mathlib.Core.List.{_++_}
 use mathlib.Core.Option.{some}
 use denote.Ref.{now}
 use lib.ListN.{length}
-use Rattle.qbf.specs.Calls.{cardOf}
+use Rattle.layout.specs.Highest.{cardOf}
 use Rattle.state.specs.Reading.{readState}
 use Rattle.answers.specs.Answers.{cardSaid}
 use Rattle.serve.specs.Shown.{cardIn}
@@ -27,7 +27,7 @@ card-of-requires-2 : tie.Need-card-of-requires-2
 card-of-requires-2 c κs = search needs
 
 put-card-refusal-requires : tie.Need-put-card-refusal-requires
-put-card-refusal-requires c κs = search needs
+put-card-refusal-requires c κs = c .before .before .before .before .before .before .before .before .before .before .before .before .before .before .before .before .before .before .before .before .before .before .before .before .pre .1
 
 same-length : tie.Need-same-length
 same-length c = search needs

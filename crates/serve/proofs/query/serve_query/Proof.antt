@@ -5,7 +5,7 @@ use Rattle.serve.proofs.query.serve_query.Tie as tie
 use mathlib.Core.Path.{refl}
 use mathlib.Core.Option.{some}
 use denote.Ref.{now}
-use Rattle.qbf.specs.Calls.{query}
+use Rattle.layout.specs.Highest.{query}
 use Rattle.serve.proofs.Answered.{query-answered}
 use Rattle.serve.proofs.Room.{turned}
 
