@@ -72,7 +72,7 @@ extern "C" {
 #define BULLACETOP_TAG_RANGE 39
 #define BULLACETOP_TAG_LOST 40
 
-/* A ceiling on visits that no search reaches before its time: any uint32_t is one. */
+/* The highest ceiling on the visits of a call. */
 #define BULLACETOP_HIGHEST_CEILING 4294967295u
 
 /* A printed page: its rows, the bytes of a row, each row's last one being '\n', and all of them. */
@@ -116,16 +116,16 @@ struct bullacetop_state {
  *
  *   rule       adds a rule of n literals in any order. Refusals, the first fault decides: 22, 20, 7, then from the left 3, 5, 6.
  *   forget     empties what was learned. Refusal 22.
- *   query      whether the rules are true where the n flags of these numbers are on and the others off. Refusals 22, 8,
- *              34.
+ *   query      whether the rules are true where the n flags of these numbers are on and the others off.
+ *              Refusals 22, 8, 34.
  *   card       all readings of the flags for which the rules are true, as lines of f bytes, f being the count of flags: 0 open, 1 off, 2 on, in
  *              place order. Every byte of the table is written: those after the last line are zero, and all are zero after a refusal. Refusals
  *              22, 34, and 21 where there are more than n / f lines. With no flag a line has no byte and always fits.
  *   keep card  the readings for which the rules are not true, in the same way: same search and visits, same table, same refusals. Where neither
  *              card is refused and no rule is added or withdrawn between them, each reading lies on exactly one line of one of the two.
  *
- * A query and a card take a ceiling on their visits, any number, last. A search that would make more is stopped before that visit: 34, with visits
- * equal to the ceiling. Pass BULLACETOP_HIGHEST_CEILING for none.
+ * A query and a card take a ceiling on their visits as their last argument, BULLACETOP_HIGHEST_CEILING being the highest. A search that would make
+ * more is stopped before that visit: 34, with visits equal to the ceiling.
  *
  * What a call may write:
  *

@@ -117,7 +117,7 @@ fn query(x: State, on: &[i16]) -> State {
         &mut learned_cubes,
         &mut learned_cube_sizes,
         on,
-        answers::HIGHEST_CEILING,
+        tables::HIGHEST_CEILING,
     );
     let mut next = x;
     next.learned_clauses = learned_clauses;
@@ -163,7 +163,7 @@ fn card(x: State, table: &mut [u8]) -> State {
         &mut learned_cubes,
         &mut learned_cube_sizes,
         table,
-        answers::HIGHEST_CEILING,
+        tables::HIGHEST_CEILING,
     );
     let mut next = x;
     next.learned_clauses = learned_clauses;

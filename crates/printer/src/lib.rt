@@ -51,7 +51,7 @@ fn card_of(x: State, table: &mut [u8]) -> Made
         &mut learned_cubes,
         &mut learned_cube_sizes,
         table,
-        answers::HIGHEST_CEILING,
+        tables::HIGHEST_CEILING,
     );
     let printed = shown.printed;
     Made {

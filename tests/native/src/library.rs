@@ -36,7 +36,9 @@ impl Native {
             })?,
             Call::Forget => in_place::lend(state, FORGET, |at| unsafe { in_place::forget(at) })?,
             Call::Query(on) => lend(on, |list, count| {
-                in_place::lend(state, SEARCH, |at| unsafe { in_place::query(at, list, count, HIGHEST_CEILING) })
+                in_place::lend(state, SEARCH, |at| unsafe {
+                    in_place::query(at, list, count, HIGHEST_CEILING)
+                })
             })?,
             Call::Card(length) | Call::KeepCard(length) => {
                 let keeps = matches!(call, Call::KeepCard(_));
@@ -89,11 +91,20 @@ pub mod bare {
     }
 
     pub fn query(state: &mut Raw, on: &[i16]) -> Reply {
-        unsafe { in_place::query(in_place::tables_of(state), on.as_ptr(), on.len(), HIGHEST_CEILING) }
+        unsafe {
+            in_place::query(in_place::tables_of(state), on.as_ptr(), on.len(), HIGHEST_CEILING)
+        }
     }
 
     pub fn card(state: &mut Raw, table: &mut [u8]) -> Reply {
-        unsafe { in_place::card(in_place::tables_of(state), table.as_mut_ptr(), table.len(), HIGHEST_CEILING) }
+        unsafe {
+            in_place::card(
+                in_place::tables_of(state),
+                table.as_mut_ptr(),
+                table.len(),
+                HIGHEST_CEILING,
+            )
+        }
     }
 }
 
