@@ -12,7 +12,7 @@ use Rattle.qbf.specs.Calls as call
 use Rattle.layout.specs.Words.{Bytes, same, number}
 use Rattle.layout.specs.Forms.{ruleWord}
 use Rattle.layout.specs.Program.{tableBytes}
-use Rattle.layout.specs.Session.{queryWord, cardWord, keepCardWord, forgetWord, ruleCall, queryCall, cardCall, forgetCall}
+use Rattle.layout.specs.Session.{queryWord, cardWord, keepCardWord, forgetWord, withdrawWord, ruleCall, queryCall, cardCall, alone}
 use Rattle.reader.specs.Items.{Kept}
 use Rattle.reader.specs.declared.number.Num.{Num}
 use Rattle.reader.specs.declared.number.Num.the-variants.{Value, NotNumber}
@@ -29,7 +29,8 @@ callWordOf w =
     (cond (same w cardWord) word.Card
     (cond (same w keepCardWord) word.KeepCard
     (cond (same w forgetWord) word.Forget
-    word.NotWord))))
+    (cond (same w withdrawWord) word.Withdraw
+    word.NotWord)))))
 
 abbrev pub callSigns : CallWord → Bool
 callSigns word.Rule = true
@@ -37,6 +38,7 @@ callSigns word.Query = false
 callSigns word.Card = false
 callSigns word.KeepCard = false
 callSigns word.Forget = false
+callSigns word.Withdraw = false
 callSigns word.NotWord = false
 
 -- the call that a word and its items make
@@ -45,7 +47,8 @@ callWith word.Rule ls = ruleCall ls
 callWith word.Query ls = queryCall ls
 callWith word.Card ls = cardCall true ls
 callWith word.KeepCard ls = cardCall false ls
-callWith word.Forget ls = forgetCall ls
+callWith word.Forget ls = alone call.forget ls
+callWith word.Withdraw ls = alone call.withdraw ls
 callWith word.NotWord ls = none
 
 -- ---- cards
@@ -73,3 +76,4 @@ CallRead o (line.Query n) out = (ns : List ℕ) × (o ≡ some (call.query (map 
 CallRead o (line.Card size) out = o ≡ some (call.card size)
 CallRead o (line.KeepCard size) out = o ≡ some (call.keepCard size)
 CallRead o line.Forget out = o ≡ some call.forget
+CallRead o line.Withdraw out = o ≡ some call.withdraw
