@@ -31,6 +31,11 @@ static void rule(void)
     reply = bullacetop_rule_at(&lent, literals, 3);
 }
 
+static void withdraw(void)
+{
+    reply = bullacetop_withdraw_at(&lent);
+}
+
 static void forget(void)
 {
     reply = bullacetop_forget_at(&lent);
@@ -74,6 +79,7 @@ static const struct {
     void (*make)(void);
 } calls[] = {
     {"rule", rule},
+    {"withdraw", withdraw},
     {"forget", forget},
     {"query", query},
     {"card", card},

@@ -67,6 +67,7 @@ extern "C" {
 #define BULLACETOP_MALFORMED 22
 #define BULLACETOP_CLAUSE_COUNT 30
 #define BULLACETOP_TEXT_TABLE_TOO_SHORT 31
+#define BULLACETOP_NO_RULE 32
 #define BULLACETOP_STOPPED 34
 #define BULLACETOP_NO_PAGE 36
 #define BULLACETOP_TAG_RANGE 39
@@ -111,10 +112,13 @@ struct bullacetop_state {
 };
 
 /*
- * The calls. The state stays with the caller and nothing of it is copied. It is lent as its nine tables, which need not stand in one struct;
- * bullacetop_rule_at, bullacetop_forget_at, bullacetop_query_at, bullacetop_card_at and bullacetop_keep_card_at take the struct.
+ * The calls. The state stays with the caller, and is not copied. It is lent as its nine tables, which need not stand in one struct;
+ * bullacetop_rule_at, bullacetop_withdraw_at, bullacetop_forget_at, bullacetop_query_at, bullacetop_card_at and bullacetop_keep_card_at take the
+ * struct.
  *
  *   rule       adds a rule of n literals in any order. Refusals, the first fault decides: 22, 20, 7, then from the left 3, 5, 6.
+ *   withdraw   takes the rule back that was added last. Passes stay; of the bars those go whose record is above the count of the rules that
+ *              remain, and the others keep their order and their records. Refusals 22, and 32 where there is no rule.
  *   forget     empties what was learned. Refusal 22.
  *   query      whether the rules are true where the n flags of these numbers are on and the others off.
  *              Refusals 22, 8, 34.
@@ -130,6 +134,7 @@ struct bullacetop_state {
  * What a call may write:
  *
  *   rule         rules, rule_sizes, pass_sizes
+ *   withdraw     rule_sizes, bars, bar_sizes
  *   forget       bar_sizes, pass_sizes
  *   query, cards bars, bar_sizes, passes, pass_sizes
  *
@@ -162,6 +167,17 @@ struct bullacetop_reply bullacetop_rule_in_place(
     uint16_t pass_sizes[BULLACETOP_ENTRIES + 1],
     const int16_t *literals,
     size_t n);
+
+struct bullacetop_reply bullacetop_withdraw_in_place(
+    const uint16_t numbers[BULLACETOP_NUMBERS + 1],
+    const uint16_t levels[BULLACETOP_NUMBERS + 1],
+    const uint16_t kinds[BULLACETOP_NUMBERS + 1],
+    const int16_t rules[BULLACETOP_RULES * BULLACETOP_LITERALS],
+    uint16_t rule_sizes[BULLACETOP_RULES + 1],
+    int16_t bars[BULLACETOP_ENTRIES * BULLACETOP_NUMBERS],
+    uint16_t bar_sizes[BULLACETOP_BAR_SIZES],
+    const int16_t passes[BULLACETOP_ENTRIES * BULLACETOP_NUMBERS],
+    const uint16_t pass_sizes[BULLACETOP_ENTRIES + 1]);
 
 struct bullacetop_reply bullacetop_forget_in_place(
     const uint16_t numbers[BULLACETOP_NUMBERS + 1],
@@ -220,6 +236,12 @@ static inline struct bullacetop_reply bullacetop_rule_at(struct bullacetop_state
 {
     return bullacetop_rule_in_place(
         x->numbers, x->levels, x->kinds, x->rules, x->rule_sizes, x->bars, x->bar_sizes, x->passes, x->pass_sizes, literals, n);
+}
+
+static inline struct bullacetop_reply bullacetop_withdraw_at(struct bullacetop_state *x)
+{
+    return bullacetop_withdraw_in_place(
+        x->numbers, x->levels, x->kinds, x->rules, x->rule_sizes, x->bars, x->bar_sizes, x->passes, x->pass_sizes);
 }
 
 static inline struct bullacetop_reply bullacetop_forget_at(struct bullacetop_state *x)
@@ -290,7 +312,7 @@ static inline struct bullacetop_written bullacetop_write_at(const struct bullace
 
 /*
  * The card answered last in a session: its lines stand in the first `size` bytes of a table that the caller keeps beside it. Where the refusal is
- * not 0 there is none: no card has been answered yet, the last one was refused, or a rule was accepted since.
+ * not 0 there is none: no card has been answered yet, the last one was refused, or a rule was accepted or withdrawn since.
  */
 struct bullacetop_shown {
     uint16_t refusal;
@@ -322,10 +344,10 @@ size_t bullacetop_room(void);
 struct bullacetop_written bullacetop_print(const uint8_t *text, size_t n, uint8_t *out, size_t m);
 
 /*
- * One line of a session, of n bytes without its newline: `(rule 1 (no 2))`, `(query 1)`, `(card)`, `(card 64)` for a table of 64 bytes,
- * `(forget)`, `(write)`, `(write 64)`, `(page 1)`. The number is the line's, for the text of a refusal. A line that is none of them is refused
- * with 1. `shown` and `cards` tell the card answered last: hand in what the last turn returned, and the table as that turn left it. A page is
- * printed from them; only a card writes to the table.
+ * One line of a session, of n bytes without its newline: `(rule 1 (no 2))`, `(withdraw)`, `(query 1)`, `(card)`, `(card 64)` for a table of 64
+ * bytes, `(keep-card)`, `(keep-card 64)`, `(forget)`, `(write)`, `(write 64)`, `(page 1)`. The number is the line's, for the text of a refusal. A
+ * line that is none of them is refused with 1. `shown` and `cards` tell the card answered last: hand in what the last turn returned, and the
+ * table as that turn left it. A page is printed from them; only a card writes to the table.
  */
 struct bullacetop_turn bullacetop_line(
     struct bullacetop_state x,

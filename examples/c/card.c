@@ -1,5 +1,5 @@
 /*
- * Book A of paper 01 through the C calls in place, and a few refusals.
+ * Book A of paper 01 through the C calls, and a few refusals.
  *
  * From the repository's root:
  *   rt staticlib bullacetop
@@ -33,6 +33,14 @@ static void rule(struct bullacetop_state *x, const int16_t *literals, size_t n)
 
     if (a.refusal)
         printf("rule refused with %u\n", (unsigned)a.refusal);
+}
+
+static void withdraw(struct bullacetop_state *x)
+{
+    struct bullacetop_reply a = bullacetop_withdraw_at(x);
+
+    if (a.refusal)
+        printf("withdraw refused with %u\n", (unsigned)a.refusal);
 }
 
 static void forget(struct bullacetop_state *x)
@@ -97,6 +105,12 @@ int main(void)
     card(&book, table, 3, 2);
     /* After 21 what the search learned is kept; this empties it. */
     forget(&book);
+    /* The newest rule goes; then the others, until there is none. */
+    withdraw(&book);
+    card(&book, table, sizeof table, 2);
+    withdraw(&book);
+    withdraw(&book);
+    withdraw(&book);
 
     /* A number twice: the state is malformed, and stays as it is. */
     book.numbers[2] = 1;

@@ -1,12 +1,12 @@
 // The calls on a state whose tables the caller lends, in the order of the state: what a call changes is written where it stands, and
-// nothing is copied.
+// nothing is copied but the learned clauses of a withdrawal, on its way.
 use answers::Ruling;
 use book_writer::Written;
 use rules::Change;
 ghost use mathlib.Core.Path.{_≡_};
 ghost use mathlib.Core.List.{[]};
 ghost use lib.ListN.{length};
-ghost use Rattle.qbf.specs.Calls.{rule, query, card, keepCard, cardOf, forget};
+ghost use Rattle.qbf.specs.Calls.{rule, query, card, keepCard, cardOf, forget, withdraw};
 ghost use Rattle.state.specs.Reading.{stateOf};
 ghost use Rattle.serving.specs.Serves.{number, told, Serves};
 ghost use Rattle.book_writer.specs.Writes.{Writes};
@@ -113,6 +113,58 @@ pub extern "C" fn bullacetop_rule_in_place<'a>(
         lits,
     );
     changed(added)
+}
+
+#[no_mangle]
+pub extern "C" fn bullacetop_withdraw_in_place<'a>(
+    numbers: &'a [u16; tables::BY_NUMBER],
+    levels: &'a [u16; tables::BY_NUMBER],
+    kinds: &'a [u16; tables::BY_NUMBER],
+    clauses: &'a [i16; tables::CLAUSE_CELLS],
+    clause_sizes: &mut [u16; tables::CLAUSE_SIZES],
+    learned_clauses: &mut [i16; tables::CONSTRAINT_CELLS],
+    learned_clause_sizes: &mut [u16; tables::LEARNED_CLAUSE_SIZES],
+    learned_cubes: &'a [i16; tables::CONSTRAINT_CELLS],
+    learned_cube_sizes: &'a [u16; tables::CONSTRAINT_SIZES],
+) -> Reply
+    ensures { λ r. ⌜
+        Serves
+        (stateOf
+        (now (numbers .entry))
+        (now (levels .entry))
+        (now (kinds .entry))
+        (now (clauses .entry))
+        (now («clause_sizes» .entry))
+        (now («learned_clauses» .entry))
+        (now («learned_clause_sizes» .entry))
+        (now («learned_cubes» .entry))
+        (now («learned_cube_sizes» .entry)))
+        withdraw
+        (replySaid r [])
+        (stateOf
+        (now (numbers .entry))
+        (now (levels .entry))
+        (now (kinds .entry))
+        (now (clauses .entry))
+        (now («clause_sizes» .exit))
+        (now («learned_clauses» .exit))
+        (now («learned_clause_sizes» .exit))
+        (now («learned_cubes» .entry))
+        (now («learned_cube_sizes» .entry)))
+        ⌝ }
+{
+    let left = rules::in_place::withdraw(
+        numbers,
+        levels,
+        kinds,
+        clauses,
+        clause_sizes,
+        learned_clauses,
+        learned_clause_sizes,
+        learned_cubes,
+        learned_cube_sizes,
+    );
+    changed(left)
 }
 
 #[no_mangle]

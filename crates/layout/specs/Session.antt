@@ -29,6 +29,9 @@ keepCardWord = ascii "keep-card"
 abbrev pub forgetWord : Bytes
 forgetWord = ascii "forget"
 
+abbrev pub withdrawWord : Bytes
+withdrawWord = ascii "withdraw"
+
 abbrev pub ruleCall : List Literal → Option Call
 ruleCall ls = some (rule ls)
 
@@ -45,9 +48,10 @@ sizedBy whole part (l ∷ m ∷ ls) = none
 abbrev pub cardCall : Bool → List Literal → Option Call
 cardCall p ls = sizedBy (cardOf p highestCeiling tableBytes) (cardOf p highestCeiling) ls
 
-abbrev pub forgetCall : List Literal → Option Call
-forgetCall [] = some forget
-forgetCall (l ∷ ls) = none
+-- a call that has no items
+abbrev pub alone : Call → List Literal → Option Call
+alone c [] = some c
+alone c (l ∷ ls) = none
 
 -- the call of a line's words before a ceiling, under the highest; only a rule has signed items
 unfoldable pub callFrom : List Bytes → Option Call
@@ -57,8 +61,9 @@ callFrom (w ∷ ws) =
     (cond (same w queryWord) (then (items false ws) queryCall)
     (cond (same w cardWord) (then (items false ws) (cardCall true))
     (cond (same w keepCardWord) (then (items false ws) (cardCall false))
-    (cond (same w forgetWord) (then (items false ws) forgetCall)
-    none))))
+    (cond (same w forgetWord) (then (items false ws) (alone forget))
+    (cond (same w withdrawWord) (then (items false ws) (alone withdraw))
+    none)))))
 
 -- "query and either card take a ceiling on visits": those calls under a ceiling; the others have none
 abbrev pub under : ℕ → Call → Option Call

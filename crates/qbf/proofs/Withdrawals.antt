@@ -2,10 +2,10 @@
 use mathlib.Core.Path.{_≡_, refl}
 use Prim.Native.Nat.{ℕ}
 use mathlib.Core.Bool.{true, false}
-use mathlib.Core.List.{List, [], _∷_, map}
-use Rattle.qbf.specs.Formula.{free, placeOf}
+use mathlib.Core.List.{List, [], _∷_, _++_, map}
+use Rattle.qbf.specs.Formula.{exists, free, placeOf}
 use Rattle.qbf.specs.Learning.{Constraint, Store}
-use Rattle.qbf.specs.Calls.{done, forget, keep, lines, refused, rule, withdraw}
+use Rattle.qbf.specs.Calls.{done, forget, keep, lines, refused, rule, swap, withdraw}
 use Rattle.qbf.specs.Runs.{after, fresh}
 use Rattle.qbf.proofs.Rows.{y, n, dec, under, opened, Row, row, ran, expected, Given, given, gave, wanted, card, query}
 use Rattle.qbf.proofs.Books.{A, A-rules, B, D, D-rules}
@@ -30,6 +30,13 @@ table =
     (rule (n 1 ∷ []) ∷ withdraw ∷ rule (n 1 ∷ []) ∷ card 1 ∷ [])
     (refused 20 ∷ done ∷ done ∷ lines ((false ∷ []) ∷ []) (1 ∷ []) ∷ [])
     (0 ∷ 0 ∷ 0 ∷ 3 ∷ []) (0 ∷ 0 ∷ 0 ∷ 3 ∷ [])
+    -- a search leaves the records of what it finds stored as they are
+    ∷ row B (card 2 ∷ rule (y 1 ∷ []) ∷ card 2 ∷ withdraw ∷ card 2 ∷ []) (lines [] (0 ∷ 0 ∷ []) ∷ done ∷ lines [] (0 ∷ 0 ∷ []) ∷ done ∷ lines [] (0 ∷ 0 ∷ []) ∷ []) (4 ∷ 0 ∷ 1 ∷ 0 ∷ 1 ∷ []) (7 ∷ 0 ∷ 5 ∷ 0 ∷ 7 ∷ [])
+    -- a learned clause that displaces another has its own record
+    ∷ row (under (record { numbers = 40; clauses = 255; literals = 16; constraints = 1 }) (dec exists (1 ∷ 2 ∷ [])) ((n 2 ∷ []) ∷ (y 1 ∷ y 2 ∷ []) ∷ []))
+    (query [] ∷ rule (n 1 ∷ []) ∷ card 0 ∷ withdraw ∷ card 0 ∷ [])
+    (swap ∷ done ∷ lines [] [] ∷ done ∷ lines ([] ∷ []) [] ∷ [])
+    (6 ∷ 0 ∷ 3 ∷ 0 ∷ 6 ∷ []) (6 ∷ 0 ∷ 5 ∷ 0 ∷ 6 ∷ [])
     ∷ []
 
 on-states : List Given
@@ -44,6 +51,16 @@ on-states =
     (withdraw ∷ card 1 ∷ [])
     (done ∷ lines [] (0 ∷ []) ∷ [])
     (0 ∷ 1 ∷ [])
+    -- a record goes with its clause, wherever it stands
+    ∷ given (opened (dec free (1 ∷ [])) ((y 1 ∷ []) ∷ (y 1 ∷ []) ∷ [])) (recorded ([] ∷ [] ∷ []) (2 ∷ 0 ∷ []) [])
+    (withdraw ∷ withdraw ∷ query [] ∷ [])
+    (done ∷ done ∷ keep ∷ [])
+    (0 ∷ 0 ∷ 1 ∷ [])
+    -- the others keep their order
+    ∷ given (opened (dec free (1 ∷ 2 ∷ []) ++ dec exists (3 ∷ 4 ∷ [])) ((y 1 ∷ y 3 ∷ y 4 ∷ []) ∷ (y 1 ∷ y 3 ∷ n 4 ∷ []) ∷ (y 2 ∷ y 3 ∷ y 4 ∷ []) ∷ (y 2 ∷ y 3 ∷ n 4 ∷ []) ∷ (n 3 ∷ []) ∷ (n 3 ∷ []) ∷ [])) (recorded ((y 1 ∷ y 2 ∷ y 3 ∷ []) ∷ (y 1 ∷ y 3 ∷ []) ∷ (y 2 ∷ y 3 ∷ []) ∷ []) (6 ∷ 0 ∷ 0 ∷ []) [])
+    (withdraw ∷ card 2 ∷ [])
+    (done ∷ lines ((true ∷ true ∷ []) ∷ []) (2 ∷ 2 ∷ []) ∷ [])
+    (0 ∷ 11 ∷ [])
     -- a record that exceeds the rules standing is refused with 22, by every call
     ∷ given (opened (dec free (1 ∷ [])) ((y 1 ∷ []) ∷ [])) (recorded ((y 1 ∷ []) ∷ []) (2 ∷ []) [])
     (withdraw ∷ forget ∷ query [] ∷ [])

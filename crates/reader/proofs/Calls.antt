@@ -12,12 +12,12 @@ use lib.IntN.{ℤ, pos}
 use lib.ListN.{length, getD, take, drop}
 use Rattle.qbf.specs.Formula.{Literal, numberOf}
 use Rattle.qbf.specs.Ceiling.{highestCeiling}
-use Rattle.qbf.specs.Calls.{Call, query, cardOf, forget}
+use Rattle.qbf.specs.Calls.{Call, query, cardOf, forget, withdraw}
 use Rattle.layout.specs.Words.{Bytes, same, onFirst, split, space, isDigit, digits, number, inside}
 use Rattle.layout.specs.Forms.{then, consed, items, ruleWord}
 use Rattle.layout.specs.Opening.{textBytes}
 use Rattle.layout.specs.Program.{tableBytes}
-use Rattle.layout.specs.Session.{queryWord, cardWord, keepCardWord, forgetWord, sizedBy, ruleCall, queryCall, cardCall, forgetCall, callFrom, ceiledCall, callOf}
+use Rattle.layout.specs.Session.{queryWord, cardWord, keepCardWord, forgetWord, withdrawWord, sizedBy, ruleCall, queryCall, cardCall, alone, callFrom, ceiledCall, callOf}
 use Rattle.reader.specs.Pieces.{piecesFrom, Piece}
 use Rattle.reader.specs.Numbers.{numOf}
 use Rattle.reader.specs.Items.{Kept, Filled}
@@ -56,31 +56,37 @@ module _ (w : Bytes) where
   unfolding callWordOf
   call-5 e0 e1 e2 e3 e4 = rw (e0, e1, e2, e3, e4)
 
-  pub call-6 : same w ruleWord ≡ false → same w queryWord ≡ false → same w cardWord ≡ false → same w keepCardWord ≡ false → same w forgetWord ≡ false → word.NotWord ≡ callWordOf w
+  pub call-6 : same w ruleWord ≡ false → same w queryWord ≡ false → same w cardWord ≡ false → same w keepCardWord ≡ false → same w forgetWord ≡ false → same w withdrawWord ≡ true → word.Withdraw ≡ callWordOf w
   unfolding callWordOf
-  call-6 e0 e1 e2 e3 e4 = rw (e0, e1, e2, e3, e4)
+  call-6 e0 e1 e2 e3 e4 e5 = rw (e0, e1, e2, e3, e4, e5)
 
-chosen : Bool → Bool → Bool → Bool → Bool → CallWord
-chosen a b c d e = cond a word.Rule (cond b word.Query (cond c word.Card (cond d word.KeepCard (cond e word.Forget word.NotWord))))
+  pub call-7 : same w ruleWord ≡ false → same w queryWord ≡ false → same w cardWord ≡ false → same w keepCardWord ≡ false → same w forgetWord ≡ false → same w withdrawWord ≡ false → word.NotWord ≡ callWordOf w
+  unfolding callWordOf
+  call-7 e0 e1 e2 e3 e4 e5 = rw (e0, e1, e2, e3, e4, e5)
+
+chosen : Bool → Bool → Bool → Bool → Bool → Bool → CallWord
+chosen a b c d e f = cond a word.Rule (cond b word.Query (cond c word.Card (cond d word.KeepCard (cond e word.Forget (cond f word.Withdraw word.NotWord)))))
 
 by-word : (w : Bytes) (ws : List Bytes) → callFrom (w ∷ ws) ≡ then (items (callSigns (callWordOf w)) ws) (callWith (callWordOf w))
 unfolding callFrom callWordOf chosen
-by-word w ws = go (same w ruleWord) (same w queryWord) (same w cardWord) (same w keepCardWord) (same w forgetWord)
+by-word w ws = go (same w ruleWord) (same w queryWord) (same w cardWord) (same w keepCardWord) (same w forgetWord) (same w withdrawWord)
   where
-    go : (a b c d e : Bool) →
+    go : (a b c d e f : Bool) →
         cond a (then (items true ws) ruleCall)
         (cond b (then (items false ws) queryCall)
         (cond c (then (items false ws) (cardCall true))
         (cond d (then (items false ws) (cardCall false))
-        (cond e (then (items false ws) forgetCall)
-        none))))
-        ≡ then (items (callSigns (chosen a b c d e)) ws) (callWith (chosen a b c d e))
-    go true b c d e = refl
-    go false true c d e = refl
-    go false false true d e = refl
-    go false false false true e = refl
-    go false false false false true = refl
-    go false false false false false = then-none (items false ws)
+        (cond e (then (items false ws) (alone forget))
+        (cond f (then (items false ws) (alone withdraw))
+        none)))))
+        ≡ then (items (callSigns (chosen a b c d e f)) ws) (callWith (chosen a b c d e f))
+    go true b c d e f = refl
+    go false true c d e f = refl
+    go false false true d e f = refl
+    go false false false true e f = refl
+    go false false false false true f = refl
+    go false false false false false true = refl
+    go false false false false false false = then-none (items false ws)
 
 -- ---- the size of a card's table
 cond-none : (x : Bool) (o : Option ℕ) → o ≡ none → cond x o none ≡ none
@@ -169,13 +175,13 @@ sized-line p (Value n) out = by p (leb n tableBytes)
     by p false = refl
 
 -- ---- the call of a word with its items
-forget-alone : (ls : List Literal) → length ls ≡ 0 → forgetCall ls ≡ some forget
-forget-alone [] e = refl
-forget-alone (l ∷ ls) e = absurd (omega arith)
+no-items : (c : Call) (ls : List Literal) → length ls ≡ 0 → alone c ls ≡ some c
+no-items c [] e = refl
+no-items c (l ∷ ls) e = absurd (omega arith)
 
-forget-items : (ls : List Literal) → (length ls ≡ 0 → ⊥) → forgetCall ls ≡ none
-forget-items [] h = absurd (h refl)
-forget-items (l ∷ ls) h = refl
+some-items : (c : Call) (ls : List Literal) → (length ls ≡ 0 → ⊥) → alone c ls ≡ none
+some-items c [] h = absurd (h refl)
+some-items c (l ∷ ls) h = refl
 
 module _ {s : Bytes} {e : ℕ} (p : Piece space s 0 e) (w : CallWord) (g : Bool) (is-w : w ≡ callWordOf (take e s)) (is-g : g ≡ callSigns w) where
   call-is : callFrom (split space s) ≡ then (items g (piecesFrom space s (e + 1))) (callWith w)
@@ -221,10 +227,16 @@ module _ {s : Bytes} {e : ℕ} (p : Piece space s 0 e) (w : CallWord) (g : Bool)
     keep-card-read h = sized-read false (with-items word.KeepCard h ∙ ap (λ (o : Option (List Literal)). then o (cardCall false)) (sym (no-signs word.KeepCard h refl)))
 
     pub forget-read : w ≡ word.Forget → n ≡ 0 → callFrom (split space s) ≡ some forget
-    forget-read h z = with-items word.Forget h ∙ forget-alone (read .0) (sym (read .2 .count) ∙ z)
+    forget-read h z = with-items word.Forget h ∙ no-items forget (read .0) (sym (read .2 .count) ∙ z)
 
     pub forget-none : w ≡ word.Forget → (n ≡ 0 → ⊥) → callFrom (split space s) ≡ none
-    forget-none h z = with-items word.Forget h ∙ forget-items (read .0) (λ x. z (read .2 .count ∙ x))
+    forget-none h z = with-items word.Forget h ∙ some-items forget (read .0) (λ x. z (read .2 .count ∙ x))
+
+    pub withdraw-read : w ≡ word.Withdraw → n ≡ 0 → callFrom (split space s) ≡ some withdraw
+    withdraw-read h z = with-items word.Withdraw h ∙ no-items withdraw (read .0) (sym (read .2 .count) ∙ z)
+
+    pub withdraw-none : w ≡ word.Withdraw → (n ≡ 0 → ⊥) → callFrom (split space s) ≡ none
+    withdraw-none h z = with-items word.Withdraw h ∙ some-items withdraw (read .0) (λ x. z (read .2 .count ∙ x))
 
     pub no-word : w ≡ word.NotWord → callFrom (split space s) ≡ none
     no-word h = with-items word.NotWord h

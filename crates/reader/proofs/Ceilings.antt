@@ -172,6 +172,7 @@ under-line n o (line.Query k) out h = (h .0, ap (λ (x : Option Call). then x (u
 under-line n o (line.Card size) out h = ap (λ (x : Option Call). then x (under n)) h
 under-line n o (line.KeepCard size) out h = ap (λ (x : Option Call). then x (under n)) h
 under-line n o line.Forget out h = ap (λ (x : Option Call). then x (under n)) h
+under-line n o line.Withdraw out h = ap (λ (x : Option Call). then x (under n)) h
 
 -- a word that makes no call with any words makes none under a ceiling
 pub word-none : (w : Bytes) (ws : List Bytes) → same w ceilingWord ≡ false → ((vs : List Bytes) → callFrom (w ∷ vs) ≡ none) → ceiledCall (w ∷ ws) ≡ none

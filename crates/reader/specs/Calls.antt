@@ -13,7 +13,7 @@ use Rattle.qbf.specs.Calls as call
 use Rattle.layout.specs.Words.{Bytes, same, number}
 use Rattle.layout.specs.Forms.{ruleWord}
 use Rattle.layout.specs.Program.{tableBytes}
-use Rattle.layout.specs.Session.{queryWord, cardWord, keepCardWord, forgetWord, ruleCall, queryCall, cardCall, forgetCall}
+use Rattle.layout.specs.Session.{queryWord, cardWord, keepCardWord, forgetWord, withdrawWord, ruleCall, queryCall, cardCall, alone}
 use Rattle.reader.specs.Items.{Kept}
 use Rattle.reader.specs.declared.number.Num.{Num}
 use Rattle.reader.specs.declared.number.Num.the-variants.{Value, NotNumber}
@@ -30,7 +30,8 @@ callWordOf w =
     (cond (same w cardWord) word.Card
     (cond (same w keepCardWord) word.KeepCard
     (cond (same w forgetWord) word.Forget
-    word.NotWord))))
+    (cond (same w withdrawWord) word.Withdraw
+    word.NotWord)))))
 
 abbrev pub callSigns : CallWord → Bool
 callSigns word.Rule = true
@@ -38,6 +39,7 @@ callSigns word.Query = false
 callSigns word.Card = false
 callSigns word.KeepCard = false
 callSigns word.Forget = false
+callSigns word.Withdraw = false
 callSigns word.NotWord = false
 
 -- the call that a word and its items make
@@ -46,7 +48,8 @@ callWith word.Rule ls = ruleCall ls
 callWith word.Query ls = queryCall ls
 callWith word.Card ls = cardCall true ls
 callWith word.KeepCard ls = cardCall false ls
-callWith word.Forget ls = forgetCall ls
+callWith word.Forget ls = alone call.forget ls
+callWith word.Withdraw ls = alone call.withdraw ls
 callWith word.NotWord ls = none
 
 -- ---- cards
@@ -74,6 +77,7 @@ CallUnder c o (line.Query n) out = (ns : List ℕ) × (o ≡ some (call.query c 
 CallUnder c o (line.Card size) out = o ≡ some (call.card c size)
 CallUnder c o (line.KeepCard size) out = o ≡ some (call.keepCard c size)
 CallUnder c o line.Forget out = o ≡ some call.forget
+CallUnder c o line.Withdraw out = o ≡ some call.withdraw
 
 -- .. under the highest
 abbrev pub CallRead : Option Call → CallLine → List ℤ → Type 0

@@ -1,4 +1,5 @@
-// A call of a session on one line, without its byte 10: `(rule ..)`, `(query ..)`, `(card)`, `(card 4)`, `(keep-card)`, `(keep-card 4)` or `(forget)`.
+// A call of a session on one line, without its byte 10: `(rule ..)`, `(query ..)`, `(card)`, `(card 4)`, `(keep-card)`, `(keep-card 4)`,
+// `(forget)` or `(withdraw)`.
 use crate::items::Count;
 use crate::items::rest;
 use crate::number::Num;
@@ -26,6 +27,7 @@ pub enum CallLine {
     Card(usize),
     KeepCard(usize),
     Forget,
+    Withdraw,
     NotCall,
 }
 
@@ -35,6 +37,7 @@ enum CallWord {
     Card,
     KeepCard,
     Forget,
+    Withdraw,
     NotWord,
 }
 
@@ -56,6 +59,9 @@ fn call_word(w: &[u8]) -> CallWord
     if same_word(w, b"forget") {
         return CallWord::Forget;
     }
+    if same_word(w, b"withdraw") {
+        return CallWord::Withdraw;
+    }
     CallWord::NotWord
 }
 
@@ -69,6 +75,7 @@ fn call_signs(w: CallWord) -> bool
         CallWord::Card => false,
         CallWord::KeepCard => false,
         CallWord::Forget => false,
+        CallWord::Withdraw => false,
         CallWord::NotWord => false,
     }
 }
@@ -125,6 +132,11 @@ pub fn read_words(s: &[u8], out: &mut [i16]) -> CallLine
         CallWord::KeepCard => card_of(card_size(s, e), false),
         CallWord::Forget => if n == 0 {
             CallLine::Forget
+        } else {
+            CallLine::NotCall
+        },
+        CallWord::Withdraw => if n == 0 {
+            CallLine::Withdraw
         } else {
             CallLine::NotCall
         },

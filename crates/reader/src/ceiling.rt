@@ -65,6 +65,7 @@ fn limited(line: CallLine, ceiling: u32) -> CeiledLine
         CallLine::KeepCard(size) => CallLine::KeepCard(size),
         CallLine::Rule(n) => CallLine::NotCall,
         CallLine::Forget => CallLine::NotCall,
+        CallLine::Withdraw => CallLine::NotCall,
         CallLine::NotCall => CallLine::NotCall,
     };
     CeiledLine {

@@ -5,10 +5,12 @@ use mathlib.Core.Path.{_≡_, refl, ap, _∙_}
 use mathlib.Core.Bool.{Bool, true, false}
 use mathlib.Core.List.{List, []}
 use mathlib.Core.Option.{Option, none, some}
+use lib.Dec.{eqb}
+use lib.ListN.{length}
 use Rattle.qbf.specs.Formula.{Prefix, Literal, quantifiers}
 use Rattle.qbf.specs.Truth.{Outcome, decided, mixed, outline, bound}
 use Rattle.qbf.specs.Ceiling.{Attempt, finished, stopped, searchWithin}
-use Rattle.qbf.specs.Calls.{Call, rule, query, forget, Reply, done, refused, swap, keep, lines, cardRefused, Answer, answer, ruleFault, ruleReply, queryFault, startNode, queryReply, attemptAnswer, learningQuery, State as Read, guarded, wellFormed}
+use Rattle.qbf.specs.Calls.{Call, rule, query, forget, withdraw, given, Reply, done, refused, swap, keep, lines, cardRefused, Answer, answer, ruleFault, ruleReply, queryFault, startNode, queryReply, attemptAnswer, learningQuery, State as Read, guarded, wellFormed}
 use Rattle.layout.specs.Words.{Bytes}
 use Rattle.layout.specs.Output.{refusalText}
 use Rattle.layout.specs.Session.{doneText, refusedText, answerText}
@@ -25,7 +27,7 @@ use Rattle.answers.specs.declared.Ruling.the-variants as ruling
 use Rattle.serve.specs.Line.{prefixRead, CallServed}
 use Rattle.serve.specs.Texts.{changeText, rulingText}
 
--- ---- rule and forget
+-- ---- rule, withdraw and forget
 -- done, or refused with a number
 abbrev pub Changing : Reply → Type 0
 Changing done = Unit {0}
@@ -47,6 +49,18 @@ rule-changing ls (some y) = by (wellFormed y)
   where
     by : (g : Bool) → Changing (guarded g y (rule ls) .out .reply)
     by true = fault-changing (ruleFault (y .formula) ls) (rule-numbered (y .formula) ls)
+    by false = tt
+
+pub withdraw-changing : (o : Option Read) → Changing (outOf o withdraw .reply)
+withdraw-changing none = tt
+withdraw-changing (some y) = by (wellFormed y)
+  where
+    none-stands : (b : Bool) → Changing (ruleReply (given b 32))
+    none-stands true = tt
+    none-stands false = tt
+
+    by : (g : Bool) → Changing (guarded g y withdraw .out .reply)
+    by true = none-stands (eqb (length (y .formula .clauses)) 0)
     by false = tt
 
 pub forget-changing : (o : Option Read) → Changing (outOf o forget .reply)

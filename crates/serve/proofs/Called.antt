@@ -18,7 +18,7 @@ use Rattle.layout.specs.Output.{refusalText}
 use Rattle.layout.specs.Opening as opening
 use Rattle.layout.specs.Program.{tableBytes}
 use Rattle.layout.specs.Ceilings.{ceiled}
-use Rattle.layout.specs.Session.{queryWord, cardWord, keepCardWord, forgetWord, ruleCall, queryCall, cardCall, forgetCall, callFrom, under, underGiven, ceiledCall, callOf}
+use Rattle.layout.specs.Session.{queryWord, cardWord, keepCardWord, forgetWord, withdrawWord, ruleCall, queryCall, cardCall, alone, callFrom, under, underGiven, ceiledCall, callOf}
 use Rattle.state.specs.declared.State.{State}
 use Rattle.reader.specs.Items.{Kept}
 use Rattle.reader.specs.Calls.{CallUnder}
@@ -62,9 +62,9 @@ fits-card p (l ∷ []) = by (leb (numberOf l) tableBytes) refl
     by false e = tt
 fits-card p (l ∷ m ∷ ls) = tt
 
-fits-forget : (ls : List Literal) → Fits (forgetCall ls)
-fits-forget [] = tt
-fits-forget (l ∷ ls) = tt
+fits-alone : (c : Call) → Fits (some c) → (ls : List Literal) → Fits (alone c ls)
+fits-alone c h [] = h
+fits-alone c h (l ∷ ls) = tt
 
 fits-from : (ws : List Bytes) → Fits (callFrom ws)
 unfolding callFrom
@@ -74,7 +74,8 @@ fits-from (w ∷ ws) =
     (fits-cond (same w queryWord) _ _ (fits-then (items false ws) queryCall (λ ls. tt))
     (fits-cond (same w cardWord) _ _ (fits-then (items false ws) (cardCall true) (fits-card true))
     (fits-cond (same w keepCardWord) _ _ (fits-then (items false ws) (cardCall false) (fits-card false))
-    (fits-cond (same w forgetWord) _ none (fits-then (items false ws) forgetCall fits-forget) tt))))
+    (fits-cond (same w forgetWord) _ _ (fits-then (items false ws) (alone forget) (fits-alone forget tt))
+    (fits-cond (same w withdrawWord) _ none (fits-then (items false ws) (alone withdraw) (fits-alone withdraw tt)) tt)))))
 
 -- under any ceiling
 fits-under : (n : ℕ) (o : Option Call) → Fits o → Fits (then o (under n))
@@ -104,6 +105,7 @@ small-call l top (line.Query n) out h = tt
 small-call l top (line.Card size) out h = subst Fits h (fits-call l)
 small-call l top (line.KeepCard size) out h = subst Fits h (fits-call l)
 small-call l top line.Forget out h = tt
+small-call l top line.Withdraw out h = tt
 small-call l top line.NotCall out h = tt
 
 -- ---- by the literals that stand in the table
@@ -151,6 +153,9 @@ module _ {x : State} {number : ℕ} {s₀ : Shown} {t₀ : Bytes} {r : Turn} {t 
 
     pub called-forget : q ≡ line.Forget → Turned x (some forget) number s₀ t₀ r t d → Turned x c number s₀ t₀ r t d
     called-forget e u = meant c (some forget) (subst (λ (z : CallLine). CallUnder top c z lits) e h) u
+
+    pub called-withdraw : q ≡ line.Withdraw → Turned x (some withdraw) number s₀ t₀ r t d → Turned x c number s₀ t₀ r t d
+    called-withdraw e u = meant c (some withdraw) (subst (λ (z : CallLine). CallUnder top c z lits) e h) u
 
     pub called-none : q ≡ line.NotCall → Turned x none number s₀ t₀ r t d → Turned x c number s₀ t₀ r t d
     called-none e u = meant c none (subst (λ (z : CallLine). CallUnder top c z lits) e h) u

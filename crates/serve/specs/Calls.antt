@@ -2,7 +2,7 @@
 use Prim.Native.Nat.{_≤_}
 use Rattle.layout.specs.Program.{tableBytes}
 use Rattle.reader.specs.declared.call.CallLine.{CallLine}
-use Rattle.reader.specs.declared.call.CallLine.the-variants.{Rule, Query, Card, KeepCard, Forget, NotCall}
+use Rattle.reader.specs.declared.call.CallLine.the-variants.{Rule, Query, Card, KeepCard, Forget, Withdraw, NotCall}
 
 abbrev pub Small : CallLine → Type 0
 Small (Rule n) = Unit {0}
@@ -10,4 +10,5 @@ Small (Query n) = Unit {0}
 Small (Card size) = size ≤ tableBytes
 Small (KeepCard size) = size ≤ tableBytes
 Small Forget = Unit {0}
+Small Withdraw = Unit {0}
 Small NotCall = Unit {0}

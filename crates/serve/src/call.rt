@@ -4,6 +4,7 @@ use crate::Turn;
 use crate::card::serve_card;
 use crate::change::serve_forget;
 use crate::change::serve_rule;
+use crate::change::serve_withdraw;
 use crate::query::serve_query;
 use crate::refusal::refuse;
 use crate::shown::Shown;
@@ -95,6 +96,7 @@ fn serve_call(
         CallLine::Card(size) => serve_card(x, size, true, line, cards, out, ceiling),
         CallLine::KeepCard(size) => serve_card(x, size, false, line, cards, out, ceiling),
         CallLine::Forget => serve_forget(x, line, shown, out),
+        CallLine::Withdraw => serve_withdraw(x, line, shown, out),
         CallLine::NotCall => no_call(x, line, shown, out),
     }
 }

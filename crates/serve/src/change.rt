@@ -1,4 +1,4 @@
-// The lines of rule and forget: accepted, forgotten, or refused. The tables of the state are lent to the call, those that it may write as copies.
+// The lines of rule, withdraw and forget: accepted, withdrawn, forgotten, or refused. The tables of the state are lent to the call, those that it may write as copies.
 use crate::Turn;
 use crate::refusal::refuse;
 use crate::shown::Shown;
@@ -10,7 +10,7 @@ use writer::bytes::put_word;
 ghost use mathlib.Core.Option.{some};
 ghost use Prim.Native.Nat.{_≤_};
 ghost use lib.ListN.{length};
-ghost use Rattle.qbf.specs.Calls.{rule, forget};
+ghost use Rattle.qbf.specs.Calls.{rule, forget, withdraw};
 ghost use Rattle.writer.specs.Wrote.{Wrote};
 ghost use Rattle.serve.specs.Line.{answerBytes, TurnedBeside};
 ghost use Rattle.serve.specs.Texts.{changeText};
@@ -56,6 +56,38 @@ pub fn serve_rule(x: State, lits: &[i16], line: u64, shown: Shown, out: &mut [u8
         state: next,
         length: length,
         shown: after_rule(shown, refusal),
+    }
+}
+
+pub fn serve_withdraw(x: State, line: u64, shown: Shown, out: &mut [u8]) -> Turn
+    requires { ⌜ answerBytes ≤ length (now out) ⌝ }
+    ensures { λ r. ⌜ TurnedBeside x (some withdraw) line shown r (now (out .exit)) ⌝ }
+{
+    let mut clause_sizes = x.clause_sizes;
+    let mut learned_clauses = x.learned_clauses;
+    let mut learned_clause_sizes = x.learned_clause_sizes;
+    let change = in_place::withdraw(
+        &x.numbers,
+        &x.levels,
+        &x.kinds,
+        &x.clauses,
+        &mut clause_sizes,
+        &mut learned_clauses,
+        &mut learned_clause_sizes,
+        &x.learned_cubes,
+        &x.learned_cube_sizes,
+    );
+    let mut next = x;
+    next.clause_sizes = clause_sizes;
+    next.learned_clauses = learned_clauses;
+    next.learned_clause_sizes = learned_clause_sizes;
+    let refusal = refusal_of(change);
+    let length = put_change(out, b"(withdrawn)\n", refusal, line);
+    let left = after_rule(shown, refusal);
+    Turn {
+        state: next,
+        length: length,
+        shown: left,
     }
 }
 

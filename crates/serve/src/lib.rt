@@ -5,7 +5,7 @@ use state::State;
 pub mod book;
 pub mod call;
 mod card;
-mod change; // rule, forget
+mod change; // rule, withdraw, forget
 mod query;
 pub mod refusal;
 pub mod shown; // the card answered last

@@ -32,7 +32,7 @@ pub fn no_card() -> Shown
     }
 }
 
-// An accepted rule leaves no card, a refused one what there was.
+// A rule that is accepted or withdrawn leaves no card, a refused call what there was.
 pub fn after_rule(shown: Shown, refusal: u16) -> Shown
     ensures { λ r. ⌜ r ≡ cond (eqb refusal 0) noCard shown ⌝ }
 {

@@ -1,4 +1,4 @@
--- What a call on a state by value owes for every state and argument: its answer, its next state and the card table are those of the
+-- What a call owes for every state and argument: its answer, its next state and the card table are those of the
 -- definitions' step. Every call's contract is `Serves`; the demands are theorems about lists of calls that meet it (Demands.antt).
 use Prim.Native.Nat.{ℕ, zero, suc}
 use mathlib.Core.Path.{_≡_}

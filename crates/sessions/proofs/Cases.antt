@@ -55,6 +55,7 @@ rows =
     ∷ row "(card (ceiling 4294967296))\n(card (ceiling 01))\n(card (ceiling 4) 4)\n(card (ceiling))\n(card (ceiling 1) (ceiling 1))\n" "(refused 1 9)\n(refused 1 10)\n(refused 1 11)\n(refused 1 12)\n(refused 1 13)\n"
     ∷ row "(rule 1 (ceiling 4))\n(forget (ceiling 4))\n(write (ceiling 4))\n(page (ceiling 1))\n(ceiling 4)\n(card (ceiling 4 5))\n(card (ceiling 10000000000))\n" "(refused 1 9)\n(refused 1 10)\n(refused 1 11)\n(refused 1 12)\n(refused 1 13)\n(refused 1 14)\n(refused 1 15)\n"
     ∷ row "(rule 1 (no 2))\n(rule)\n(rule 1 41)\n(rule 1 5)\n(rule (no 1) 1)\n" "(accepted)\n(refused 7 10)\n(refused 3 11)\n(refused 5 12)\n(refused 6 13)\n"
+    ∷ row "(withdraw 1)\n(withdraw)\n(withdraw)\n(withdraw)\n(withdraw)\n(card 2)\n" "(refused 1 9)\n(withdrawn)\n(withdrawn)\n(withdrawn)\n(refused 32 13)\n(card 1)\n(line)\n(visits 1)\n(end)\n"
     ∷ row "(query 3)\n(query 1 1)\n(query 0)\n(query 99999)\n(query (no 1))\n" "(refused 8 9)\n(refused 8 10)\n(refused 8 11)\n(refused 8 12)\n(refused 1 13)\n"
     ∷ row "\n(card 65537)\n(card 04)\n(card 1 2)\n(forget 1)\n(end)\n(forget)" "(refused 1 9)\n(refused 1 10)\n(refused 1 11)\n(refused 1 12)\n(refused 1 13)\n(refused 1 14)\n(refused 1 15)\n"
     ∷ row "(write)\n(write 101)\n(write 100)\n"
@@ -118,6 +119,8 @@ pages =
     -- an accepted rule does not
     ∷ paged "(card)\n(rule 1)\n(page 1)\n(card)\n(page 1)\n"
     (ascii cardA ++ (ascii "(accepted)\n(refused 36 11)\n(card 1)\n(line 1 2)\n(visits 7)\n(end)\n" ++ pageA1))
+    -- nor does a withdrawal
+    ∷ paged "(card)\n(withdraw)\n(page 1)\n" (ascii cardA ++ ascii "(withdrawn)\n(refused 36 11)\n")
     -- nor does a refused card
     ∷ paged "(card)\n(card 3)\n(page 1)\n" (ascii cardA ++ ascii "(refused 21 10 (visits 9))\n(refused 36 11)\n")
     ∷ paged "(card)\n(card (ceiling 2))\n(page 1)\n" (ascii cardA ++ ascii "(refused 34 10 (visits 2))\n(refused 36 11)\n")

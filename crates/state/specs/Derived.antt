@@ -69,7 +69,7 @@ constraintsFine w D cube flat sizes = rowsFit w (paper .constraints) sizes && al
 abbrev pub recordsFine : List ℕ → List ℕ → Bool
 recordsFine css sizes = atMost (getD css 0 0) (recordsOf sizes)
 
--- the length of each table: what the type of a state by value says
+-- the length of each table: what the type of a state says
 pub record Sized (x : State) : Type 0 where
   pub numbers-room : length (x .numbers) ≡ suc (paper .numbers)
   pub levels-room : length (x .levels) ≡ suc (paper .numbers)

@@ -1,4 +1,4 @@
--- A state by value, as anyone may hand it in, read as the definitions' state; and when it is valid. Paper 01, refusal 22.
+-- A state, as anyone may hand it in, read as the definitions' state; and when it is valid. Paper 01, refusal 22.
 -- Cells past the counts are not read.
 use Prim.Native.Nat.{ℕ, zero, suc, _+_, _*_}
 use mathlib.Core.Bool.{Bool, true, false, cond, _&&_}

@@ -117,10 +117,7 @@ fn every_slip_of_the_last_card_changes_a_case() {
     let cases = cases::stored(Program::Session).expect("cases can be read");
     let asks = |case: &&StoredCase| case.input.windows(6).any(|bytes| bytes == b"(page ");
     let cases: Vec<_> = cases.iter().filter(asks).collect();
-    use last_card::LastCardSlip::*;
-    // The programs have no withdrawal yet.
-    let later = [KeptAfterWithdrawal, LostAfterRefusedWithdrawal];
-    for (slip, words) in last_card::ALL.iter().filter(|(slip, _)| !later.contains(slip)) {
+    for (slip, words) in last_card::ALL.iter() {
         let changed = |case: &&StoredCase| {
             let mut output = vec![];
             let start = |formula| Solver::opened(formula, options);
@@ -214,10 +211,6 @@ fn hidden(slip: Slip) -> bool {
         NoLineBytesLeft,
     ];
     let of_state = slip.is_of_check() || slip.needs_given_store();
-    // The programs have no withdrawal yet, and no session is stored that makes one.
-    if slip.is_of_withdrawal() {
-        return true;
-    }
     of_state || table.contains(&slip) || slip.is_hidden()
 }
 

@@ -119,6 +119,7 @@ impl Shape {
             let kind = if random.one_in(2) { favourite } else { random.below(3) };
             let call = match kind {
                 _ if random.one_in(16) => Call::Forget,
+                _ if random.one_in(8) => Call::Withdraw,
                 _ if random.one_in(12) => write(&formula, random),
                 0 => card(&formula, random),
                 1 => Call::Query(query(&formula, random)),
@@ -236,6 +237,16 @@ fn some_places(all: std::ops::Range<usize>, count: usize, random: &mut Random) -
     random.shuffle(&mut places);
     places.truncate(count);
     places
+}
+
+/// A clause that stands already, with one literal less where it has several: it leaves the search
+/// affordable.
+pub fn again(formula: &Formula, random: &mut Random) -> Vec<Literal> {
+    let mut clause = formula.clauses[random.below(formula.clauses.len())].clone();
+    if clause.len() > 1 {
+        clause.remove(random.below(clause.len()));
+    }
+    clause
 }
 
 const OTHER_NUMBERS: [i16; 12] =

@@ -19,6 +19,17 @@ extern "C" {
         literals: *const i16,
         count: usize,
     ) -> Reply;
+    fn bullacetop_withdraw_in_place(
+        numbers: *const u16,
+        levels: *const u16,
+        kinds: *const u16,
+        clauses: *const i16,
+        clause_sizes: *mut u16,
+        learned_clauses: *mut i16,
+        learned_clause_sizes: *mut u16,
+        learned_cubes: *const i16,
+        learned_cube_sizes: *const u16,
+    ) -> Reply;
     fn bullacetop_forget_in_place(
         numbers: *const u16,
         levels: *const u16,
@@ -95,6 +106,8 @@ pub type Writes = &'static [usize];
 
 /// The clauses with their sizes, and the sizes of the cubes.
 pub const RULE: Writes = &[3, 4, 8];
+/// The sizes of the clauses, and the learned clauses with their sizes and records.
+pub const WITHDRAW: Writes = &[4, 5, 6];
 /// The sizes of what is learned.
 pub const FORGET: Writes = &[6, 8];
 /// What a query or a card learns.
@@ -138,6 +151,23 @@ pub unsafe fn rule(at: Tables, literals: *const i16, count: usize) -> Reply {
         cube_sizes,
         literals,
         count,
+    )
+}
+
+/// # Safety
+/// As for a rule, with the tables that a withdrawal may write.
+pub unsafe fn withdraw(at: Tables) -> Reply {
+    let [numbers, levels, kinds, clauses, sizes, learned, learned_sizes, cubes, cube_sizes] = at;
+    bullacetop_withdraw_in_place(
+        numbers,
+        levels,
+        kinds,
+        clauses.cast(),
+        sizes,
+        learned.cast(),
+        learned_sizes,
+        cubes.cast(),
+        cube_sizes,
     )
 }
 

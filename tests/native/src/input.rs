@@ -80,9 +80,15 @@ fn filling(random: &mut Random) -> Case {
     };
     let mut calls = vec![Call::Card(1 << 16)];
     calls.extend(shape.calls(&formula, Walk::Plain, random));
-    // A rule takes the cubes away, and forget the rest.
-    let empties = |call: &Call| matches!(call, Call::Rule(_) | Call::Forget);
+    // A rule takes the cubes away, a withdrawal learned clauses, and forget all.
+    let empties = |call: &Call| matches!(call, Call::Rule(_) | Call::Withdraw | Call::Forget);
     calls.retain(|call| !empties(call) || random.one_in(6));
+    if random.one_in(3) {
+        // A rule stands while the store fills on; then it goes, and with it what was learned meanwhile.
+        let rule = generate::again(&formula, random);
+        calls.splice(1..1, [Call::Rule(rule), Call::Card(1 << 16), Call::Withdraw]);
+    }
+    calls = affordable(formula.clone(), calls, Walk::Plain, 2 * visits);
     let state = State { formula, store: Store::default() };
     Case { raw: reading::write(&state), calls, opened: true }
 }
@@ -176,14 +182,15 @@ fn malformed(shape: Shape, fault: Fault, random: &mut Random) -> Case {
     let store = generate::store(&formula, random);
     let mut calls = shape.calls(&formula, Walk::Whole, random);
     calls.truncate(4);
-    calls.extend([Call::Forget, Call::Card(random.below(200)), Call::Query(vec![])]);
+    calls.extend([Call::Forget, Call::Withdraw]);
+    calls.extend([Call::Card(random.below(200)), Call::Query(vec![])]);
     calls.push(Call::Rule(some_literal(&formula)));
     random.shuffle(&mut calls);
     let mut raw = reading::write_among_others(&State { formula, store }, random);
     spoil::spoil(&mut raw, fault, random);
     if let Some(state) = reading::read_well_formed(&raw) {
         // Not malformed after all: a state that no calls reach, and perhaps a long search.
-        calls = affordable(state.formula, calls, shape.visits);
+        calls = affordable(state.formula, calls, Walk::Whole, shape.visits);
     }
     Case { raw, calls, opened: false }
 }
@@ -192,10 +199,10 @@ fn some_literal(formula: &Formula) -> Vec<i16> {
     formula.prefix.first().map(|variable| variable.number).into_iter().collect()
 }
 
-fn affordable(mut formula: Formula, calls: Vec<Call>, visits: u64) -> Vec<Call> {
+fn affordable(mut formula: Formula, calls: Vec<Call>, walk: Walk, visits: u64) -> Vec<Call> {
     let mut kept = vec![];
     for call in calls {
-        if !budget::affords(&formula, &call, Walk::Whole, visits) {
+        if !budget::affords(&formula, &call, walk, visits) {
             continue;
         }
         generate::follow(&mut formula, &call);

@@ -1,6 +1,6 @@
 //! The library's calls. Every lent table stands between guard bytes.
 
-use crate::in_place::{self, FORGET, HIGHEST_CEILING, RULE, SEARCH, WRITE};
+use crate::in_place::{self, FORGET, HIGHEST_CEILING, RULE, SEARCH, WITHDRAW, WRITE};
 use crate::raw::{Raw, Reply, Returned, Written, KEEP, SWAP};
 use crate::reading;
 use compare::answer::LENT_BYTE;
@@ -34,6 +34,9 @@ impl Native {
             Call::Rule(literals) => lend(literals, |list, count| {
                 in_place::lend(state, RULE, |at| unsafe { in_place::rule(at, list, count) })
             })?,
+            Call::Withdraw => {
+                in_place::lend(state, WITHDRAW, |at| unsafe { in_place::withdraw(at) })?
+            }
             Call::Forget => in_place::lend(state, FORGET, |at| unsafe { in_place::forget(at) })?,
             Call::Query(on) => lend(on, |list, count| {
                 in_place::lend(state, SEARCH, |at| unsafe {
@@ -52,7 +55,6 @@ impl Native {
                     })
                 })?
             }
-            Call::Withdraw => return Err(format!("the library has no {call}")),
             Call::Write(length) => {
                 table = vec![LENT_BYTE; *length];
                 lend_table(&mut table, |bytes, length| {
@@ -84,6 +86,10 @@ pub mod bare {
 
     pub fn rule(state: &mut Raw, literals: &[i16]) -> Reply {
         unsafe { in_place::rule(in_place::tables_of(state), literals.as_ptr(), literals.len()) }
+    }
+
+    pub fn withdraw(state: &mut Raw) -> Reply {
+        unsafe { in_place::withdraw(in_place::tables_of(state)) }
     }
 
     pub fn forget(state: &mut Raw) -> Reply {
@@ -151,6 +157,7 @@ fn said(call: &Call, reply: &Reply) -> Result<Said, String> {
         (Call::Card(_) | Call::KeepCard(_), 21, 0, 0, _) => Some(Said::Refused(21)),
         (_, 1.., 0, 0, 0) => u8::try_from(refusal).ok().map(Said::Refused),
         (Call::Rule(_), 0, 0, 0, 0) => Some(Said::Added),
+        (Call::Withdraw, 0, 0, 0, 0) => Some(Said::Withdrawn),
         (Call::Forget, 0, 0, 0, 0) => Some(Said::Forgotten),
         (Call::Query(_), 0, SWAP, 0, _) => Some(Said::Swap),
         (Call::Query(_), 0, KEEP, 0, _) => Some(Said::Keep),

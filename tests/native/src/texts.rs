@@ -88,7 +88,7 @@ const OWN: Faults = Faults {
     words: &[
         "0", "1", "40", "41", "00", "01", "99999", "100000", "32767", "32768", "65536", "65537",
         "(no 1)", "(no 0)", "(no", "rule", "flags", "exists", "forall", "query", "end", "card",
-        "write", "page", "one", "(tag 1)", "(tag 0)", "(tag 65536)", "(tag",
+        "write", "page", "withdraw", "one", "(tag 1)", "(tag 0)", "(tag 65536)", "(tag",
     ],
     bytes: b" ()()0129\n\n\t\rano\0\xff\x80",
     lines: &[

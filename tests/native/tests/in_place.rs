@@ -1,11 +1,11 @@
 //! The watch over lent tables can fail: a cell written outside them, or in one that is only read, is
 //! told, and a cell written in one of the others is in the next state.
 
-use native::in_place::{lend, Tables, Writes, FORGET, GUARDS, RULE, SEARCH, WRITE};
+use native::in_place::{lend, Tables, Writes, FORGET, GUARDS, RULE, SEARCH, WITHDRAW, WRITE};
 use native::raw::{Raw, Reply, CELLS, LENGTHS};
 
 /// What the calls may write.
-const ALL: [Writes; 4] = [RULE, FORGET, SEARCH, WRITE];
+const ALL: [Writes; 5] = [RULE, WITHDRAW, FORGET, SEARCH, WRITE];
 
 const REPLY: Reply = Reply { refusal: 0, verdict: 1, lines: 2, visits: 3 };
 

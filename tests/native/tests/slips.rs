@@ -28,17 +28,6 @@ const COUNTS: [Slip; 3] = [
     Slip::CheckOmits(Check::EntryCount),
 ];
 
-/// Slips of records that the next state shows.
-const OF_RECORDS: [Slip; 7] = [
-    Slip::RecordsNotMoved,
-    Slip::RecordOfDisplacedTaken,
-    Slip::RecordOfYoungestRule,
-    Slip::RecordOneLess,
-    Slip::RuleRaisesRecords,
-    Slip::SearchRenewsRecords,
-    Slip::SearchLosesRecords,
-];
-
 /// Whether the library and the slipped implementation disagree on an input.
 fn told_apart(slip: Slip, source: Source, seed: u64, index: u64) -> bool {
     let mut case = draw(source, seed, index).case;
@@ -59,10 +48,7 @@ const INPUTS: u64 = 8_000;
 fn every_slip_is_told_apart() {
     let seed = seed();
     let mut hidden = vec![];
-    // The library has no withdrawal yet, but it has records.
-    let records = |slip: &Slip| slip.judges_state() || OF_RECORDS.contains(slip);
-    let later = |slip: &Slip| slip.is_of_withdrawal() && !records(slip);
-    let shown_by_calls = |slip: &Slip| !COUNTS.contains(slip) && !slip.is_hidden() && !later(slip);
+    let shown_by_calls = |slip: &Slip| !COUNTS.contains(slip) && !slip.is_hidden();
     for (slip, words) in ALL.iter().filter(|(slip, _)| shown_by_calls(slip)) {
         let indices = (0..INPUTS).flat_map(|index| sources(*slip).iter().map(move |s| (*s, index)));
         let mut indices =

@@ -30,6 +30,7 @@ fn a_call_needs_less_than_128_kib() {
         assert_eq!(query, Reply { refusal: 0, verdict: SWAP, lines: 0, visits: 42 });
         let changed = Reply { refusal: 0, verdict: 0, lines: 0, visits: 0 };
         assert_eq!(bare::rule(&mut state, &[1, -2, 3]), changed);
+        assert_eq!(bare::withdraw(&mut state), changed);
         assert_eq!(bare::forget(&mut state), changed);
     });
 }

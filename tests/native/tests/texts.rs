@@ -73,7 +73,7 @@ fn hold_text(input: &[u8], page: &mut Page) -> Option<Formula> {
 /// "22 the state is malformed", for every call.
 fn no_book(state: &Raw) {
     let cards = [Call::Card(3), Call::KeepCard(3)];
-    let calls = [Call::Rule(vec![1]), Call::Query(vec![]), Call::Forget];
+    let calls = [Call::Rule(vec![1]), Call::Withdraw, Call::Query(vec![]), Call::Forget];
     for call in calls.iter().chain(&cards) {
         let mut native = Native::new(Box::new(*state));
         let answer = native.answer(call).unwrap();
@@ -278,7 +278,7 @@ fn random_lines() {
     assert!(timed() || ["36", "written"].iter().all(|n| paged.contains_key(*n)));
     assert!(
         timed()
-            || ["1", "3", "5", "6", "7", "8", "21", "22", "31", "written"]
+            || ["1", "3", "5", "6", "7", "8", "21", "22", "31", "32", "Withdrawn", "written"]
                 .iter()
                 .all(|n| said.contains_key(*n))
     );
@@ -315,7 +315,8 @@ fn kind(said: Said) -> String {
 fn short_pages() {
     let case = draw(Source::Opened, seed(), 3).case;
     let books: [&[u8]; 2] = [b"(book 1)\n(flags 1)\n(rule 1)\n(end)\n", b"(book 3)\n"];
-    let lines: [&[u8]; 5] = [b"(forget)", b"(rule)", b"(card)", b"(keep-card)", b"x"];
+    let lines: [&[u8]; 6] =
+        [b"(forget)", b"(withdraw)", b"(rule)", b"(card)", b"(keep-card)", b"x"];
     for length in [0, 1, 15, 1_000, room() - 1, room()] {
         let fits = length == room();
         for book in books {

@@ -3,7 +3,7 @@ use borrow.Author.Needs.{needs}
 use Rattle.reader.proofs.call.call_word.Statement.{statement}
 use Rattle.reader.proofs.call.call_word.Tie as tie
 use mathlib.Core.Path.{sym, _∙_}
-use Rattle.reader.proofs.Calls.{call-1, call-2, call-3, call-4, call-5, call-6}
+use Rattle.reader.proofs.Calls.{call-1, call-2, call-3, call-4, call-5, call-6, call-7}
 
 slice-aggregate-same-word : tie.Need-slice-aggregate-same-word
 slice-aggregate-same-word c = search needs
@@ -50,8 +50,31 @@ same-word-requires-5 c κs = search needs
 returns-5 : tie.Need-returns-5
 returns-5 c = call-5 _ (sym (c .before .before .before .before .before .before .before .before .before .before .before .before .before .same-word .ensures) ∙ c .before .before .before .before .before .before .before .before .before .before .before .before .if1 .left) (sym (c .before .before .before .before .before .before .before .before .before .before .same-word2 .ensures) ∙ c .before .before .before .before .before .before .before .before .before .if2 .left) (sym (c .before .before .before .before .before .before .before .same-word3 .ensures) ∙ c .before .before .before .before .before .before .if3 .left) (sym (c .before .before .before .before .same-word4 .ensures) ∙ c .before .before .before .if4 .left) (sym (c .before .same-word5 .ensures) ∙ c .if5 .taken)
 
+slice-aggregate-same-word-6 : tie.Need-slice-aggregate-same-word-6
+slice-aggregate-same-word-6 c = search needs
+
+same-word-requires-6 : tie.Need-same-word-requires-6
+same-word-requires-6 c κs = search needs
+
 returns-6 : tie.Need-returns-6
-returns-6 c = call-6 _ (sym (c .before .before .before .before .before .before .before .before .before .before .before .before .before .same-word .ensures) ∙ c .before .before .before .before .before .before .before .before .before .before .before .before .if1 .left) (sym (c .before .before .before .before .before .before .before .before .before .before .same-word2 .ensures) ∙ c .before .before .before .before .before .before .before .before .before .if2 .left) (sym (c .before .before .before .before .before .before .before .same-word3 .ensures) ∙ c .before .before .before .before .before .before .if3 .left) (sym (c .before .before .before .before .same-word4 .ensures) ∙ c .before .before .before .if4 .left) (sym (c .before .same-word5 .ensures) ∙ c .if5 .left)
+returns-6 c =
+    let not-rule = sym (c .before .before .before .before .before .before .before .before .before .before .before .before .before .before .before .before .same-word .ensures) ∙ c .before .before .before .before .before .before .before .before .before .before .before .before .before .before .before .if1 .left in
+    let not-query = sym (c .before .before .before .before .before .before .before .before .before .before .before .before .before .same-word2 .ensures) ∙ c .before .before .before .before .before .before .before .before .before .before .before .before .if2 .left in
+    let not-card = sym (c .before .before .before .before .before .before .before .before .before .before .same-word3 .ensures) ∙ c .before .before .before .before .before .before .before .before .before .if3 .left in
+    let not-keep-card = sym (c .before .before .before .before .before .before .before .same-word4 .ensures) ∙ c .before .before .before .before .before .before .if4 .left in
+    let not-forget = sym (c .before .before .before .before .same-word5 .ensures) ∙ c .before .before .before .if5 .left in
+    let is-withdraw = sym (c .before .same-word6 .ensures) ∙ c .if6 .taken in
+    call-6 _ not-rule not-query not-card not-keep-card not-forget is-withdraw
+
+returns-7 : tie.Need-returns-7
+returns-7 c =
+    let not-rule = sym (c .before .before .before .before .before .before .before .before .before .before .before .before .before .before .before .before .same-word .ensures) ∙ c .before .before .before .before .before .before .before .before .before .before .before .before .before .before .before .if1 .left in
+    let not-query = sym (c .before .before .before .before .before .before .before .before .before .before .before .before .before .same-word2 .ensures) ∙ c .before .before .before .before .before .before .before .before .before .before .before .before .if2 .left in
+    let not-card = sym (c .before .before .before .before .before .before .before .before .before .before .same-word3 .ensures) ∙ c .before .before .before .before .before .before .before .before .before .if3 .left in
+    let not-keep-card = sym (c .before .before .before .before .before .before .before .same-word4 .ensures) ∙ c .before .before .before .before .before .before .if4 .left in
+    let not-forget = sym (c .before .before .before .before .same-word5 .ensures) ∙ c .before .before .before .if5 .left in
+    let not-withdraw = sym (c .before .same-word6 .ensures) ∙ c .if6 .left in
+    call-7 _ not-rule not-query not-card not-keep-card not-forget not-withdraw
 
 pub call-word-spec : {M : Type 1} → statement M
 call-word-spec =
@@ -72,4 +95,7 @@ call-word-spec =
     slice-aggregate-same-word-5
     same-word-requires-5
     returns-5
-    returns-6)
+    slice-aggregate-same-word-6
+    same-word-requires-6
+    returns-6
+    returns-7)

@@ -4,7 +4,7 @@ use Rattle.reader.proofs.call.read_words.Statement.{statement}
 use Rattle.reader.proofs.call.read_words.Tie as tie
 use native.Mathlib.Omega.{arith}
 use lib.ListN.{length-take}
-use Rattle.reader.proofs.Calls.{call-none, rule-read, query-read, card-read, keep-card-read, forget-read, forget-none, no-word}
+use Rattle.reader.proofs.Calls.{call-none, rule-read, query-read, card-read, keep-card-read, forget-read, forget-none, withdraw-read, withdraw-none, no-word}
 
 find-requires : tie.Need-find-requires
 find-requires c κs = search needs
@@ -63,6 +63,9 @@ enum-told-6 c = search needs
 enum-told-7 : tie.Need-enum-told-7
 enum-told-7 c = search needs
 
+enum-told-8 : tie.Need-enum-told-8
+enum-told-8 c = search needs
+
 same-length-2 : tie.Need-same-length-2
 same-length-2 c = search needs
 
@@ -103,7 +106,19 @@ same-length-8 : tie.Need-same-length-8
 same-length-8 c = search needs
 
 returns-8 : tie.Need-returns-8
-returns-8 c = no-word (c .before .before .before .before .before .before .before .before .before .before .before .find .ensures) (c .before .before .before .before .before .before .before .before .before .call-word .result) (c .before .before .before .before .before .before .before .before .call-signs .result) (c .before .before .before .before .before .before .before .before .before .call-word .ensures) (c .before .before .before .before .before .before .before .before .call-signs .ensures) (c .before .before .before .before .before .before .rest .result) (c .before .before .before .before .before .before .rest .last .1 .1 .1 .0) (c .before .before .before .before .before .before .rest .ensures) (c .before .before .before .n .given .1) (c .enum-told7 .given .1)
+returns-8 c = withdraw-read (c .before .before .before .before .before .before .before .before .before .before .before .before .find .ensures) (c .before .before .before .before .before .before .before .before .before .before .call-word .result) (c .before .before .before .before .before .before .before .before .before .call-signs .result) (c .before .before .before .before .before .before .before .before .before .before .call-word .ensures) (c .before .before .before .before .before .before .before .before .before .call-signs .ensures) (c .before .before .before .before .before .before .before .rest .result) (c .before .before .before .before .before .before .before .rest .last .1 .1 .1 .0) (c .before .before .before .before .before .before .before .rest .ensures) (c .before .before .before .before .n .given .1) (c .before .enum-told7 .given .1) (c .if2 .taken)
+
+same-length-9 : tie.Need-same-length-9
+same-length-9 c = search needs
+
+returns-9 : tie.Need-returns-9
+returns-9 c = withdraw-none (c .before .before .before .before .before .before .before .before .before .before .before .before .find .ensures) (c .before .before .before .before .before .before .before .before .before .before .call-word .result) (c .before .before .before .before .before .before .before .before .before .call-signs .result) (c .before .before .before .before .before .before .before .before .before .before .call-word .ensures) (c .before .before .before .before .before .before .before .before .before .call-signs .ensures) (c .before .before .before .before .before .before .before .rest .result) (c .before .before .before .before .before .before .before .rest .last .1 .1 .1 .0) (c .before .before .before .before .before .before .before .rest .ensures) (c .before .before .before .before .n .given .1) (c .before .enum-told7 .given .1) (c .if2 .left)
+
+same-length-10 : tie.Need-same-length-10
+same-length-10 c = search needs
+
+returns-10 : tie.Need-returns-10
+returns-10 c = no-word (c .before .before .before .before .before .before .before .before .before .before .before .find .ensures) (c .before .before .before .before .before .before .before .before .before .call-word .result) (c .before .before .before .before .before .before .before .before .call-signs .result) (c .before .before .before .before .before .before .before .before .before .call-word .ensures) (c .before .before .before .before .before .before .before .before .call-signs .ensures) (c .before .before .before .before .before .before .rest .result) (c .before .before .before .before .before .before .rest .last .1 .1 .1 .0) (c .before .before .before .before .before .before .rest .ensures) (c .before .before .before .n .given .1) (c .enum-told8 .given .1)
 
 pub read-words-spec : {M : Type 1} → statement M
 read-words-spec =
@@ -128,6 +143,7 @@ read-words-spec =
     card-of-requires-2
     enum-told-6
     enum-told-7
+    enum-told-8
     same-length-2
     returns-2
     same-length-3
@@ -141,4 +157,8 @@ read-words-spec =
     same-length-7
     returns-7
     same-length-8
-    returns-8)
+    returns-8
+    same-length-9
+    returns-9
+    same-length-10
+    returns-10)

@@ -1,10 +1,7 @@
+-- `limited` meets its contract, call by call.
 use borrow.Author.Needs.{needs}
 use Rattle.reader.proofs.ceiling.limited.Statement.{statement}
 use Rattle.reader.proofs.ceiling.limited.Tie as tie
-use Rattle.reader.proofs.ceiling.limited.Reads as reads
-use Rattle.reader.proofs.ceiling.limited.Lts as lts
-
--- `limited` meets its contract, call by call.
 
 enum-known-line : tie.Need-enum-known-line
 enum-known-line c = search needs
@@ -24,6 +21,9 @@ enum-told c = search needs
 enum-told-2 : tie.Need-enum-told-2
 enum-told-2 c = search needs
 
+enum-told-3 : tie.Need-enum-told-3
+enum-told-3 c = search needs
+
 returns : tie.Need-returns
 returns c = rw (c .before .line .given .1)
 
@@ -42,6 +42,9 @@ returns-5 c = rw (c .enum-told .given .1)
 returns-6 : tie.Need-returns-6
 returns-6 c = rw (c .enum-told2 .given .1)
 
+returns-7 : tie.Need-returns-7
+returns-7 c = rw (c .enum-told3 .given .1)
+
 pub limited-spec : {M : Type 1} → statement M
 limited-spec =
     tie.close
@@ -52,9 +55,11 @@ limited-spec =
     enum-known-line-4
     enum-told
     enum-told-2
+    enum-told-3
     returns
     returns-2
     returns-3
     returns-4
     returns-5
-    returns-6)
+    returns-6
+    returns-7)

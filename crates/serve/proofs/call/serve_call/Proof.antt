@@ -6,7 +6,7 @@ use native.Mathlib.Omega.{arith}
 use mathlib.Core.Path.{subst}
 use denote.Ref.{now}
 use Rattle.serve.specs.Calls.{Small}
-use Rattle.serve.proofs.Called.{called-rule, called-query, called-card, called-keep-card, called-forget, called-none}
+use Rattle.serve.proofs.Called.{called-rule, called-query, called-card, called-keep-card, called-forget, called-withdraw, called-none}
 
 enum-known-call : tie.Need-enum-known-call
 enum-known-call c = search needs
@@ -40,6 +40,12 @@ serve-forget-requires c κs = search needs
 
 enum-told-2 : tie.Need-enum-told-2
 enum-told-2 c = search needs
+
+serve-withdraw-requires : tie.Need-serve-withdraw-requires
+serve-withdraw-requires c κs = search needs
+
+enum-told-3 : tie.Need-enum-told-3
+enum-told-3 c = search needs
 
 no-call-requires : tie.Need-no-call-requires
 no-call-requires c κs = search needs
@@ -90,7 +96,15 @@ same-length-6 c = search needs
 returns-6 : tie.Need-returns-6
 returns-6 c = λ o h.
     let args = c .before .before .before .before .before .before .before .args in
-    called-none (now (args .lits)) (args .ceiling) (args .call) o h (c .before .before .before .before .enum-told2 .given .1) (c .before .before .no-call .ensures (now (args .cards)))
+    called-withdraw (now (args .lits)) (args .ceiling) (args .call) o h (c .before .before .before .before .enum-told2 .given .1) (c .before .before .serve-withdraw .ensures (now (args .cards)))
+
+same-length-7 : tie.Need-same-length-7
+same-length-7 c = search needs
+
+returns-7 : tie.Need-returns-7
+returns-7 c = λ o h.
+    let args = c .before .before .before .before .before .before .before .args in
+    called-none (now (args .lits)) (args .ceiling) (args .call) o h (c .before .before .before .before .enum-told3 .given .1) (c .before .before .no-call .ensures (now (args .cards)))
 
 pub serve-call-spec : {M : Type 1} → statement M
 serve-call-spec =
@@ -107,6 +121,8 @@ serve-call-spec =
     enum-told
     serve-forget-requires
     enum-told-2
+    serve-withdraw-requires
+    enum-told-3
     no-call-requires
     same-length
     returns
@@ -119,4 +135,6 @@ serve-call-spec =
     same-length-5
     returns-5
     same-length-6
-    returns-6)
+    returns-6
+    same-length-7
+    returns-7)
