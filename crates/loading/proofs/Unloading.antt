@@ -11,7 +11,7 @@ use mathlib.Core.List.{List, [], _∷_, _++_, map}
 use lib.IntN.{ℤ, pos}
 use lib.ListN.{length, getD, take, drop, set, length-drop, length-take, length-set, length-map}
 use lib.Seq.{take-all, take-suc, take-suc-set, take-set-le, drop-set-add, drop-set-lt, getD-set-same, getD-set-other}
-use Rattle.qbf.specs.Formula.{paper, Prefix, Literal, place}
+use Rattle.qbf.specs.Formula.{Limits, paper, Prefix, Literal, place}
 use Rattle.qbf.specs.Learning.{Constraint}
 use Rattle.qbf.specs.Card.{Mem}
 use Rattle.qbf.specs.Calls.{numbersOk}
@@ -20,6 +20,8 @@ use Rattle.tables.specs.Codes.{codeOf, codes}
 use Rattle.tables.specs.Shelves.{Entries, entriesOf, newestOf, baseOf, lengthAt, rowAt}
 use Rattle.tables.proofs.Laws.{rows-suc, rows-zero}
 use Rattle.loading.specs.Written.{Held, Narrow, entryAt, Unloaded}
+use Rattle.theory.proofs.Game.{Rising}
+use Rattle.theory.proofs.Widths.{constraint-width}
 use Rattle.shelf.proofs.Ring.{ring-length, ring-at}
 use Rattle.loading.proofs.Rows.{before, rows-kept}
 
@@ -215,3 +217,15 @@ entries-narrow {cells} {links} s k h =
   where
     j : ℕ
     j = (baseOf (paper .constraints) links + k) % paper .constraints
+
+-- nor than the limit for numbers, where they are constraints in place order
+pub constraints-narrow : (cells links : List ℕ) (L : Limits) (D : Prefix) (es : List Constraint) → entriesOf cells links ≡ map (codes D) es → numbersOk L [] D ≡ true
+    → ((e : Constraint) → Mem e es → Rising D 0 e) → Narrow (L .numbers) cells links
+constraints-narrow cells links L D es p o r k h =
+    let e = getD es k [] in
+    omega (
+      arith,
+      ap length (entry-is cells links D es k p h),
+      length-map e (codeOf D),
+      constraint-width L D e o (r e (mem-at es k [] (omega (arith, as-many cells links D es p)))),
+    )
