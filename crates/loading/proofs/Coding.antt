@@ -14,7 +14,7 @@ use lib.Seq.{getD-set-same, getD-take, drop-set-lt, length-take-le, take-set-le,
 use Rattle.qbf.specs.Formula.{paper, Prefix}
 use Rattle.qbf.specs.Learning.{Constraint, reduce}
 use Rattle.tables.specs.Views.{Places, row}
-use Rattle.tables.specs.Formed.{Clauses}
+use Rattle.loading.specs.Written.{Held}
 use Rattle.tables.specs.Codes.{codes, lastCode, Quantified}
 use Rattle.tables.specs.Shelves.{codeCount}
 use Rattle.tables.specs.Matrices.{clauseRow}
@@ -129,7 +129,7 @@ coded-kept {lits} {places} {quantifiers} {cells} {at} c m cells′ within e = re
     part n h = part-kept (suc at) n m cells cells′ (omega arith) e
 
 -- a clause has no more literals than its size says
-pub row-short : {f : List ℤ} {l : List ℕ} → Clauses f l → (k : ℕ) → k < getD l 0 0 → length (row (paper .literals) f l k) ≤ paper .literals
+pub row-short : {f : List ℤ} {l : List ℕ} → Held (paper .literals) (paper .clauses) f l → (k : ℕ) → k < getD l 0 0 → length (row (paper .literals) f l k) ≤ paper .literals
 row-short {f} {l} T k low = omega (arith, T .short k low, length-take (getD l (suc k) 0) (drop (k * paper .literals) f))
 
 -- the first k clauses are in their rows
@@ -137,7 +137,7 @@ abbrev pub CodedBelow : List ℤ → List ℕ → List ℕ → List ℕ → ℕ 
 CodedBelow f l places quantifiers k cells = (j : ℕ) → j < k → Coded (row (paper .literals) f l j) places quantifiers (j * clauseRow) cells
 
 -- clause k too
-pub coded-more : {f : List ℤ} {l : List ℕ} (places quantifiers : List ℕ) (k : ℕ) (cells cells′ : List ℕ) → Clauses f l → k < getD l 0 0
+pub coded-more : {f : List ℤ} {l : List ℕ} (places quantifiers : List ℕ) (k : ℕ) (cells cells′ : List ℕ) → Held (paper .literals) (paper .clauses) f l → k < getD l 0 0
     → CodedBelow f l places quantifiers k cells
     → take (k * clauseRow) cells′ ≡ take (k * clauseRow) cells
     → Coded (row (paper .literals) f l k) places quantifiers (k * clauseRow) cells′
@@ -149,7 +149,7 @@ coded-more {f} {l} places quantifiers k cells cells′ T low inv e new j h = by 
     by (inr m) = coded-kept (inv j m) (k * clauseRow) cells′ (omega (arith, row-short T j (omega arith))) e
 
 -- ---- clause k as the code writes and reads it: a part of the literals, and a part of the cells
-module _ {f : List ℤ} {l : List ℕ} (T : Clauses f l) (k : ℕ) (low : k < getD l 0 0) where
+module _ {f : List ℤ} {l : List ℕ} (T : Held (paper .literals) (paper .clauses) f l) (k : ℕ) (low : k < getD l 0 0) where
   abbrev lits : List ℤ
   lits = row (paper .literals) f l k
 
@@ -159,7 +159,7 @@ module _ {f : List ℤ} {l : List ℕ} (T : Clauses f l) (k : ℕ) (low : k < ge
   pub row-long : length lits ≡ getD l (k + 1) 0
   row-long =
       ap length (sym (row-is (paper .literals) k f l))
-      ∙ part-long (k * paper .literals) (getD l (k + 1) 0) f (omega (arith, table-within T k low, T .room))
+      ∙ part-long (k * paper .literals) (getD l (k + 1) 0) f (table-within T k low)
 
   module _ {places quantifiers cells : List ℕ}
       (c : Coded (take ((k * paper .literals + getD l (k + 1) 0) - k * paper .literals) (drop (k * paper .literals) f)) places quantifiers at cells) where

@@ -9,7 +9,6 @@ use lib.ListN.{length, getD}
 use Rattle.qbf.specs.Formula.{paper, Prefix}
 use Rattle.qbf.specs.Learning.{push}
 use Rattle.tables.specs.Views.{Places, row, rows, rowsOf}
-use Rattle.tables.specs.Formed.{Constraints}
 use Rattle.tables.specs.Codes.{codes}
 use Rattle.tables.specs.Shelves.{Entries, entriesOf, newestOf, baseOf, shelfRows, ringRows}
 use Rattle.tables.proofs.Laws.{rows-length, rows-suc, rows-zero}
@@ -22,41 +21,41 @@ none-stand stride slots cells links h =
     let z : newestOf links - baseOf slots links ≡ 0 = omega arith in
     ap (ringRows stride slots cells (baseOf slots links)) z ∙ ring-zero stride slots cells (baseOf slots links)
 
--- the learned constraints: the first k rows of the table stand on the shelf
-pub record Loaded (f : List ℤ) (l places : List ℕ) (k : ℕ) (cells links : List ℕ) : Type 0 where
+-- the learned constraints: the first k rows of the table, of w cells each, stand on the shelf
+pub record Loaded (w : ℕ) (f : List ℤ) (l places : List ℕ) (k : ℕ) (cells links : List ℕ) : Type 0 where
   pub shelf : Entries cells links
   pub newest : newestOf links ≡ k
-  pub is : (D : Prefix) → Places D places → length D ≤ paper .numbers → entriesOf cells links ≡ map (codes D) (rows (paper .numbers) f l k)
+  pub is : (D : Prefix) → Places D places → length D ≤ paper .numbers → entriesOf cells links ≡ map (codes D) (rows w f l k)
 
 -- no row yet, and an empty shelf
-pub load-none : (f : List ℤ) (l places cells links : List ℕ) → Entries cells links → newestOf links ≡ 0 → Loaded f l places 0 cells links
-load-none f l places cells links s e = record {
+pub load-none : (w : ℕ) (f : List ℤ) (l places cells links : List ℕ) → Entries cells links → newestOf links ≡ 0 → Loaded w f l places 0 cells links
+load-none w f l places cells links s e = record {
   shelf = s;
   newest = e;
-  is = λ D p h. none-stand (paper .numbers) (paper .constraints) cells links e ∙ sym (ap (map (codes D)) (rows-zero (paper .numbers) f l));
+  is = λ D p h. none-stand (paper .numbers) (paper .constraints) cells links e ∙ sym (ap (map (codes D)) (rows-zero w f l));
 }
 
 -- row k too
-pub load-more : {f : List ℤ} {l places : List ℕ} {k : ℕ} {cells links : List ℕ} → Loaded f l places k cells links
+pub load-more : {w : ℕ} {f : List ℤ} {l places : List ℕ} {k : ℕ} {cells links : List ℕ} → Loaded w f l places k cells links
     → k < paper .constraints
     → (cells′ links′ : List ℕ) → Entries cells′ links′ → newestOf links′ ≡ suc k
     → ((D : Prefix) → Places D places → length D ≤ paper .numbers
-    → entriesOf cells′ links′ ≡ push (paper .constraints) (codes D (row (paper .numbers) f l k)) (entriesOf cells links))
-    → Loaded f l places (k + 1) cells′ links′
-load-more {f} {l} {places} {k} {cells} {links} inv low cells′ links′ s e h = record {
+    → entriesOf cells′ links′ ≡ push (paper .constraints) (codes D (row w f l k)) (entriesOf cells links))
+    → Loaded w f l places (k + 1) cells′ links′
+load-more {w} {f} {l} {places} {k} {cells} {links} inv low cells′ links′ s e h = record {
   shelf = s;
   newest = e ∙ sym (add-one k);
   is = λ D p few.
       h D p few
-      ∙ push-map (codes D) (paper .constraints) (row (paper .numbers) f l k) (rows (paper .numbers) f l k) (inv .is D p few)
-      (omega (arith, rows-length (paper .numbers) f l k))
-      ∙ ap (map (codes D)) (sym (rows-suc (paper .numbers) f l k) ∙ ap (rows (paper .numbers) f l) (sym (add-one k)));
+      ∙ push-map (codes D) (paper .constraints) (row w f l k) (rows w f l k) (inv .is D p few)
+      (omega (arith, rows-length w f l k))
+      ∙ ap (map (codes D)) (sym (rows-suc w f l k) ∙ ap (rows w f l) (sym (add-one k)));
 }
 
 -- all rows
-pub load-end : {f : List ℤ} {l places : List ℕ} {k : ℕ} {cells links : List ℕ} → Loaded f l places k cells links
-    → Constraints f l → k ≡ getD l 0 0
+pub load-end : {w : ℕ} {f : List ℤ} {l places : List ℕ} {k : ℕ} {cells links : List ℕ} → Loaded w f l places k cells links
+    → k ≡ getD l 0 0
     → Entries cells links × (newestOf links ≡ getD l 0 0)
-    × ((D : Prefix) → Places D places → length D ≤ paper .numbers → entriesOf cells links ≡ map (codes D) (rowsOf (paper .numbers) f l))
-load-end {f} {l} {places} {k} {cells} {links} inv t e =
-    (inv .shelf, inv .newest ∙ e, λ D p few. inv .is D p few ∙ ap (λ (n : ℕ). map (codes D) (rows (paper .numbers) f l n)) e)
+    × ((D : Prefix) → Places D places → length D ≤ paper .numbers → entriesOf cells links ≡ map (codes D) (rowsOf w f l))
+load-end {w} {f} {l} {places} {k} {cells} {links} inv e =
+    (inv .shelf, inv .newest ∙ e, λ D p few. inv .is D p few ∙ ap (λ (n : ℕ). map (codes D) (rows w f l n)) e)

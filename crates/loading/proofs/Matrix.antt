@@ -12,7 +12,8 @@ use Rattle.bitset.specs.Rows.{width}
 use Rattle.qbf.specs.Formula.{paper, Prefix, Clause}
 use Rattle.qbf.specs.Learning.{reduce}
 use Rattle.tables.specs.Views.{Places, row, rows}
-use Rattle.tables.specs.Formed.{Clauses, clausesOf}
+use Rattle.tables.specs.Formed.{clausesOf}
+use Rattle.loading.specs.Written.{Held}
 use Rattle.tables.specs.Codes.{codes, Quantified}
 use Rattle.tables.specs.Sets.{ClauseSets}
 use Rattle.tables.specs.Shelves.{codeCount}
@@ -52,7 +53,7 @@ module _ {f : List ℤ} {l places quantifiers : List ℕ} {wc : ℕ} {start cell
   }
 
   -- clause k too
-  pub filled-more : {k : ℕ} {sets cells′ sets′ : List ℕ} → FilledBelow f l places quantifiers wc k start cells sets → Clauses f l → k < getD l 0 0 → k < wc * width
+  pub filled-more : {k : ℕ} {sets cells′ sets′ : List ℕ} → FilledBelow f l places quantifiers wc k start cells sets → Held (paper .literals) (paper .clauses) f l → k < getD l 0 0 → k < wc * width
       → Filled (row (paper .literals) f l k) places quantifiers wc k cells sets cells′ sets′
       → FilledBelow f l places quantifiers wc (k + 1) start cells′ sets′
   filled-more {k} {sets} {cells′} {sets′} b T low small new = record {
@@ -65,7 +66,7 @@ module _ {f : List ℤ} {l places quantifiers : List ℕ} {wc : ℕ} {start cell
   }
 
   -- all clauses
-  pub matrix-shown : {k : ℕ} {sets : List ℕ} → FilledBelow f l places quantifiers wc k start cells sets → Clauses f l → k ≡ getD l 0 0
+  pub matrix-shown : {k : ℕ} {sets : List ℕ} → FilledBelow f l places quantifiers wc k start cells sets → Held (paper .literals) (paper .clauses) f l → k ≡ getD l 0 0
       → (D : Prefix) → Places D places → Quantified D quantifiers → length D ≤ paper .numbers → ClauseSets D [] wc start
       → MatrixShown D (clausesOf f l) wc cells sets
   matrix-shown {k} {sets} b T e D p q few g = record {

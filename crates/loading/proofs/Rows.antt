@@ -13,7 +13,8 @@ use Rattle.qbf.specs.Formula.{Prefix}
 use Rattle.qbf.specs.Learning.{push}
 use Rattle.tables.specs.Views.{row, rows, Table}
 use Rattle.tables.specs.Codes.{codes}
-use Rattle.tables.proofs.Laws.{rows-suc, rows-zero}
+use Rattle.tables.proofs.Laws.{rows-suc, rows-zero, standing}
+use Rattle.loading.specs.Written.{Held}
 
 -- row k ends before row n begins
 pub before : (w k n : ℕ) → k < n → k * w + w ≤ n * w
@@ -98,11 +99,21 @@ row-part w k f l =
     let e : (k * w + getD l (k + 1) 0) - k * w ≡ getD l (k + 1) 0 = omega arith in
     ap (λ (n : ℕ). take n (drop (k * w) f)) e ∙ row-is w k f l
 
-module _ {A : Type 0} {w cap : ℕ} {f : List A} {l : List ℕ} (t : Table w cap f l) (k : ℕ) (low : k < getD l 0 0) where
+module _ {A : Type 0} {w cap : ℕ} {f : List A} {l : List ℕ} (t : Held w cap f l) (k : ℕ) (low : k < getD l 0 0) where
   -- the size of a row that stands
   pub table-size : getD l (k + 1) 0 ≤ w
   table-size = size-small w k l (t .short k low)
 
+  pub size-within : {n : ℕ} → w ≤ n → getD l (k + 1) 0 ≤ n
+  size-within h = omega (arith, table-size, h)
+
   -- a row that stands ends within the table
-  pub table-within : k * w + getD l (k + 1) 0 ≤ cap * w
-  table-within = let lt : k < cap = omega (arith, t .few) in omega (arith, table-size, before w k cap lt)
+  pub table-within : k * w + getD l (k + 1) 0 ≤ length f
+  table-within = subst (λ (j : ℕ). k * w + getD l j 0 ≤ length f) (sym (add-one k)) (t .inside k low)
+
+-- ---- tables with room for every row hold those that stand, and back
+pub table-held : {A : Type 0} {w cap : ℕ} {f : List A} {l : List ℕ} → Table w cap f l → Held w cap f l
+table-held t = let s = standing t in record { counted = s .counted; few = t .few; short = t .short; inside = s .inside }
+
+pub held-table : {A : Type 0} {w cap : ℕ} {f : List A} {l : List ℕ} → Held w cap f l → length f ≡ cap * w → suc cap ≤ length l → Table w cap f l
+held-table h room counted = record { room = room; counted = counted; few = h .few; short = h .short }

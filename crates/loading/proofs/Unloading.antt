@@ -1,7 +1,7 @@
 -- What the loops that write back have done: after i literals of a row, and after k rows.
 use Prim.Native.Nat.{ℕ, zero, suc, _+_, _*_, _-_, _%_, _≤_, _<_}
 use native.Mathlib.Omega.{arith}
-use native.Mathlib.Nat.{le-of-suc-le-suc, not-suc-le-zero}
+use native.Mathlib.Nat.{le-of-suc-le-suc, not-suc-le-zero, mod-lt}
 use native.Mathlib.Numerals.{add-one}
 use borrow.Author.Count.{below-more}
 use mathlib.Core.Path.{_≡_, refl, sym, ap, subst, _∙_}
@@ -9,20 +9,21 @@ use mathlib.Core.Logic.{inl, inr}
 use mathlib.Core.Bool.{true}
 use mathlib.Core.List.{List, [], _∷_, _++_, map}
 use lib.IntN.{ℤ, pos}
-use lib.ListN.{length, getD, take, drop, set, length-drop, length-set, length-map}
+use lib.ListN.{length, getD, take, drop, set, length-drop, length-take, length-set, length-map}
 use lib.Seq.{take-all, take-suc, take-suc-set, take-set-le, drop-set-add, drop-set-lt, getD-set-same, getD-set-other}
-use Rattle.qbf.specs.Formula.{paper, Prefix, Literal, place}
+use Rattle.qbf.specs.Formula.{Limits, paper, Prefix, Literal, place}
 use Rattle.qbf.specs.Learning.{Constraint}
 use Rattle.qbf.specs.Card.{Mem}
 use Rattle.qbf.specs.Calls.{numbersOk}
 use Rattle.tables.specs.Views.{Numbers, rows, rowsOf}
-use Rattle.tables.specs.Formed.{Constraints}
 use Rattle.tables.specs.Codes.{codeOf, codes}
-use Rattle.tables.specs.Shelves.{entriesOf, newestOf, baseOf, rowAt}
+use Rattle.tables.specs.Shelves.{Entries, entriesOf, newestOf, baseOf, lengthAt, rowAt}
 use Rattle.tables.proofs.Laws.{rows-suc, rows-zero}
-use Rattle.loading.specs.Written.{entryAt, Unloaded}
+use Rattle.loading.specs.Written.{Held, Narrow, entryAt, Unloaded}
+use Rattle.theory.proofs.Game.{Rising}
+use Rattle.theory.proofs.Widths.{constraint-width}
 use Rattle.shelf.proofs.Ring.{ring-length, ring-at}
-use Rattle.loading.proofs.Rows.{rows-kept}
+use Rattle.loading.proofs.Rows.{before, rows-kept}
 
 -- ---- elements of lists
 -- the image of the element at i
@@ -83,45 +84,45 @@ decode-end {numbers} {r} {at} {f₀} {i} {f} inv z = (
 )
 
 -- ---- one row of a shelf, found in its slot
-pub unload-row : (numbers cells links : List ℕ) (k slot : ℕ) (f f′ : List ℤ) (l r : List ℕ)
-    → slot ≡ (baseOf (paper .constraints) links + k) % paper .constraints → r ≡ rowAt (paper .numbers) cells slot → length r ≤ paper .numbers
-    → k < paper .constraints → suc (paper .constraints) ≤ length l → length f′ ≡ length f → take (k * paper .numbers) f′ ≡ take (k * paper .numbers) f
+pub unload-row : (w : ℕ) (numbers cells links : List ℕ) (k slot : ℕ) (f f′ : List ℤ) (l r : List ℕ)
+    → slot ≡ (baseOf (paper .constraints) links + k) % paper .constraints → r ≡ rowAt (paper .numbers) cells slot → length r ≤ w
+    → k < paper .constraints → suc (paper .constraints) ≤ length l → length f′ ≡ length f → take (k * w) f′ ≡ take (k * w) f
     → ((D : Prefix) (e : Constraint) → Numbers D numbers → numbersOk paper [] D ≡ true → r ≡ codes D e
-    → ((x : Literal) → Mem x e → 1 ≤ place D x) → take (length r) (drop (k * paper .numbers) f′) ≡ e)
-    → Unloaded numbers (entryAt cells links k) k f l f′ (set l (k + 1) (length r))
-unload-row numbers cells links k slot f f′ l r z y small low counted room kept h =
+    → ((x : Literal) → Mem x e → 1 ≤ place D x) → take (length r) (drop (k * w) f′) ≡ e)
+    → Unloaded w numbers (entryAt cells links k) k f l f′ (set l (k + 1) (length r))
+unload-row w numbers cells links k slot f f′ l r z y small low counted room kept h =
     let same : r ≡ entryAt cells links k = y ∙ ap (rowAt (paper .numbers) cells) z in
     let size : getD (set l (k + 1) (length r)) (suc k) 0 ≡ length r =
     ap (λ (j : ℕ). getD (set l (k + 1) (length r)) j 0) (sym (add-one k)) ∙ getD-set-same l (k + 1) (length r) 0 (omega arith)
     in
     record {
       room = room;
-      short = subst (λ (xs : List ℕ). length xs ≤ paper .numbers) same small;
+      short = subst (λ (xs : List ℕ). length xs ≤ w) same small;
       sizes = ap (λ (j : ℕ). set l j (length r)) (add-one k) ∙ ap (λ (xs : List ℕ). set l (suc k) (length xs)) same;
       kept = kept;
-      is = λ D e n o p q. ap (λ (j : ℕ). take j (drop (k * paper .numbers) f′)) size ∙ h D e n o (same ∙ p) q;
+      is = λ D e n o p q. ap (λ (j : ℕ). take j (drop (k * w) f′)) size ∙ h D e n o (same ∙ p) q;
     }
 
 -- ---- the rows of a shelf: the first k are written
-pub record Unloading (numbers cells links l₀ : List ℕ) (k : ℕ) (f : List ℤ) (l : List ℕ) : Type 0 where
-  pub room : length f ≡ paper .constraints * paper .numbers
+pub record Unloading (w : ℕ) (numbers cells links l₀ : List ℕ) (k : ℕ) (f : List ℤ) (l : List ℕ) : Type 0 where
+  pub room : paper .constraints * w ≤ length f
   pub counted : suc (paper .constraints) ≤ length l
   pub size : length l ≡ length l₀
   pub behind : drop (suc (paper .constraints)) l ≡ drop (suc (paper .constraints)) l₀
-  pub short : (j : ℕ) → j < k → getD l (suc j) 0 ≤ paper .numbers
+  pub short : (j : ℕ) → j < k → getD l (suc j) 0 ≤ w
   pub is : (D : Prefix) (es : List Constraint) → Numbers D numbers → numbersOk paper [] D ≡ true → entriesOf cells links ≡ map (codes D) es
-      → ((e : Constraint) → Mem e es → (x : Literal) → Mem x e → 1 ≤ place D x) → rows (paper .numbers) f l k ≡ take k es
+      → ((e : Constraint) → Mem e es → (x : Literal) → Mem x e → 1 ≤ place D x) → rows w f l k ≡ take k es
 
 -- none yet
-pub unload-none : (numbers cells links : List ℕ) (f : List ℤ) (l : List ℕ) → length f ≡ paper .constraints * paper .numbers → suc (paper .constraints) ≤ length l
-    → Unloading numbers cells links l 0 f l
-unload-none numbers cells links f l r c = record {
+pub unload-none : (w : ℕ) (numbers cells links : List ℕ) (f : List ℤ) (l : List ℕ) → paper .constraints * w ≤ length f → suc (paper .constraints) ≤ length l
+    → Unloading w numbers cells links l 0 f l
+unload-none w numbers cells links f l r c = record {
   room = r;
   counted = c;
   size = refl;
   behind = refl;
   short = λ j h. absurd (not-suc-le-zero h);
-  is = λ D es n o p q. rows-zero (paper .numbers) f l;
+  is = λ D es n o p q. rows-zero w f l;
 }
 
 module _ (cells links : List ℕ) where
@@ -142,10 +143,10 @@ module _ (cells links : List ℕ) where
       ∙ sym (map-at (codes D) es k [] [] (omega (arith, as-many D es p)))
 
   -- row k too
-  pub unload-more : {numbers l₀ : List ℕ} {k : ℕ} {f : List ℤ} {l : List ℕ} → Unloading numbers cells links l₀ k f l → k < stand
-      → (f′ : List ℤ) (l′ : List ℕ) → Unloaded numbers (entryAt cells links k) k f l f′ l′
-      → Unloading numbers cells links l₀ (k + 1) f′ l′
-  unload-more {numbers} {l₀} {k} {f} {l} inv low f′ l′ u =
+  pub unload-more : {w : ℕ} {numbers l₀ : List ℕ} {k : ℕ} {f : List ℤ} {l : List ℕ} → Unloading w numbers cells links l₀ k f l → k < stand
+      → (f′ : List ℤ) (l′ : List ℕ) → Unloaded w numbers (entryAt cells links k) k f l f′ l′
+      → Unloading w numbers cells links l₀ (k + 1) f′ l′
+  unload-more {w} {numbers} {l₀} {k} {f} {l} inv low f′ l′ u =
       let few : k < paper .constraints = omega arith in
       let other : (j : ℕ) → j < k → getD l′ (suc j) 0 ≡ getD l (suc j) 0 =
       λ j m. ap (λ (xs : List ℕ). getD xs (suc j) 0) (u .sizes) ∙ getD-set-other l (suc k) (suc j) (length (entryAt cells links k)) 0 (omega arith)
@@ -154,42 +155,42 @@ module _ (cells links : List ℕ) where
       ap (λ (xs : List ℕ). getD xs (suc k) 0) (u .sizes) ∙ getD-set-same l (suc k) (length (entryAt cells links k)) 0 (omega (arith, inv .counted))
       in
       record {
-        room = u .room ∙ inv .room;
+        room = omega (arith, u .room, inv .room);
         counted = omega (arith, ap length (u .sizes), length-set l (suc k) (length (entryAt cells links k)), inv .counted);
         size = ap length (u .sizes) ∙ length-set l (suc k) (length (entryAt cells links k)) ∙ inv .size;
         behind = ap (drop (suc (paper .constraints))) (u .sizes) ∙ drop-set-lt (suc (paper .constraints)) l (suc k) (length (entryAt cells links k)) (omega (arith, few)) ∙ inv .behind;
-        short = below-more (λ (j : ℕ). getD l′ (suc j) 0 ≤ paper .numbers) k (λ j m. rw (other j m) (inv .short j m)) (rw same (u .short));
+        short = below-more (λ (j : ℕ). getD l′ (suc j) 0 ≤ w) k (λ j m. rw (other j m) (inv .short j m)) (rw same (u .short));
         is = λ D es n o p q.
             let lt : k < length es = omega (arith, as-many D es p) in
-            ap (rows (paper .numbers) f′ l′) (add-one k)
-            ∙ rows-suc (paper .numbers) f′ l′ k
-            ∙ ap (λ (x : List ℤ). rows (paper .numbers) f′ l′ k ++ (x ∷ []))
+            ap (rows w f′ l′) (add-one k)
+            ∙ rows-suc w f′ l′ k
+            ∙ ap (λ (x : List ℤ). rows w f′ l′ k ++ (x ∷ []))
             (u .is D (getD es k []) n o (entry-is D es k p low) (q (getD es k []) (mem-at es k [] lt)))
             ∙ ap (λ (xs : List Constraint). xs ++ (getD es k [] ∷ []))
-            (rows-kept (paper .numbers) k f f′ l l′ (u .kept) other (inv .short) ∙ inv .is D es n o p q)
+            (rows-kept w k f f′ l l′ (u .kept) other (inv .short) ∙ inv .is D es n o p q)
             ∙ sym (take-suc es k [] lt)
             ∙ ap (λ (j : ℕ). take j es) (sym (add-one k));
       }
 
   -- every row that stands, and their number in the first cell
-  ended : {numbers l₀ : List ℕ} {k : ℕ} {f : List ℤ} {l : List ℕ} → Unloading numbers cells links l₀ k f l → k ≡ stand
-      → Constraints f (set l 0 k)
+  ended : {w : ℕ} {numbers l₀ : List ℕ} {k : ℕ} {f : List ℤ} {l : List ℕ} → Unloading w numbers cells links l₀ k f l → k ≡ stand
+      → Held w (paper .constraints) f (set l 0 k)
       × ((D : Prefix) (es : List Constraint) → Numbers D numbers → numbersOk paper [] D ≡ true → entriesOf cells links ≡ map (codes D) es
-      → ((e : Constraint) → Mem e es → (x : Literal) → Mem x e → 1 ≤ place D x) → rowsOf (paper .numbers) f (set l 0 k) ≡ es)
+      → ((e : Constraint) → Mem e es → (x : Literal) → Mem x e → 1 ≤ place D x) → rowsOf w f (set l 0 k) ≡ es)
       × (getD (set l 0 k) 0 0 ≡ stand)
       × (drop (suc (paper .constraints)) (set l 0 k) ≡ drop (suc (paper .constraints)) l₀)
-  ended {numbers} {l₀} {k} {f} {l} inv z =
+  ended {w} {numbers} {l₀} {k} {f} {l} inv z =
       let count : getD (set l 0 k) 0 0 ≡ k = getD-set-same l 0 k 0 (omega (arith, inv .counted)) in
       let other : (j : ℕ) → j < k → getD (set l 0 k) (suc j) 0 ≡ getD l (suc j) 0 = λ j m. getD-set-other l 0 (suc j) k 0 (omega arith) in (
         record {
-          room = inv .room;
-          counted = omega (arith, length-set l 0 k, inv .counted);
+          counted = omega (arith, length-set l 0 k, inv .counted, count);
           few = rw count (omega arith);
           short = rw count (λ j m. rw (other j m) (inv .short j m));
+          inside = rw count (λ j m. rw (other j m) (omega (arith, inv .short j m, inv .room, before w j (paper .constraints) (omega (arith, m, z)))));
         },
         λ D es n o p q.
-            ap (rows (paper .numbers) f (set l 0 k)) count
-            ∙ rows-kept (paper .numbers) k f f l (set l 0 k) refl other (inv .short)
+            ap (rows w f (set l 0 k)) count
+            ∙ rows-kept w k f f l (set l 0 k) refl other (inv .short)
             ∙ inv .is D es n o p q
             ∙ take-all k es (omega (arith, as-many D es p)),
         count ∙ z,
@@ -197,10 +198,34 @@ module _ (cells links : List ℕ) where
       )
 
   -- .. where the code has the number by another name
-  pub unload-end : {numbers l₀ : List ℕ} {k : ℕ} {f : List ℤ} {l : List ℕ} → Unloading numbers cells links l₀ k f l → (n : ℕ) → k ≡ n → n ≡ stand
-      → Constraints f (set l 0 n)
+  pub unload-end : {w : ℕ} {numbers l₀ : List ℕ} {k : ℕ} {f : List ℤ} {l : List ℕ} → Unloading w numbers cells links l₀ k f l → (n : ℕ) → k ≡ n → n ≡ stand
+      → Held w (paper .constraints) f (set l 0 n)
       × ((D : Prefix) (es : List Constraint) → Numbers D numbers → numbersOk paper [] D ≡ true → entriesOf cells links ≡ map (codes D) es
-      → ((e : Constraint) → Mem e es → (x : Literal) → Mem x e → 1 ≤ place D x) → rowsOf (paper .numbers) f (set l 0 n) ≡ es)
+      → ((e : Constraint) → Mem e es → (x : Literal) → Mem x e → 1 ≤ place D x) → rowsOf w f (set l 0 n) ≡ es)
       × (getD (set l 0 n) 0 0 ≡ stand)
       × (drop (suc (paper .constraints)) (set l 0 n) ≡ drop (suc (paper .constraints)) l₀)
-  unload-end {numbers} {l₀} {k} {f} {l} inv n e z = ended (subst (λ (j : ℕ). Unloading numbers cells links l₀ j f l) e inv) z
+  unload-end {w} {numbers} {l₀} {k} {f} {l} inv n e z = ended (subst (λ (j : ℕ). Unloading w numbers cells links l₀ j f l) e inv) z
+
+-- a shelf's rows are no longer than its stride
+pub entries-narrow : {cells links : List ℕ} → Entries cells links → Narrow (paper .numbers) cells links
+entries-narrow {cells} {links} s k h =
+    omega (
+      arith,
+      length-take (lengthAt (paper .numbers) cells j) (drop (suc (j * suc (paper .numbers))) cells),
+      s .short j (mod-lt (baseOf (paper .constraints) links + k) {m = paper .constraints} (omega arith)),
+    )
+  where
+    j : ℕ
+    j = (baseOf (paper .constraints) links + k) % paper .constraints
+
+-- nor than the limit for numbers, where they are constraints in place order
+pub constraints-narrow : (cells links : List ℕ) (L : Limits) (D : Prefix) (es : List Constraint) → entriesOf cells links ≡ map (codes D) es → numbersOk L [] D ≡ true
+    → ((e : Constraint) → Mem e es → Rising D 0 e) → Narrow (L .numbers) cells links
+constraints-narrow cells links L D es p o r k h =
+    let e = getD es k [] in
+    omega (
+      arith,
+      ap length (entry-is cells links D es k p h),
+      length-map e (codeOf D),
+      constraint-width L D e o (r e (mem-at es k [] (omega (arith, as-many cells links D es p)))),
+    )

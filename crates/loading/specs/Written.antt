@@ -1,4 +1,4 @@
--- One row of a shelf written back into the state's table.
+-- The rows of a state's lent table, and one row of a shelf written back into it.
 use Prim.Native.Nat.{ℕ, suc, _+_, _-_, _*_, _%_, _≤_, _<_}
 use mathlib.Core.Path.{_≡_}
 use mathlib.Core.Bool.{true, cond}
@@ -12,24 +12,35 @@ use Rattle.qbf.specs.Card.{Mem}
 use Rattle.qbf.specs.Calls.{numbersOk}
 use Rattle.tables.specs.Views.{Numbers, row}
 use Rattle.tables.specs.Codes.{codes}
-use Rattle.tables.specs.Shelves.{baseOf, rowAt}
+use Rattle.tables.specs.Shelves.{newestOf, baseOf, rowAt}
+
+-- The rows that stand lie within a lent table, whatever room it has beyond them: no more than `most`, and none of more than `stride` cells.
+pub record Held {A : Type 0} (stride most : ℕ) (flat : List A) (sizes : List ℕ) : Type 0 where
+  pub counted : getD sizes 0 0 < length sizes
+  pub few : getD sizes 0 0 ≤ most
+  pub short : (k : ℕ) → k < getD sizes 0 0 → getD sizes (suc k) 0 ≤ stride
+  pub inside : (k : ℕ) → k < getD sizes 0 0 → k * stride + getD sizes (suc k) 0 ≤ length flat
 
 -- the row that stands at index k, from the oldest
 abbrev pub entryAt : List ℕ → List ℕ → ℕ → List ℕ
 entryAt cells links k = rowAt (paper .numbers) cells ((baseOf (paper .constraints) links + k) % paper .constraints)
 
--- The codes r are written as literals into row k; the rows before it stay.
-pub record Unloaded (numbers r : List ℕ) (k : ℕ) (f : List ℤ) (l : List ℕ) (f′ : List ℤ) (l′ : List ℕ) : Type 0 where
+-- no row that stands has more than w codes
+abbrev pub Narrow : ℕ → List ℕ → List ℕ → Type 0
+Narrow w cells links = (k : ℕ) → k < newestOf links - baseOf (paper .constraints) links → length (entryAt cells links k) ≤ w
+
+-- The codes r are written as literals into row k, of w cells; the rows before it stay.
+pub record Unloaded (w : ℕ) (numbers r : List ℕ) (k : ℕ) (f : List ℤ) (l : List ℕ) (f′ : List ℤ) (l′ : List ℕ) : Type 0 where
   pub room : length f′ ≡ length f
-  pub short : length r ≤ paper .numbers
+  pub short : length r ≤ w
   pub sizes : l′ ≡ set l (suc k) (length r)
-  pub kept : take (k * paper .numbers) f′ ≡ take (k * paper .numbers) f
+  pub kept : take (k * w) f′ ≡ take (k * w) f
   pub is : (D : Prefix) (e : Constraint)
       → Numbers D numbers
       → numbersOk paper [] D ≡ true
       → r ≡ codes D e
       → ((l : Literal) → Mem l e → 1 ≤ place D l)
-      → row (paper .numbers) f′ l′ k ≡ e
+      → row w f′ l′ k ≡ e
 
 -- ---- the records of the learned clauses, behind their sizes
 -- of the row that stands at index k, from the oldest, whose number follows `base`; `before` rows were loaded

@@ -15,6 +15,7 @@ ghost use Rattle.tables.specs.Codes.{Quantified};
 ghost use Rattle.tables.specs.Sets.{ClauseSets};
 ghost use Rattle.tables.specs.Shelves.{codeCount};
 ghost use Rattle.tables.specs.Matrices.{clauseRow, wordsOf, MatrixShown};
+ghost use Rattle.loading.specs.Written.{Held};
 ghost use Rattle.loading.specs.Coded.{Low, Coded, Opposite, SetsFor, Satisfying, Added, Filled};
 
 // The words of a row of so many clauses.
@@ -83,8 +84,8 @@ fn add_clause<'a>(sets: &mut [u64], words: usize, row: &'a [u16], left: usize, k
 
 // Clause k: its row, and its number in the sets.
 fn load_clause<'a>(
-    clauses: &'a [i16; tables::CLAUSE_CELLS],
-    sizes: &'a [u16; tables::CLAUSE_SIZES],
+    clauses: &'a [i16],
+    sizes: &'a [u16],
     places: &'a [u16],
     quantifiers: &'a [u8; tables::CODES],
     rows: &mut [u16],
@@ -93,7 +94,7 @@ fn load_clause<'a>(
     k: usize,
 )
     requires { ⌜
-        Clauses (now clauses) (now sizes)
+        Held (paper .literals) (paper .clauses) (now clauses) (now sizes)
         × (k < getD (now sizes) 0 0)
         × (length (now rows) ≡ paper .clauses * clauseRow)
         × SetsFor words k (now sets)
@@ -114,16 +115,15 @@ fn load_clause<'a>(
     let from = k * tables::LITERALS;
     let len = sizes[k + 1] as usize;
     let at = k * tables::CLAUSE_ROW;
-    let flat: &[i16] = clauses;
-    code_row(rows, at, &flat[from..from + len], places, quantifiers);
+    code_row(rows, at, &clauses[from..from + len], places, quantifiers);
     let left = rows[at] as usize;
     add_clause(sets, words, &rows[at + 1..at + 1 + len], left, k);
 }
 
 // The clauses one after the other.
 fn add_clauses<'a>(
-    clauses: &'a [i16; tables::CLAUSE_CELLS],
-    sizes: &'a [u16; tables::CLAUSE_SIZES],
+    clauses: &'a [i16],
+    sizes: &'a [u16],
     places: &'a [u16],
     quantifiers: &'a [u8; tables::CODES],
     rows: &mut [u16],
@@ -131,7 +131,7 @@ fn add_clauses<'a>(
     words: usize,
 )
     requires { ⌜
-        Clauses (now clauses) (now sizes)
+        Held (paper .literals) (paper .clauses) (now clauses) (now sizes)
         × (length (now rows) ≡ paper .clauses * clauseRow)
         × SetsFor words (getD (now sizes) 0 0) (now sets)
         ⌝ }
@@ -156,6 +156,35 @@ fn add_clauses<'a>(
 
 // The rows and the sets of the clauses, where no place is above `last`. Their content before is free: of the sets the rows of the places' codes
 // are cleared first.
+pub fn load_lent<'a>(
+    clauses: &'a [i16],
+    sizes: &'a [u16],
+    places: &'a [u16],
+    quantifiers: &'a [u8; tables::CODES],
+    last: usize,
+    rows: &mut [u16; tables::CLAUSE_ROWS],
+    sets: &mut [u64; tables::CLAUSE_SETS],
+)
+    requires { ⌜ Held (paper .literals) (paper .clauses) (now clauses) (now sizes) × (last ≤ paper .numbers) ⌝ }
+    ensures { λ _. ⌜
+        ((D : Prefix)
+        → Places D (now (places .entry))
+        → Quantified D (now (quantifiers .entry))
+        → length D ≤ last
+        → MatrixShown
+        D
+        (clausesOf (now (clauses .entry)) (now (sizes .entry)))
+        (wordsOf (getD (now (sizes .entry)) 0 0))
+        (now (rows .exit))
+        (now (sets .exit)))
+        ⌝ }
+{
+    let words = words_of(sizes[0] as usize);
+    clear(sets, 0, (last + 1) * 2 * 2 * words);
+    add_clauses(clauses, sizes, places, quantifiers, rows, sets, words);
+}
+
+// .. of a state in arrays.
 pub fn load_clauses<'a>(
     clauses: &'a [i16; tables::CLAUSE_CELLS],
     sizes: &'a [u16; tables::CLAUSE_SIZES],
@@ -179,7 +208,5 @@ pub fn load_clauses<'a>(
         (now (sets .exit)))
         ⌝ }
 {
-    let words = words_of(sizes[0] as usize);
-    clear(sets, 0, (last + 1) * 2 * 2 * words);
-    add_clauses(clauses, sizes, places, quantifiers, rows, sets, words);
+    load_lent(clauses, sizes, places, quantifiers, last, rows, sets);
 }

@@ -16,22 +16,24 @@ ghost use Rattle.tables.specs.Views.{Places, Numbers, row, rowsOf};
 ghost use Rattle.tables.specs.Formed.{Constraints};
 ghost use Rattle.tables.specs.Codes.{codes};
 ghost use Rattle.tables.specs.Shelves.{Entries, entriesOf, newestOf, baseOf};
-ghost use Rattle.loading.specs.Written.{entryAt, Unloaded, recordFrom, RecordsFrom, Recorded};
+ghost use Rattle.loading.specs.Written.{Held, Narrow, entryAt, Unloaded, recordFrom, RecordsFrom, Recorded};
 
-// Row k of the table goes onto the shelf.
+// Row k of the table, whose rows have so many cells, goes onto the shelf.
 fn load_row<'a>(
-    store: &'a [i16; tables::CONSTRAINT_CELLS],
+    store: &'a [i16],
     sizes: &'a [u16],
-    places: &'a [u16; tables::BY_NUMBER],
+    width: usize,
+    places: &'a [u16],
     cells: &mut [u16; tables::CONSTRAINT_CODES],
     links: &mut [u64; tables::CONSTRAINT_LINKS],
     k: usize,
 )
     requires { ⌜
-        Constraints (now store) (now sizes)
+        Held width (paper .constraints) (now store) (now sizes)
         × Entries (now cells) (now links)
         × (newestOf (now links) ≡ k)
         × (k < getD (now sizes) 0 0)
+        × (width ≤ paper .numbers)
         ⌝ }
     ensures { λ _. ⌜
         Entries (now (cells .exit)) (now (links .exit))
@@ -42,15 +44,14 @@ fn load_row<'a>(
         → entriesOf (now (cells .exit)) (now (links .exit))
         ≡ push
         (paper .constraints)
-        (codes D (row (paper .numbers) (now (store .entry)) (now (sizes .entry)) k))
+        (codes D (row width (now (store .entry)) (now (sizes .entry)) k))
         (entriesOf (now (cells .entry)) (now (links .entry))))
         ⌝ }
 {
-    let from = k * tables::NUMBERS;
+    let from = k * width;
     let len = sizes[k + 1] as usize;
-    let flat: &[i16] = store;
     let mut row = [0u16; tables::NUMBERS];
-    encode(&mut row, &flat[from..from + len], places);
+    encode(&mut row, &store[from..from + len], places);
     push(
         cells,
         links,
@@ -61,6 +62,39 @@ fn load_row<'a>(
 }
 
 // Every row of the table goes onto an empty shelf.
+pub fn load_lent<'a>(
+    store: &'a [i16],
+    sizes: &'a [u16],
+    width: usize,
+    places: &'a [u16],
+    cells: &mut [u16; tables::CONSTRAINT_CODES],
+    links: &mut [u64; tables::CONSTRAINT_LINKS],
+)
+    requires { ⌜
+        Held width (paper .constraints) (now store) (now sizes)
+        × Entries (now cells) (now links)
+        × (newestOf (now links) ≡ 0)
+        × (width ≤ paper .numbers)
+        ⌝ }
+    ensures { λ _. ⌜
+        Entries (now (cells .exit)) (now (links .exit))
+        × (newestOf (now (links .exit)) ≡ getD (now (sizes .entry)) 0 0)
+        × ((D : Prefix)
+        → Places D (now (places .entry))
+        → length D ≤ paper .numbers
+        → entriesOf (now (cells .exit)) (now (links .exit))
+        ≡ map (codes D) (rowsOf width (now (store .entry)) (now (sizes .entry))))
+        ⌝ }
+{
+    let count = sizes[0] as usize;
+    let mut k: usize = 0;
+    while k < count {
+        load_row(store, sizes, width, places, cells, links, k);
+        k += 1;
+    }
+}
+
+// .. of a state in arrays.
 pub fn load<'a>(
     store: &'a [i16; tables::CONSTRAINT_CELLS],
     sizes: &'a [u16],
@@ -79,12 +113,7 @@ pub fn load<'a>(
         ≡ map (codes D) (rowsOf (paper .numbers) (now (store .entry)) (now (sizes .entry))))
         ⌝ }
 {
-    let count = sizes[0] as usize;
-    let mut k: usize = 0;
-    while k < count {
-        load_row(store, sizes, places, cells, links, k);
-        k += 1;
-    }
+    load_lent(store, sizes, tables::NUMBERS, places, cells, links);
 }
 
 // How many rows stand.
@@ -116,7 +145,7 @@ fn slot_at(newest: u64, k: usize) -> usize
 }
 
 // The literals of a row's codes, from a cell on; the cells before it stay.
-fn decode<'a>(store: &mut [i16], at: usize, row: &'a [u16], numbers: &'a [u16; tables::BY_NUMBER])
+fn decode<'a>(store: &mut [i16], at: usize, row: &'a [u16], numbers: &'a [u16])
     requires { ⌜ at + length (now row) ≤ length (now store) ⌝ }
     ensures { λ _. ⌜
         (length (now (store .exit)) ≡ length (now (store .entry)))
@@ -136,23 +165,26 @@ fn decode<'a>(store: &mut [i16], at: usize, row: &'a [u16], numbers: &'a [u16; t
     }
 }
 
-// The row that stands at index k is written into row k of the table; the rows before it stay.
+// The row that stands at index k is written into row k of the table, of so many cells; the rows before it stay.
 fn unload_row<'a>(
     cells: &'a [u16; tables::CONSTRAINT_CODES],
     links: &'a [u64; tables::CONSTRAINT_LINKS],
-    numbers: &'a [u16; tables::BY_NUMBER],
+    numbers: &'a [u16],
     store: &mut [i16],
     sizes: &mut [u16],
+    width: usize,
     k: usize,
 )
     requires { ⌜
         Entries (now cells) (now links)
         × (k < newestOf (now links) - baseOf (paper .constraints) (now links))
-        × (length (now store) ≡ paper .constraints * paper .numbers)
+        × (paper .constraints * width ≤ length (now store))
         × (suc (paper .constraints) ≤ length (now sizes))
+        × (length (entryAt (now cells) (now links) k) ≤ width)
         ⌝ }
     ensures { λ _. ⌜
         Unloaded
+        width
         (now (numbers .entry))
         (entryAt (now (cells .entry)) (now (links .entry)) k)
         k
@@ -164,39 +196,43 @@ fn unload_row<'a>(
 {
     let slot = slot_at(links[tables::CODES], k);
     let row = row_in(cells, links, tables::NUMBERS, tables::CONSTRAINTS, slot);
-    decode(store, k * tables::NUMBERS, row, numbers);
+    decode(store, k * width, row, numbers);
     sizes[k + 1] = row.len() as u16;
 }
 
 // The rows one after the other, from the oldest; what stands behind the sizes stays.
-fn unload_rows<'a>(
+pub fn unload_rows<'a>(
     cells: &'a [u16; tables::CONSTRAINT_CODES],
     links: &'a [u64; tables::CONSTRAINT_LINKS],
-    numbers: &'a [u16; tables::BY_NUMBER],
+    numbers: &'a [u16],
     store: &mut [i16],
     sizes: &mut [u16],
+    width: usize,
 )
     requires { ⌜
         Entries (now cells) (now links)
-        × (length (now store) ≡ paper .constraints * paper .numbers)
+        × (paper .constraints * width ≤ length (now store))
         × (suc (paper .constraints) ≤ length (now sizes))
+        × Narrow width (now cells) (now links)
         ⌝ }
     ensures { λ _. ⌜
-        Constraints (now (store .exit)) (now (sizes .exit))
+        Held width (paper .constraints) (now (store .exit)) (now (sizes .exit))
         × ((D : Prefix) (es : List Constraint)
         → Numbers D (now (numbers .entry))
         → numbersOk paper [] D ≡ true
         → entriesOf (now (cells .entry)) (now (links .entry)) ≡ map (codes D) es
         → ((e : Constraint) → Mem e es → (l : Literal) → Mem l e → 1 ≤ place D l)
-        → rowsOf (paper .numbers) (now (store .exit)) (now (sizes .exit)) ≡ es)
+        → rowsOf width (now (store .exit)) (now (sizes .exit)) ≡ es)
         × (getD (now (sizes .exit)) 0 0 ≡ newestOf (now (links .entry)) - baseOf (paper .constraints) (now (links .entry)))
         × (drop (suc (paper .constraints)) (now (sizes .exit)) ≡ drop (suc (paper .constraints)) (now (sizes .entry)))
+        × (length (now (store .exit)) ≡ length (now (store .entry)))
+        × (length (now (sizes .exit)) ≡ length (now (sizes .entry)))
         ⌝ }
 {
     let count = standing(links);
     let mut k: usize = 0;
     while k < count {
-        unload_row(cells, links, numbers, store, sizes, k);
+        unload_row(cells, links, numbers, store, sizes, width, k);
         k += 1;
     }
     sizes[0] = count as u16;
@@ -221,7 +257,7 @@ pub fn unload<'a>(
         → rowsOf (paper .numbers) (now (store .exit)) (now (sizes .exit)) ≡ es)
         ⌝ }
 {
-    unload_rows(cells, links, numbers, store, sizes);
+    unload_rows(cells, links, numbers, store, sizes, tables::NUMBERS);
 }
 
 // The number before that of the oldest row that stands.
@@ -279,6 +315,41 @@ fn write_records<'a>(
 }
 
 // .. of the learned clauses, with their records behind the sizes.
+pub fn unload_clauses_lent<'a>(
+    cells: &'a [u16; tables::CONSTRAINT_CODES],
+    links: &'a [u64; tables::CONSTRAINT_LINKS],
+    numbers: &'a [u16],
+    store: &mut [i16],
+    sizes: &mut [u16],
+    width: usize,
+    clauses: u16,
+)
+    requires { ⌜
+        Entries (now cells) (now links)
+        × (suc (paper .constraints) + paper .constraints ≤ length (now sizes))
+        × (getD (now sizes) 0 0 ≤ paper .constraints)
+        × (paper .constraints * width ≤ length (now store))
+        × Narrow width (now cells) (now links)
+        ⌝ }
+    ensures { λ _. ⌜
+        Held width (paper .constraints) (now (store .exit)) (now (sizes .exit))
+        × ((D : Prefix) (es : List Constraint)
+        → Numbers D (now (numbers .entry))
+        → numbersOk paper [] D ≡ true
+        → entriesOf (now (cells .entry)) (now (links .entry)) ≡ map (codes D) es
+        → ((e : Constraint) → Mem e es → (l : Literal) → Mem l e → 1 ≤ place D l)
+        → rowsOf width (now (store .exit)) (now (sizes .exit)) ≡ es)
+        × Recorded (now (sizes .entry)) (newestOf (now (links .entry))) clauses (now (sizes .exit))
+        × (length (now (store .exit)) ≡ length (now (store .entry)))
+        × (length (now (sizes .exit)) ≡ length (now (sizes .entry)))
+        ⌝ }
+{
+    let before = sizes[0] as usize;
+    write_records(sizes, links, before, clauses);
+    unload_rows(cells, links, numbers, store, sizes, width);
+}
+
+// .. of a state in arrays.
 pub fn unload_clauses<'a>(
     cells: &'a [u16; tables::CONSTRAINT_CODES],
     links: &'a [u64; tables::CONSTRAINT_LINKS],
@@ -299,7 +370,13 @@ pub fn unload_clauses<'a>(
         × Recorded (now (sizes .entry)) (newestOf (now (links .entry))) clauses (now (sizes .exit))
         ⌝ }
 {
-    let before = sizes[0] as usize;
-    write_records(sizes, links, before, clauses);
-    unload_rows(cells, links, numbers, store, sizes);
+    unload_clauses_lent(
+        cells,
+        links,
+        numbers,
+        store,
+        sizes,
+        tables::NUMBERS,
+        clauses,
+    );
 }

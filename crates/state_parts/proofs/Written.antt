@@ -8,9 +8,8 @@ use borrow.Rule.Slice.PartMut.{putMid}
 use lib.IntN.{ℤ}
 use lib.ListN.{length}
 use Rattle.qbf.specs.Formula.{Limits, paper}
-use Rattle.theory.proofs.Basics.{and-left}
 use Rattle.state.specs.declared.State.{State}
-use Rattle.state.specs.Reading.{stateOf, roomy, validUnder, accepted}
+use Rattle.state.specs.Reading.{stateOf, roomy}
 use Rattle.state.specs.Derived.{Sized, Roomy, CheckedUnder}
 use Rattle.state.proofs.Rooms.{room-facts}
 use Rattle.state_parts.specs.Parts.{part, byNumber, clauseCount, cubeSizes, recorded, kindsAt, clauseSizesAt, learnedClauseSizesAt, learnedCubeSizesAt, cellCount, clauseCells, learnedCells, learnedCubesAt, literalCount, stateAt, Whole, Exact}
@@ -56,9 +55,6 @@ module _ (L : Limits) (cells : List ℕ) (literals : List ℤ) where
               part-most (learnedCubesAt L) (learnedCells L) literals,
             );
       }
-
-  pub accepted-whole : accepted L (stateAt L cells literals) ≡ true → Whole L cells literals
-  accepted-whole e = roomy-whole (and-left (roomy L (stateAt L cells literals)) (validUnder L (stateAt L cells literals)) e)
 
 -- ---- one part is lent, from where it begins to where it ends, and is then ys; the others stay
 module _ (L : Limits) (cells : List ℕ) (literals : List ℤ) (w : Whole L cells literals) where

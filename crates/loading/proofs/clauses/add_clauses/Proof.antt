@@ -7,25 +7,25 @@ use native.Mathlib.Omega.{arith}
 use mathlib.Core.Path.{_≡_, refl, sym, _∙_}
 use lib.ListN.{length, getD}
 use Rattle.qbf.specs.Formula.{paper}
-use Rattle.tables.specs.Formed.{Clauses}
+use Rattle.loading.specs.Written.{Held}
 use Rattle.tables.specs.Matrices.{clauseRow}
 use Rattle.loading.specs.Coded.{SetsFor}
 use Rattle.loading.proofs.Matrix.{FilledBelow, filled-more, filled-none, matrix-shown}
 
 abbrev Inv-loop : tie.InvT-loop
-Inv-loop clauses sizes places quantifiers rows₀ sets₀ words count k₀ rows sets k = (count ≡ getD sizes 0 0) × (k ≤ count) × Clauses clauses sizes × (length rows ≡ paper .clauses * clauseRow) × (length sets ≡ length sets₀) × SetsFor words count sets₀ × FilledBelow clauses sizes places quantifiers words k sets₀ rows sets
+Inv-loop clauses sizes places quantifiers rows₀ sets₀ words count k₀ rows sets k = (count ≡ getD sizes 0 0) × (k ≤ count) × Held (paper .literals) (paper .clauses) clauses sizes × (length rows ≡ paper .clauses * clauseRow) × (length sets ≡ length sets₀) × SetsFor words count sets₀ × FilledBelow clauses sizes places quantifiers words k sets₀ rows sets
 
 abbrev μ-loop : tie.MeasureT-loop
 μ-loop clauses sizes places quantifiers rows₀ sets₀ words count k₀ rows sets k = count - k
 
-element-copy-out-count : tie.Need-element-copy-out-count Inv-loop μ-loop
-element-copy-out-count c = search needs
+shared-slice-read-count : tie.Need-shared-slice-read-count Inv-loop μ-loop
+shared-slice-read-count c = search needs
 
 cast-count : tie.Need-cast-count Inv-loop μ-loop
 cast-count c = search needs
 
 loop-holds : tie.Need-loop-holds Inv-loop μ-loop
-loop-holds c = (search needs, search needs, c .before .before .before .before .pre .0, c .before .before .before .before .pre .1, refl, c .before .before .before .before .pre .2, filled-none)
+loop-holds c = (search needs, search needs, c .before .before .before .before .before .pre .0, c .before .before .before .before .before .pre .1, refl, c .before .before .before .before .before .pre .2, filled-none)
 
 load-clause-requires : tie.Need-load-clause-requires Inv-loop μ-loop
 load-clause-requires c κs = (c .before .before .before .loop .inv .2, omega (arith, c .before .before .before .loop .inv .0), c .before .before .before .loop .inv .3, record { room = omega (arith, c .before .before .before .loop .inv .4, c .before .before .before .loop .inv .5 .room); number = omega (arith, c .before .before .before .loop .inv .5 .number) })
@@ -46,7 +46,7 @@ same-length-2 : tie.Need-same-length-2 Inv-loop μ-loop
 same-length-2 c = search needs
 
 returns : tie.Need-returns Inv-loop μ-loop
-returns c = (c .before .loop .inv .3 ∙ sym (c .before .before .before .before .before .before .pre .1), c .before .loop .inv .4, matrix-shown (c .before .loop .inv .6) (c .before .loop .inv .2) (omega (arith, c .before .loop .inv .0)))
+returns c = (c .before .loop .inv .3 ∙ sym (c .before .before .before .before .before .before .before .pre .1), c .before .loop .inv .4, matrix-shown (c .before .loop .inv .6) (c .before .loop .inv .2) (omega (arith, c .before .loop .inv .0)))
 
 pub add-clauses-spec : {M : Type 1} → statement M
 add-clauses-spec =
@@ -54,7 +54,7 @@ add-clauses-spec =
     (tie.spec
     Inv-loop
     μ-loop
-    element-copy-out-count
+    shared-slice-read-count
     cast-count
     loop-holds
     load-clause-requires

@@ -19,11 +19,11 @@ add-len c = search needs
 mul-len : tie.Need-mul-len
 mul-len c = search needs
 
-element-copy-out-len : tie.Need-element-copy-out-len
-element-copy-out-len c = search needs
+shared-slice-read-len : tie.Need-shared-slice-read-len
+shared-slice-read-len c = search needs
 
 cast-len : tie.Need-cast-len
-cast-len c = omega (arith, table-size (c .before .before .before .before .pre .0) (c .before .before .before .before .args .k) (c .before .before .before .before .pre .1))
+cast-len c = omega (arith, table-size (c .before .before .before .before .before .pre .0) (c .before .before .before .before .before .args .k) (c .before .before .before .before .before .pre .1))
 
 mul-at : tie.Need-mul-at
 mul-at c = search needs
@@ -41,7 +41,7 @@ part-code-row-start : tie.Need-part-code-row-start
 part-code-row-start c = search needs
 
 part-code-row-end : tie.Need-part-code-row-end
-part-code-row-end c = omega (arith, table-within (c .before .before .before .before .before .before .pre .0) (c .before .before .before .before .before .before .args .k) (c .before .before .before .before .before .before .pre .1), c .before .before .before .before .before .before .pre .0 .room)
+part-code-row-end c = omega (arith, table-within (c .before .before .before .before .before .before .pre .0) (c .before .before .before .before .before .before .args .k) (c .before .before .before .before .before .before .pre .1))
 
 code-row-requires : tie.Need-code-row-requires
 code-row-requires c κs = (omega (arith, ap length (row-part (paper .literals) (c .before .before .before .before .before .before .before .args .k) (now (c .before .before .before .before .before .before .before .args .clauses)) (now (c .before .before .before .before .before .before .before .args .sizes))), row-short (c .before .before .before .before .before .before .before .pre .0) (c .before .before .before .before .before .before .before .args .k) (c .before .before .before .before .before .before .before .pre .1), c .before .before .before .before .before .before .before .pre .0 .few, c .before .before .before .before .before .before .before .pre .1, c .before .before .before .before .before .before .before .pre .2), omega (arith, ap length (row-part (paper .literals) (c .before .before .before .before .before .before .before .args .k) (now (c .before .before .before .before .before .before .before .args .clauses)) (now (c .before .before .before .before .before .before .before .args .sizes))), row-short (c .before .before .before .before .before .before .before .pre .0) (c .before .before .before .before .before .before .before .args .k) (c .before .before .before .before .before .before .before .pre .1)))
@@ -95,7 +95,7 @@ load-clause-spec =
     mul-from
     add-len
     mul-len
-    element-copy-out-len
+    shared-slice-read-len
     cast-len
     mul-at
     add-code-row

@@ -13,10 +13,10 @@ use Rattle.qbf.specs.Formula.{paper}
 use Rattle.qbf.specs.Learning.{push}
 use Rattle.tables.specs.Codes.{codes}
 use Rattle.tables.specs.Shelves.{entriesOf}
-use Rattle.loading.proofs.Rows.{table-size, table-within, row-is, coded, part-long}
+use Rattle.loading.proofs.Rows.{size-within, table-within, row-is, coded, part-long}
 
 mul-from : tie.Need-mul-from
-mul-from c = search needs
+mul-from c = omega (arith, table-within (c .before .before .pre .0) (c .before .before .args .k) (c .before .before .pre .3))
 
 add-len : tie.Need-add-len
 add-len c = search needs
@@ -28,16 +28,16 @@ shared-slice-read-len : tie.Need-shared-slice-read-len
 shared-slice-read-len c = search needs
 
 cast-len : tie.Need-cast-len
-cast-len c = omega (arith, table-size (c .before .before .pre .0) (c .before .before .args .k) (c .before .before .pre .3))
+cast-len c = omega (arith, size-within (c .before .before .before .pre .0) (c .before .before .before .args .k) (c .before .before .before .pre .3) (c .before .before .before .pre .4))
 
 slice-aggregate-encode : tie.Need-slice-aggregate-encode
 slice-aggregate-encode c = search needs
 
 add-encode : tie.Need-add-encode
-add-encode c = omega (arith, table-within (c .before .before .before .before .pre .0) (c .before .before .before .before .args .k) (c .before .before .before .before .pre .3), c .before .before .before .before .pre .0 .room)
+add-encode c = omega (arith, table-within (c .before .before .before .before .pre .0) (c .before .before .before .before .args .k) (c .before .before .before .before .pre .3))
 
 mul-encode : tie.Need-mul-encode
-mul-encode c = search needs
+mul-encode c = omega (arith, table-within (c .before .before .before .before .pre .0) (c .before .before .before .before .args .k) (c .before .before .before .before .pre .3))
 
 sub-encode : tie.Need-sub-encode
 sub-encode c = search needs
@@ -46,22 +46,22 @@ part-encode-start : tie.Need-part-encode-start
 part-encode-start c = search needs
 
 part-encode-end : tie.Need-part-encode-end
-part-encode-end c = omega (arith, table-within (c .before .before .before .before .pre .0) (c .before .before .before .before .args .k) (c .before .before .before .before .pre .3), c .before .before .before .before .pre .0 .room)
+part-encode-end c = omega (arith, table-within (c .before .before .before .before .pre .0) (c .before .before .before .before .args .k) (c .before .before .before .before .pre .3))
 
 encode-requires : tie.Need-encode-requires
-encode-requires c κs = let z : (c .before .before .before .before .before .before .args .k * 40 + getD (now (c .before .before .before .before .before .before .args .sizes)) (c .before .before .before .before .before .before .args .k + 1) 0) - c .before .before .before .before .before .before .args .k * 40 ≡ getD (now (c .before .before .before .before .before .before .args .sizes)) (c .before .before .before .before .before .before .args .k + 1) 0 = omega arith in rw z (omega (arith, part-long (c .before .before .before .before .before .before .args .k * 40) (getD (now (c .before .before .before .before .before .before .args .sizes)) (c .before .before .before .before .before .before .args .k + 1) 0) (now (c .before .before .before .before .before .before .args .store)) (omega (arith, table-within (c .before .before .before .before .before .before .pre .0) (c .before .before .before .before .before .before .args .k) (c .before .before .before .before .before .before .pre .3), c .before .before .before .before .before .before .pre .0 .room)), table-size (c .before .before .before .before .before .before .pre .0) (c .before .before .before .before .before .before .args .k) (c .before .before .before .before .before .before .pre .3)))
+encode-requires c κs = let z : (c .before .before .before .before .before .args .k * c .before .before .before .before .before .args .width + getD (now (c .before .before .before .before .before .args .sizes)) (c .before .before .before .before .before .args .k + 1) 0) - c .before .before .before .before .before .args .k * c .before .before .before .before .before .args .width ≡ getD (now (c .before .before .before .before .before .args .sizes)) (c .before .before .before .before .before .args .k + 1) 0 = omega arith in rw z (omega (arith, part-long (c .before .before .before .before .before .args .k * c .before .before .before .before .before .args .width) (getD (now (c .before .before .before .before .before .args .sizes)) (c .before .before .before .before .before .args .k + 1) 0) (now (c .before .before .before .before .before .args .store)) (omega (arith, table-within (c .before .before .before .before .before .pre .0) (c .before .before .before .before .before .args .k) (c .before .before .before .before .before .pre .3))), size-within (c .before .before .before .before .before .pre .0) (c .before .before .before .before .before .args .k) (c .before .before .before .before .before .pre .3) (c .before .before .before .before .before .pre .4)))
 
 array-share-prefix-row : tie.Need-array-share-prefix-row
-array-share-prefix-row c = omega (arith, c .before .before .before .encode .ensures .0, table-size (c .before .before .before .before .before .before .before .before .before .before .pre .0) (c .before .before .before .before .before .before .before .before .before .before .args .k) (c .before .before .before .before .before .before .before .before .before .before .pre .3))
+array-share-prefix-row c = omega (arith, c .before .before .before .encode .ensures .0, size-within (c .before .before .before .before .before .before .before .before .before .pre .0) (c .before .before .before .before .before .before .before .before .before .args .k) (c .before .before .before .before .before .before .before .before .before .pre .3) (c .before .before .before .before .before .before .before .before .before .pre .4))
 
 slice-aggregate-push : tie.Need-slice-aggregate-push
-slice-aggregate-push c = sym (length-take-le (getD (now (c .before .before .before .before .before .before .before .before .before .before .before .args .sizes)) (c .before .before .before .before .before .before .before .before .before .before .before .args .k + 1) 0) (c .before .before .before .before .encode .last .0) (omega (arith, c .before .before .before .before .encode .ensures .0, table-size (c .before .before .before .before .before .before .before .before .before .before .before .pre .0) (c .before .before .before .before .before .before .before .before .before .before .before .args .k) (c .before .before .before .before .before .before .before .before .before .before .before .pre .3))))
+slice-aggregate-push c = sym (length-take-le (getD (now (c .before .before .before .before .before .before .before .before .before .before .args .sizes)) (c .before .before .before .before .before .before .before .before .before .before .args .k + 1) 0) (c .before .before .before .before .encode .last .0) (omega (arith, c .before .before .before .before .encode .ensures .0, size-within (c .before .before .before .before .before .before .before .before .before .before .pre .0) (c .before .before .before .before .before .before .before .before .before .before .args .k) (c .before .before .before .before .before .before .before .before .before .before .pre .3) (c .before .before .before .before .before .before .before .before .before .before .pre .4))))
 
 push-requires : tie.Need-push-requires
-push-requires c κs = (c .before .before .before .before .before .before .before .before .before .before .before .pre .1, search needs, search needs, search needs, omega (arith, length-take-le (getD (now (c .before .before .before .before .before .before .before .before .before .before .before .args .sizes)) (c .before .before .before .before .before .before .before .before .before .before .before .args .k + 1) 0) (c .before .before .before .before .encode .last .0) (omega (arith, c .before .before .before .before .encode .ensures .0, table-size (c .before .before .before .before .before .before .before .before .before .before .before .pre .0) (c .before .before .before .before .before .before .before .before .before .before .before .args .k) (c .before .before .before .before .before .before .before .before .before .before .before .pre .3))), table-size (c .before .before .before .before .before .before .before .before .before .before .before .pre .0) (c .before .before .before .before .before .before .before .before .before .before .before .args .k) (c .before .before .before .before .before .before .before .before .before .before .before .pre .3)), c .before .before .before .before .encode .ensures .1 (getD (now (c .before .before .before .before .before .before .before .before .before .before .before .args .sizes)) (c .before .before .before .before .before .before .before .before .before .before .before .args .k + 1) 0) (let z : (c .before .before .before .before .before .before .before .before .before .before .before .args .k * 40 + getD (now (c .before .before .before .before .before .before .before .before .before .before .before .args .sizes)) (c .before .before .before .before .before .before .before .before .before .before .before .args .k + 1) 0) - c .before .before .before .before .before .before .before .before .before .before .before .args .k * 40 ≡ getD (now (c .before .before .before .before .before .before .before .before .before .before .before .args .sizes)) (c .before .before .before .before .before .before .before .before .before .before .before .args .k + 1) 0 = omega arith in rw z (omega (arith, part-long (c .before .before .before .before .before .before .before .before .before .before .before .args .k * 40) (getD (now (c .before .before .before .before .before .before .before .before .before .before .before .args .sizes)) (c .before .before .before .before .before .before .before .before .before .before .before .args .k + 1) 0) (now (c .before .before .before .before .before .before .before .before .before .before .before .args .store)) (omega (arith, table-within (c .before .before .before .before .before .before .before .before .before .before .before .pre .0) (c .before .before .before .before .before .before .before .before .before .before .before .args .k) (c .before .before .before .before .before .before .before .before .before .before .before .pre .3), c .before .before .before .before .before .before .before .before .before .before .before .pre .0 .room))))), omega (arith, c .before .before .before .before .before .before .before .before .before .before .before .pre .2, c .before .before .before .before .before .before .before .before .before .before .before .pre .3, c .before .before .before .before .before .before .before .before .before .before .before .pre .0 .few))
+push-requires c κs = (c .before .before .before .before .before .before .before .before .before .before .pre .1, search needs, search needs, search needs, omega (arith, length-take-le (getD (now (c .before .before .before .before .before .before .before .before .before .before .args .sizes)) (c .before .before .before .before .before .before .before .before .before .before .args .k + 1) 0) (c .before .before .before .before .encode .last .0) (omega (arith, c .before .before .before .before .encode .ensures .0, size-within (c .before .before .before .before .before .before .before .before .before .before .pre .0) (c .before .before .before .before .before .before .before .before .before .before .args .k) (c .before .before .before .before .before .before .before .before .before .before .pre .3) (c .before .before .before .before .before .before .before .before .before .before .pre .4))), size-within (c .before .before .before .before .before .before .before .before .before .before .pre .0) (c .before .before .before .before .before .before .before .before .before .before .args .k) (c .before .before .before .before .before .before .before .before .before .before .pre .3) (c .before .before .before .before .before .before .before .before .before .before .pre .4)), c .before .before .before .before .encode .ensures .1 (getD (now (c .before .before .before .before .before .before .before .before .before .before .args .sizes)) (c .before .before .before .before .before .before .before .before .before .before .args .k + 1) 0) (let z : (c .before .before .before .before .before .before .before .before .before .before .args .k * c .before .before .before .before .before .before .before .before .before .before .args .width + getD (now (c .before .before .before .before .before .before .before .before .before .before .args .sizes)) (c .before .before .before .before .before .before .before .before .before .before .args .k + 1) 0) - c .before .before .before .before .before .before .before .before .before .before .args .k * c .before .before .before .before .before .before .before .before .before .before .args .width ≡ getD (now (c .before .before .before .before .before .before .before .before .before .before .args .sizes)) (c .before .before .before .before .before .before .before .before .before .before .args .k + 1) 0 = omega arith in rw z (omega (arith, part-long (c .before .before .before .before .before .before .before .before .before .before .args .k * c .before .before .before .before .before .before .before .before .before .before .args .width) (getD (now (c .before .before .before .before .before .before .before .before .before .before .args .sizes)) (c .before .before .before .before .before .before .before .before .before .before .args .k + 1) 0) (now (c .before .before .before .before .before .before .before .before .before .before .args .store)) (omega (arith, table-within (c .before .before .before .before .before .before .before .before .before .before .pre .0) (c .before .before .before .before .before .before .before .before .before .before .args .k) (c .before .before .before .before .before .before .before .before .before .before .pre .3)))))), omega (arith, c .before .before .before .before .before .before .before .before .before .before .pre .2, c .before .before .before .before .before .before .before .before .before .before .pre .3, c .before .before .before .before .before .before .before .before .before .before .pre .0 .few))
 
 returns : tie.Need-returns
-returns c = (c .push .ensures .0, c .push .ensures .2 ∙ ap suc (c .before .before .before .before .before .before .before .before .before .before .before .before .pre .2), λ D p few. c .push .ensures .1 ∙ ap (λ (x : List ℕ). push (paper .constraints) x (entriesOf (now (c .before .before .before .before .before .before .before .before .before .before .before .before .args .cells)) (now (c .before .before .before .before .before .before .before .before .before .before .before .before .args .links)))) (coded (c .before .before .before .before .before .before .before .before .before .before .before .before .args .k * 40) (getD (now (c .before .before .before .before .before .before .before .before .before .before .before .before .args .sizes)) (c .before .before .before .before .before .before .before .before .before .before .before .before .args .k + 1) 0) ((c .before .before .before .before .before .before .before .before .before .before .before .before .args .k * 40 + getD (now (c .before .before .before .before .before .before .before .before .before .before .before .before .args .sizes)) (c .before .before .before .before .before .before .before .before .before .before .before .before .args .k + 1) 0) - c .before .before .before .before .before .before .before .before .before .before .before .before .args .k * 40) (c .before .before .before .before .before .encode .last .0) (now (c .before .before .before .before .before .before .before .before .before .before .before .before .args .store)) D (omega arith) (omega (arith, table-within (c .before .before .before .before .before .before .before .before .before .before .before .before .pre .0) (c .before .before .before .before .before .before .before .before .before .before .before .before .args .k) (c .before .before .before .before .before .before .before .before .before .before .before .before .pre .3), c .before .before .before .before .before .before .before .before .before .before .before .before .pre .0 .room)) (c .before .before .before .before .before .encode .ensures .2 D p few) ∙ ap (codes D) (row-is 40 (c .before .before .before .before .before .before .before .before .before .before .before .before .args .k) (now (c .before .before .before .before .before .before .before .before .before .before .before .before .args .store)) (now (c .before .before .before .before .before .before .before .before .before .before .before .before .args .sizes)))))
+returns c = (c .push .ensures .0, c .push .ensures .2 ∙ ap suc (c .before .before .before .before .before .before .before .before .before .before .before .pre .2), λ D p few. c .push .ensures .1 ∙ ap (λ (x : List ℕ). push (paper .constraints) x (entriesOf (now (c .before .before .before .before .before .before .before .before .before .before .before .args .cells)) (now (c .before .before .before .before .before .before .before .before .before .before .before .args .links)))) (coded (c .before .before .before .before .before .before .before .before .before .before .before .args .k * c .before .before .before .before .before .before .before .before .before .before .before .args .width) (getD (now (c .before .before .before .before .before .before .before .before .before .before .before .args .sizes)) (c .before .before .before .before .before .before .before .before .before .before .before .args .k + 1) 0) ((c .before .before .before .before .before .before .before .before .before .before .before .args .k * c .before .before .before .before .before .before .before .before .before .before .before .args .width + getD (now (c .before .before .before .before .before .before .before .before .before .before .before .args .sizes)) (c .before .before .before .before .before .before .before .before .before .before .before .args .k + 1) 0) - c .before .before .before .before .before .before .before .before .before .before .before .args .k * c .before .before .before .before .before .before .before .before .before .before .before .args .width) (c .before .before .before .before .before .encode .last .0) (now (c .before .before .before .before .before .before .before .before .before .before .before .args .store)) D (omega arith) (omega (arith, table-within (c .before .before .before .before .before .before .before .before .before .before .before .pre .0) (c .before .before .before .before .before .before .before .before .before .before .before .args .k) (c .before .before .before .before .before .before .before .before .before .before .before .pre .3))) (c .before .before .before .before .before .encode .ensures .2 D p few) ∙ ap (codes D) (row-is (c .before .before .before .before .before .before .before .before .before .before .before .args .width) (c .before .before .before .before .before .before .before .before .before .before .before .args .k) (now (c .before .before .before .before .before .before .before .before .before .before .before .args .store)) (now (c .before .before .before .before .before .before .before .before .before .before .before .args .sizes)))))
 
 pub load-row-spec : {M : Type 1} → statement M
 load-row-spec =
