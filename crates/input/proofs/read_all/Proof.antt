@@ -1,3 +1,4 @@
+-- `input::read_all`: the table keeps its length, and each read leaves less room.
 use Rattle.input.proofs.read_all.Statement.{statement}
 use Rattle.input.proofs.read_all.Tie as tie
 use Prim.Native.Nat.{_-_, _≤_}
@@ -24,16 +25,28 @@ same-length : tie.Need-same-length Inv-loop μ-loop
 same-length c = search needs
 
 returns : tie.Need-returns Inv-loop μ-loop
-returns c = counts (c .before .before .before .before .before .before .loop .held) (c .before .before .before .read-more .last .0) (omega (arith, c .before .before .before .read-more .ensures .size, c .before .before .before .before .before .before .loop .inv .1))
+returns c =
+    let loop = c .before .before .before .before .before .before .loop in
+    let read-more = c .before .before .before .read-more in
+    counts (loop .held) (read-more .last .0) (omega (arith, read-more .ensures .size, loop .inv .1))
 
 add-held : tie.Need-add-held Inv-loop μ-loop
-add-held c = omega (arith, c .before .before .before .read-more .ensures .room (c .before .before .before .before .before .before .loop .inv .1))
+add-held c =
+    let read-more = c .before .before .before .read-more in
+    let loop = c .before .before .before .before .before .before .loop in
+    omega (arith, read-more .ensures .room (loop .inv .1))
 
 loop-less : tie.Need-loop-less Inv-loop μ-loop
-loop-less c = omega (arith, c .before .before .before .read-more .ensures .room (c .before .before .before .before .before .before .loop .inv .1), c .before .before .before .read-more .ensures .size, c .if1 .left)
+loop-less c =
+    let read-more = c .before .before .before .read-more in
+    let loop = c .before .before .before .before .before .before .loop in
+    omega (arith, read-more .ensures .room (loop .inv .1), read-more .ensures .size, c .if1 .left)
 
 loop-again : tie.Need-loop-again Inv-loop μ-loop
-loop-again c = (c .before .before .before .read-more .ensures .size ∙ c .before .before .before .before .before .before .loop .inv .0, omega (arith, c .before .before .before .read-more .ensures .room (c .before .before .before .before .before .before .loop .inv .1), c .before .before .before .read-more .ensures .size))
+loop-again c =
+    let read-more = c .before .before .before .read-more in
+    let loop = c .before .before .before .before .before .before .loop in
+    (read-more .ensures .size ∙ loop .inv .0, omega (arith, read-more .ensures .room (loop .inv .1), read-more .ensures .size))
 
 same-length-2 : tie.Need-same-length-2 Inv-loop μ-loop
 same-length-2 c = search needs

@@ -1,3 +1,4 @@
+-- `input::read_more`: what is held stays, and what came fits behind it.
 use borrow.Author.Needs.{needs}
 use Rattle.input.proofs.read_more.Statement.{statement}
 use Rattle.input.proofs.read_more.Tie as tie
@@ -23,7 +24,10 @@ same-length : tie.Need-same-length
 same-length c = search needs
 
 returns-2 : tie.Need-returns-2
-returns-2 c = read-behind (c .before .before .before .before .before .before .args .held) (now (c .before .before .before .before .before .before .args .text)) (c .before .before .read-some .last .0) (c .before .before .read-some .ensures .0) (c .before .before .read-some .ensures .1)
+returns-2 c =
+    let args = c .before .before .before .before .before .before .args in
+    let read-some = c .before .before .read-some in
+    read-behind (args .held) (now (args .text)) (read-some .last .0) (read-some .ensures .0) (read-some .ensures .1)
 
 pub read-more-spec : {M : Type 1} → statement M
 read-more-spec =
