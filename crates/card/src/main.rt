@@ -1,5 +1,4 @@
 // The program `card`: a book on standard input, its card on standard output.
-use libc::STDIN_FILENO;
 
 // One byte more than a text may have.
 const ROOM: usize = reader::text::TEXT + 1;
@@ -12,6 +11,6 @@ fn print_card(text: &[u8], answer: &mut [u8; serve::ANSWER]) {
 fn main() {
     let mut text = [0u8; ROOM];
     let mut answer = [0u8; serve::ANSWER];
-    let held = io::read_full(STDIN_FILENO, &mut text);
+    let held = input::read_all(&mut text);
     print_card(&text[..held], &mut answer);
 }

@@ -1,5 +1,4 @@
 // The program `pages`: a book on standard input, all pages of its card on standard output.
-use libc::STDIN_FILENO;
 use printer::Made;
 
 // One byte more than a text may have.
@@ -32,6 +31,6 @@ fn main() {
     let mut text = [0u8; ROOM];
     let mut table = [tables::OPEN; reader::call::TABLE];
     let mut out = [0u8; page::lent::BYTES];
-    let held = io::read_full(STDIN_FILENO, &mut text);
+    let held = input::read_all(&mut text);
     print_text(&text[..held], &mut table, &mut out);
 }

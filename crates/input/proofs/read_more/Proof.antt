@@ -1,14 +1,9 @@
--- `input::read_more` meets its contract.
-use Prim.Native.Nat.{_-_}
+-- `input::read_more`: what is held stays, and what came fits behind it.
 use borrow.Author.Needs.{needs}
-use borrow.Rule.Slice.PartMut.{take-put}
-use denote.Ref.{now}
-use lib.ListN.{length}
 use Rattle.input.proofs.read_more.Statement.{statement}
 use Rattle.input.proofs.read_more.Tie as tie
-use Rattle.input.proofs.read_more.Reads as reads
-use Rattle.input.proofs.read_more.Lts as lts
-use Rattle.input.proofs.read_some.Reads as read-some-reads
+use denote.Ref.{now}
+use Rattle.input.proofs.Reading.{read-behind}
 
 returns : tie.Need-returns
 returns c = search needs
@@ -29,7 +24,10 @@ same-length : tie.Need-same-length
 same-length c = search needs
 
 returns-2 : tie.Need-returns-2
-returns-2 c = λ h. take-put (c .before .before .before .before .before .before .args .held) (length (now (c .before .before .before .before .before .before .args .text)) - c .before .before .before .before .before .before .args .held) (now (c .before .before .before .before .before .before .args .text)) (c .before .before .read-some .last .0) h
+returns-2 c =
+    let args = c .before .before .before .before .before .before .args in
+    let read-some = c .before .before .read-some in
+    read-behind (args .held) (now (args .text)) (read-some .last .0) (read-some .ensures .0) (read-some .ensures .1)
 
 pub read-more-spec : {M : Type 1} → statement M
 read-more-spec =
