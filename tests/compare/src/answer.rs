@@ -19,6 +19,13 @@ pub enum Call {
     Write(usize),
 }
 
+impl Call {
+    /// Whether it takes a ceiling: "query and either card".
+    pub fn searches(&self) -> bool {
+        matches!(self, Call::Query(_) | Call::Card(_) | Call::KeepCard(_))
+    }
+}
+
 #[derive(Clone, Copy, Debug, PartialEq, Eq)]
 pub enum Said {
     Refused(u8),
@@ -55,12 +62,21 @@ impl Answer {
 /// Whatever answers calls one after another: this implementation, the plain run, or a library
 /// that is compared with them.
 pub trait Subject {
-    fn call(&mut self, call: &Call) -> Answer;
+    /// A call under a ceiling on visits, which only searches have: "query and either card take a ceiling on
+    /// visits, any unsigned 32-bit number".
+    fn call_within(&mut self, call: &Call, ceiling: u32) -> Answer;
+
+    fn call(&mut self, call: &Call) -> Answer {
+        self.call_within(call, HIGHEST_CEILING)
+    }
 
     fn run(&mut self, calls: &[Call]) -> Vec<Answer> {
         calls.iter().map(|call| self.call(call)).collect()
     }
 }
+
+/// A ceiling that stops no search here: none makes so many visits.
+pub const HIGHEST_CEILING: u32 = u32::MAX;
 
 /// What a lent table holds before a call writes to it: no byte that a line or a text can have.
 pub const LENT_BYTE: u8 = 0xA5;

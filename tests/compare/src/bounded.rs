@@ -1,18 +1,14 @@
 //! Paper 02, wish 8: a book with its own limits, whose searches have a ceiling on visits.
 //!
-//! The search and the calls are those of `learning` and `solver`; here is what the wish adds to them, and
-//! mistakes that can be switched in. No program has a ceiling yet.
+//! The search under a ceiling and the calls are those of `learning` and `solver`; here are books opened under
+//! own limits, which no program has yet, and mistakes that can be switched in.
 
-use crate::answer::{Answer, Call, Said};
-use crate::learning::UNBOUNDED;
+use crate::answer::{Answer, Call, Said, Subject, HIGHEST_CEILING};
 use crate::options::{Limits, Options};
 use crate::qdimacs;
 use crate::solver::Solver;
 use crate::store::Store;
 use crate::text::{self, TextRefusal};
-
-/// "any unsigned 32-bit number".
-pub const HIGHEST_CEILING: u32 = u32::MAX;
 
 /// Mistakes that can be switched in.
 #[derive(Clone, Copy, Debug, PartialEq, Eq)]
@@ -79,41 +75,19 @@ impl Bounded {
         Ok(Bounded { solver: Solver::opened(formula, options), slip: None })
     }
 
-    pub fn call(&mut self, call: &Call, ceiling: u32) -> Answer {
-        use CeilingSlip::*;
-        let given = u64::from(ceiling);
-        let lowered = match self.slip {
-            None => return self.solver.call_within(call, given),
-            Some(NoCeiling) => UNBOUNDED,
-            Some(OneVisitMore) => given + 1,
-            Some(OneVisitLess) => given.saturating_sub(1),
-            Some(_) => given,
-        };
-        let before = self.solver.clone();
-        let mut answer = self.solver.call_within(call, lowered);
-        if self.slip == Some(StopsThoughFinished) && answer.visits == given && given > 0 {
-            answer.table.fill(0);
-            answer.said = Said::Refused(34);
-        }
-        if answer.said == Said::Refused(34) {
-            self.spoil_stopped(call, given, before, &mut answer);
-        }
-        answer
-    }
-
     /// What a slip makes of a stopped call.
-    fn spoil_stopped(&mut self, call: &Call, given: u64, mut before: Solver, answer: &mut Answer) {
+    fn spoil_stopped(&mut self, call: &Call, given: u32, mut before: Solver, answer: &mut Answer) {
         let store = &mut self.solver.state.store;
         match self.slip {
             Some(CeilingSlip::StoreLostAfter34) => *store = before.state.store,
             Some(CeilingSlip::StoreOfTheFullWalk) => {
-                before.call_within(call, UNBOUNDED);
+                before.call_within(call, HIGHEST_CEILING);
                 *store = before.state.store;
             }
             Some(CeilingSlip::LastJoinsLost) => *store = until_last_visit(before, call, given),
             Some(CeilingSlip::TableKeptAfter34) => answer.table.fill(0xA5),
             Some(CeilingSlip::FullBefore34) => {
-                let full = before.call_within(call, UNBOUNDED).said == Said::Refused(21);
+                let full = before.call_within(call, HIGHEST_CEILING).said == Said::Refused(21);
                 answer.said = if full { Said::Refused(21) } else { answer.said };
             }
             Some(CeilingSlip::NoVisitsAt34) => answer.visits = 0,
@@ -122,8 +96,32 @@ impl Bounded {
     }
 }
 
+impl Subject for Bounded {
+    fn call_within(&mut self, call: &Call, ceiling: u32) -> Answer {
+        use CeilingSlip::*;
+        let lowered = match self.slip {
+            None => return self.solver.call_within(call, ceiling),
+            Some(NoCeiling) => HIGHEST_CEILING,
+            Some(OneVisitMore) => ceiling.saturating_add(1),
+            Some(OneVisitLess) => ceiling.saturating_sub(1),
+            Some(_) => ceiling,
+        };
+        let before = self.solver.clone();
+        let mut answer = self.solver.call_within(call, lowered);
+        let exact = answer.visits == u64::from(ceiling) && ceiling > 0;
+        if self.slip == Some(StopsThoughFinished) && exact {
+            answer.table.fill(0);
+            answer.said = Said::Refused(34);
+        }
+        if answer.said == Said::Refused(34) {
+            self.spoil_stopped(call, ceiling, before, &mut answer);
+        }
+        answer
+    }
+}
+
 /// The store when the last allowed visit begins.
-fn until_last_visit(mut before: Solver, call: &Call, ceiling: u64) -> Store {
+fn until_last_visit(mut before: Solver, call: &Call, ceiling: u32) -> Store {
     before.call_within(call, ceiling.saturating_sub(1));
     before.state.store
 }

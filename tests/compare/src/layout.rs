@@ -27,15 +27,30 @@ pub fn read(line: &[u8]) -> Option<Form> {
 
 /// A line as its keyword and its items, whatever the keyword.
 pub(crate) fn items(line: &[u8]) -> Option<(&[u8], Vec<Item>)> {
+    let CallLine { keyword, items, ceiling } = call_line(line)?;
+    ceiling.is_none().then_some((keyword, items))
+}
+
+/// A line of a session: its keyword, its items, and behind them the ceiling, where one is given.
+pub(crate) struct CallLine<'a> {
+    pub keyword: &'a [u8],
+    pub items: Vec<Item>,
+    pub ceiling: Option<u32>,
+}
+
+pub(crate) fn call_line(line: &[u8]) -> Option<CallLine<'_>> {
     let mut cursor = Cursor { rest: line };
     cursor.expect(b"(")?;
     let keyword = cursor.keyword();
-    let mut items = vec![];
-    while cursor.expect(b" ").is_some() {
-        items.push(cursor.item()?);
+    let (mut items, mut ceiling) = (vec![], None);
+    while ceiling.is_none() && cursor.expect(b" ").is_some() {
+        match cursor.expect(b"(ceiling ") {
+            Some(()) => ceiling = Some(cursor.ceiling()?),
+            None => items.push(cursor.item()?),
+        }
     }
     cursor.expect(b")")?;
-    cursor.rest.is_empty().then_some((keyword, items))
+    cursor.rest.is_empty().then_some(CallLine { keyword, items, ceiling })
 }
 
 fn form(keyword: &[u8], items: &[Item]) -> Option<Form> {
@@ -93,7 +108,19 @@ impl<'a> Cursor<'a> {
     }
 
     fn number(&mut self) -> Option<i32> {
-        number(self.take_while(|byte| byte.is_ascii_digit()))
+        number(self.digits())
+    }
+
+    fn digits(&mut self) -> &'a [u8] {
+        self.take_while(|byte| byte.is_ascii_digit())
+    }
+
+    /// What stands behind `(ceiling `: "N from 0 to 4294967295, 1 to 10 digits, no leading zero".
+    fn ceiling(&mut self) -> Option<u32> {
+        let digits = std::str::from_utf8(self.digits()).ok()?;
+        self.expect(b")")?;
+        let leading_zero = digits.len() > 1 && digits.starts_with('0');
+        (!leading_zero).then(|| digits.parse().ok())?
     }
 }
 

@@ -1,5 +1,6 @@
 //! The learning search: visits, branching (step 5) and lines. Steps 1 to 4 are in `decide`.
 
+use crate::answer::HIGHEST_CEILING;
 use crate::constraint::{Constraint, Polarity};
 use crate::formula::{Formula, Quantifier};
 use crate::options::Options;
@@ -14,9 +15,6 @@ pub enum Outcome {
     Mixed,
 }
 
-/// No ceiling: no search makes so many visits.
-pub const UNBOUNDED: u64 = u64::MAX;
-
 pub struct LearningSearch<'a> {
     pub(crate) formula: &'a Formula,
     pub(crate) options: &'a Options,
@@ -28,7 +26,7 @@ pub struct LearningSearch<'a> {
     pub lines: Lines,
     pub visits: u64,
     /// No visit is made that exceeds it.
-    ceiling: u64,
+    ceiling: u32,
     /// Under a ceiling: what was joined, each with the visits made until then.
     pub learned: Vec<(u64, Constraint)>,
 }
@@ -42,7 +40,7 @@ impl<'a> LearningSearch<'a> {
         store: &'a mut Store,
         start: &[bool],
         wanted: Polarity,
-        ceiling: u64,
+        ceiling: u32,
         options: &'a Options,
     ) -> (Option<Outcome>, LearningSearch<'a>) {
         let mut search = LearningSearch {
@@ -63,7 +61,7 @@ impl<'a> LearningSearch<'a> {
 
     /// None: the ceiling stopped the search.
     fn visit(&mut self) -> Option<Outcome> {
-        if self.visits >= self.ceiling {
+        if self.visits >= u64::from(self.ceiling) {
             return None;
         }
         self.visits += 1;
@@ -173,7 +171,7 @@ impl<'a> LearningSearch<'a> {
                 self.store.learn(joined.polarity, &joined.literals, record, self.options)
             }
         };
-        if self.ceiling < UNBOUNDED {
+        if self.ceiling < HIGHEST_CEILING {
             self.learned.push((self.visits, joined.clone()));
         }
         Outcome::Decided(joined)

@@ -36,7 +36,7 @@ pub mod text;
 pub mod truth;
 pub mod write;
 
-pub use answer::{Answer, Call, Said, Subject};
+pub use answer::{Answer, Call, Said, Subject, HIGHEST_CEILING};
 pub use formula::{Formula, Literal, Quantifier, Variable};
 pub use options::{Limits, Options};
 pub use plain_run::PlainRun;

@@ -1,7 +1,7 @@
 //! Paper 02, wish 5: queries that leave flags open. No program has them yet: there a flag that is not
 //! named is off.
 
-use crate::answer::{Call, Said};
+use crate::answer::{Call, Said, Subject};
 use crate::formula::{Formula, Quantifier};
 use crate::refusal;
 use crate::solver::Solver;
@@ -76,7 +76,7 @@ impl Reading {
 pub fn query(
     solver: &mut Solver,
     reading: &Reading,
-    ceiling: u64,
+    ceiling: u32,
     slip: Option<OpenSlip>,
 ) -> (Settled, u64) {
     // 22 comes first: any search that makes no visit judges the state.
@@ -102,7 +102,7 @@ pub fn query(
     }
     let verdict = walk.visit(&mut start);
     // It reads and stores nothing, so that a stopped walk leaves nothing but its visits.
-    let most = ceiling.saturating_add(u64::from(slip == Some(OpenSlip::CeilingOneMore)));
+    let most = u64::from(ceiling) + u64::from(slip == Some(OpenSlip::CeilingOneMore));
     if walk.visits > most {
         return (Settled::Refused(34), most);
     }
@@ -116,7 +116,7 @@ pub fn query(
 }
 
 /// "Full readings behave as before".
-fn full_query(solver: &mut Solver, on: &[i16], ceiling: u64) -> (Settled, u64) {
+fn full_query(solver: &mut Solver, on: &[i16], ceiling: u32) -> (Settled, u64) {
     let answer = solver.call_within(&Call::Query(on.to_vec()), ceiling);
     let settled = match answer.said {
         Said::Swap => Settled::Swap,

@@ -16,7 +16,8 @@ pub struct PlainRun {
 }
 
 impl Subject for PlainRun {
-    fn call(&mut self, call: &Call) -> Answer {
+    /// "the plain run has the same limits and no ceiling".
+    fn call_within(&mut self, call: &Call, _: u32) -> Answer {
         match call {
             Call::Rule(literals) => self.rule(literals),
             Call::Query(on) => self.query(on),

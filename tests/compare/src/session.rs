@@ -1,9 +1,9 @@
 //! The program `session`: a book, then one call to a line, each answered when its line is read.
 
-use crate::answer::{Answer, Call, Said, Subject};
+use crate::answer::{Answer, Call, Said, Subject, HIGHEST_CEILING};
 use crate::formula::Formula;
 use crate::last_card::{LastCard, LastCardSlip};
-use crate::layout::{self, Item};
+use crate::layout::{self, CallLine, Item};
 use crate::options::Options;
 use crate::solver::Solver;
 use crate::text::{self, LARGEST_TEXT, PROGRAM_TABLE};
@@ -16,7 +16,8 @@ pub const LARGEST_LINE: usize = 65_536;
 /// What a line asks for.
 #[derive(Clone, Debug, PartialEq, Eq)]
 pub enum Request {
-    Call(Call),
+    /// A call and its ceiling.
+    Call(Call, u32),
     /// A page of the card answered last.
     Page(usize),
 }
@@ -48,8 +49,8 @@ pub fn run_on<S: Subject>(
     while let Some(asked) = read_request(&mut input)? {
         line += 1;
         let printed = match asked {
-            Some(Request::Call(call)) => {
-                let answer = subject.call(&call);
+            Some(Request::Call(call, ceiling)) => {
+                let answer = subject.call_within(&call, ceiling);
                 last.after(&call, &answer);
                 print(&call, &formula, &answer, line)
             }
@@ -93,21 +94,22 @@ fn read_request(input: &mut impl BufRead) -> io::Result<Option<Option<Request>>>
 
 /// The request on a line, without its byte 10. None: no request stands there.
 pub fn request(line: &[u8]) -> Option<Request> {
-    match layout::items(line)? {
-        (b"page", items) => match &items[..] {
-            [number] if !number.negated => Some(Request::Page(number.number as usize)),
+    let CallLine { keyword, items, ceiling } = layout::call_line(line)?;
+    if keyword == b"page" {
+        return match (&items[..], ceiling) {
+            ([number], None) if !number.negated => Some(Request::Page(number.number as usize)),
             _ => None,
-        },
-        _ => call(line).map(Request::Call),
+        };
     }
+    // "Without it the ceiling is the highest"; no other call has one.
+    let call = call(keyword, &items).filter(|call| call.searches() || ceiling.is_none())?;
+    Some(Request::Call(call, ceiling.unwrap_or(HIGHEST_CEILING)))
 }
 
-/// The call on a line, without its byte 10. None: no call stands there.
-pub fn call(line: &[u8]) -> Option<Call> {
-    let (keyword, items) = layout::items(line)?;
+fn call(keyword: &[u8], items: &[Item]) -> Option<Call> {
     let literals = || items.iter().map(|item| narrow(item.literal())).collect();
     let plain = !items.iter().any(|item| item.negated);
-    match (keyword, &items[..]) {
+    match (keyword, items) {
         (b"rule", _) => Some(Call::Rule(literals())),
         (b"withdraw", []) => Some(Call::Withdraw),
         (b"query", _) if plain => Some(Call::Query(literals())),
@@ -155,7 +157,9 @@ pub fn print(call: &Call, formula: &Formula, answer: &Answer, line: usize) -> St
         Said::Forgotten => "(forgotten)\n".into(),
         Said::Swap => format!("(swap (visits {visits}))\n"),
         Said::Keep => format!("(keep (visits {visits}))\n"),
-        Said::Refused(21) => format!("(refused 21 {line} (visits {visits}))\n"),
+        Said::Refused(number @ (21 | 34)) => {
+            format!("(refused {number} {line} (visits {visits}))\n")
+        }
         Said::Refused(number) => refusal(number, line),
         Said::Lines(count) => text::print_card(word, formula, count, &answer.table, visits),
         Said::Written(length) => String::from_utf8_lossy(&answer.table[..length]).into(),
@@ -221,6 +225,61 @@ mod tests {
             "(keepcard)",
             "(keep-)",
             "(-)",
+        ];
+        for line in others {
+            assert_eq!(on_a(&format!("{line}\n")), "(refused 1 9)\n", "{line}");
+        }
+    }
+
+    #[test]
+    fn ceilings() {
+        let card = |visits| format!("{A_CARD}(visits {visits})\n(end)\n");
+        let stopped = |visits| format!("(refused 34 9 (visits {visits}))\n");
+        let twice = |line: &str| on_a(&format!("{line}\n(card)\n"));
+        assert_eq!(twice("(card (ceiling 10))"), stopped(10) + &card(9));
+        assert_eq!(twice("(card 3 (ceiling 10))"), stopped(10) + &card(9));
+        assert_eq!(twice("(card 4 (ceiling 0))"), stopped(0) + &card(11));
+        assert_eq!(on_a("(card 4 (ceiling 11))\n"), card(11));
+        assert_eq!(on_a("(card 3 (ceiling 11))\n"), "(refused 21 9 (visits 11))\n");
+        assert_eq!(on_a("(keep-card (ceiling 10))\n"), stopped(10));
+        assert_eq!(on_a("(keep-card 4 (ceiling 4294967295))\n"), on_a("(keep-card)\n"));
+        assert_eq!(on_a("(query 1 (ceiling 2))\n"), stopped(2));
+        assert_eq!(on_a("(query 1 (ceiling 3))\n"), "(keep (visits 3))\n");
+        assert_eq!(on_a("(query (ceiling 0))\n"), stopped(0));
+        assert_eq!(on_a("(query 3 (ceiling 0))\n"), "(refused 8 9)\n");
+        let lost = stopped(0) + "(refused 36 10)\n";
+        assert_eq!(on_a("(card (ceiling 0))\n(page 1)\n"), lost);
+        let others = [
+            "(card (ceiling 4294967296))",
+            "(card (ceiling 10000000000))",
+            "(card (ceiling 99999999999999999999))",
+            "(card (ceiling 00))",
+            "(card (ceiling 01))",
+            "(card (ceiling))",
+            "(card (ceiling ))",
+            "(card (ceiling +1))",
+            "(card (ceiling -1))",
+            "(card (ceiling 1)",
+            "(card (ceiling 1",
+            "(card (ceiling 1) )",
+            "(card  (ceiling 1))",
+            "(card (ceiling  1))",
+            "(card (ceiling 1 ))",
+            "(card (ceiling 1 1))",
+            "(card (ceiling (no 1)))",
+            "(card (ceiling 1)(ceiling 1))",
+            "(card (ceiling 1) (ceiling 1))",
+            "(card (ceiling 1) 4)",
+            "(card ceiling 1)",
+            "(card (Ceiling 1))",
+            "(query (ceiling 1) 1)",
+            "(rule 1 (ceiling 1))",
+            "(withdraw (ceiling 1))",
+            "(forget (ceiling 1))",
+            "(write (ceiling 1))",
+            "(write 200 (ceiling 1))",
+            "(page 1 (ceiling 1))",
+            "(ceiling 1)",
         ];
         for line in others {
             assert_eq!(on_a(&format!("{line}\n")), "(refused 1 9)\n", "{line}");

@@ -1,10 +1,10 @@
 //! The calls on a state, answered by the learning search.
 
-use crate::answer::{Answer, Call, Said, Subject, LENT_BYTE};
+use crate::answer::{Answer, Call, Said, Subject, HIGHEST_CEILING, LENT_BYTE};
 use crate::check;
 use crate::constraint::Polarity;
 use crate::formula::{Formula, Literal};
-use crate::learning::{LearningSearch, Outcome, UNBOUNDED};
+use crate::learning::{LearningSearch, Outcome};
 use crate::options::Options;
 use crate::refusal;
 use crate::slip::Slip;
@@ -29,15 +29,7 @@ pub struct Solver {
 }
 
 impl Subject for Solver {
-    fn call(&mut self, call: &Call) -> Answer {
-        self.call_within(call, UNBOUNDED)
-    }
-}
-
-impl Solver {
-    /// A call under a ceiling on visits, which only searches have: "query and either card take a ceiling
-    /// on visits".
-    pub fn call_within(&mut self, call: &Call, ceiling: u64) -> Answer {
+    fn call_within(&mut self, call: &Call, ceiling: u32) -> Answer {
         match call {
             Call::Rule(literals) => self.rule(literals),
             Call::Withdraw => self.withdraw(),
@@ -57,7 +49,9 @@ impl Solver {
             }
         }
     }
+}
 
+impl Solver {
     pub fn new(state: State, options: Options) -> Solver {
         let opened = state.formula.clauses.len();
         Solver { state, options, opened }
@@ -110,7 +104,7 @@ impl Solver {
     }
 
     /// "A query starts at the node of all its flags", where "a flag not named is off".
-    fn query(&mut self, on: &[i16], ceiling: u64) -> Answer {
+    fn query(&mut self, on: &[i16], ceiling: u32) -> Answer {
         let refused = refusal::of_query(&self.state.formula, on, &self.options);
         if let Some(number) = self.first_refusal(refused) {
             return Answer::new(Said::Refused(number));
@@ -131,11 +125,11 @@ impl Solver {
     /// "Card writes to a lent byte table and returns lines and visits." The answer carries the
     /// table's bytes as well.
     pub fn card(&mut self, table: &mut [u8]) -> Answer {
-        self.lines(Polarity::Cube, table, UNBOUNDED)
+        self.lines(Polarity::Cube, table, HIGHEST_CEILING)
     }
 
     /// "Make the keep card in the same way, with topmost No nodes."
-    fn keep_card(&mut self, table: &mut [u8], ceiling: u64) -> Answer {
+    fn keep_card(&mut self, table: &mut [u8], ceiling: u32) -> Answer {
         let store = self.state.store.clone();
         if self.options.slips(Slip::KeepCardStartsEmpty) {
             self.state.store = Store::default();
@@ -151,7 +145,7 @@ impl Solver {
     }
 
     /// The lines of a verdict, which a constraint's polarity stands for.
-    fn lines(&mut self, wanted: Polarity, table: &mut [u8], ceiling: u64) -> Answer {
+    fn lines(&mut self, wanted: Polarity, table: &mut [u8], ceiling: u32) -> Answer {
         if let Some(number) = self.first_refusal(None) {
             table.fill(0);
             return Answer { said: Said::Refused(number), table: table.to_vec(), visits: 0 };

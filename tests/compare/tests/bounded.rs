@@ -1,7 +1,7 @@
 //! Paper 02, wish 8: own limits and a ceiling on visits, against the figures of the team's readings and by
 //! brute force. Visits as learning/plain.
 
-use compare::bounded::{limits, Bounded, CeilingSlip, ALL, HIGHEST_CEILING};
+use compare::bounded::{limits, Bounded, CeilingSlip, ALL};
 use compare::constraint::Polarity;
 use compare::finder::{Case, Shape, Source};
 use compare::learning::LearningSearch;
@@ -10,6 +10,7 @@ use compare::solver::start_node;
 use compare::text::TextRefusal;
 use compare::{
     refusal, Answer, Call, Limits, Options, PlainRun, Said, Solver, State, Store, Subject,
+    HIGHEST_CEILING,
 };
 
 const A: &str =
@@ -31,35 +32,35 @@ fn stopped(visits: u64, length: usize) -> Answer {
 #[test]
 fn figures_of_the_readings() {
     let mut a = opened(A);
-    assert_eq!(a.call(&Call::Card(4), 10), stopped(10, 4));
+    assert_eq!(a.call_within(&Call::Card(4), 10), stopped(10, 4));
     let card = |visits| Answer { said: Said::Lines(2), table: vec![1, 2, 2, 2], visits };
-    assert_eq!(a.call(&Call::Card(4), HIGHEST_CEILING), card(9));
-    assert_eq!(opened(A).call(&Call::Card(4), 11), card(11));
+    assert_eq!(a.call_within(&Call::Card(4), HIGHEST_CEILING), card(9));
+    assert_eq!(opened(A).call_within(&Call::Card(4), 11), card(11));
     let mut b = opened(B);
-    assert_eq!(b.call(&Call::Card(1), 3), stopped(3, 1));
+    assert_eq!(b.call_within(&Call::Card(1), 3), stopped(3, 1));
     assert_eq!(b.solver.state.store, Store::default());
     let card = |visits| Answer { said: Said::Lines(0), table: vec![0], visits };
-    assert_eq!(b.call(&Call::Card(1), 4), card(4));
+    assert_eq!(b.call_within(&Call::Card(1), 4), card(4));
     assert_eq!(b.solver.state.store.clauses, [[0; 0]]);
-    assert_eq!(b.call(&Call::Card(1), 1), card(1));
-    assert_eq!(b.call(&Call::KeepCard(0), 0), stopped(0, 0));
+    assert_eq!(b.call_within(&Call::Card(1), 1), card(1));
+    assert_eq!(b.call_within(&Call::KeepCard(0), 0), stopped(0, 0));
 }
 
 /// 22 and 8 come first, and a search is 34 before 21.
 #[test]
 fn order_of_refusals() {
     let mut a = opened(A);
-    assert_eq!(a.call(&Call::Query(vec![3]), 0).said, Said::Refused(8));
-    assert_eq!(a.call(&Call::Query(vec![1]), 0), stopped(0, 0));
-    assert_eq!(a.call(&Call::Card(3), 10), stopped(10, 3));
-    assert_eq!(opened(A).call(&Call::Card(3), 11).said, Said::Refused(21));
+    assert_eq!(a.call_within(&Call::Query(vec![3]), 0).said, Said::Refused(8));
+    assert_eq!(a.call_within(&Call::Query(vec![1]), 0), stopped(0, 0));
+    assert_eq!(a.call_within(&Call::Card(3), 10), stopped(10, 3));
+    assert_eq!(opened(A).call_within(&Call::Card(3), 11).said, Said::Refused(21));
     let mut spoiled = opened(A);
     spoiled.solver.state.store.cubes.push(vec![1, 3]);
     for call in [Call::Query(vec![1]), Call::Card(4), Call::KeepCard(4)] {
-        assert_eq!(spoiled.call(&call, 0).said, Said::Refused(22));
+        assert_eq!(spoiled.call_within(&call, 0).said, Said::Refused(22));
     }
     for call in [Call::Forget, Call::Withdraw, Call::Rule(vec![1]), Call::Write(200)] {
-        assert!(!matches!(opened(A).call(&call, 0).said, Said::Refused(_)), "{call}");
+        assert!(!matches!(opened(A).call_within(&call, 0).said, Said::Refused(_)), "{call}");
     }
 }
 
@@ -75,8 +76,8 @@ fn a_thousand_variables() {
         let mut plain =
             PlainRun::new(chain.solver.state.formula.clone(), chain.solver.options.limits);
         let card = Answer { said: Said::Lines(1), table: vec![2], visits: 3_999 };
-        assert_eq!(chain.clone().call(&Call::Card(1), 3_998), stopped(3_998, 1));
-        assert_eq!(chain.call(&Call::Card(1), 3_999), card);
+        assert_eq!(chain.clone().call_within(&Call::Card(1), 3_998), stopped(3_998, 1));
+        assert_eq!(chain.call_within(&Call::Card(1), 3_999), card);
         assert_eq!(plain.call(&Call::Card(1)), card);
     });
     chain.expect("a thread").join().expect("no panic");
@@ -160,13 +161,14 @@ fn search_of(state: &State, call: &Call, options: &Options) -> Option<(Vec<bool>
 }
 
 /// The store after the joins of the full search that were made before visit `ceiling + 1`.
-fn kept(state: &State, call: &Call, ceiling: u64, visits: u64, options: &Options) -> Store {
+fn kept(state: &State, call: &Call, ceiling: u32, visits: u32, options: &Options) -> Store {
     let (start, wanted) = search_of(state, call, options).expect("a search");
     let mut other = state.clone();
     let State { formula, store } = &mut other;
     // With as many visits as it needs the search is the full one.
     let (_, search) = LearningSearch::run(formula, store, &start, wanted, visits, options);
-    let joins: Vec<_> = search.learned.into_iter().filter(|(at, _)| *at <= ceiling).collect();
+    let joins: Vec<_> =
+        search.learned.into_iter().filter(|(at, _)| *at <= u64::from(ceiling)).collect();
     let (mut store, standing) = (state.store.clone(), state.formula.clauses.len());
     for (_, joined) in joins {
         store.learn(joined.polarity, &joined.literals, standing, options);
@@ -179,17 +181,18 @@ fn check_ceilings(solver: &Solver, call: &Call, plain_visits: u64, words: &str) 
     let mut full = solver.clone();
     let answer = full.call(call);
     let searches = search_of(&solver.state, call, &solver.options).is_some();
-    for ceiling in 0..=answer.visits + 1 {
+    let visits = answer.visits as u32;
+    for ceiling in 0..=visits + 1 {
         let mut within = solver.clone();
         let bounded = within.call_within(call, ceiling);
-        if !searches || ceiling >= answer.visits {
+        if !searches || ceiling >= visits {
             assert_eq!((&bounded, &within.state), (&answer, &full.state), "{call}\n{words}");
             continue;
         }
-        let zeroed = stopped(ceiling, answer.table.len());
+        let zeroed = stopped(ceiling.into(), answer.table.len());
         assert_eq!(bounded, zeroed, "{call}, ceiling {ceiling}\n{words}");
-        assert!(ceiling < plain_visits, "{call}: the plain walk fits\n{words}");
-        let store = kept(&solver.state, call, ceiling, answer.visits, &solver.options);
+        assert!(u64::from(ceiling) < plain_visits, "{call}: the plain walk fits\n{words}");
+        let store = kept(&solver.state, call, ceiling, visits, &solver.options);
         let state = State { formula: solver.state.formula.clone(), store };
         assert_eq!(within.state, state, "{call}, ceiling {ceiling}\n{words}");
     }
@@ -206,7 +209,7 @@ fn every_ceiling_by_brute_force() {
             let plain_visits = plain.call(call).visits;
             check_ceilings(&solver, call, plain_visits, &format!("{case:?}"));
             // Now and then the list goes on from a stopped call.
-            let ceiling = random.pick(&[u64::MAX, u64::MAX, 0, 1, 3, 6]);
+            let ceiling = random.pick(&[HIGHEST_CEILING, HIGHEST_CEILING, 0, 1, 3, 6]);
             solver.call_within(call, ceiling);
         }
     }
@@ -224,13 +227,13 @@ fn lists_under_ceilings_are_the_plain_run() {
         let mut solver = Solver::new(case.state.clone(), Options::with(case.limits));
         let mut plain = PlainRun::new(case.state.formula.clone(), case.limits);
         for call in &case.calls {
-            let ceiling = random.pick(&[0, 1, 2, 3, 4, 6, 9, 14, 30, u64::MAX]);
+            let ceiling = random.pick(&[0, 1, 2, 3, 4, 6, 9, 14, 30, HIGHEST_CEILING]);
             let (answer, plain_answer) = (solver.call_within(call, ceiling), plain.call(call));
             assert!(answer.visits <= plain_answer.visits, "{call}\n{case:?}");
-            assert!(answer.visits <= ceiling, "{call}\n{case:?}");
+            assert!(answer.visits <= ceiling.into(), "{call}\n{case:?}");
             if answer.said == Said::Refused(34) {
-                assert_eq!(answer.visits, ceiling, "{call}\n{case:?}");
-                assert!(plain_answer.visits > ceiling, "{call}\n{case:?}");
+                assert_eq!(answer.visits, ceiling.into(), "{call}\n{case:?}");
+                assert!(plain_answer.visits > ceiling.into(), "{call}\n{case:?}");
                 halted += 1;
             } else {
                 assert!(answer.same_reply(&plain_answer), "{call}\n{case:?}");
@@ -249,9 +252,9 @@ fn shows(case: &Case, slip: CeilingSlip, random: &mut Random) -> bool {
     let mut right = Bounded { solver, slip: None };
     let mut slipped = Bounded { slip: Some(slip), ..right.clone() };
     case.calls.iter().any(|call| {
-        let needed = right.clone().call(call, HIGHEST_CEILING).visits as u32;
+        let needed = right.clone().call_within(call, HIGHEST_CEILING).visits as u32;
         let ceiling = needed.saturating_add_signed(random.between(0, 4) as i32 - 3);
-        right.call(call, ceiling) != slipped.call(call, ceiling)
+        right.call_within(call, ceiling) != slipped.call_within(call, ceiling)
     })
 }
 

@@ -1,12 +1,15 @@
 //! The stored cases, the examples and the vectors of the source documents, on this implementation.
 
+use compare::bounded::{self, Bounded, CeilingSlip};
 use compare::cases::{self, Program, StoredCase};
 use compare::editions::{self, EditionSlip, Reads};
 use compare::last_card;
 use compare::page::{self, PageSlip};
 use compare::qdimacs;
 use compare::slip::{Slip, ALL};
-use compare::{session, text, truth, Call, Options, PlainRun, Said, Solver, Subject};
+use compare::{
+    session, text, truth, Answer, Call, Formula, Options, PlainRun, Said, Solver, Subject,
+};
 
 fn hold(cases: Vec<StoredCase>, least: usize, printed: impl Fn(&StoredCase) -> Vec<u8>) {
     assert!(cases.len() >= least, "only {} cases", cases.len());
@@ -32,7 +35,7 @@ fn cards() {
 
 #[test]
 fn sessions() {
-    hold(cases::stored(Program::Session).expect("cases can be read"), 80, as_printed);
+    hold(cases::stored(Program::Session).expect("cases can be read"), 170, as_printed);
 }
 
 #[test]
@@ -61,7 +64,9 @@ fn every_slip_of_editions_changes_a_case() {
     for (slip, words) in editions::ALL {
         let options = Options::paper();
         let differs = |case: &StoredCase| match case.program {
-            Program::Tag => editions::tag_program(&case.input, &options, Some(*slip)) != case.expected,
+            Program::Tag => {
+                editions::tag_program(&case.input, &options, Some(*slip)) != case.expected
+            }
             Program::Untag => {
                 editions::untag_program(&case.input, &options, Some(*slip)) != case.expected
             }
@@ -175,13 +180,23 @@ fn vectors() {
     hold(cases::vectors().expect("vectors can be read"), 36, verdicts);
 }
 
-/// An output with every count of visits taken out.
-fn without_visits(output: &[u8]) -> String {
-    let output = String::from_utf8_lossy(output);
-    let mut parts = output.split("(visits ");
-    let first = parts.next().unwrap_or_default().to_owned();
-    let rest = parts.map(|part| part.trim_start_matches(|c: char| c.is_ascii_digit()));
-    first + &rest.collect::<String>()
+/// A session's calls, answered by the plain run as well.
+struct BesidePlain {
+    solver: Solver,
+    plain: PlainRun,
+}
+
+impl Subject for BesidePlain {
+    /// "only a stopped call's answer is not compared with it, its visits still are".
+    fn call_within(&mut self, call: &Call, ceiling: u32) -> Answer {
+        let (answer, plain) = (self.solver.call_within(call, ceiling), self.plain.call(call));
+        assert!(answer.visits <= plain.visits, "{call}: {} visits", answer.visits);
+        match answer.said {
+            Said::Refused(34) => assert!(plain.visits > ceiling.into(), "{call}"),
+            _ => assert!(answer.same_reply(&plain), "{call}: {answer}; plain run: {plain}"),
+        }
+        answer
+    }
 }
 
 /// Demand 3 on the stored sessions: the plain run answers them alike, but for its visits.
@@ -190,10 +205,38 @@ fn sessions_of_the_plain_run() {
     let options = Options::paper();
     for case in cases::stored(Program::Session).expect("cases can be read") {
         let mut output = vec![];
-        let start = |formula| PlainRun::new(formula, options.limits);
+        let start = |formula: Formula| BesidePlain {
+            plain: PlainRun::new(formula.clone(), options.limits),
+            solver: Solver::opened(formula, options),
+        };
         session::run_on(&case.input[..], &mut output, &options, None, start)
             .expect("bytes in and out");
-        assert_eq!(without_visits(&output), without_visits(&case.expected), "{}", case.name);
+        assert!(output == case.expected, "{}", case.name);
+    }
+}
+
+/// Every slip of a ceiling changes what some session prints, but for those that no session can show: it prints
+/// no table of a stopped card, and opens every book under the same limits.
+#[test]
+fn every_slip_of_a_ceiling_changes_a_case() {
+    use CeilingSlip::{NumbersNotCapped, RulesNotCapped, TableKeptAfter34};
+    let hidden = [TableKeptAfter34, NumbersNotCapped, RulesNotCapped];
+    let options = Options::paper();
+    let cases = cases::stored(Program::Session).expect("cases can be read");
+    let asks = |case: &&StoredCase| case.input.windows(9).any(|bytes| bytes == b"(ceiling ");
+    let cases: Vec<_> = cases.iter().filter(asks).collect();
+    for (slip, words) in bounded::ALL.iter().filter(|(slip, _)| !hidden.contains(slip)) {
+        let changed = |case: &&StoredCase| {
+            let mut output = vec![];
+            let start = |formula: Formula| Bounded {
+                solver: Solver::opened(formula, options),
+                slip: Some(*slip),
+            };
+            session::run_on(&case.input[..], &mut output, &options, None, start)
+                .expect("bytes in and out");
+            output != case.expected
+        };
+        assert!(cases.iter().any(changed), "{slip:?}: {words}");
     }
 }
 

@@ -2,12 +2,11 @@
 //! it is.
 
 use compare::finder::{Shape, Source};
-use compare::learning::UNBOUNDED;
 use compare::open_query::{query, Reading, Settled, ALL};
 use compare::random::Random;
 use compare::text::open;
 use compare::truth;
-use compare::{plain, Formula, Options, Solver, Subject};
+use compare::{plain, Formula, Options, Solver, Subject, HIGHEST_CEILING};
 
 const A: &str = "(book 1)\n(flags 1 2)\n(exists 3)\n(forall 4)\n(rule 3 4 (no 1))\n\
                  (rule (no 3) (no 4) 2)\n(rule 1 2)\n(end)\n";
@@ -24,14 +23,14 @@ fn reading(on: &[i16], off: &[i16]) -> Reading {
 #[test]
 fn figures_of_the_readings() {
     use Settled::{Keep, Swap, Unsettled};
-    let ask = |on: &[i16], off: &[i16]| query(&mut a(), &reading(on, off), UNBOUNDED, None);
+    let ask = |on: &[i16], off: &[i16]| query(&mut a(), &reading(on, off), HIGHEST_CEILING, None);
     assert_eq!(ask(&[2], &[]), (Swap, 7));
     assert_eq!(ask(&[], &[2]), (Keep, 7));
     assert_eq!(ask(&[], &[]), (Unsettled, 11));
     assert_eq!(ask(&[1], &[]), (Unsettled, 8));
     assert_eq!(ask(&[], &[1]), (Unsettled, 4));
     let mut solver = a();
-    let mut full = || query(&mut solver, &reading(&[1], &[2]), UNBOUNDED, None);
+    let mut full = || query(&mut solver, &reading(&[1], &[2]), HIGHEST_CEILING, None);
     assert_eq!([full(), full()], [(Keep, 3), (Keep, 1)]);
 }
 
@@ -95,7 +94,7 @@ fn completions_and_the_store() {
         solver.run(&case.calls);
         let reading = some_reading(&solver.state.formula, &mut random);
         let before = solver.state.clone();
-        let (settled, visits) = query(&mut solver, &reading, UNBOUNDED, None);
+        let (settled, visits) = query(&mut solver, &reading, HIGHEST_CEILING, None);
         assert_eq!(settled, by_completions(&before.formula, &reading), "{reading:?}\n{case:?}");
         let named = reading.on.len() + reading.off.len();
         if named < before.formula.free_count() {
@@ -124,7 +123,7 @@ fn every_slip_shows() {
             if random.one_in(4) {
                 reading.off.extend(reading.on.first().copied());
             }
-            let ceiling = random.pick(&[UNBOUNDED, UNBOUNDED, 1, 4]);
+            let ceiling = random.pick(&[HIGHEST_CEILING, HIGHEST_CEILING, 1, 4]);
             (0..2).any(|_| {
                 let answer = query(&mut right, &reading, ceiling, None);
                 answer != query(&mut slipped, &reading, ceiling, Some(*slip))
