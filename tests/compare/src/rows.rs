@@ -1,7 +1,7 @@
 //! The rows of the computed tables in `crates/qbf/proofs`: the definitions answer each of them by a
 //! theorem, and here they are read from the same files, to be answered by this implementation.
 
-use crate::answer::{Answer, Call, Said};
+use crate::answer::{Answer, Call, Said, Subject, HIGHEST_CEILING};
 use crate::formula::{Formula, Literal, Quantifier, Variable};
 use crate::options::Limits;
 use crate::solver::State;
@@ -17,8 +17,18 @@ pub struct Row {
     pub limits: Limits,
     pub state: State,
     pub calls: Vec<Call>,
+    /// The ceiling of each call.
+    pub ceilings: Vec<u32>,
     pub answers: Vec<Answer>,
     pub plain: Option<Vec<Answer>>,
+}
+
+impl Row {
+    /// What a subject answers to the row's calls.
+    pub fn asked(&self, subject: &mut impl Subject) -> Vec<Answer> {
+        let calls = self.calls.iter().zip(&self.ceilings);
+        calls.map(|(call, ceiling)| subject.call_within(call, *ceiling)).collect()
+    }
 }
 
 /// The rows that a file lists under a name.
@@ -118,7 +128,14 @@ impl Source {
     }
 
     fn numbers(&self, term: &Term) -> Vec<i64> {
-        self.list(term).iter().map(number).collect()
+        match self.open(term) {
+            // As many numbers, from the second on.
+            (name, args) if name == "from" => {
+                let first = number(&args[1]);
+                (first..first + number(&args[0])).collect()
+            }
+            _ => self.list(term).iter().map(number).collect(),
+        }
     }
 
     fn literal(&self, term: &Term) -> Literal {
@@ -183,8 +200,13 @@ impl Source {
 
     fn limits(&self, term: &Term) -> Limits {
         let Term::Record(fields) = term else {
-            assert_eq!(self.open(term).0, "paper");
-            return Limits::PAPER;
+            let (name, args) = self.open(term);
+            return match (&*name, &args[..]) {
+                ("paper", []) => Limits::PAPER,
+                ("highest", []) => Limits::HIGHEST,
+                ("capped", [n, r]) => Limits::own(number(n) as usize, number(r) as usize),
+                _ => panic!("{name} are no limits"),
+            };
         };
         let field = |name: &str| number(&fields[name]) as usize;
         Limits {
@@ -226,6 +248,7 @@ impl Source {
     fn store(&self, term: &Term) -> Store {
         let (name, args) = self.open(term);
         match (&*name, &args[..]) {
+            ("emptyStore", []) => Store::default(),
             // Learned clauses of record 0.
             ("store", [clauses, cubes]) => {
                 let clauses = self.clauses(clauses);
@@ -240,9 +263,15 @@ impl Source {
         }
     }
 
-    fn call(&self, term: &Term) -> Call {
-        let (name, args) = self.open(term);
-        match (&*name, &args[..]) {
+    /// A call and its ceiling: the highest where a row's own words for a call are used.
+    fn call(&self, term: &Term) -> (Call, u32) {
+        let (name, mut args) = self.open(term);
+        let ceiling = match name.strip_prefix("Call.") {
+            Some(_) => number(&args.remove(0)) as u32,
+            None => HIGHEST_CEILING,
+        };
+        let name = name.trim_start_matches("Call.");
+        let call = match (name, &args[..]) {
             ("rule", [literals]) => Call::Rule(self.literals(literals)),
             ("withdraw", []) => Call::Withdraw,
             ("query", [on]) => Call::Query(self.literals(on)),
@@ -250,7 +279,8 @@ impl Source {
             ("keepCard", [size]) => Call::KeepCard(number(size) as usize),
             ("forget", []) => Call::Forget,
             _ => panic!("{name} is no call"),
-        }
+        };
+        (call, ceiling)
     }
 
     fn answer(&self, call: &Call, reply: &Term, visits: u64) -> Answer {
@@ -284,19 +314,23 @@ impl Source {
 
     fn row(&self, term: &Term) -> Row {
         let (name, args) = self.open(term);
-        let calls = |term| self.list(term).iter().map(|call| self.call(call)).collect::<Vec<_>>();
+        let calls = |term| -> (Vec<Call>, Vec<u32>) {
+            self.list(term).iter().map(|call| self.call(call)).unzip()
+        };
         let (limits, formula) = self.formula(&args[0]);
         match (&*name, &args[1..]) {
             ("row", [list, replies, learning, plain]) => {
-                let (state, calls) = (State { formula, store: Store::default() }, calls(list));
+                let state = State { formula, store: Store::default() };
+                let (calls, ceilings) = calls(list);
                 let answers = self.answers(&calls, replies, learning);
                 let plain = Some(self.answers(&calls, replies, plain));
-                Row { limits, state, calls, answers, plain }
+                Row { limits, state, calls, ceilings, answers, plain }
             }
             ("given", [store, list, replies, visits]) => {
-                let (state, calls) = (State { formula, store: self.store(store) }, calls(list));
+                let state = State { formula, store: self.store(store) };
+                let (calls, ceilings) = calls(list);
                 let answers = self.answers(&calls, replies, visits);
-                Row { limits, state, calls, answers, plain: None }
+                Row { limits, state, calls, ceilings, answers, plain: None }
             }
             // The calls of `broken` in Cases.antt, each refused with 22.
             ("broken", [store]) => {
@@ -305,7 +339,8 @@ impl Source {
                 let mut answers = vec![Answer::new(Said::Refused(22)); calls.len()];
                 answers[1].table = vec![0, 0];
                 let state = State { formula, store: self.store(store) };
-                Row { limits, state, calls, answers, plain: None }
+                let ceilings = vec![HIGHEST_CEILING; calls.len()];
+                Row { limits, state, calls, ceilings, answers, plain: None }
             }
             _ => panic!("{name} is no row"),
         }

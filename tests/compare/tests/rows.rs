@@ -1,5 +1,6 @@
 //! The rows that the definitions answer by computation (`crates/qbf/proofs/Bench.antt`,
-//! `Cases.antt`, `Withdrawals.antt`, `KeepCards.antt` and `Finder.antt`), answered by this implementation.
+//! `Cases.antt`, `Withdrawals.antt`, `KeepCards.antt`, `Ceilings.antt` and `Finder.antt`), answered by this
+//! implementation.
 
 use compare::check;
 use compare::dead::dead_clause;
@@ -8,7 +9,7 @@ use compare::slip::{Slip, ALL};
 use compare::{Answer, Call, Options, PlainRun, Said, Solver, Subject};
 
 /// Each table with how many rows it has at least.
-const TABLES: [(&str, &str, usize); 8] = [
+const TABLES: [(&str, &str, usize); 11] = [
     ("Bench.antt", "table", 10),
     ("Bench.antt", "others", 6),
     ("Cases.antt", "table", 28),
@@ -17,6 +18,9 @@ const TABLES: [(&str, &str, usize); 8] = [
     ("Withdrawals.antt", "on-states", 7),
     ("KeepCards.antt", "table", 5),
     ("Cases.antt", "malformed", 16),
+    ("Ceilings.antt", "stopping", 7),
+    ("Ceilings.antt", "table", 4),
+    ("Ceilings.antt", "malformed", 5),
 ];
 
 fn rows(file: &str, name: &str) -> Vec<Row> {
@@ -32,10 +36,10 @@ fn every_row() {
             let words = format!("row {} of {name} in {file}: {:?}", index + 1, row.calls);
             if let Some(answers) = &row.plain {
                 let mut plain = PlainRun::new(row.state.formula.clone(), row.limits);
-                assert_eq!(plain.run(&row.calls), *answers, "plain run, {words}");
+                assert_eq!(row.asked(&mut plain), *answers, "plain run, {words}");
             }
-            let mut solver = Solver::new(row.state, Options::with(row.limits));
-            assert_eq!(solver.run(&row.calls), row.answers, "{words}");
+            let mut solver = Solver::new(row.state.clone(), Options::with(row.limits));
+            assert_eq!(row.asked(&mut solver), row.answers, "{words}");
         }
     }
 }
@@ -48,7 +52,7 @@ fn changes(row: &Row, slip: Slip) -> bool {
     let answers = |call: &Call| Solver::new(row.state.clone(), options).call(call);
     match slip {
         Slip::CheckOmits(_) => answers(&Call::Forget) != Answer::new(Said::Refused(22)),
-        _ => Solver::new(row.state.clone(), options).run(&row.calls) != row.answers,
+        _ => row.asked(&mut Solver::new(row.state.clone(), options)) != row.answers,
     }
 }
 
