@@ -307,7 +307,7 @@ struct bullacetop_written bullacetop_write_in_place(
 static inline struct bullacetop_written bullacetop_write_at(const struct bullacetop_state *x, uint8_t *table, size_t n)
 {
     return bullacetop_write_in_place(
-        x->numbers, x->levels, x->kinds, x->rules, x->rule_sizes, x->bars, x->bar_sizes, x->passes, x->pass_sizes, table, n, ceiling);
+        x->numbers, x->levels, x->kinds, x->rules, x->rule_sizes, x->bars, x->bar_sizes, x->passes, x->pass_sizes, table, n);
 }
 
 /*
