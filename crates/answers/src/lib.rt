@@ -20,9 +20,6 @@ pub const TOO_MANY_LINES: u16 = 21;
 
 pub const STOPPED: u16 = 34;
 
-// "any unsigned 32-bit number"
-pub const HIGHEST_CEILING: u32 = 4294967295;
-
 pub enum Ruling {
     Swap,
     Keep,
