@@ -114,6 +114,16 @@ impl Sides {
         if call.searches() && *ceiling < HIGHEST_CEILING {
             self.against_the_full_search(asked, &before, &answer, tally)?;
         }
+        self.against_the_plain_run(asked, &answer, tally)
+    }
+
+    /// "only a stopped call's answer is not compared with it, its visits still are".
+    fn against_the_plain_run(
+        &mut self,
+        Asked { call, ceiling }: &Asked,
+        answer: &Answer,
+        tally: &mut Tally,
+    ) -> Result<(), String> {
         let Some(plain) = &mut self.plain else { return Ok(()) };
         let plain_answer = plain.call(call);
         tally.plain += 1;
@@ -121,18 +131,14 @@ impl Sides {
             return Err(format!("visits {}, plain {}", answer.visits, plain_answer.visits));
         }
         if answer.said == Said::Refused(34) {
-            let finishes = plain_answer.visits <= u64::from(*ceiling);
-            return if finishes {
-                Err("stopped, and the plain search fits".into())
-            } else {
-                Ok(())
-            };
+            let needs_more = plain_answer.visits > u64::from(*ceiling);
+            return needs_more.then_some(()).ok_or("stopped, and the plain search fits".into());
         }
         if !answer.same_reply(&plain_answer) {
             return Err(format!("{answer}; plain run: {plain_answer}"));
         }
         if plain.formula.prefix.len() <= EVALUATED {
-            tally.truths += u64::from(true_answer(&plain.formula, call, &answer)?);
+            tally.truths += u64::from(true_answer(&plain.formula, call, answer)?);
         }
         Ok(())
     }

@@ -53,9 +53,9 @@ fn malformed_states() {
 /// Calls under ceilings near what they need, on opened, given and malformed states.
 #[test]
 fn ceilings() {
-    let Some(tally) = covered(Source::Ceilings, 8_000) else { return };
-    assert!(tally.refusals.get(&34) > Some(&10_000), "{tally}");
+    let Some(tally) = covered(Source::Ceilings, 3_000) else { return };
+    assert!(tally.refusals.get(&34) > Some(&5_000), "{tally}");
     assert!([8, 21, 22].iter().all(|number| tally.refusals.get(number) > Some(&50)), "{tally}");
-    assert!(tally.exact > 5_000 && tally.one_short > 5_000, "{tally}");
+    assert!(tally.exact > 3_000 && tally.one_short > 3_000, "{tally}");
     assert!(tally.filled.iter().all(|calls| *calls > 10), "{tally}");
 }
