@@ -12,10 +12,12 @@ pub enum LastCardSlip {
     KeptAfterRefusedCard,
     KeptAfterKeepCard,
     KeptAfterRefusedKeepCard,
+    KeptAfterStoppedCard,
     RefusedCardShown,
     LostAfterRefusedRule,
     LostAfterRefusedWithdrawal,
     LostAfterQuery,
+    LostAfterStoppedQuery,
     LostAfterForget,
     LostAfterWrite,
     LostAfterPage,
@@ -27,6 +29,8 @@ pub const ALL: &[(LastCardSlip, &str)] = &[
     (LastCardSlip::KeptAfterWithdrawal, "a page of a card that a withdrawal has made untrue"),
     (LastCardSlip::KeptAfterKeepCard, "a page of the card before the keep card"),
     (LastCardSlip::KeptAfterRefusedKeepCard, "a page of the card before the refused keep card"),
+    (LastCardSlip::KeptAfterStoppedCard, "a page of the card before the stopped one"),
+    (LastCardSlip::LostAfterStoppedQuery, "a stopped query takes the card away"),
     (LastCardSlip::LostAfterRefusedWithdrawal, "a refused withdrawal takes the card away"),
     (LastCardSlip::KeptAfterRefusedCard, "a page of the card before the refused one"),
     (LastCardSlip::RefusedCardShown, "a refused card is shown as one without lines"),
@@ -69,6 +73,12 @@ impl LastCard {
         let stays = match (call, answer.said) {
             (Call::KeepCard(_), Said::Lines(_)) if slips(KeptAfterKeepCard) => true,
             (Call::KeepCard(_), Said::Refused(_)) if slips(KeptAfterRefusedKeepCard) => true,
+            (Call::Card(_) | Call::KeepCard(_), Said::Refused(34))
+                if slips(KeptAfterStoppedCard) =>
+            {
+                true
+            }
+            (Call::Query(_), Said::Refused(34)) if slips(LostAfterStoppedQuery) => false,
             (Call::Card(_) | Call::KeepCard(_), Said::Lines(lines)) => {
                 self.held = Some(Held { table: answer.table.clone(), lines });
                 return;

@@ -1,6 +1,6 @@
 //! Opening a text, and the program `card`.
 
-use crate::answer::Said;
+use crate::answer::{Answer, Call, Said, Subject};
 use crate::editions::{self, Reads};
 use crate::formula::Formula;
 use crate::options::Options;
@@ -29,10 +29,15 @@ pub fn card_program(text: &[u8], options: &Options) -> String {
         Ok(formula) => formula,
         Err(refused) => return format!("(refused {} {})\n", refused.number, refused.line),
     };
-    let mut table = vec![0; PROGRAM_TABLE];
-    let answer = Solver::opened(formula.clone(), *options).card(&mut table);
+    let answer = Solver::opened(formula.clone(), *options).call(&Call::Card(PROGRAM_TABLE));
+    print_program(&formula, &answer)
+}
+
+/// A card as the program prints it, or its refusal; "and prints only `(refused 34 0)` when stopped", which it
+/// never is.
+fn print_program(formula: &Formula, answer: &Answer) -> String {
     match answer.said {
-        Said::Lines(count) => print_card("card", &formula, count, &table, answer.visits),
+        Said::Lines(count) => print_card("card", formula, count, &answer.table, answer.visits),
         Said::Refused(number) => format!("(refused {number} 0)\n"),
         _ => unreachable!("a card returns lines or a refusal"),
     }
@@ -62,4 +67,22 @@ pub fn print_card(
         text.push_str(")\n");
     }
     text + &format!("(visits {visits})\n(end)\n")
+}
+
+#[cfg(test)]
+mod tests {
+    use super::*;
+
+    #[test]
+    fn stopped_card() {
+        let options = Options::paper();
+        let text = b"(book 1)\n(flags 1)\n(exists 2)\n(rule 2)\n(rule (no 2))\n(end)\n";
+        let formula = open(text, &options).expect("a book");
+        let card = |ceiling| {
+            let mut solver = Solver::opened(formula.clone(), options);
+            print_program(&formula, &solver.call_within(&Call::Card(PROGRAM_TABLE), ceiling))
+        };
+        assert_eq!(card(3), "(refused 34 0)\n");
+        assert_eq!(card(4), card_program(text, &options));
+    }
 }

@@ -2,9 +2,6 @@
 
 use crate::raw::{Raw, Reply, Returned, Written, CELLS, LENGTHS};
 
-/// A ceiling on visits that asks for none.
-pub const HIGHEST_CEILING: u32 = u32::MAX;
-
 extern "C" {
     fn bullacetop_rule_in_place(
         numbers: *const u16,

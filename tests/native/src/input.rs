@@ -2,11 +2,13 @@
 
 use crate::budget::{self, Walk};
 use crate::generate::{self, Shape, SHAPES};
-use crate::hold::Case;
+use crate::hold::{Asked, Case};
 use crate::reading;
 use crate::spoil::{self, Fault, FAULTS};
 use compare::random::Random;
-use compare::{plain, Call, Formula, Options, Solver, State, Store};
+use compare::{
+    plain, Call, Formula, Options, Said, Solver, State, Store, Subject, HIGHEST_CEILING,
+};
 
 #[derive(Clone, Copy, Debug, PartialEq, Eq)]
 pub enum Source {
@@ -20,10 +22,18 @@ pub enum Source {
     GivenStore,
     /// A state with a fault.
     Malformed,
+    /// Any of these, each call under a ceiling near what it needs.
+    Ceilings,
 }
 
-pub const SOURCES: [Source; 5] =
-    [Source::Opened, Source::Filling, Source::Lengths, Source::GivenStore, Source::Malformed];
+pub const SOURCES: [Source; 6] = [
+    Source::Opened,
+    Source::Filling,
+    Source::Lengths,
+    Source::GivenStore,
+    Source::Malformed,
+    Source::Ceilings,
+];
 
 pub struct Input {
     pub case: Case,
@@ -47,8 +57,59 @@ pub fn draw(source: Source, seed: u64, index: u64) -> Input {
             let shape = SHAPES[random.below(SHAPES.len())];
             (malformed(shape, fault, random), Some(fault))
         }
+        Source::Ceilings => {
+            let of = OF_CEILINGS[index % OF_CEILINGS.len()];
+            // Another seed, so that the lists are not those of the other source.
+            let Input { case, fault } = draw(of, !seed, index as u64 / OF_CEILINGS.len() as u64);
+            (under_ceilings(case, random), fault)
+        }
     };
     Input { case, fault }
+}
+
+/// What lists under ceilings are made of, by turns.
+const OF_CEILINGS: [Source; 8] = [
+    Source::Opened,
+    Source::GivenStore,
+    Source::Opened,
+    Source::Lengths,
+    Source::Opened,
+    Source::GivenStore,
+    Source::Filling,
+    Source::Malformed,
+];
+
+/// The same calls, each under a ceiling near what it needs then; a stopped one at times again.
+fn under_ceilings(case: Case, random: &mut Random) -> Case {
+    let state = reading::read(&case.raw);
+    let mut solver = state.map(|state| Solver::new(state, Options::paper()));
+    let mut calls = vec![];
+    for Asked { call, .. } in case.calls {
+        loop {
+            let ceiling = ceiling(&call, solver.as_ref(), random);
+            calls.push(Asked { call: call.clone(), ceiling });
+            let answer = solver.as_mut().map(|solver| solver.call_within(&call, ceiling));
+            let stopped = answer.is_some_and(|answer| answer.said == Said::Refused(34));
+            if !stopped || random.one_in(2) {
+                break;
+            }
+        }
+    }
+    Case { calls, ..case }
+}
+
+/// Near what a call needs on a state, or near an end.
+pub fn ceiling(call: &Call, solver: Option<&Solver>, random: &mut Random) -> u32 {
+    let needed = solver.map_or(0, |solver| solver.clone().call(call).visits) as u32;
+    match random.below(9) {
+        0 => 0,
+        1 => HIGHEST_CEILING,
+        2 => random.pick(&[1, 2, 3, 1 << 16, 1 << 31, HIGHEST_CEILING - 1]),
+        3 | 4 => needed,
+        5 => needed + 1,
+        6 => random.below(needed as usize + 1) as u32,
+        _ => needed.saturating_sub(1),
+    }
 }
 
 fn opened(shape: Shape, random: &mut Random) -> Case {
@@ -61,7 +122,7 @@ fn opened(shape: Shape, random: &mut Random) -> Case {
         clauses.iter_mut().for_each(|clause| random.shuffle(clause));
         calls.splice(0..0, clauses.into_iter().map(Call::Rule));
     }
-    Case { raw: reading::write_among_others(&state, random), calls, opened: true }
+    Case::new(reading::write_among_others(&state, random), calls, true)
 }
 
 /// Formulas of which a card learns many clauses and cubes, and searches after it.
@@ -90,7 +151,7 @@ fn filling(random: &mut Random) -> Case {
     }
     calls = affordable(formula.clone(), calls, Walk::Plain, 2 * visits);
     let state = State { formula, store: Store::default() };
-    Case { raw: reading::write(&state), calls, opened: true }
+    Case::new(reading::write(&state), calls, true)
 }
 
 /// From no byte to more than all lines need, the store kept or emptied on the way.
@@ -111,7 +172,7 @@ fn lengths(shape: Shape, random: &mut Random) -> Case {
         }
     }
     let state = State { formula, store: Store::default() };
-    Case { raw: reading::write(&state), calls, opened: true }
+    Case::new(reading::write(&state), calls, true)
 }
 
 fn given(shape: Shape, random: &mut Random) -> Case {
@@ -129,7 +190,7 @@ fn given(shape: Shape, random: &mut Random) -> Case {
     };
     let calls = shape.calls(&formula, Walk::Whole, random);
     let raw = reading::write_among_others(&State { formula, store }, random);
-    Case { raw, calls, opened: false }
+    Case::new(raw, calls, false)
 }
 
 /// What a card stores on a formula of the same prefix but other clauses, among random entries.
@@ -192,7 +253,7 @@ fn malformed(shape: Shape, fault: Fault, random: &mut Random) -> Case {
         // Not malformed after all: a state that no calls reach, and perhaps a long search.
         calls = affordable(state.formula, calls, Walk::Whole, shape.visits);
     }
-    Case { raw, calls, opened: false }
+    Case::new(raw, calls, false)
 }
 
 fn some_literal(formula: &Formula) -> Vec<i16> {

@@ -1,10 +1,10 @@
 //! The library's calls. Every lent table stands between guard bytes.
 
-use crate::in_place::{self, FORGET, HIGHEST_CEILING, RULE, SEARCH, WITHDRAW, WRITE};
+use crate::in_place::{self, FORGET, RULE, SEARCH, WITHDRAW, WRITE};
 use crate::raw::{Raw, Reply, Returned, Written, KEEP, SWAP};
 use crate::reading;
 use compare::answer::LENT_BYTE;
-use compare::{Answer, Call, Formula, Said, State, Store, Subject};
+use compare::{Answer, Call, Formula, Said, State, Store, Subject, HIGHEST_CEILING};
 use std::ptr;
 
 const GUARD: u8 = 0x5C;
@@ -25,9 +25,9 @@ impl Native {
         Native::new(reading::write(&State { formula, store: Store::default() }))
     }
 
-    /// An error says which bytes the call should not have touched, or which number of its reply belongs
-    /// to no answer.
-    pub fn answer(&mut self, call: &Call) -> Result<Answer, String> {
+    /// A call under a ceiling, which only searches have. An error says which bytes the call should not have
+    /// touched, or which number of its reply belongs to no answer.
+    pub fn answer(&mut self, call: &Call, ceiling: u32) -> Result<Answer, String> {
         let state = &*self.state;
         let mut table = vec![];
         let Returned { reply, state: next } = match call {
@@ -40,7 +40,7 @@ impl Native {
             Call::Forget => in_place::lend(state, FORGET, |at| unsafe { in_place::forget(at) })?,
             Call::Query(on) => lend(on, |list, count| {
                 in_place::lend(state, SEARCH, |at| unsafe {
-                    in_place::query(at, list, count, HIGHEST_CEILING)
+                    in_place::query(at, list, count, ceiling)
                 })
             })?,
             Call::Card(length) | Call::KeepCard(length) => {
@@ -49,8 +49,8 @@ impl Native {
                 lend_table(&mut table, |bytes, length| {
                     in_place::lend(state, SEARCH, |at| unsafe {
                         match keeps {
-                            true => in_place::keep_card(at, bytes, length, HIGHEST_CEILING),
-                            false => in_place::card(at, bytes, length, HIGHEST_CEILING),
+                            true => in_place::keep_card(at, bytes, length, ceiling),
+                            false => in_place::card(at, bytes, length, ceiling),
                         }
                     })
                 })?
@@ -75,8 +75,8 @@ fn as_reply(Written { refusal, length }: Written) -> Reply {
 }
 
 impl Subject for Native {
-    fn call(&mut self, call: &Call) -> Answer {
-        self.answer(call).expect("an answer")
+    fn call_within(&mut self, call: &Call, ceiling: u32) -> Answer {
+        self.answer(call, ceiling).expect("an answer")
     }
 }
 
@@ -155,6 +155,7 @@ fn said(call: &Call, reply: &Reply) -> Result<Said, String> {
     let Reply { refusal, verdict, lines, visits } = *reply;
     let said = match (call, refusal, verdict, lines, visits) {
         (Call::Card(_) | Call::KeepCard(_), 21, 0, 0, _) => Some(Said::Refused(21)),
+        (_, 34, 0, 0, _) if call.searches() => Some(Said::Refused(34)),
         (_, 1.., 0, 0, 0) => u8::try_from(refusal).ok().map(Said::Refused),
         (Call::Rule(_), 0, 0, 0, 0) => Some(Said::Added),
         (Call::Withdraw, 0, 0, 0, 0) => Some(Said::Withdrawn),

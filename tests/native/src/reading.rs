@@ -101,7 +101,8 @@ pub fn any_number(random: &mut Random) -> i16 {
     }
 }
 
-fn write_over(state: &State, raw: &mut Raw) {
+/// The cells that a state's counts tell; all others stay.
+pub fn write_over(state: &State, raw: &mut Raw) {
     let State { formula, store } = state;
     raw.numbers[0] = formula.prefix.len() as u16;
     for (index, variable) in formula.prefix.iter().enumerate() {

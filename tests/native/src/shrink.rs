@@ -2,7 +2,7 @@
 
 use crate::budget::{self, Walk};
 use crate::generate;
-use crate::hold::{hold, Case};
+use crate::hold::{hold, Asked, Case};
 use crate::reading;
 use crate::tally::Tally;
 use compare::{Call, Formula, State};
@@ -25,7 +25,7 @@ fn affordable(case: &Case) -> bool {
         return true;
     };
     let walk = if case.opened { Walk::Plain } else { Walk::Whole };
-    case.calls.iter().all(|call| {
+    case.calls.iter().all(|Asked { call, .. }| {
         let within = budget::affords(&formula, call, walk, 50_000);
         generate::follow(&mut formula, call);
         within
@@ -39,11 +39,18 @@ fn smaller(case: &Case) -> Vec<Case> {
         other.calls.remove(index);
         found.push(other);
     }
-    for (index, call) in case.calls.iter().enumerate() {
+    for (index, Asked { call, ceiling }) in case.calls.iter().enumerate() {
+        if *ceiling > 0 && call.searches() {
+            for lower in [0, ceiling / 2, ceiling - 1] {
+                let mut other = case.clone();
+                other.calls[index].ceiling = lower;
+                found.push(other);
+            }
+        }
         let (Call::Rule(list) | Call::Query(list)) = call else { continue };
         for at in 0..list.len() {
             let mut other = case.clone();
-            if let Call::Rule(list) | Call::Query(list) = &mut other.calls[index] {
+            if let Call::Rule(list) | Call::Query(list) = &mut other.calls[index].call {
                 list.remove(at);
             }
             found.push(other);
@@ -89,11 +96,11 @@ fn lists(state: &mut State) -> [&mut Vec<Vec<i16>>; 3] {
     [&mut state.formula.clauses, &mut state.store.clauses, &mut state.store.cubes]
 }
 
-fn unnamed(state: &State, calls: &[Call], index: usize) -> bool {
+fn unnamed(state: &State, calls: &[Asked], index: usize) -> bool {
     let Formula { prefix, clauses } = &state.formula;
     let number = prefix[index].number.unsigned_abs();
     let rows = clauses.iter().chain(&state.store.clauses).chain(&state.store.cubes);
-    let called = calls.iter().filter_map(|call| match call {
+    let called = calls.iter().filter_map(|Asked { call, .. }| match call {
         Call::Rule(list) | Call::Query(list) => Some(list),
         _ => None,
     });

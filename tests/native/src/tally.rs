@@ -27,6 +27,9 @@ pub struct Tally {
     pub tables_of_no_byte: u64,
     /// Cards into a table whose length is no multiple of a line's.
     pub tables_with_a_tail: u64,
+    /// Searches under a ceiling of just what they need, and of one visit less.
+    pub exact: u64,
+    pub one_short: u64,
     /// Calls that learned and left a full store: of clauses, then of cubes.
     pub filled: [u64; 2],
     pub most_variables: usize,
@@ -79,6 +82,11 @@ impl Tally {
         self.formula(formula);
     }
 
+    pub fn under_ceiling(&mut self, ceiling: u64, needed: u64) {
+        self.exact += u64::from(ceiling == needed && needed > 0);
+        self.one_short += u64::from(ceiling + 1 == needed);
+    }
+
     pub fn add(&mut self, other: &Tally) {
         let sums = [
             (&mut self.lists, other.lists),
@@ -95,6 +103,8 @@ impl Tally {
             (&mut self.truths, other.truths),
             (&mut self.tables_of_no_byte, other.tables_of_no_byte),
             (&mut self.tables_with_a_tail, other.tables_with_a_tail),
+            (&mut self.exact, other.exact),
+            (&mut self.one_short, other.one_short),
         ];
         sums.into_iter().for_each(|(sum, more)| *sum += more);
         for (sum, more) in self.filled.iter_mut().zip(other.filled) {
@@ -135,6 +145,8 @@ impl fmt::Display for Tally {
         )?;
         write!(f, "  card tables of no byte {}, ", self.tables_of_no_byte)?;
         writeln!(f, "of a length that is no multiple {}", self.tables_with_a_tail)?;
+        let (exact, short) = (self.exact, self.one_short);
+        writeln!(f, "  ceilings of just what a search needs {exact}, of one less {short}")?;
         writeln!(f, "  visits {}, most of one call {}", self.visits, self.most_visits)?;
         writeln!(f, "  also plain {}, also by truth {}", self.plain, self.truths)?;
         let most = (self.most_variables, self.most_clauses, self.longest_clause);

@@ -51,9 +51,10 @@ pub fn qdimacs(formula: &Formula, random: &mut Random) -> Vec<u8> {
     text.into_bytes()
 }
 
-/// A call's line without its byte 10. A negative number of a query is no layout of a query.
-pub fn line(call: &Call) -> Vec<u8> {
-    let text = match call {
+/// A call's line without its byte 10, with its ceiling where one is given. A negative number of a query is no
+/// layout of a query, nor is a ceiling one of a call that takes none.
+pub fn line(call: &Call, ceiling: Option<u32>) -> Vec<u8> {
+    let mut text: String = match call {
         Call::Rule(literals) => format!("(rule{})", items(literals)),
         Call::Withdraw => "(withdraw)".into(),
         Call::Query(on) => format!("(query{})", items(on)),
@@ -65,6 +66,10 @@ pub fn line(call: &Call) -> Vec<u8> {
         Call::Write(compare::write::WHOLE) => "(write)".into(),
         Call::Write(length) => format!("(write {length})"),
     };
+    if let Some(ceiling) = ceiling {
+        text.truncate(text.len() - 1);
+        text.push_str(&format!(" (ceiling {ceiling}))"));
+    }
     text.into_bytes()
 }
 
@@ -86,9 +91,53 @@ pub struct Faults {
 
 const OWN: Faults = Faults {
     words: &[
-        "0", "1", "40", "41", "00", "01", "99999", "100000", "32767", "32768", "65536", "65537",
-        "(no 1)", "(no 0)", "(no", "rule", "flags", "exists", "forall", "query", "end", "card",
-        "write", "page", "withdraw", "one", "(tag 1)", "(tag 0)", "(tag 65536)", "(tag",
+        "0",
+        "1",
+        "40",
+        "41",
+        "00",
+        "01",
+        "99999",
+        "100000",
+        "32767",
+        "32768",
+        "65536",
+        "65537",
+        "(no 1)",
+        "(no 0)",
+        "(no",
+        "rule",
+        "flags",
+        "exists",
+        "forall",
+        "query",
+        "end",
+        "card",
+        "write",
+        "page",
+        "withdraw",
+        "one",
+        "(tag 1)",
+        "(tag 0)",
+        "(tag 65536)",
+        "(tag",
+        "(ceiling 0)",
+        "(ceiling 7)",
+        "(ceiling 40)",
+        "(ceiling 4294967295)",
+        "(ceiling 4294967296)",
+        "(ceiling 10000000000)",
+        "(ceiling 00)",
+        "(ceiling 07)",
+        "(ceiling)",
+        "(ceiling",
+        "ceiling",
+        "7)",
+        "(ceiling 7))",
+        "keep-card",
+        "4294967295",
+        "4294967296",
+        "4294967305",
     ],
     bytes: b" ()()0129\n\n\t\rano\0\xff\x80",
     lines: &[

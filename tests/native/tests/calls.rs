@@ -49,3 +49,13 @@ fn malformed_states() {
     assert_eq!(tally.faults.len(), FAULTS.len(), "{tally}");
     assert!(tally.faults.values().all(|[malformed, _]| *malformed > 40), "{tally}");
 }
+
+/// Calls under ceilings near what they need, on opened, given and malformed states.
+#[test]
+fn ceilings() {
+    let Some(tally) = covered(Source::Ceilings, 3_000) else { return };
+    assert!(tally.refusals.get(&34) > Some(&5_000), "{tally}");
+    assert!([8, 21, 22].iter().all(|number| tally.refusals.get(number) > Some(&50)), "{tally}");
+    assert!(tally.exact > 3_000 && tally.one_short > 3_000, "{tally}");
+    assert!(tally.filled.iter().all(|calls| *calls > 10), "{tally}");
+}

@@ -5,7 +5,7 @@ use compare::cases::{self, Program};
 use compare::qdimacs::{self, QdimacsSlip, ALL};
 use compare::random::Random;
 use compare::text::LARGEST_TEXT;
-use compare::{write, Options, Said, State, Store};
+use compare::{write, Options, Said, State, Store, HIGHEST_CEILING};
 use native::budget::Walk;
 use native::generate::SHAPES;
 use native::library::Native;
@@ -106,7 +106,8 @@ fn stored_texts() {
         let printed = match opened.refusal {
             0 => {
                 let call = compare::Call::Write(write::WHOLE);
-                let answer = Native::new(opened.state).answer(&call).expect("an answer");
+                let answer =
+                    Native::new(opened.state).answer(&call, HIGHEST_CEILING).expect("an answer");
                 let Said::Written(length) = answer.said else { panic!("{answer}") };
                 answer.table[..length].to_vec()
             }

@@ -1,6 +1,7 @@
 //! The comparison can fail: with a slip in the independent implementation it disagrees with the
 //! library on one of the inputs, for each slip that calls can show.
 
+use compare::bounded::{self, CeilingSlip};
 use compare::check::Check;
 use compare::slip::{Slip, ALL};
 use compare::{Call, Options};
@@ -34,11 +35,11 @@ fn told_apart(slip: Slip, source: Source, seed: u64, index: u64) -> bool {
     case.opened = false;
     if matches!(slip, Slip::CheckOmits(_)) {
         // A search on a malformed state means nothing.
-        case.calls.retain(|call| *call == Call::Forget);
+        case.calls.retain(|asked| asked.call == Call::Forget);
     }
     let judges_state = slip.judges_state();
     let options = Options { slip: Some(slip), judges_state, ..Options::paper() };
-    hold_with(&case, options, &mut Tally::default()).is_err()
+    hold_with(&case, options, None, &mut Tally::default()).is_err()
 }
 
 /// How many inputs of a source are tried for a slip: most show within a few hundred.
@@ -59,4 +60,21 @@ fn every_slip_is_told_apart() {
         }
     }
     assert!(hidden.is_empty(), "{hidden:#?}");
+}
+
+/// Every slip of a ceiling but those of a book's own limits, which no call has.
+#[test]
+fn every_slip_of_a_ceiling_is_told_apart() {
+    let seed = seed();
+    let of_limits = [CeilingSlip::NumbersNotCapped, CeilingSlip::RulesNotCapped];
+    for (slip, words) in bounded::ALL.iter().filter(|(slip, _)| !of_limits.contains(slip)) {
+        let differs = |index: &u64| {
+            let mut case = draw(Source::Ceilings, seed, *index).case;
+            case.opened = false;
+            hold_with(&case, Options::paper(), Some(*slip), &mut Tally::default()).is_err()
+        };
+        let index = (0..INPUTS).find(differs);
+        println!("{slip:?}: {index:?}");
+        assert!(index.is_some(), "{slip:?}: {words}");
+    }
 }

@@ -49,7 +49,7 @@ fn sessions() {
         let printed = session(case);
         assert!(printed == case.expected, "{}: {}", case.name, shown(&printed));
     }
-    assert!(stored.len() >= 80, "only {} sessions", stored.len());
+    assert!(stored.len() >= 170, "only {} sessions", stored.len());
 }
 
 /// A document gives a verdict and no visits.

@@ -7,10 +7,12 @@ use compare::page::Card;
 use compare::random::Random;
 use compare::session::{self, Request, LARGEST_LINE};
 use compare::text::{self, LARGEST_TEXT};
-use compare::{Answer, Call, Formula, Options, Said, Solver, State, Store, Subject};
+use compare::{
+    Answer, Call, Formula, Options, Said, Solver, State, Store, Subject, HIGHEST_CEILING,
+};
 use native::budget::{self, Walk};
 use native::generate::{Shape, SHAPES};
-use native::input::{draw, Source};
+use native::input::{self, draw, Source};
 use native::library::Native;
 use native::raw::Raw;
 use native::reading;
@@ -76,7 +78,7 @@ fn no_book(state: &Raw) {
     let calls = [Call::Rule(vec![1]), Call::Withdraw, Call::Query(vec![]), Call::Forget];
     for call in calls.iter().chain(&cards) {
         let mut native = Native::new(Box::new(*state));
-        let answer = native.answer(call).unwrap();
+        let answer = native.answer(call, HIGHEST_CEILING).unwrap();
         let table = vec![0; if cards.contains(call) { 3 } else { 0 }];
         assert_eq!(answer, Answer { said: Said::Refused(22), table, visits: 0 }, "{call}");
         assert!(*native.state == *state, "{call}");
@@ -99,8 +101,8 @@ impl Both {
         Both { state, cards: Cards::none(), solver, last: LastCard::none(flags, None) }
     }
 
-    /// The answer to a line: its text and what it says.
-    fn expected(&mut self, line: &[u8], number: u64) -> (String, Said) {
+    /// The answer to a line, and its text.
+    fn expected(&mut self, line: &[u8], number: u64) -> (String, Answer) {
         let formula = self.solver.as_ref().map_or(Formula::default(), |s| s.state.formula.clone());
         let asked = (line.len() <= LARGEST_LINE).then(|| session::request(line)).flatten();
         let (call, answer) = match (asked, &mut self.solver) {
@@ -109,31 +111,34 @@ impl Both {
                 let printed = session::print_page(&mut self.last, page, number as usize);
                 let refused = printed.starts_with("(refused 36 ");
                 let said = if refused { Said::Refused(36) } else { Said::Written(printed.len()) };
-                return (printed, said);
+                return (printed, Answer::new(said));
             }
-            (Some(Request::Call(call)), solver) => {
+            (Some(Request::Call(call, ceiling)), solver) => {
                 let refused = || Answer::new(Said::Refused(22));
-                let answer = solver.as_mut().map_or_else(refused, |solver| solver.call(&call));
+                let within = |solver: &mut Solver| solver.call_within(&call, ceiling);
+                let answer = solver.as_mut().map_or_else(refused, within);
                 self.last.after(&call, &answer);
                 (call, answer)
             }
         };
-        (session::print(&call, &formula, &answer, number as usize), answer.said)
+        (session::print(&call, &formula, &answer, number as usize), answer)
     }
 
-    /// A line on both sides: the answer's text and the next state.
+    /// A line on both sides: the answer's text, a card's table and the next state.
     fn hold(&mut self, line: &[u8], number: u64, page: &mut Page) -> Said {
-        let (expected, said) = self.expected(line, number);
+        let (expected, Answer { said, table, .. }) = self.expected(line, number);
         let before = self.cards.clone();
         let found = page.line(&self.state, line, number, &mut self.cards).unwrap();
         let text = found.text.expect("the page is large enough");
         assert_eq!(shown(&text), shown(expected.as_bytes()), "line {}", shown(line));
         assert_eq!(text, expected.as_bytes());
-        if matches!(said, Said::Refused(number) if number != 21) {
+        if matches!(said, Said::Refused(number) if ![21, 34].contains(&number)) {
             assert!(found.state == self.state, "the state is not the given one: {}", shown(line));
         }
         let cards: [&[u8]; 2] = [b"(card", b"(keep-card"];
-        if !cards.iter().any(|card| line.starts_with(card)) {
+        if cards.iter().any(|card| line.starts_with(card)) {
+            assert!(self.cards.table().starts_with(&table), "another table: {}", shown(line));
+        } else {
             assert!(self.cards.table() == before.table(), "cards are written: {}", shown(line));
         }
         if let Some(solver) = &self.solver {
@@ -262,7 +267,11 @@ fn random_lines() {
         let mut both = Both::new(raw);
         let mut number = random.pick(&[0, 1, 5, 250, 4_294_967_295, u64::MAX - 100]);
         for call in calls {
-            let mut line = texts::line(&narrowed(call));
+            let call = narrowed(call);
+            let ceiling = input::ceiling(&call, both.solver.as_ref(), random);
+            let takes = call.searches() || random.one_in(20);
+            let given = (takes && random.one_in(2)).then_some(ceiling);
+            let mut line = texts::line(&call, given);
             if small && random.one_in(2) {
                 texts::spoil(&mut line, random);
             }
@@ -278,14 +287,60 @@ fn random_lines() {
     assert!(timed() || ["36", "written"].iter().all(|n| paged.contains_key(*n)));
     assert!(
         timed()
-            || ["1", "3", "5", "6", "7", "8", "21", "22", "31", "32", "Withdrawn", "written"]
+            || ["1", "3", "5", "6", "7", "8", "21", "22", "31", "32", "34", "Withdrawn", "written"]
                 .iter()
                 .all(|n| said.contains_key(*n))
     );
 }
 
+/// Calls that take a ceiling, calls that take none, and lines that are no call, each without its end.
+const HEADS: &str = "(card|(card 4|(card 3|(card 65537|(card (no 4)|(keep-card|(keep-card 4|(query|(query 1|\
+    (query 1 2|(query 3|(query 01|(rule|(rule 1|(withdraw|(forget|(write|(write 200|(page 1|(page|(end|(cards|(|";
+
+/// What stands where the number of a ceiling belongs.
+const NUMBERS: &str =
+    "|0|1|2|3|8|9|10|11|12|00|01|+1|-1|1a|0x1| 1|1 |1 1|(no 1)|(1)|\t1|999999999|1000000000|\
+    4294967294|4294967295|4294967296|4294967305|9999999999|04294967295|10000000000|42949672950|\
+    18446744073709551616|18446744073709551626";
+
+/// The item itself, and forms near it; `#` is the number.
+const ITEMS: &str =
+    " (ceiling #)|(ceiling #)|  (ceiling #)| (ceiling#)| ceiling #| (Ceiling #)| (ceilings #)| (ceiling #| (ceiling #))";
+
+const ENDS: &str = ")||) |))| )| 4)| (ceiling 11))|(ceiling 11))";
+
+/// The item of a ceiling in many forms and places, on every call.
+#[test]
+fn lines_with_a_ceiling() {
+    let book = b"(book 1)\n(flags 1 2)\n(exists 3)\n(forall 4)\n(rule 3 4 (no 1))\n\
+        (rule (no 3) (no 4) 2)\n(rule 1 2)\n(end)\n";
+    let page = &mut page();
+    let mut said = std::collections::BTreeMap::<String, u64>::new();
+    for head in HEADS.split('|') {
+        let mut both = Both::new(library::open(book).unwrap().state);
+        for number in NUMBERS.split('|') {
+            for item in ITEMS.split('|').map(|item| item.replace('#', number)) {
+                for end in ENDS.split('|') {
+                    let line = format!("{head}{item}{end}");
+                    let answer = both.hold(line.as_bytes(), 9, page);
+                    *said.entry(kind(answer)).or_default() += 1;
+                    let paged = both.hold(b"(page 1)", 10, page);
+                    let stopped = answer == Said::Refused(34) && head.contains("card");
+                    assert!(!stopped || paged == Said::Refused(36), "{line}");
+                    // So that the next search needs as much.
+                    both.hold(b"(forget)", 11, page);
+                }
+            }
+        }
+    }
+    println!("{said:?}");
+    let told = ["1", "8", "21", "34", "Keep", "Swap", "lines"];
+    assert!(told.iter().all(|kind| said.contains_key(*kind)), "{said:?}");
+}
+
 fn given(input: native::input::Input) -> (Box<Raw>, Vec<Call>, bool) {
-    (input.case.raw, input.case.calls, false)
+    let calls = input.case.calls.into_iter().map(|asked| asked.call).collect();
+    (input.case.raw, calls, false)
 }
 
 /// A card's table in a line has up to 65,536 bytes.
