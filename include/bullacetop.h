@@ -28,7 +28,9 @@ extern "C" {
 /* Variable numbers run from 1 to this; as many places and, at most, levels. */
 #define BULLACETOP_NUMBERS 40
 #define BULLACETOP_RULES 255
-/* Literals of a rule. */
+/* Flags of a book. */
+#define BULLACETOP_FLAGS 40
+/* Literals of a rule, and of an exactly-one form. */
 #define BULLACETOP_LITERALS 16
 /* Learned bars, and learned passes. */
 #define BULLACETOP_ENTRIES 64
@@ -43,6 +45,7 @@ extern "C" {
 /* Verdicts of a query. */
 #define BULLACETOP_KEEP 1
 #define BULLACETOP_SWAP 2
+#define BULLACETOP_UNSETTLED 3
 
 /* The table of a session's cards. */
 #define BULLACETOP_CARD_TABLE 65536
@@ -69,6 +72,7 @@ extern "C" {
 #define BULLACETOP_TEXT_TABLE_TOO_SHORT 31
 #define BULLACETOP_NO_RULE 32
 #define BULLACETOP_STOPPED 34
+#define BULLACETOP_NO_LINE 35
 #define BULLACETOP_NO_PAGE 36
 #define BULLACETOP_TAG_RANGE 39
 #define BULLACETOP_TAG_LOST 40
@@ -113,41 +117,51 @@ struct bullacetop_state {
 
 /*
  * The calls. The state stays with the caller, and is not copied. It is lent as its nine tables, which need not stand in one struct;
- * bullacetop_rule_at, bullacetop_withdraw_at, bullacetop_forget_at, bullacetop_query_at, bullacetop_card_at and bullacetop_keep_card_at take the
- * struct.
+ * bullacetop_rule_at, bullacetop_one_at, bullacetop_withdraw_at, bullacetop_forget_at, bullacetop_query_at, bullacetop_card_at,
+ * bullacetop_keep_card_at and bullacetop_closest_at take the struct.
  *
  *   rule       adds a rule of n literals in any order. Refusals, the first fault decides: 22, 20, 7, then from the left 3, 5, 6.
+ *   one        adds the rules of `exactly one of these n literals`, 2 to 16: the rule of all of them, then one rule for each pair as given, first with
+ *              second, first with third and so on, both negated. All of them are added, or none. Refusals 22, 7, 20 where they would be more
+ *              than 255 together, then from the left 3, 5, 6. A withdrawal takes back one of them.
  *   withdraw   takes the rule back that was added last. Passes stay; of the bars those go whose record is above the count of the rules that
  *              remain, and the others keep their order and their records. Refusals 22, and 32 where there is no rule.
  *   forget     empties what was learned. Refusal 22.
- *   query      whether the rules are true where the n flags of these numbers are on and the others off.
- *              Refusals 22, 8, 34.
+ *   query      what the rules say where the n flags of these numbers are on, the m of those off, and the others open: swap if they are true
+ *              for every completion, keep if for none, otherwise unsettled. With every flag named it is a search as a card's, which uses what was
+ *              learned and learns; with a flag open it is a search that does neither, and the state stays as it is. Refusals 22; 8 for a
+ *              number that is no flag's, or is named twice, in one list or in both; 34.
  *   card       all readings of the flags for which the rules are true, as lines of f bytes, f being the count of flags: 0 open, 1 off, 2 on, in
  *              place order. Every byte of the table is written: those after the last line are zero, and all are zero after a refusal. Refusals
  *              22, 34, and 21 where there are more than n / f lines. With no flag a line has no byte and always fits.
  *   keep card  the readings for which the rules are not true, in the same way: same search and visits, same table, same refusals. Where neither
  *              card is refused and no rule is added or withdrawn between them, each reading lies on exactly one line of one of the two.
  *
- * A query and a card take a ceiling on their visits as their last argument, BULLACETOP_HIGHEST_CEILING being the highest. A search that would make
+ *   closest    the reading on the card that differs from a given one in the fewest flags, of equally close ones the first by off before on in
+ *              place order, and that number. Every flag is given, on or off. The card is made on the way: its lines stand in the table, and
+ *              their count and the visits are told. Refusals 22; 8 as a query's, and for a flag that is not given; 34, 21; 35 where the
+ *              card has no line.
+ *
+ * A query, a card and a closest reading take a ceiling on their visits as their last argument, BULLACETOP_HIGHEST_CEILING being the highest. A search that would make
  * more is stopped before that visit: 34, with visits equal to the ceiling.
  *
  * What a call may write:
  *
- *   rule         rules, rule_sizes, pass_sizes
+ *   rule, one    rules, rule_sizes, pass_sizes
  *   withdraw     rule_sizes, bars, bar_sizes
  *   forget       bar_sizes, pass_sizes
- *   query, cards bars, bar_sizes, passes, pass_sizes
+ *   query, cards, closest   bars, bar_sizes, passes, pass_sizes
  *
  * The other tables are only read, so that several calls may have them at once. A refusal has 0 lines and 0 visits and leaves all nine as they
- * were, byte for byte. Only 21 and 34 differ: the search ran, to its end or to the ceiling, its visits are told, and the four tables that a query or
- * a card may write keep what it learned.
+ * were, byte for byte. Only 21, 34 and 35 differ: the search ran, to its end or to the ceiling, its visits are told, and the four tables that a query
+ * or a card may write keep what it learned.
  *
  * Each table has to be readable, and writable where the call may write it, for the length declared here; none may be NULL. No table may
  * overlap another one, the list or the card table. A table that a call may write belongs to that call alone until it returns.
  */
 struct bullacetop_reply {
     uint16_t refusal;
-    /* Of a query that is not refused: BULLACETOP_KEEP or BULLACETOP_SWAP. Else 0. */
+    /* Of a query that is not refused: BULLACETOP_KEEP, BULLACETOP_SWAP or BULLACETOP_UNSETTLED. Else 0. */
     uint16_t verdict;
     /* Of a card. */
     size_t lines;
@@ -156,6 +170,19 @@ struct bullacetop_reply {
 };
 
 struct bullacetop_reply bullacetop_rule_in_place(
+    const uint16_t numbers[BULLACETOP_NUMBERS + 1],
+    const uint16_t levels[BULLACETOP_NUMBERS + 1],
+    const uint16_t kinds[BULLACETOP_NUMBERS + 1],
+    int16_t rules[BULLACETOP_RULES * BULLACETOP_LITERALS],
+    uint16_t rule_sizes[BULLACETOP_RULES + 1],
+    const int16_t bars[BULLACETOP_ENTRIES * BULLACETOP_NUMBERS],
+    const uint16_t bar_sizes[BULLACETOP_BAR_SIZES],
+    const int16_t passes[BULLACETOP_ENTRIES * BULLACETOP_NUMBERS],
+    uint16_t pass_sizes[BULLACETOP_ENTRIES + 1],
+    const int16_t *literals,
+    size_t n);
+
+struct bullacetop_reply bullacetop_one_in_place(
     const uint16_t numbers[BULLACETOP_NUMBERS + 1],
     const uint16_t levels[BULLACETOP_NUMBERS + 1],
     const uint16_t kinds[BULLACETOP_NUMBERS + 1],
@@ -202,6 +229,8 @@ struct bullacetop_reply bullacetop_query_in_place(
     uint16_t pass_sizes[BULLACETOP_ENTRIES + 1],
     const int16_t *on,
     size_t n,
+    const int16_t *off,
+    size_t m,
     uint32_t ceiling);
 
 struct bullacetop_reply bullacetop_card_in_place(
@@ -232,9 +261,45 @@ struct bullacetop_reply bullacetop_keep_card_in_place(
     size_t n,
     uint32_t ceiling);
 
+/* What a closest reading is told with. After a refusal differs and lines are 0. */
+struct bullacetop_closest {
+    uint16_t refusal;
+    /* In how many flags it differs. */
+    size_t differs;
+    /* Of the card, and the visits that it took. */
+    size_t lines;
+    uint64_t visits;
+};
+
+/* The reading is written in place order, BULLACETOP_OFF or BULLACETOP_ON for each flag and 0 behind them; all 40 bytes are 0 after a refusal. */
+struct bullacetop_closest bullacetop_closest_in_place(
+    const uint16_t numbers[BULLACETOP_NUMBERS + 1],
+    const uint16_t levels[BULLACETOP_NUMBERS + 1],
+    const uint16_t kinds[BULLACETOP_NUMBERS + 1],
+    const int16_t rules[BULLACETOP_RULES * BULLACETOP_LITERALS],
+    const uint16_t rule_sizes[BULLACETOP_RULES + 1],
+    int16_t bars[BULLACETOP_ENTRIES * BULLACETOP_NUMBERS],
+    uint16_t bar_sizes[BULLACETOP_BAR_SIZES],
+    int16_t passes[BULLACETOP_ENTRIES * BULLACETOP_NUMBERS],
+    uint16_t pass_sizes[BULLACETOP_ENTRIES + 1],
+    const int16_t *on,
+    size_t n,
+    const int16_t *off,
+    size_t m,
+    uint8_t *table,
+    size_t size,
+    uint8_t reading[BULLACETOP_FLAGS],
+    uint32_t ceiling);
+
 static inline struct bullacetop_reply bullacetop_rule_at(struct bullacetop_state *x, const int16_t *literals, size_t n)
 {
     return bullacetop_rule_in_place(
+        x->numbers, x->levels, x->kinds, x->rules, x->rule_sizes, x->bars, x->bar_sizes, x->passes, x->pass_sizes, literals, n);
+}
+
+static inline struct bullacetop_reply bullacetop_one_at(struct bullacetop_state *x, const int16_t *literals, size_t n)
+{
+    return bullacetop_one_in_place(
         x->numbers, x->levels, x->kinds, x->rules, x->rule_sizes, x->bars, x->bar_sizes, x->passes, x->pass_sizes, literals, n);
 }
 
@@ -250,10 +315,11 @@ static inline struct bullacetop_reply bullacetop_forget_at(struct bullacetop_sta
         x->numbers, x->levels, x->kinds, x->rules, x->rule_sizes, x->bars, x->bar_sizes, x->passes, x->pass_sizes);
 }
 
-static inline struct bullacetop_reply bullacetop_query_at(struct bullacetop_state *x, const int16_t *on, size_t n, uint32_t ceiling)
+static inline struct bullacetop_reply bullacetop_query_at(
+    struct bullacetop_state *x, const int16_t *on, size_t n, const int16_t *off, size_t m, uint32_t ceiling)
 {
     return bullacetop_query_in_place(
-        x->numbers, x->levels, x->kinds, x->rules, x->rule_sizes, x->bars, x->bar_sizes, x->passes, x->pass_sizes, on, n, ceiling);
+        x->numbers, x->levels, x->kinds, x->rules, x->rule_sizes, x->bars, x->bar_sizes, x->passes, x->pass_sizes, on, n, off, m, ceiling);
 }
 
 static inline struct bullacetop_reply bullacetop_card_at(struct bullacetop_state *x, uint8_t *table, size_t n, uint32_t ceiling)
@@ -266,6 +332,22 @@ static inline struct bullacetop_reply bullacetop_keep_card_at(struct bullacetop_
 {
     return bullacetop_keep_card_in_place(
         x->numbers, x->levels, x->kinds, x->rules, x->rule_sizes, x->bars, x->bar_sizes, x->passes, x->pass_sizes, table, n, ceiling);
+}
+
+static inline struct bullacetop_closest bullacetop_closest_at(
+    struct bullacetop_state *x,
+    const int16_t *on,
+    size_t n,
+    const int16_t *off,
+    size_t m,
+    uint8_t *table,
+    size_t size,
+    uint8_t reading[BULLACETOP_FLAGS],
+    uint32_t ceiling)
+{
+    return bullacetop_closest_in_place(
+        x->numbers, x->levels, x->kinds, x->rules, x->rule_sizes, x->bars, x->bar_sizes, x->passes, x->pass_sizes, on, n, off, m, table, size,
+        reading, ceiling);
 }
 
 /*
@@ -344,8 +426,8 @@ size_t bullacetop_room(void);
 struct bullacetop_written bullacetop_print(const uint8_t *text, size_t n, uint8_t *out, size_t m);
 
 /*
- * One line of a session, of n bytes without its newline: `(rule 1 (no 2))`, `(withdraw)`, `(query 1)`, `(card)`, `(card 64)` for a table of 64
- * bytes, `(keep-card)`, `(keep-card 64)`, `(forget)`, `(write)`, `(write 64)`, `(page 1)`. The number is the line's, for the text of a refusal. A
+ * One line of a session, of n bytes without its newline: `(rule 1 (no 2))`, `(one 1 2)`, `(withdraw)`, `(query 1 (no 2))`, `(card)`, `(card 64)` for a table of 64
+ * bytes, `(keep-card)`, `(keep-card 64)`, `(closest 1 (no 2))`, `(forget)`, `(write)`, `(write 64)`, `(page 1)`. The number is the line's, for the text of a refusal. A
  * line that is none of them is refused with 1. `shown` and `cards` tell the card answered last: hand in what the last turn returned, and the
  * table as that turn left it. A page is printed from them; only a card writes to the table.
  */

@@ -1,17 +1,18 @@
 //! `bench`: measures and writes docs/BENCHMARKS.md and docs/benchmarks.svg. `bench --card NAME`
 //! makes one card of an example by the library alone, `bench --card NAME scan` or `index` by a design
 //! in Rust alone, for a tool that counts instructions. `bench --calls` measures calls by themselves and
-//! writes nothing.
+//! writes nothing. `bench --books FOLDER` writes the books, each with its list of queries, for other programs.
 
 use bench::books::{self, formula, Book, Order, Plan};
-use bench::measure::{call_times, measure, Task, Times};
+use bench::measure::{call_times, measure, readings, Task, Times};
 use bench::plot::{svg, Panel, Series};
 use bench::report::{self, HEADS};
 use bench::search::{card, Design};
-use compare::{State, Store};
+use compare::{write, Options, State, Store};
 use native::library::bare;
 use native::reading;
-use std::io;
+use std::path::Path;
+use std::{fs, io};
 
 fn main() -> io::Result<()> {
     let arguments: Vec<String> = std::env::args().skip(1).collect();
@@ -28,7 +29,8 @@ fn main() -> io::Result<()> {
             print!("{}", calls()?);
             Ok(())
         }
-        _ => Err(io::Error::other("bench [--calls | --card NAME [scan|index]]")),
+        [flag, folder] if flag == "--books" => write_books(Path::new(folder)),
+        _ => Err(io::Error::other("bench [--calls | --card NAME [scan|index] | --books FOLDER]")),
     }
 }
 
@@ -48,6 +50,21 @@ fn one_card(name: &str, rust: Option<Design>) -> io::Result<()> {
         }
     };
     println!("lines {lines}, visits {visits}");
+    Ok(())
+}
+
+/// Each book in our own text, its queries behind it.
+fn write_books(folder: &Path) -> io::Result<()> {
+    for (index, book) in workshop().into_iter().chain(books::examples()?).enumerate() {
+        let mut text = write::text(&book.formula, &Options::paper());
+        for reading in readings(&book.formula) {
+            let on: String = reading.on.iter().map(|number| format!(" {number}")).collect();
+            let off: String = reading.off.iter().map(|number| format!(" (no {number})")).collect();
+            text += &format!("(query{on}{off})\n");
+        }
+        let name = book.name.replace("examples/", "").replace(".book", "").replace(", ", "_");
+        fs::write(folder.join(format!("{index:02}_{}.book", name.replace(' ', "_"))), text)?;
+    }
     Ok(())
 }
 

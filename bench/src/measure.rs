@@ -3,7 +3,7 @@
 use crate::search::{card, query, Design};
 use compare::random::Random;
 use compare::solver::start_node;
-use compare::{Formula, State, Store};
+use compare::{Formula, Reading, State, Store};
 use native::budget::{self, Walk};
 use native::library::bare;
 use native::raw::{Raw, Reply, SWAP};
@@ -99,7 +99,7 @@ pub fn measure(formula: &Formula, task: Task) -> Times {
     Times { task, lines: found.lines, visits: found.visits, plain_visits, library, scan, index }
 }
 
-fn run_rust(raw: &Raw, task: Task, readings: &[Vec<i16>], design: Design) -> (Found, Duration) {
+fn run_rust(raw: &Raw, task: Task, readings: &[Reading], design: Design) -> (Found, Duration) {
     let mut raw = Box::new(*raw);
     let mut found = Found { lines: 0, visits: 0, table: vec![9; TABLE], verdicts: vec![] };
     let start = cpu_time();
@@ -109,8 +109,8 @@ fn run_rust(raw: &Raw, task: Task, readings: &[Vec<i16>], design: Design) -> (Fo
             (found.lines, found.visits) = (lines.expect("the table is large enough"), visits);
         }
         Task::Queries => {
-            for on in readings {
-                let (yes, visits) = query(&mut raw, on, design);
+            for reading in readings {
+                let (yes, visits) = query(&mut raw, &reading.on, design);
                 found.verdicts.push(yes);
                 found.visits += visits;
             }
@@ -119,7 +119,7 @@ fn run_rust(raw: &Raw, task: Task, readings: &[Vec<i16>], design: Design) -> (Fo
     (found, cpu_time() - start)
 }
 
-fn run_library(raw: &Raw, task: Task, readings: &[Vec<i16>]) -> (Found, Duration) {
+fn run_library(raw: &Raw, task: Task, readings: &[Reading]) -> (Found, Duration) {
     let mut raw = Box::new(*raw);
     let mut found = Found { lines: 0, visits: 0, table: vec![9; TABLE], verdicts: vec![] };
     let start = cpu_time();
@@ -130,8 +130,8 @@ fn run_library(raw: &Raw, task: Task, readings: &[Vec<i16>]) -> (Found, Duration
             (found.lines, found.visits) = (reply.lines, reply.visits);
         }
         Task::Queries => {
-            for on in readings {
-                let reply = bare::query(&mut raw, on);
+            for reading in readings {
+                let reply = bare::query(&mut raw, reading);
                 found.verdicts.push(reply.verdict == SWAP);
                 found.visits += reply.visits;
             }
@@ -151,10 +151,10 @@ pub struct CallTimes {
 pub fn call_times(formula: &Formula) -> CallTimes {
     let raw = reading::write(&State { formula: formula.clone(), store: Store::default() });
     let readings = readings(formula);
-    let decided = |on: &&Vec<i16>| bare::query(&mut raw.clone(), on).visits == 1;
-    let on = readings.iter().find(decided).expect("a reading that the start node decides");
+    let decided = |reading: &&Reading| bare::query(&mut raw.clone(), reading).visits == 1;
+    let decided = readings.iter().find(decided).expect("a reading that the start node decides");
     CallTimes {
-        query: call_time(&raw, |raw| bare::query(raw, on)),
+        query: call_time(&raw, |raw| bare::query(raw, decided)),
         forget: call_time(&raw, bare::forget),
     }
 }
@@ -173,18 +173,19 @@ fn call_time(raw: &Raw, call: impl Fn(&mut Raw) -> Reply) -> Duration {
     least
 }
 
-fn readings(formula: &Formula) -> Vec<Vec<i16>> {
+/// Full readings: every flag is on or off.
+pub fn readings(formula: &Formula) -> Vec<Reading> {
     let mut random = Random::new(formula.clauses.len() as u64);
     let free = &formula.prefix[..formula.free_count()];
-    let reading = |_| free.iter().map(|v| v.number).filter(|_| random.one_in(2)).collect();
-    (0..QUERIES).map(reading).collect()
+    let mut on = || free.iter().map(|v| v.number).filter(|_| random.one_in(2)).collect::<Vec<_>>();
+    (0..QUERIES).map(|_| Reading::full(formula, &on())).collect()
 }
 
-fn plain_visits(formula: &Formula, task: Task, readings: &[Vec<i16>]) -> Option<u64> {
+fn plain_visits(formula: &Formula, task: Task, readings: &[Reading]) -> Option<u64> {
     let plain = |start: &[bool]| budget::visits(formula, start, Walk::Plain, PLAIN);
     match task {
         Task::Card => plain(&[]),
-        Task::Queries => readings.iter().map(|on| plain(&start_node(formula, on))).sum(),
+        Task::Queries => readings.iter().map(|reading| plain(&start_node(formula, reading))).sum(),
     }
 }
 

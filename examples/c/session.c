@@ -23,7 +23,7 @@ static const char book[] =
     "(end)\n";
 
 static const char *const calls[] = {
-    "(card)", "(page 1)", "(page 2)", "(query 1)", "(query 2)", "(rule 3)", "(page 1)", "(card)", "(card 3)", "(query 3)", "(query)x",
+    "(card)", "(page 1)", "(page 2)", "(query 1 (no 2))", "(query 2)", "(query)", "(rule 3)", "(page 1)", "(card)", "(card 3)", "(query 3)", "(query)x",
 };
 
 /* Variable 3 is not declared. */

@@ -4,19 +4,22 @@ use native.Mathlib.Omega.{arith}
 use mathlib.Core.Path.{_≡_, refl, sym, ap, _∙_, subst}
 use mathlib.Core.Logic.{inl, inr}
 use mathlib.Core.Bool.{Bool, true, false, cond, not, Bool·beq}
-use mathlib.Core.List.{List, [], _∷_}
+use mathlib.Core.List.{List, [], _∷_, _++_}
 use mathlib.Core.Option.{Option, none, some}
-use lib.ListN.{length, drop, length-replicate}
+use lib.ListN.{length, drop, replicate, length-replicate}
 use lib.Dec.{leb}
 use Rattle.qbf.specs.Formula.{paper, Formula, Literal, Node, quantifiers}
+use Rattle.qbf.specs.Plain.{PlainResult}
+use Rattle.qbf.specs.Open.{Reading, readingOf, isFull}
 use Rattle.qbf.specs.Truth.{Outcome, decided, mixed, decidedNodes, select, outline, bound, freeVariables}
-use Rattle.qbf.specs.Learning.{Constraint, Store, LearningResult}
+use Rattle.qbf.specs.Learning.{Constraint, Store, LearningResult, emptyStore}
 use Rattle.qbf.specs.Ceiling.{Attempt, finished, stopped, searchWithin}
 use Rattle.qbf.specs.Card.{tableOf, zeroTable}
-use Rattle.qbf.specs.Calls.{Call, query, card, keepCard, cardOf, Reply, refused, lines, cardRefused, Answer, answer, queryFault, startNode, queryReply, cardReplyOf, attemptAnswer, learningQuery, learningCard, guarded}
+use Rattle.qbf.specs.Calls.{Call, query, card, keepCard, cardOf, Reply, refused, lines, cardRefused, Answer, answer, queryFault, startNode, queryReply, cardReplyOf, attemptAnswer, openAnswer, learningReading, learningQuery, learningCard, guarded}
 use Rattle.qbf.specs.Demands.{refusalOf}
 use Rattle.theory.proofs.Starting.{free-rest, start-length}
-use Rattle.tables.specs.Views.{Places, Kinds}
+use Rattle.theory.proofs.Queries.{reading-length}
+use Rattle.tables.specs.Views.{Numbers, Places, Kinds}
 use Rattle.cover.specs.Cover.{Covers}
 use Rattle.cover.proofs.Laws.{covers-none, covers-open, covers-fits}
 use Rattle.node.specs.Node.{newLines}
@@ -25,12 +28,16 @@ use Rattle.node.specs.declared.Verdict.{Verdict}
 use Rattle.node.specs.declared.Verdict.the-variants.{Yes, No, Mixed}
 use Rattle.state.specs.declared.State.{State}
 use Rattle.state.specs.Reading.{readState, valid, prefixIn, formulaIn, storeIn, stateIn}
-use Rattle.reading.specs.Reading.{QueryRead}
+use Rattle.state.proofs.Valid.{valid-numbers}
+use Rattle.coding.proofs.Placewise.{zeros}
+use Rattle.reading.specs.Reading.{QueryRead, Ready}
 use Rattle.serving.specs.Serves.{Said, said, saidReply, saidOf, Serves}
 use Rattle.serving.proofs.Calls.{Passes, malformed, moved-on, unchanged}
-use Rattle.answers.specs.Answers.{rulingSaid, cardSaid, rulingFor, total}
-use Rattle.answers.specs.declared.Printed.the-variants as shown
-use Rattle.answers.specs.declared.Ruling.{Ruling}
+use Rattle.replies.specs.Replies.{rulingSaid, cardSaid, rulingFor, total}
+use Rattle.replies.specs.declared.Printed.the-variants as shown
+use Rattle.replies.specs.declared.Ruling.{Ruling}
+use Rattle.open_run.specs.OpenRun.{Shown}
+use Rattle.answers.specs.OpenRun.{openWalk, openSaid}
 use Rattle.answers.specs.Run.{Ends, EndsBy, TriedBy, storeLeft, FoundBy, Ran}
 use Rattle.answers.proofs.Running.{formed}
 
@@ -68,95 +75,167 @@ left-by over top tell (finished o) = refl
 left-by over top tell (stopped st) = refl
 
 module _ (x : State) (v : valid x ≡ true) where
+  -- the tables of a valid state, and open values, are ready for a reading
+  pub read-ready : {free : ℕ} {places : List ℕ} → free ≡ freeVariables (prefixIn x) → Places (prefixIn x) places
+      → Ready paper (prefixIn x) free (x .numbers) places (replicate (suc (paper .numbers)) 0)
+  read-ready frees ps =
+      record {
+        good = formed x v .prefix-ok;
+        counted = frees;
+        numbered = valid-numbers x v;
+        placed = ps;
+        wide = omega (arith, length-replicate {A = ℕ} (suc (paper .numbers)) 0);
+        opened = zeros (suc (paper .numbers));
+      }
+
   abbrev b : Formula
   b = formulaIn x
 
   abbrev searchFrom : ℕ → ℕ → Node → Attempt
   searchFrom n at s = searchWithin paper (prefixIn x) (b .clauses) n (drop at (quantifiers (prefixIn x))) s (storeIn x)
 
-  -- a query by what its search comes to
-  module _ (top : ℕ) (ls : List Literal) (y : State) (fine : queryFault b [] ls ≡ none) where
+  -- a query of a full reading, by what its search comes to
+  module _ (top : ℕ) (on off : List Literal) (y : State) (fine : queryFault b [] (on ++ off) ≡ none) (whole : isFull (readingOf on off (prefixIn x)) ≡ true) where
     abbrev answered : Attempt → Answer
     answered t = attemptAnswer (refused 34) top queryReply t .out
 
-    query-by : (t : Attempt) → searchWithin paper (prefixIn x) (b .clauses) top (bound (quantifiers (prefixIn x))) (startNode ls (prefixIn x)) (storeIn x) ≡ t
-        → readState y ≡ some (record { formula = b; store = storeLeft t }) → Passes (refusalOf (answered t .reply)) → Serves x (query top ls) (saidOf (answered t)) y
+    query-by : (t : Attempt) → searchWithin paper (prefixIn x) (b .clauses) top (bound (quantifiers (prefixIn x))) (startNode on (prefixIn x)) (storeIn x) ≡ t
+        → readState y ≡ some (record { formula = b; store = storeLeft t }) → Passes (refusalOf (answered t .reply)) → Serves x (query top on off) (saidOf (answered t)) y
     query-by t is left pass =
-        subst (λ (a : Answer). Serves x (query top ls) (saidOf a) y) out-is
-        (moved-on x (query top ls) v y (left ∙ ap some state-is) (subst (λ (a : Answer). Passes (refusalOf (a .reply))) (sym out-is) pass))
+        subst (λ (a : Answer). Serves x (query top on off) (saidOf a) y) out-is
+        (moved-on x (query top on off) v y (left ∙ ap some state-is) (subst (λ (a : Answer). Passes (refusalOf (a .reply))) (sym out-is) pass))
       where
-        out-is : guarded true (stateIn x) (query top ls) .out ≡ answered t
-        out-is = ap (λ (o : Option ℕ). learningQuery o b (storeIn x) top ls .out) fine ∙ ap answered is
+        out-is : guarded true (stateIn x) (query top on off) .out ≡ answered t
+        out-is =
+            ap (λ (o : Option ℕ). learningQuery o b (storeIn x) top on off .out) fine
+            ∙ ap (λ (f : Bool). learningReading f b (storeIn x) top on (readingOf on off (prefixIn x)) .out) whole
+            ∙ ap answered is
 
-        state-is : record { formula = b; store = storeLeft t } ≡ guarded true (stateIn x) (query top ls) .state
+        state-is : record { formula = b; store = storeLeft t } ≡ guarded true (stateIn x) (query top on off) .state
         state-is =
             ap (λ (st : Store). record { formula = b; store = st })
             (sym (left-by (refused 34) top queryReply t) ∙ ap (λ (z : Attempt). attemptAnswer (refused 34) top queryReply z .store) (sym is))
-            ∙ sym (ap (λ (o : Option ℕ). record { formula = b; store = learningQuery o b (storeIn x) top ls .store }) fine)
+            ∙ sym
+            (ap (λ (o : Option ℕ). record { formula = b; store = learningQuery o b (storeIn x) top on off .store }) fine
+            ∙ ap (λ (f : Bool). record { formula = b; store = learningReading f b (storeIn x) top on (readingOf on off (prefixIn x)) .store }) whole)
 
     module _ {p : Bool} (free budget : ℕ) (r : Found) (table : List ℕ) (frees : free ≡ freeVariables (prefixIn x)) (allowed : budget ≡ suc top)
-        (f : FoundBy p x (searchFrom (budget - 1) free (startNode ls (prefixIn x))) free budget r y table) where
-      same : searchWithin paper (prefixIn x) (b .clauses) top (bound (quantifiers (prefixIn x))) (startNode ls (prefixIn x)) (storeIn x) ≡ searchFrom (budget - 1) free (startNode ls (prefixIn x))
+        (f : FoundBy p x (searchFrom (budget - 1) free (startNode on (prefixIn x))) free budget r y table) where
+      same : searchWithin paper (prefixIn x) (b .clauses) top (bound (quantifiers (prefixIn x))) (startNode on (prefixIn x)) (storeIn x) ≡ searchFrom (budget - 1) free (startNode on (prefixIn x))
       same =
-          ap (λ qs. searchWithin paper (prefixIn x) (b .clauses) top qs (startNode ls (prefixIn x)) (storeIn x))
+          ap (λ qs. searchWithin paper (prefixIn x) (b .clauses) top qs (startNode on (prefixIn x)) (storeIn x))
           (sym (ap (λ (i : ℕ). drop i (quantifiers (prefixIn x))) frees ∙ free-rest (quantifiers (prefixIn x))))
-          ∙ ap (λ (n : ℕ). searchFrom n free (startNode ls (prefixIn x))) one-less
+          ∙ ap (λ (n : ℕ). searchFrom n free (startNode on (prefixIn x))) one-less
         where
           one-less : top ≡ budget - 1
           one-less = omega (arith, allowed)
 
       -- swap or keep, where some budget is left
-      asked : (k : ℕ) → k + r .budget ≡ suc top → (r .budget ≡ 0 → ⊥) → Serves x (query top ls) (rulingSaid (rulingFor (r .verdict)) k) y
-      asked k counted some-left = by (searchFrom (budget - 1) free (startNode ls (prefixIn x))) same (f .tried) (f .state)
+      asked : (k : ℕ) → k + r .budget ≡ suc top → (r .budget ≡ 0 → ⊥) → Serves x (query top on off) (rulingSaid (rulingFor (r .verdict)) k) y
+      asked k counted some-left = by (searchFrom (budget - 1) free (startNode on (prefixIn x))) same (f .tried) (f .state)
         where
-          by : (t : Attempt) → searchWithin paper (prefixIn x) (b .clauses) top (bound (quantifiers (prefixIn x))) (startNode ls (prefixIn x)) (storeIn x) ≡ t → TriedBy p t free budget r table
-              → readState y ≡ some (record { formula = b; store = storeLeft t }) → Serves x (query top ls) (rulingSaid (rulingFor (r .verdict)) k) y
+          by : (t : Attempt) → searchWithin paper (prefixIn x) (b .clauses) top (bound (quantifiers (prefixIn x))) (startNode on (prefixIn x)) (storeIn x) ≡ t → TriedBy p t free budget r table
+              → readState y ≡ some (record { formula = b; store = storeLeft t }) → Serves x (query top on off) (rulingSaid (rulingFor (r .verdict)) k) y
           by (stopped z) is spent-all left = absurd (some-left spent-all)
           by (finished o) is h left =
-              subst (λ (a : Said). Serves x (query top ls) a y) whole (query-by (finished o) is left (query-passes (outline (o .outcome))))
+              subst (λ (a : Said). Serves x (query top on off) a y) told (query-by (finished o) is left (query-passes (outline (o .outcome))))
             where
-              whole : saidReply (queryReply (outline (o .outcome))) (o .visits) ≡ rulingSaid (rulingFor (r .verdict)) k
-              whole = sym (ruling-is (r .verdict) (o .outcome) (o .visits) (h .verdict)) ∙ ap (rulingSaid (rulingFor (r .verdict))) k-is
+              told : saidReply (queryReply (outline (o .outcome))) (o .visits) ≡ rulingSaid (rulingFor (r .verdict)) k
+              told = sym (ruling-is (r .verdict) (o .outcome) (o .visits) (h .verdict)) ∙ ap (rulingSaid (rulingFor (r .verdict))) k-is
                 where
                   k-is : o .visits ≡ k
                   k-is = omega (arith, counted, h .visits, allowed)
 
       -- 34, where none is left: the visits are the ceiling, and the store is kept
-      halted : r .budget ≡ 0 → Serves x (query top ls) (said (some 34) 0 0 top []) y
-      halted none-left = by (searchFrom (budget - 1) free (startNode ls (prefixIn x))) same (f .tried) (f .state)
+      halted : r .budget ≡ 0 → Serves x (query top on off) (said (some 34) 0 0 top []) y
+      halted none-left = by (searchFrom (budget - 1) free (startNode on (prefixIn x))) same (f .tried) (f .state)
         where
-          by : (t : Attempt) → searchWithin paper (prefixIn x) (b .clauses) top (bound (quantifiers (prefixIn x))) (startNode ls (prefixIn x)) (storeIn x) ≡ t → TriedBy p t free budget r table
-              → readState y ≡ some (record { formula = b; store = storeLeft t }) → Serves x (query top ls) (said (some 34) 0 0 top []) y
-          by (stopped z) is h left = query-by (stopped z) is left (inr refl)
+          by : (t : Attempt) → searchWithin paper (prefixIn x) (b .clauses) top (bound (quantifiers (prefixIn x))) (startNode on (prefixIn x)) (storeIn x) ≡ t → TriedBy p t free budget r table
+              → readState y ≡ some (record { formula = b; store = storeLeft t }) → Serves x (query top on off) (said (some 34) 0 0 top []) y
+          by (stopped z) is h left = query-by (stopped z) is left (inr (inl refl))
           by (finished o) is h left = absurd (omega (arith, h .left, none-left))
 
   -- from what the code has at hand: its reading of the arguments, the search from the start node, and the ruling
-  module _ {ls : List Literal} {free : ℕ} {ok : Bool} {values : List ℕ} (frees : free ≡ freeVariables (prefixIn x)) (read : QueryRead (prefixIn x) free ls ok values) where
-    module _ (top : ℕ) {p : Bool} {places kinds : List ℕ} {at budget : ℕ} (r : Found) (y : State) (table : List ℕ) (ps : Places (prefixIn x) places) (ks : Kinds (prefixIn x) kinds) (fine : ok ≡ true)
+  module _ {on off : List Literal} {free : ℕ} {ok full : Bool} {values : List ℕ} (frees : free ≡ freeVariables (prefixIn x)) (read : QueryRead (prefixIn x) on off ok full values) where
+    module _ (top : ℕ) {p : Bool} {places kinds : List ℕ} {at budget : ℕ} (r : Found) (y : State) (table : List ℕ) (ps : Places (prefixIn x) places) (ks : Kinds (prefixIn x) kinds) (fine : ok ≡ true) (all-named : full ≡ true)
         (ran : Ran p x places kinds values at free budget (0 ∷ []) r y table) (here : at ≡ free) (allowed : budget ≡ suc top) where
-      found-at : FoundBy p x (searchFrom (budget - 1) free (startNode ls (prefixIn x))) free budget r y table
+      found-at : FoundBy p x (searchFrom (budget - 1) free (startNode on (prefixIn x))) free budget r y table
       found-at =
-          subst (λ (i : ℕ). FoundBy p x (searchFrom (budget - 1) i (startNode ls (prefixIn x))) free budget r y table) here
-          (ran .found (startNode ls (prefixIn x)) ps ks (read .shown (formed x v .prefix-ok) frees fine) (start-length ls (prefixIn x) ∙ sym frees ∙ sym here) frees (covers-none free 1 (0 ∷ []) refl))
+          subst (λ (i : ℕ). FoundBy p x (searchFrom (budget - 1) i (startNode on (prefixIn x))) free budget r y table) here
+          (ran .found (startNode on (prefixIn x)) ps ks (read .shown fine all-named) (start-length on (prefixIn x) ∙ sym frees ∙ sym here) frees (covers-none free 1 (0 ∷ []) refl))
 
-      no-fault : queryFault b [] ls ≡ none
-      no-fault = read .fine b refl (formed x v .prefix-ok) frees fine
+      no-fault : queryFault b [] (on ++ off) ≡ none
+      no-fault = read .fine b refl fine
 
-      pub asked-by : (k : ℕ) → k + r .budget ≡ suc top → (r .budget ≡ 0 → ⊥) → {q : Ruling} → q ≡ rulingFor (r .verdict) → Serves x (query top ls) (rulingSaid q k) y
+      whole : isFull (readingOf on off (prefixIn x)) ≡ true
+      whole = sym (read .told fine) ∙ all-named
+
+      pub asked-by : (k : ℕ) → k + r .budget ≡ suc top → (r .budget ≡ 0 → ⊥) → {q : Ruling} → q ≡ rulingFor (r .verdict) → Serves x (query top on off) (rulingSaid q k) y
       asked-by k counted some-left {q} is =
-          subst (λ (z : Ruling). Serves x (query top ls) (rulingSaid z k) y) (sym is) (asked top ls y no-fault free budget r table frees allowed found-at k counted some-left)
+          subst (λ (z : Ruling). Serves x (query top on off) (rulingSaid z k) y) (sym is) (asked top on off y no-fault whole free budget r table frees allowed found-at k counted some-left)
 
-      pub halted-by : r .budget ≡ 0 → Serves x (query top ls) (said (some 34) 0 0 top []) y
-      halted-by none-left = halted top ls y no-fault free budget r table frees allowed found-at none-left
+      pub halted-by : r .budget ≡ 0 → Serves x (query top on off) (said (some 34) 0 0 top []) y
+      halted-by none-left = halted top on off y no-fault whole free budget r table frees allowed found-at none-left
 
     -- refused with 8: the state is as given
-    pub refused-query : (top : ℕ) → ok ≡ false → Serves x (query top ls) (said (some 8) 0 0 0 []) x
+    pub refused-query : (top : ℕ) → ok ≡ false → Serves x (query top on off) (said (some 8) 0 0 0 []) x
     refused-query top bad =
-        subst (λ (a : Said). Serves x (query top ls) a x) (ap (λ (o : Option ℕ). saidOf (learningQuery o b (storeIn x) top ls .out)) e)
-        (unchanged x (query top ls) v (ap (λ (o : Option ℕ). record { formula = b; store = learningQuery o b (storeIn x) top ls .store }) e))
+        subst (λ (a : Said). Serves x (query top on off) a x) (ap (λ (o : Option ℕ). saidOf (learningQuery o b (storeIn x) top on off .out)) e)
+        (unchanged x (query top on off) v (ap (λ (o : Option ℕ). record { formula = b; store = learningQuery o b (storeIn x) top on off .store }) e))
       where
-        e : queryFault b [] ls ≡ some 8
-        e = read .fault b refl (formed x v .prefix-ok) frees bad
+        e : queryFault b [] (on ++ off) ≡ some 8
+        e = read .fault b refl bad
+
+    -- a reading with an open variable: the plain search's answer, and the state is as given
+    module _ (fine : ok ≡ true) (not-all : full ≡ false) where
+      abbrev os : Reading
+      os = readingOf on off (prefixIn x)
+
+      pub open-shown : {places kinds : List ℕ} → Places (prefixIn x) places → Kinds (prefixIn x) kinds
+          → Shown (prefixIn x) os (x .numbers) (x .clauses) (x .«clause_sizes») places kinds values free
+      open-shown ps ks =
+          let w = formed x v in
+          record {
+            numbered = valid-numbers x v;
+            placed = ps;
+            kinded = ks;
+            formed = record { prefix-ok = w .prefix-ok; clauses-ok = w .clauses-ok; store-ok = refl };
+            recorded = read .recorded fine;
+            counted = frees;
+            long = reading-length on off (prefixIn x) ∙ sym frees;
+          }
+
+      abbrev walk : PlainResult
+      walk = openWalk (prefixIn x) (b .clauses) os
+
+      pub open-by : (top : ℕ) {a : Said} → a ≡ openSaid top walk → Serves x (query top on off) a x
+      open-by top {a} told =
+          subst (λ (q : Said). Serves x (query top on off) q x) (ap saidOf out-is ∙ same-said (leb (walk .visits) top) ∙ sym told) (unchanged x (query top on off) v state-is)
+        where
+          no-fault : queryFault b [] (on ++ off) ≡ none
+          no-fault = read .fine b refl fine
+
+          partly : isFull os ≡ false
+          partly = sym (read .told fine) ∙ not-all
+
+          same-said : (fit : Bool) → saidOf (openAnswer fit (storeIn x) top walk .out) ≡ saidOf (openAnswer fit emptyStore top walk .out)
+          same-said true = refl
+          same-said false = refl
+
+          same-store : (fit : Bool) → openAnswer fit (storeIn x) top walk .store ≡ storeIn x
+          same-store true = refl
+          same-store false = refl
+
+          out-is : guarded true (stateIn x) (query top on off) .out ≡ openAnswer (leb (walk .visits) top) (storeIn x) top walk .out
+          out-is =
+              ap (λ (o : Option ℕ). learningQuery o b (storeIn x) top on off .out) no-fault
+              ∙ ap (λ (f : Bool). learningReading f b (storeIn x) top on os .out) partly
+
+          state-is : guarded true (stateIn x) (query top on off) .state ≡ stateIn x
+          state-is =
+              ap (λ (o : Option ℕ). record { formula = b; store = learningQuery o b (storeIn x) top on off .store }) no-fault
+              ∙ ap (λ (f : Bool). record { formula = b; store = learningReading f b (storeIn x) top on os .store }) partly
+              ∙ ap (λ (st : Store). record { formula = b; store = st }) (same-store (leb (walk .visits) top))
 
   -- ---- card
   -- all lines of the verdict p: those below the empty node, and its own where it has that verdict
@@ -243,7 +322,7 @@ module _ (x : State) (v : valid x ≡ true) where
         by : (t : Attempt) → searchFrom top 0 [] ≡ t → TriedBy p t free budget r table → readState y ≡ some (record { formula = b; store = storeLeft t }) → Serves x (cardOf p top size) (said (some 34) 0 0 top zeros) y
         by (finished o) is h left = absurd (omega (arith, h .left, none-left))
         by (stopped st) is h left =
-            subst (λ (tb : List ℕ). Serves x (cardOf p top size) (said (some 34) 0 0 top tb) y) (sym z) (card-by p top size y (stopped st) is left (inr refl))
+            subst (λ (tb : List ℕ). Serves x (cardOf p top size) (said (some 34) 0 0 top tb) y) (sym z) (card-by p top size y (stopped st) is left (inr (inl refl)))
 
     -- some budget is left
     module _ (some-left : r .budget ≡ 0 → ⊥) (k : ℕ) (spent : k + r .budget ≡ suc top) (n : ℕ) (counted : n ≡ total p (r .verdict) (r .lines)) where

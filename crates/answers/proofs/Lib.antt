@@ -1,4 +1,4 @@
 pub mod Records
 pub mod Running
 pub mod Asking
-pub mod Told
+pub mod Opening

@@ -51,6 +51,7 @@ use Rattle.state.specs.Reading.{stateOf, rowsFit, prefixFits, readState, valid,
 use Rattle.state.specs.Derived.{Sized}
 use Rattle.state.proofs.Valid.{ValidFacts, valid-facts, table-rows, valid-tables, valid-numbers}
 use Rattle.search_start.specs.Start.{Starts}
+use Rattle.open_run.specs.OpenRun.{Ready as OpenReady}
 use Rattle.search_start.specs.declared.Start.{Start}
 use Rattle.search_start.specs.declared.Start.the-variants.{No as NoStart, Yes as YesStart, Open}
 use Rattle.answers.specs.Run.{Ready, AtStart, Ends, storeLeft, FoundBy, belowStart, BelowBy, Below, Over, Searched, Ran}
@@ -166,6 +167,9 @@ module _ (x : State) (v : valid x ≡ true) where
   ready sized at free budget within small bounded =
       let t = valid-tables x v sized in
       record { few = few-variables; within = within; frees = small; clauses-in = t .clauses; learned-in = record { clauses = t .learned-clauses; cubes = t .learned-cubes }; bounded = bounded }
+
+  pub open-ready : Sized x → (free : ℕ) → free ≤ paper .numbers → OpenReady (x .numbers) (x .clauses) (x .«clause_sizes») free
+  open-ready sized free small = record { few = few-variables; frees = small; clauses-in = valid-tables x v sized .clauses }
 
   pub variables-numbered : numbersOk paper [] (prefixIn x) ≡ true
   variables-numbered = numbers-ok (formulaIn x) (state-facts (stateIn x) (f .formed) .formula-ok)

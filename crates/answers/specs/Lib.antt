@@ -1,2 +1,2 @@
-pub mod Answers
 pub mod Run
+pub mod OpenRun

@@ -1,80 +1,28 @@
 // The calls query, card and keep card on lent tables, open to outsiders: the learned constraints are written where they stand.
-ghost use mathlib.Core.Path.{_≡_};
-ghost use mathlib.Core.List.{List, []};
-ghost use mathlib.Core.Option.{none, some};
-ghost use Prim.Native.Nat.{ℕ, suc, _+_, _≤_};
 ghost use lib.ListN.{length};
-ghost use Rattle.qbf.specs.Ceiling.{highestCeiling};
 ghost use Rattle.qbf.specs.Calls.{query, card, keepCard, cardOf};
 ghost use Rattle.state.specs.Reading.{stateOf};
-ghost use Rattle.serving.specs.Serves.{said, Serves};
-ghost use Rattle.answers.specs.Answers.{rulingSaid, cardSaid};
-use crate::MALFORMED;
-use crate::NOT_FREE;
-use crate::Printed;
-use crate::Ruling;
-use crate::STOPPED;
-use crate::TOO_MANY_LINES;
-use crate::ruling_for;
+ghost use Rattle.serving.specs.Serves.{Serves};
+ghost use Rattle.replies.specs.Replies.{rulingSaid, cardSaid};
+use crate::open;
 use crate::run::run;
-use crate::total_lines;
+use replies::Listed;
+use replies::MALFORMED;
+use replies::NOT_FREE;
+use replies::Ruled;
+use replies::budget_of;
+use replies::malformed_card;
+use replies::not_ruled;
+use replies::ruling_for;
+use replies::stopped_card;
+use replies::stopped_query;
+use replies::too_many_lines;
+use replies::total_lines;
+use replies::visits_of;
+use replies::with_lines;
 
-pub struct Ruled {
-    pub ruling: Ruling,
-    pub visits: u64,
-}
-
-pub struct Listed {
-    pub printed: Printed,
-    pub visits: u64,
-}
-
-// The budget of a search under that ceiling; and the visits of one that left so much of it.
-fn budget_of(ceiling: u32) -> u64
-    ensures { λ r. ⌜ (r ≡ suc ceiling) × (r ≤ suc highestCeiling) ⌝ }
-{
-    ceiling as u64 + 1
-}
-
-fn visits_of(ceiling: u32, left: u64) -> u64
-    requires { ⌜ left ≤ suc ceiling ⌝ }
-    ensures { λ r. ⌜ r + left ≡ suc ceiling ⌝ }
-{
-    ceiling as u64 + 1 - left
-}
-
-// "A refusal returns its number, 0 lines, 0 visits and the state as given": a query's. Where it stopped, "visits equal to the ceiling".
-fn not_ruled(number: u16, visits: u64) -> Ruled
-    ensures { λ r. ⌜ rulingSaid (r .ruling) (r .visits) ≡ said (some number) 0 0 visits [] ⌝ }
-{
-    Ruled {
-        ruling: Ruling::Refused(number),
-        visits: visits,
-    }
-}
-
-// A card's: "Only 21 differs: the walk runs to its end first, its visits are returned and its store is kept.", and 34.
-fn not_listed(number: u16, visits: u64) -> Listed
-    ensures { λ r. ⌜ ((tb : List ℕ) → cardSaid (r .printed) (r .visits) tb ≡ said (some number) 0 0 visits tb) ⌝ }
-{
-    Listed {
-        printed: Printed::Refused(number),
-        visits: visits,
-    }
-}
-
-// A card with its lines.
-fn with_lines(lines: usize, visits: u64) -> Listed
-    ensures { λ r. ⌜ ((tb : List ℕ) → cardSaid (r .printed) (r .visits) tb ≡ said none 0 lines visits tb) ⌝ }
-{
-    let printed = Printed::Lines(lines);
-    Listed {
-        printed: printed,
-        visits: visits,
-    }
-}
-
-// "Query takes the numbers of the flags that are on; a flag not named is off. It returns swap or keep, and the visits."
+// "From now on a query gives the flags that are on and those that are off, and the rest are open. The result is swap if every completion is a swap, keep
+// if none is, otherwise unsettled." "Full readings behave as before".
 pub fn query<'a>(
     numbers: &'a [u16; tables::BY_NUMBER],
     levels: &'a [u16; tables::BY_NUMBER],
@@ -86,6 +34,7 @@ pub fn query<'a>(
     learned_cubes: &mut [i16; tables::CONSTRAINT_CELLS],
     learned_cube_sizes: &mut [u16; tables::CONSTRAINT_SIZES],
     on: &'a [i16],
+    off: &'a [i16],
     ceiling: u32,
 ) -> Ruled
     ensures { λ r. ⌜
@@ -100,7 +49,7 @@ pub fn query<'a>(
         (now («learned_clause_sizes» .entry))
         (now («learned_cubes» .entry))
         (now («learned_cube_sizes» .entry)))
-        (query ceiling (now (on .entry)))
+        (query ceiling (now (on .entry)) (now (off .entry)))
         (rulingSaid (r .ruling) (r .visits))
         (stateOf
         (now (numbers .entry))
@@ -126,12 +75,25 @@ pub fn query<'a>(
         learned_cube_sizes,
     );
     if !prefix.ok {
-        return not_ruled(MALFORMED, 0);
+        return not_ruled(MALFORMED);
     }
     let free = state::kinds::free_count(numbers, levels, kinds);
-    let reading = reading::read(numbers, &prefix.places, free, on);
+    let mut values = [tables::OPEN; tables::BY_NUMBER];
+    let reading = reading::read(&mut values, numbers, &prefix.places, free, on, off);
     if !reading.ok {
-        return not_ruled(NOT_FREE, 0);
+        return not_ruled(NOT_FREE);
+    }
+    if !reading.full {
+        return open::query(
+            numbers,
+            clauses,
+            clause_sizes,
+            &prefix.places,
+            &prefix.kinds,
+            &values,
+            free,
+            ceiling,
+        );
     }
     let at = free; // each free variable has its value at the start node
     let mut no_table = [0u8; 1];
@@ -145,7 +107,7 @@ pub fn query<'a>(
         learned_cube_sizes,
         &prefix.places,
         &prefix.kinds,
-        &reading.values,
+        &values,
         at,
         free,
         &mut no_table,
@@ -153,7 +115,7 @@ pub fn query<'a>(
         budget_of(ceiling),
     );
     if found.budget == 0 {
-        return not_ruled(STOPPED, ceiling as u64);
+        return stopped_query(ceiling);
     }
     let verdict = found.verdict;
     Ruled {
@@ -217,7 +179,7 @@ pub fn card_of<'a>(
         learned_cube_sizes,
     );
     if !prefix.ok {
-        return not_listed(MALFORMED, 0);
+        return malformed_card();
     }
     let free = state::kinds::free_count(numbers, levels, kinds);
     let values = [tables::OPEN; tables::BY_NUMBER];
@@ -240,7 +202,7 @@ pub fn card_of<'a>(
     );
     if found.budget == 0 {
         cover::clear(table);
-        return not_listed(STOPPED, ceiling as u64);
+        return stopped_card(ceiling);
     }
     let verdict = found.verdict;
     let lines = total_lines(verdict, found.lines, yes);
@@ -249,7 +211,7 @@ pub fn card_of<'a>(
         return with_lines(lines, visits);
     }
     cover::clear(table);
-    not_listed(TOO_MANY_LINES, visits)
+    too_many_lines(visits)
 }
 
 // The card: Yes nodes.

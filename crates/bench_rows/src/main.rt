@@ -1,6 +1,6 @@
-// Paper 01's table of bench cases, and its other cases, on the compiled code: the answer of every call, one to a line.
-use answers::Printed;
-use answers::Ruling;
+// Paper 01's table of bench cases, its other cases, and wish 5's figures, on the compiled code: the answer of every call, one to a line.
+use replies::Printed;
+use replies::Ruling;
 use rules::Change;
 use state::State;
 
@@ -100,7 +100,7 @@ fn visits(n: u64) {
     text(b"\n");
 }
 
-fn query(x: State, on: &[i16]) -> State {
+fn query<'a>(x: State, on: &'a [i16], off: &'a [i16]) -> State {
     text(b"query: ");
     let mut learned_clauses = x.learned_clauses;
     let mut learned_clause_sizes = x.learned_clause_sizes;
@@ -117,6 +117,7 @@ fn query(x: State, on: &[i16]) -> State {
         &mut learned_cubes,
         &mut learned_cube_sizes,
         on,
+        off,
         tables::HIGHEST_CEILING,
     );
     let mut next = x;
@@ -128,6 +129,7 @@ fn query(x: State, on: &[i16]) -> State {
     match q {
         Ruling::Swap => text(b"swap"),
         Ruling::Keep => text(b"keep"),
+        Ruling::Unsettled => text(b"unsettled"),
         Ruling::Refused(n) => {
             text(b"refused ");
             number(n as u64);
@@ -257,13 +259,13 @@ fn bench() {
     title(b"A with (flags 2 1)");
     card_4(book_a_exchanged());
     title(b"A, query 1 on; again");
-    let a = query(book_a(), &[1]);
-    query(a, &[1]);
+    let a = query(book_a(), &[1], &[2]);
+    query(a, &[1], &[2]);
     title(b"A, query 2 on");
-    query(book_a(), &[2]);
+    query(book_a(), &[2], &[1]);
     title(b"B, card twice, then no flag on");
     let b = card_0(card_0(book_b()));
-    query(b, &[0; 0]);
+    query(b, &[0; 0], &[1]);
     title(b"C");
     card_4(book_c());
     title(b"flags 1 2, no rule");
@@ -328,11 +330,23 @@ fn others() {
     let a = forget(card_4(book_a()));
     card_4(card_3(a));
     title(b"queries that are refused");
-    let x = query(query(book_a(), &[3]), &[1, 1]);
-    query(query(x, &[-1]), &[-32768]);
+    let x = query(query(book_a(), &[3], &[1]), &[1, 1], &[2]);
+    let y = query(query(x, &[-1], &[2]), &[-32768], &[0; 0]);
+    query(query(y, &[1], &[1]), &[0; 0], &[2, 2]);
     title(b"a malformed state");
     let m = with(with(state::empty(), 1, 0, tables::FREE), 1, 0, tables::FREE);
-    forget(card_3(query(rule(m, &[1]), &[1])));
+    forget(card_3(query(rule(m, &[1]), &[1], &[0; 0])));
+}
+
+// Wish 5's figures: flags the logger did not record, on book A; an open query between two full ones.
+fn open_flags() {
+    title(b"A, flag 1 or 2 recorded alone, or none");
+    let a = query(query(book_a(), &[2], &[0; 0]), &[0; 0], &[2]);
+    let b = query(query(a, &[0; 0], &[0; 0]), &[1], &[0; 0]);
+    query(b, &[0; 0], &[1]);
+    title(b"A, query 1 on; 2 off alone; 1 on again");
+    let c = query(query(book_a(), &[1], &[2]), &[0; 0], &[2]);
+    query(c, &[1], &[2]);
 }
 
 fn main() {
@@ -340,4 +354,5 @@ fn main() {
     bench_d();
     limits();
     others();
+    open_flags();
 }

@@ -9,11 +9,11 @@ use Rattle.serving.proofs.Numbered.{served-told}
 use Rattle.rules.specs.declared.Change.{Change}
 use Rattle.rules.specs.declared.Change.the-variants as change
 use Rattle.rules.specs.Rules.{changeSaid}
-use Rattle.answers.specs.declared.Ruling.{Ruling}
-use Rattle.answers.specs.declared.Ruling.the-variants as ruling
-use Rattle.answers.specs.declared.Printed.{Printed}
-use Rattle.answers.specs.Answers.{rulingSaid, cardSaid}
-use Rattle.answers.proofs.Told.{card-said}
+use Rattle.replies.specs.declared.Ruling.{Ruling}
+use Rattle.replies.specs.declared.Ruling.the-variants as ruling
+use Rattle.replies.specs.declared.Printed.{Printed}
+use Rattle.replies.specs.Replies.{rulingSaid, cardSaid}
+use Rattle.replies.proofs.Told.{card-said}
 
 -- the same answer, as its numbers tell it
 pub says-as : {x : State} {c : Call} {a b : Said} {y : State} → Serves x c a y → b ≡ told a → Serves x c b y
@@ -29,6 +29,7 @@ change-numbers c p = ap (λ (n : ℕ). said (faultOf n) 0 0 0 []) p ∙ change-t
 ruling-told : (r : Ruling) (k : ℕ) → said (faultOf (number (rulingSaid r 0 .refusal))) (rulingSaid r 0 .verdict) 0 k [] ≡ told (rulingSaid r k)
 ruling-told ruling.Swap k = refl
 ruling-told ruling.Keep k = refl
+ruling-told ruling.Unsettled k = refl
 ruling-told (ruling.Refused n) k = refl
 
 pub ruling-numbers : (r : Ruling) {n v : ℕ} (k : ℕ) → n ≡ number (rulingSaid r 0 .refusal) → v ≡ rulingSaid r 0 .verdict → said (faultOf n) v 0 k [] ≡ told (rulingSaid r k)

@@ -1,7 +1,7 @@
 // The calls on a state whose tables the caller lends, in the order of the state: what a call changes is written where it stands, and
 // nothing is copied but the learned clauses of a withdrawal, on its way.
-use answers::Ruling;
 use book_writer::Written;
+use replies::Ruling;
 use rules::Change;
 ghost use mathlib.Core.Path.{_≡_};
 ghost use mathlib.Core.List.{[]};
@@ -11,11 +11,11 @@ ghost use Rattle.state.specs.Reading.{stateOf};
 ghost use Rattle.serving.specs.Serves.{number, told, Serves};
 ghost use Rattle.book_writer.specs.Writes.{Writes};
 ghost use Rattle.rules.specs.Rules.{changeSaid};
-ghost use Rattle.answers.specs.Answers.{rulingSaid};
+ghost use Rattle.replies.specs.Replies.{rulingSaid};
 ghost use Rattle.bullacetop.specs.Answers.{replySaid};
 
-// The numbers of an answer; the state stays with the caller. A refusal of 0 is none; a verdict is 1 for keep and 2 for swap, 0 where the call is no
-// query.
+// The numbers of an answer; the state stays with the caller. A refusal of 0 is none; a verdict is 1 for keep, 2 for swap and 3 for unsettled, 0 where the
+// call is no query.
 #[repr(C)]
 pub struct Reply {
     pub refusal: u16,
@@ -30,12 +30,15 @@ const KEEP: u16 = 1;
 
 const SWAP: u16 = 2;
 
+const UNSETTLED: u16 = 3;
+
 fn ruling_refusal(r: Ruling) -> u16
     ensures { λ n. ⌜ n ≡ number (rulingSaid r 0 .refusal) ⌝ }
 {
     match r {
         Ruling::Swap => NONE,
         Ruling::Keep => NONE,
+        Ruling::Unsettled => NONE,
         Ruling::Refused(n) => n,
     }
 }
@@ -46,6 +49,7 @@ fn verdict_of(r: Ruling) -> u16
     match r {
         Ruling::Swap => SWAP,
         Ruling::Keep => KEEP,
+        Ruling::Unsettled => UNSETTLED,
         Ruling::Refused(n) => NONE,
     }
 }
@@ -231,6 +235,7 @@ pub extern "C" fn bullacetop_query_in_place<'a>(
     learned_cubes: &mut [i16; tables::CONSTRAINT_CELLS],
     learned_cube_sizes: &mut [u16; tables::CONSTRAINT_SIZES],
     on: &'a [i16],
+    off: &'a [i16],
     ceiling: u32,
 ) -> Reply
     ensures { λ r. ⌜
@@ -245,7 +250,7 @@ pub extern "C" fn bullacetop_query_in_place<'a>(
         (now («learned_clause_sizes» .entry))
         (now («learned_cubes» .entry))
         (now («learned_cube_sizes» .entry)))
-        (query ceiling (now (on .entry)))
+        (query ceiling (now (on .entry)) (now (off .entry)))
         (replySaid r [])
         (stateOf
         (now (numbers .entry))
@@ -270,6 +275,7 @@ pub extern "C" fn bullacetop_query_in_place<'a>(
         learned_cubes,
         learned_cube_sizes,
         on,
+        off,
         ceiling,
     );
     let ruling = asked.ruling;
@@ -338,9 +344,9 @@ fn card_of<'a>(
     );
     let printed = shown.printed;
     Reply {
-        refusal: answers::refusal_of(printed),
+        refusal: replies::refusal_of(printed),
         verdict: NONE,
-        lines: answers::lines_of(printed),
+        lines: replies::lines_of(printed),
         visits: shown.visits,
     }
 }

@@ -1,12 +1,12 @@
 // Books and call lines as text. A text is written into a lent table of at least as many bytes as `bullacetop_room` says; a shorter one is zeroed
 // and refused with 31.
+use answer_text::shown::Shown;
 use book_writer::Written;
 use edition_conversion::Converted;
 use edition_opening::Editions;
 use edition_opening::open_editions;
 use opening::Opened;
 use reader::call::TABLE;
-use serve::shown::Shown;
 use session_line::Spoken;
 use state::State;
 ghost use mathlib.Core.Path.{_≡_};
@@ -17,8 +17,8 @@ ghost use Rattle.editions.specs.Converting.{toTagged, toUntagged};
 ghost use Rattle.opening.specs.Opened.{OpenedAs};
 ghost use Rattle.edition_conversion.specs.Converted.{ConvertedAs};
 ghost use Rattle.qdimacs_form.specs.Opening.{openQdimacs};
-ghost use Rattle.serve.specs.Line.{answerBytes};
-ghost use Rattle.serve.specs.Shown.{noCard};
+ghost use Rattle.answer_text.specs.Room.{answerBytes};
+ghost use Rattle.answer_text.specs.Shown.{noCard};
 ghost use Rattle.serve.specs.Books.{PrintsCard};
 ghost use Rattle.session_line.specs.Line.{ServesLine};
 
@@ -26,7 +26,7 @@ ghost use Rattle.session_line.specs.Line.{ServesLine};
 pub extern "C" fn bullacetop_room() -> usize
     ensures { λ r. ⌜ r ≡ answerBytes ⌝ }
 {
-    serve::ANSWER
+    answer_text::ANSWER
 }
 
 // What the program `card` prints for a text.
@@ -78,7 +78,7 @@ pub extern "C" fn bullacetop_untag(text: &[u8], table: &mut [u8]) -> Converted
 pub extern "C" fn bullacetop_no_card() -> Shown
     ensures { λ r. ⌜ r ≡ noCard ⌝ }
 {
-    serve::shown::no_card()
+    answer_text::shown::no_card()
 }
 
 // One line of a session, without its byte 10, and its number in the input. The lines of the card answered last stand in the lent table of cards.

@@ -1,6 +1,5 @@
 pub mod Taking
 pub mod Judged
-pub mod Negated
 pub mod Adding
 pub mod Lines
 pub mod Turns

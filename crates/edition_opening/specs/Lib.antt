@@ -1,3 +1,2 @@
 pub mod Editions
 pub mod Lines
-pub mod Adding

@@ -23,12 +23,12 @@ use state::State;
 // "a tag out of range is 39, after 20 and before 7"
 const TAG: u16 = 39;
 
-pub const FULL: u16 = 20;
+const FULL: u16 = 20;
 
 const LAST_TAG: u32 = 65535;
 
 // How many rules stand.
-pub fn rules_in(x: State) -> usize
+fn rules_in(x: State) -> usize
     ensures { λ r. ⌜ r ≡ length (formulaIn x .clauses) ⌝ }
 {
     cell_at(&x.clause_sizes, 0) as usize

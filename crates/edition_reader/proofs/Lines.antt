@@ -11,8 +11,8 @@ use lib.ListN.{length, take, drop}
 use lib.Seq.{take-nil}
 use Rattle.qbf.specs.Formula.{Literal}
 use Rattle.layout.specs.Words.{Bytes, ascii, split, space, same, number, digits, closed, inside}
-use Rattle.layout.specs.Forms.{then, items, consed, Form, ruleWord, formFrom}
-use Rattle.editions.specs.Lines.{says, oneWord, tagWord, said, ruleLine, oneLine, taggedLine, ruleFrom, lineFrom, lineOf}
+use Rattle.layout.specs.Forms.{then, items, consed, Form, ruleWord, formFrom, oneWord}
+use Rattle.editions.specs.Lines.{says, tagWord, said, ruleLine, oneLine, taggedLine, ruleFrom, lineFrom, lineOf}
 use Rattle.editions.specs.Lines as form
 use Rattle.reader.specs.Pieces.{piecesFrom, Piece}
 use Rattle.reader.specs.Items.{Kept, Filled}

@@ -5,16 +5,13 @@ use mathlib.Core.List.{List, [], _∷_}
 use mathlib.Core.Option.{Option, none, some}
 use Rattle.qbf.specs.Formula.{Literal}
 use Rattle.layout.specs.Words.{Bytes, ascii, space, split, same, number, closed, inside}
-use Rattle.layout.specs.Forms.{then, items, Form, clause, ruleWord, formFrom}
+use Rattle.layout.specs.Forms.{then, items, Form, clause, ruleWord, oneWord, formFrom}
 
 -- what a line says: a form of the first edition, a rule with its tag, or exactly one of some literals
 pub data Line : Type 0 where
   says : Form → Line
   tagged : ℕ → List Literal → Line
   one : List Literal → Line
-
-abbrev pub oneWord : Bytes
-oneWord = ascii "one"
 
 abbrev pub tagWord : Bytes
 tagWord = ascii "(tag"

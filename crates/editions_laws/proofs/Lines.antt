@@ -9,11 +9,11 @@ use native.Mathlib.Omega.{arith}
 use lib.IntN.{pos}
 use Rattle.qbf.specs.Formula.{Quantifier, free, exists, forall, Literal, numberOf}
 use Rattle.layout.specs.Words.{Bytes, ascii, space, opening, closing, split, same, digits, number, closed, inside}
-use Rattle.layout.specs.Forms.{then, consed, items, Form, book, block, clause, end, bookForm, flagsForm, blockForm, ruleForm, endForm, bookWord, flagsWord, existsWord, forallWord, ruleWord, endWord, formFrom}
+use Rattle.layout.specs.Forms.{then, consed, items, Form, book, block, clause, end, bookForm, flagsForm, blockForm, ruleForm, endForm, bookWord, flagsWord, existsWord, forallWord, ruleWord, endWord, formFrom, oneWord}
 use Rattle.layout.specs.Output.{decimal}
 use Rattle.layout_laws.proofs.Decimal.{number-decimal}
 use Rattle.booktext_laws.proofs.Lines.{lacks, lacks-append, split-first, closed-append, inside-append, digits-space}
-use Rattle.editions.specs.Lines.{Line, says, tagged, one, oneWord, tagWord, said, oneLine, ruleLine, taggedLine, ruleFrom, lineFrom, lineOf}
+use Rattle.editions.specs.Lines.{Line, says, tagged, one, tagWord, said, oneLine, ruleLine, taggedLine, ruleFrom, lineFrom, lineOf}
 use Rattle.editions.specs.Converting.{ruleHead, isRule, tagText}
 use Rattle.editions_laws.proofs.Words.{none-some, some-same, same-true, Tail, tail-split, Parts, pieces, parts, closed-is, inside-is, number-text}
 

@@ -14,11 +14,11 @@ use Rattle.qbf.specs.Calls.{given, formulaOk}
 use Rattle.theory.proofs.Basics.{not-false, or-left, or-right}
 use Rattle.theory.proofs.AcceptedRule.{some-none, given-none}
 use Rattle.layout.specs.Words.{Bytes, newline, space, split, same, inside}
-use Rattle.layout.specs.Forms.{then, items, Form, book, block, clause, end, ruleForm, ruleWord, formFrom, formOf}
+use Rattle.layout.specs.Forms.{then, items, Form, book, block, clause, end, ruleForm, ruleWord, formFrom, formOf, oneWord}
 use Rattle.layout.specs.Opening.{textBytes, rank, allowed, stageAfter, formFault, withForm, Opened, refused, opened, atEnd, emptyFormula, openText}
 use Rattle.layout.specs.Opening as own
 use Rattle.layout_laws.proofs.Opened.{allowed-is}
-use Rattle.editions.specs.Lines.{Line, says, tagged, one, oneWord, said, oneLine, ruleFrom, lineFrom, lineOf}
+use Rattle.editions.specs.Lines.{Line, says, tagged, one, said, oneLine, ruleFrom, lineFrom, lineOf}
 use Rattle.editions.specs.Opening.{Editions, both, only, rankOf, saidFault, lineFault, withLine, editionAfter, isEnd, readLine, readLines, readEditions, openEditions}
 use Rattle.editions.specs.Converting.{next, eachLine, converted, toTagged, toUntagged}
 use Rattle.booktext.specs.Texts.{readText}

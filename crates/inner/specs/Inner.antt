@@ -1,5 +1,5 @@
 -- What steps 1 to 4 say at an inner node, with the constraint as codes in the tables, by its bounds.
-use Prim.Native.Nat.{ℕ, suc, _≤_, _<_}
+use Prim.Native.Nat.{ℕ, suc, _-_, _*_, _≤_, _<_}
 use mathlib.Core.Path.{_≡_}
 use mathlib.Core.Bool.{Bool, true, false}
 use mathlib.Core.List.{List}
@@ -9,11 +9,12 @@ use lib.Dec.{eqb}
 use Rattle.qbf.specs.Formula.{paper, Prefix, Clause, Node, valueAt}
 use Rattle.qbf.specs.Truth.{Outcome, decided}
 use Rattle.qbf.specs.Learning.{Constraint, Store, leaf, firstDead}
+use Rattle.bitset.specs.Rows.{outside}
 use Rattle.tables.specs.Codes.{codeAt, codes, Statuses, Quantified}
 use Rattle.tables.specs.Formed.{Formed}
 use Rattle.tables.specs.Shelves.{codeCount, StoreShown}
 use Rattle.tables.specs.Matrices.{MatrixShown, RowLength}
-use Rattle.tables.specs.Sets.{Descended}
+use Rattle.tables.specs.Sets.{Descended, dyingRow}
 use Rattle.search_entry.specs.Entry.{entryAt, Bounded}
 use Rattle.inner.specs.declared.Leaf.{Leaf}
 use Rattle.inner.specs.declared.Leaf.the-variants.{No, Yes, Open}
@@ -55,6 +56,10 @@ pub record Inside (at code wc : ℕ) : Type 0 where
   pub within : at ≤ paper .numbers
   pub small : code < codeCount
   pub words : RowLength wc
+
+-- a clause, by its index, dies at the node: it can die where the code is given, and was not satisfied above
+abbrev pub killing : List ℕ → List ℕ → ℕ → ℕ → ℕ → ℕ → Bool
+killing sets sat code at wc = outside sets (dyingRow wc code) sat ((at - 1) * wc)
 
 -- The inner node s of k + 1 places: no clause was dead at its parent, and what the parent knows of the clauses is there.
 pub record Entered (D : Prefix) (s : Node) (R : List Clause) (wc : ℕ) (sat marks : List ℕ) (k : ℕ) : Type 0 where

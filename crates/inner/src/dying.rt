@@ -9,14 +9,15 @@ ghost use mathlib.Core.Path.{_≡_};
 ghost use mathlib.Core.Bool.{false};
 ghost use mathlib.Core.List.{List};
 ghost use mathlib.Core.Option.{some};
-ghost use Prim.Native.Nat.{ℕ, suc, _≤_, _<_};
+ghost use Prim.Native.Nat.{ℕ, suc, _*_, _≤_, _<_};
 ghost use lib.ListN.{length};
 ghost use Rattle.qbf.specs.Formula.{paper, Prefix, Clause, Node};
 ghost use Rattle.qbf.specs.Learning.{Constraint, Store, lowestDead, reducedFound};
 ghost use Rattle.tables.specs.Codes.{codes};
 ghost use Rattle.tables.specs.Formed.{Formed};
 ghost use Rattle.tables.specs.Matrices.{MatrixShown, leftAt, dyingAt};
-ghost use Rattle.inner.specs.Inner.{FoundCoded, FoundBounded, Inside, LastGiven, Entered};
+ghost use Rattle.bitset.specs.Rows.{width, someBelow};
+ghost use Rattle.inner.specs.Inner.{FoundCoded, FoundBounded, Inside, LastGiven, Entered, killing};
 
 // How many codes universal reduction leaves of clause k.
 fn left_at<'a>(clauses: &'a [u16; tables::CLAUSE_ROWS], k: usize) -> u16
@@ -46,6 +47,22 @@ fn clause_at<'a>(clauses: &'a [u16; tables::CLAUSE_ROWS], k: usize) -> Found
     Found::Nothing
 }
 
+// Whether a clause dies at an inner node: one that can die by the value given last, and that was not satisfied above.
+pub fn any_dies<'a>(
+    sets: &'a [u64; tables::CLAUSE_SETS],
+    sat: &'a [u64; tables::SATISFIED],
+    code: u16,
+    at: usize,
+    words: usize,
+) -> bool
+    requires { ⌜ Inside at code words ⌝ }
+    ensures { λ r. ⌜ r ≡ someBelow (killing (now (sets .entry)) (now (sat .entry)) code at words) (words * width) ⌝ }
+{
+    let dying = code as usize * 2 * words + words;
+    let above = (at - 1) * words;
+    any_outside(sets, dying, sat, above, words)
+}
+
 // The clause that dies at an inner node, under universal reduction.
 pub fn dead<'a>(
     clauses: &'a [u16; tables::CLAUSE_ROWS],
@@ -66,10 +83,10 @@ pub fn dead<'a>(
         → FoundCoded D r (now (clauses .entry)) learned area (reducedFound D false (lowestDead D s R)))
         ⌝ }
 {
-    let dying = code as usize * 2 * words + words;
-    let above = (at - 1) * words;
-    if !any_outside(sets, dying, sat, above, words) {
+    if !any_dies(sets, sat, code, at, words) {
         return Found::Nothing;
     }
+    let dying = code as usize * 2 * words + words;
+    let above = (at - 1) * words;
     clause_at(clauses, first_outside(sets, dying, sat, above, words))
 }

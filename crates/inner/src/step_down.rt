@@ -1,13 +1,15 @@
 // Step 3, first half: the clauses that are satisfied at the node are those of its parent and those that the value given last satisfies. The place
 // is marked where there is one more.
+use bitset::rows::United;
 use bitset::rows::unite;
 ghost use mathlib.Core.Path.{_≡_};
 ghost use mathlib.Core.List.{List};
-ghost use Prim.Native.Nat.{ℕ, suc, _≤_, _<_};
+ghost use Prim.Native.Nat.{ℕ, suc, _-_, _*_, _≤_, _<_};
 ghost use lib.ListN.{length, set};
+ghost use Rattle.bitset.specs.Rows.{Unites};
 ghost use Rattle.qbf.specs.Formula.{paper, Prefix, Clause, Node, all, satisfied};
 ghost use Rattle.tables.specs.Codes.{sign};
-ghost use Rattle.tables.specs.Sets.{ClauseSets, Descended, RowsKept};
+ghost use Rattle.tables.specs.Sets.{ClauseSets, Descended, RowsKept, satisfyingRow};
 ghost use Rattle.inner.specs.Inner.{Inside, LastGiven, Entered};
 
 fn bit(fresh: bool) -> u8
@@ -24,6 +26,38 @@ fn mark(marks: &mut [u8; tables::BY_NUMBER], at: usize, fresh: bool)
 {
     let cells: &mut [u8] = marks;
     cells[at] = bit(fresh);
+}
+
+// The node's row: its parent's, united with the clauses that the value given last satisfies.
+pub fn row_down<'a>(
+    sets: &'a [u64; tables::CLAUSE_SETS],
+    sat: &mut [u64; tables::SATISFIED],
+    code: u16,
+    at: usize,
+    words: usize,
+) -> United
+    requires { ⌜ Inside at code words ⌝ }
+    ensures { λ r. ⌜
+        Unites
+        ((at - 1) * words)
+        (at * words)
+        (now (sets .entry))
+        (satisfyingRow words code)
+        words
+        (now (sat .entry))
+        (now (sat .exit))
+        (r .all)
+        (r .fresh)
+        ⌝ }
+{
+    unite(
+        sat,
+        (at - 1) * words,
+        at * words,
+        sets,
+        code as usize * 2 * words,
+        words,
+    )
 }
 
 // The node's row and mark; whether every clause is satisfied there.
@@ -45,14 +79,7 @@ pub fn step_down<'a>(
         → Descended D s R words (now (sat .exit)) (now (marks .exit)) at × (r ≡ all (satisfied D s) R))
         ⌝ }
 {
-    let step = unite(
-        sat,
-        (at - 1) * words,
-        at * words,
-        sets,
-        code as usize * 2 * words,
-        words,
-    );
+    let step = row_down(sets, sat, code, at, words);
     mark(marks, at, step.fresh);
     step.all
 }

@@ -32,8 +32,8 @@ rows =
     row "(card)" (some (card 4294967295 65536))
     ∷ row "(card 4 (ceiling 0))" (some (card 0 4))
     ∷ row "(keep-card (ceiling 7))" (some (keepCard 7 65536))
-    ∷ row "(query 1 2 (ceiling 4294967295))" (some (query 4294967295 (pos 1 ∷ pos 2 ∷ [])))
-    ∷ row "(query (ceiling 12))" (some (query 12 []))
+    ∷ row "(query 1 2 (ceiling 4294967295))" (some (query 4294967295 (pos 1 ∷ pos 2 ∷ []) []))
+    ∷ row "(query (ceiling 12))" (some (query 12 [] []))
     -- "a larger N, as anything outside the form, is 1"
     ∷ row "(card (ceiling 4294967296))" none
     ∷ row "(card (ceiling 42949672950))" none

@@ -55,6 +55,10 @@ forallWord = ascii "forall"
 abbrev pub ruleWord : Bytes
 ruleWord = ascii "rule"
 
+-- exactly one of some literals: in texts of both editions, and as a call
+abbrev pub oneWord : Bytes
+oneWord = ascii "one"
+
 abbrev pub endWord : Bytes
 endWord = ascii "end"
 

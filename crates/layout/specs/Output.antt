@@ -64,12 +64,26 @@ unfoldable pub overflowText : ℕ → ℕ → ℕ → Bytes
 overflowText n line visits = ascii "(refused " ++ decimal n ++ ascii " " ++ decimal line ++ ascii " (visits " ++ decimal visits ++ ascii "))\n"
 
 -- ---- other answers of a session
-abbrev pub replyText : Bool → Bytes
-replyText true = ascii "(swap (visits "
-replyText false = ascii "(keep (visits "
+-- "swap if every completion is a swap, keep if none is, otherwise unsettled" (paper 02, wish 5): the word of a verdict
+abbrev pub swapWord : Bytes
+swapWord = ascii "swap"
 
-unfoldable pub queryText : Bool → ℕ → Bytes
-queryText swap n = replyText swap ++ decimal n ++ ascii "))\n"
+abbrev pub keepWord : Bytes
+keepWord = ascii "keep"
+
+abbrev pub unsettledWord : Bytes
+unsettledWord = ascii "unsettled"
+
+-- the word and the visits: `(swap (visits 3))`
+unfoldable pub queryText : Bytes → ℕ → Bytes
+queryText w n = ascii "(" ++ w ++ ascii " (visits " ++ decimal n ++ ascii "))\n"
+
+-- a closest reading, "The reading has every flag in place order, off as `(no ..)`" (paper 02, wish 9):
+-- `(closest (reading 1 2) (differs 1) (lines 2) (visits 11))`
+unfoldable pub closestText : Prefix → Node → ℕ → ℕ → ℕ → Bytes
+closestText D t differs lines visits =
+    ascii "(closest (reading" ++ itemsText (setLiterals D t) ++ ascii ") (differs " ++ decimal differs
+    ++ ascii ") (lines " ++ decimal lines ++ ascii ") (visits " ++ decimal visits ++ ascii "))\n"
 
 abbrev pub acceptedText : Bytes
 acceptedText = ascii "(accepted)\n"

@@ -7,7 +7,7 @@ use Rattle.qbf.specs.Formula.{Limits, Prefix}
 use Rattle.qbf.specs.Truth.{freeVariables}
 use Rattle.qbf.specs.Learning.{emptyStore}
 use Rattle.qbf.specs.Ceiling.{highestCeiling}
-use Rattle.qbf.specs.Calls.{Reply, done, refused, swap, keep, lines, cardRefused, Answer, learningCard}
+use Rattle.qbf.specs.Calls.{Reply, done, refused, swap, keep, unsettled, lines, cardRefused, found, Answer, learningCard}
 use Rattle.layout.specs.Words.{Bytes, joined}
 use Rattle.layout.specs.Output.{cardText, refusalText}
 use Rattle.layout.specs.Page.{pages, printed}
@@ -25,6 +25,8 @@ cardPrinted D done visits = []
 cardPrinted D (refused n) visits = []
 cardPrinted D swap visits = []
 cardPrinted D keep visits = []
+cardPrinted D unsettled visits = []
+cardPrinted D (found ls table r) visits = []
 
 abbrev pub answerPrinted : Prefix → Answer → Bytes
 answerPrinted D a = cardPrinted D (a .reply) (a .visits)
@@ -55,6 +57,8 @@ pagesPrinted D done = []
 pagesPrinted D (refused n) = []
 pagesPrinted D swap = []
 pagesPrinted D keep = []
+pagesPrinted D unsettled = []
+pagesPrinted D (found ls table r) = []
 
 abbrev pub openedPages : ℕ → opening.Opened → Bytes
 openedPages size (opening.refused n line) = refusalText n line

@@ -1,18 +1,19 @@
 -- The book of a session, the call of a line, and the answer of a call. Paper 01, "Text and program". What a whole session prints is in the crate
 -- `sessions`.
 use Prim.Native.Nat.{ℕ, suc}
-use mathlib.Core.Bool.{true, false, cond, Bool, _||_}
+use mathlib.Core.Bool.{true, false, cond, Bool, Bool·beq, _||_}
 use mathlib.Core.List.{List, [], _∷_, _++_}
 use mathlib.Core.Option.{Option, none, some}
+use lib.IntN.{pos}
 use lib.ListN.{length}
 use lib.Dec.{leb, ltb, eqb}
-use Rattle.qbf.specs.Formula.{Prefix, Literal, numberOf}
-use Rattle.qbf.specs.Calls.{Call, rule, query, card, forget, withdraw, Reply, done, refused, swap, keep, lines, cardRefused, Answer, keepCard, cardOf}
+use Rattle.qbf.specs.Formula.{Prefix, Literal, numberOf, positive}
+use Rattle.qbf.specs.Calls.{Call, rule, query, card, forget, withdraw, one, closest, Reply, done, refused, swap, keep, unsettled, lines, cardRefused, found, Answer, keepCard, cardOf}
 use Rattle.qbf.specs.Ceiling.{highestCeiling}
 use Rattle.layout.specs.Words.{Bytes, ascii, newline, space, split, same, inside}
 use Rattle.layout.specs.Ceilings.{Ceiled, ceiled}
-use Rattle.layout.specs.Forms.{then, items, ruleWord}
-use Rattle.layout.specs.Output.{cardText, refusalText, overflowText, queryText, acceptedText, forgottenText, withdrawnText}
+use Rattle.layout.specs.Forms.{then, items, ruleWord, oneWord}
+use Rattle.layout.specs.Output.{cardText, refusalText, overflowText, swapWord, keepWord, unsettledWord, queryText, closestText, acceptedText, forgottenText, withdrawnText}
 use Rattle.layout.specs.Program.{tableBytes}
 use Rattle.layout.specs.Opening as opening
 
@@ -35,8 +36,18 @@ withdrawWord = ascii "withdraw"
 abbrev pub ruleCall : List Literal → Option Call
 ruleCall ls = some (rule ls)
 
+-- "any form of rules": exactly one of some literals
+abbrev pub oneCall : List Literal → Option Call
+oneCall ls = some (one ls)
+
+-- "on flags as numbers, off flags as `(no ..)`, in any order": the numbers of one sign, in the order given
+abbrev pub named : Bool → List Literal → List Literal
+named v [] = []
+named v (l ∷ ls) = cond (Bool·beq v (positive l)) (pos (numberOf l) ∷ named v ls) (named v ls)
+
+-- "a query gives the flags that are on and those that are off, and the rest are open"
 abbrev pub queryCall : List Literal → Option Call
-queryCall ls = some (query highestCeiling ls)
+queryCall ls = some (query highestCeiling (named true ls) (named false ls))
 
 -- what a line says with no item, or with one that is the size of a table
 abbrev pub sizedBy : {A : Type 0} → A → (ℕ → A) → List Literal → Option A
@@ -53,24 +64,27 @@ abbrev pub alone : Call → List Literal → Option Call
 alone c [] = some c
 alone c (l ∷ ls) = none
 
--- the call of a line's words before a ceiling, under the highest; only a rule has signed items
+-- the call of a line's words before a ceiling, under the highest; a rule, an exactly-one form and a query have signed items
 unfoldable pub callFrom : List Bytes → Option Call
 callFrom [] = none
 callFrom (w ∷ ws) =
     cond (same w ruleWord) (then (items true ws) ruleCall)
-    (cond (same w queryWord) (then (items false ws) queryCall)
+    (cond (same w queryWord) (then (items true ws) queryCall)
     (cond (same w cardWord) (then (items false ws) (cardCall true))
     (cond (same w keepCardWord) (then (items false ws) (cardCall false))
     (cond (same w forgetWord) (then (items false ws) (alone forget))
     (cond (same w withdrawWord) (then (items false ws) (alone withdraw))
-    none)))))
+    (cond (same w oneWord) (then (items true ws) oneCall)
+    none))))))
 
 -- "query and either card take a ceiling on visits": those calls under a ceiling; the others have none
 abbrev pub under : ℕ → Call → Option Call
-under n (query m ls) = some (query n ls)
+under n (query m on off) = some (query n on off)
 under n (card m size) = some (card n size)
 under n (keepCard m size) = some (keepCard n size)
+under n (closest m size on off) = some (closest n size on off)
 under n (rule ls) = none
+under n (one ls) = none
 under n forget = none
 under n withdraw = none
 
@@ -87,45 +101,53 @@ unfoldable pub callOf : Bytes → Option Call
 callOf l = cond (ltb opening.textBytes (length l)) none (then (inside l) (λ s. ceiledCall (split space s)))
 
 -- ---- the answer of a call
--- an accepted rule, a store emptied, a rule withdrawn; the other calls are not answered so
+-- an accepted rule or exactly-one form, a store emptied, a rule withdrawn; the other calls are not answered so
 abbrev pub doneText : Call → Bytes
 doneText (rule ls) = acceptedText
+doneText (one ls) = acceptedText
 doneText forget = forgottenText
 doneText withdraw = withdrawnText
-doneText (query n ls) = []
+doneText (query n on off) = []
 doneText (card n size) = []
 doneText (keepCard n size) = []
+doneText (closest n size on off) = []
 
 -- the verdict of a card's lines, which its text begins with; the other calls have none
 abbrev pub listsYes : Call → Bool
 listsYes (rule ls) = true
-listsYes (query n ls) = true
+listsYes (query n on off) = true
 listsYes (card n size) = true
 listsYes forget = true
 listsYes withdraw = true
 listsYes (keepCard n size) = false
+listsYes (one ls) = true
+listsYes (closest n size on off) = true
 
--- "Visits are returned .. with 21, 34": a card too large and a stopped call tell their visits
+-- "Visits are returned .. with 21, 34, 35": a card too large, a stopped call and a card without a line, from which a closest reading was asked, tell their visits
 abbrev pub searchRefusalText : ℕ → ℕ → ℕ → Bytes
-searchRefusalText n line visits = cond (eqb n 21 || eqb n 34) (overflowText n line visits) (refusalText n line)
+searchRefusalText n line visits = cond (eqb n 21 || (eqb n 34 || eqb n 35)) (overflowText n line visits) (refusalText n line)
 
 -- a refused call; only a query has searched
 abbrev pub refusedText : Call → ℕ → ℕ → ℕ → Bytes
-refusedText (query m ls) n line visits = searchRefusalText n line visits
+refusedText (query m on off) n line visits = searchRefusalText n line visits
 refusedText (rule ls) n line visits = refusalText n line
 refusedText forget n line visits = refusalText n line
 refusedText withdraw n line visits = refusalText n line
 refusedText (card m size) n line visits = refusalText n line
 refusedText (keepCard m size) n line visits = refusalText n line
+refusedText (one ls) n line visits = refusalText n line
+refusedText (closest m size on off) n line visits = refusalText n line
 
 -- the reply to a call on some line
 abbrev pub replyPrinted : Prefix → Call → ℕ → Reply → ℕ → Bytes
 replyPrinted D c line done visits = doneText c
 replyPrinted D c line (refused n) visits = refusedText c n line visits
-replyPrinted D c line swap visits = queryText true visits
-replyPrinted D c line keep visits = queryText false visits
+replyPrinted D c line swap visits = queryText swapWord visits
+replyPrinted D c line keep visits = queryText keepWord visits
+replyPrinted D c line unsettled visits = queryText unsettledWord visits
 replyPrinted D c line (lines ls table) visits = cardText (listsYes c) D ls visits
 replyPrinted D c line (cardRefused n table) visits = searchRefusalText n line visits
+replyPrinted D c line (found ls table r) visits = closestText D (r .reading) (r .number) (length ls) visits
 
 unfoldable pub answerText : Prefix → Call → ℕ → Answer → Bytes
 answerText D c line a = replyPrinted D c line (a .reply) (a .visits)

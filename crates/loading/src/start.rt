@@ -15,7 +15,7 @@ ghost use Rattle.tables.specs.Sets.{Descended};
 ghost use Rattle.loading.specs.Started.{FirstRow, StartShown};
 
 // Before the first place: the row has every number that is no clause's.
-fn first_row(sat: &mut [u64], words: usize, count: usize)
+pub fn first_row(sat: &mut [u64], words: usize, count: usize)
     requires { ⌜ RowLength words × (words ≤ length (now sat)) ⌝ }
     ensures { λ _. ⌜ FirstRow count words (now (sat .entry)) (now (sat .exit)) ⌝ }
 {

@@ -23,7 +23,7 @@ ghost use Rattle.search_entry.specs.Entry.{Bounded};
 ghost use Rattle.node.specs.Node.{boundsOf, entryOf, Reads, Ended, Grown, goesUpOf, onwardOf, resolventOf, Fits, NextKind, Finished, Joined, LineTask, linedOf, settledLines, SettledTo};
 
 mod line; // one line more of the card
-mod side; // what the verdict and the constraint of one side say
+pub mod side; // what the verdict and the constraint of one side say
 mod both; // what the verdicts of both sides ask for
 mod join; // the resolvent of both sides, made and stored
 

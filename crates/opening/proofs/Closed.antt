@@ -9,7 +9,7 @@ use mathlib.Core.Logic.{inl, inr}
 use mathlib.Core.Option.{Option, none, some}
 use Rattle.qbf.specs.Formula.{paper}
 use Rattle.qbf.specs.Demands.{AfterSearch}
-use Rattle.qbf.specs.Calls.{Call, rule, query, card, forget, withdraw, answer, refusal, guarded, State as Read, keepCard}
+use Rattle.qbf.specs.Calls.{Call, rule, query, card, forget, withdraw, answer, refusal, guarded, State as Read, keepCard, one, closest}
 use Rattle.qbf.specs.Demands.{refusalOf}
 use Rattle.layout.specs.Words.{Bytes}
 use Rattle.layout.specs.Opening.{refused, openText}
@@ -26,11 +26,13 @@ saidMalformed c = saidOf (answer (refusal 22 c) 0)
 
 refusal-22 : (c : Call) → refusalOf (refusal 22 c) ≡ some 22
 refusal-22 (rule ls) = refl
-refusal-22 (query n ls) = refl
+refusal-22 (query n on off) = refl
 refusal-22 (card n size) = refl
 refusal-22 (keepCard n size) = refl
 refusal-22 forget = refl
 refusal-22 withdraw = refl
+refusal-22 (one ls) = refl
+refusal-22 (closest n size on off) = refl
 
 refused-22 : (c : Call) (o : Option Read) → wellFormedRead o ≡ false → refusalOf (outOf o c .reply) ≡ some 22
 refused-22 c none e = refusal-22 c
@@ -38,7 +40,8 @@ refused-22 c (some y) e = ap (λ (g : Bool). refusalOf (guarded g y c .out .repl
 
 not-after : AfterSearch 22 → ⊥
 not-after (inl e) = omega (arith, e)
-not-after (inr e) = omega (arith, e)
+not-after (inr (inl e)) = omega (arith, e)
+not-after (inr (inr e)) = omega (arith, e)
 
 -- one call on a malformed state
 pub closed-refused : (x : State) → valid x ≡ false → (c : Call) (a : Said) (x′ : State) → Serves x c a x′ → (a ≡ saidMalformed c) × (x′ ≡ x)

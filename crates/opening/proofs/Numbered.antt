@@ -1,12 +1,13 @@
--- No refusal of a rule has the number 0, whatever the formula.
-use Prim.Native.Nat.{ℕ, suc}
+-- No refusal of a rule or an exactly-one form has the number 0, whatever the formula.
+use Prim.Native.Nat.{ℕ, suc, _+_}
 use mathlib.Core.Bool.{Bool, true, false, _||_}
 use mathlib.Core.List.{List, [], _∷_}
 use mathlib.Core.Option.{Option}
 use lib.Dec.{eqb, leb, ltb}
 use lib.ListN.{length}
 use Rattle.qbf.specs.Formula.{Limits, Prefix, Literal, Formula, numberOf, any, placeOf}
-use Rattle.qbf.specs.Calls.{given, literalFault, ruleFault, _orElse_}
+use Rattle.qbf.specs.Calls.{given, literalFault, ruleFault, oneFault, _orElse_}
+use Rattle.qbf.specs.One.{oneCount}
 use Rattle.serving.proofs.Numbered.{Numbered}
 
 pub numbered-given : (t : Bool) (n : ℕ) (o : Option ℕ) → Numbered o → Numbered (given t (suc n) orElse o)
@@ -23,3 +24,8 @@ pub rule-numbered : (b : Formula) (ls : List Literal) → Numbered (ruleFault b 
 rule-numbered b ls =
     numbered-given (leb (b .limits .clauses) (length (b .clauses))) 19 _
     (numbered-given (eqb (length ls) 0 || ltb (b .limits .literals) (length ls)) 6 _ (numbered-literals (b .limits) (b .prefix) [] ls))
+
+pub one-numbered : (b : Formula) (ls : List Literal) → Numbered (oneFault b ls)
+one-numbered b ls =
+    numbered-given (ltb (length ls) 2 || ltb (b .limits .literals) (length ls)) 6 _
+    (numbered-given (ltb (b .limits .clauses) (length (b .clauses) + oneCount (length ls))) 19 _ (numbered-literals (b .limits) (b .prefix) [] ls))

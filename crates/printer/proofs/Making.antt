@@ -27,9 +27,9 @@ use Rattle.state.specs.Reading.{readState, valid, wellFormedRead, prefixIn}
 use Rattle.state.specs.Derived.{Quantified}
 use Rattle.state.proofs.Valid.{valid-facts, valid-numbers, valid-quantified}
 use Rattle.serving.specs.Serves.{Said, said, saidReply, saidOf, number, outOf, Serves}
-use Rattle.answers.specs.Answers.{cardSaid}
-use Rattle.answers.specs.declared.Printed.{Printed}
-use Rattle.answers.proofs.Told.{card-said}
+use Rattle.replies.specs.Replies.{cardSaid}
+use Rattle.replies.specs.declared.Printed.{Printed}
+use Rattle.replies.proofs.Told.{card-said}
 use Rattle.serve.specs.Line.{prefixRead}
 use Rattle.serve.proofs.FreeLines.{cardLines}
 use Rattle.serve.proofs.CardTexts.{Listed, Refused, formed-cases, said-by}

@@ -10,7 +10,7 @@ use Rattle.qbf.specs.Truth.{freeVariables}
 use Rattle.qbf.specs.Learning.{emptyStore}
 use Rattle.qbf.specs.Card.{zeroTable}
 use Rattle.qbf.specs.Ceiling.{highestCeiling}
-use Rattle.qbf.specs.Calls.{Reply, done, refused, swap, keep, lines, cardRefused, learningCard}
+use Rattle.qbf.specs.Calls.{Reply, done, refused, swap, keep, unsettled, lines, cardRefused, found, learningCard}
 use Rattle.layout.specs.Words.{Bytes, joined}
 use Rattle.layout.specs.Output.{refusalText}
 use Rattle.layout.specs.Page.{pageBytes, pages}
@@ -28,6 +28,8 @@ ReplyMade D done r t = ⊥
 ReplyMade D (refused n) r t = ⊥
 ReplyMade D swap r t = ⊥
 ReplyMade D keep r t = ⊥
+ReplyMade D unsettled r t = ⊥
+ReplyMade D (found ls tb z) r t = ⊥
 
 abbrev pub CardMade : ℕ → opening.Opened → Made → Bytes → Type 0
 CardMade size (opening.refused n line) r t = (r .refusal ≡ n) × (r .line ≡ line) × (t ≡ zeroTable size)

@@ -1,8 +1,8 @@
 // A text's card, made in a lent table for its pages to be printed.
-use answers::lines_of;
-use answers::refusal_of;
 use edition_opening::Editions;
 use edition_opening::open_editions;
+use replies::lines_of;
+use replies::refusal_of;
 use state::State;
 use writer::answer;
 ghost use mathlib.Core.Path.{_≡_};

@@ -14,7 +14,7 @@ store cs qs = record { clauses = cs; records = replicate (length cs) 0; cubes = 
 
 -- a state that is refused as malformed
 broken : Formula → Store → Given
-broken b st = given b st (forget ∷ card 2 ∷ rule [] ∷ query (y 0 ∷ []) ∷ []) (refused 22 ∷ cardRefused 22 (0 ∷ 0 ∷ []) ∷ refused 22 ∷ refused 22 ∷ []) (0 ∷ 0 ∷ 0 ∷ 0 ∷ [])
+broken b st = given b st (forget ∷ card 2 ∷ rule [] ∷ query (y 0 ∷ []) [] ∷ []) (refused 22 ∷ cardRefused 22 (0 ∷ 0 ∷ []) ∷ refused 22 ∷ refused 22 ∷ []) (0 ∷ 0 ∷ 0 ∷ 0 ∷ [])
 
 table : List Row
 table =
@@ -30,7 +30,7 @@ table =
     (7 ∷ 0 ∷ 5 ∷ []) (7 ∷ 0 ∷ 5 ∷ [])
     -- a refused rule leaves the store
     ∷ row (opened (dec forall (1 ∷ []) ++ dec exists (2 ∷ [])) ((y 1 ∷ y 2 ∷ []) ∷ (n 1 ∷ y 2 ∷ []) ∷ []))
-    (query [] ∷ rule [] ∷ card 0 ∷ [])
+    (query [] [] ∷ rule [] ∷ card 0 ∷ [])
     (swap ∷ refused 7 ∷ lines ([] ∷ []) [] ∷ [])
     (7 ∷ 0 ∷ 1 ∷ []) (7 ∷ 0 ∷ 7 ∷ [])
     -- forget empties the learned clauses
@@ -45,7 +45,7 @@ table =
     (7 ∷ 0 ∷ 7 ∷ []) (7 ∷ 0 ∷ 7 ∷ [])
     -- the store is kept after 21
     ∷ row (opened (dec free (1 ∷ []) ++ dec exists (2 ∷ [])) ((y 2 ∷ []) ∷ (y 1 ∷ n 2 ∷ []) ∷ []))
-    (card 0 ∷ query [] ∷ [])
+    (card 0 ∷ query [] (y 1 ∷ []) ∷ [])
     (cardRefused 21 [] ∷ keep ∷ [])
     (7 ∷ 1 ∷ []) (7 ∷ 3 ∷ [])
     -- a third constraint displaces the oldest of two, not the newest
@@ -65,7 +65,7 @@ table =
     (3 ∷ 1 ∷ []) (3 ∷ 3 ∷ [])
     -- a store of one holds no more than one
     ∷ row (under (record { numbers = 40; clauses = 255; literals = 16; constraints = 1 }) (dec exists (1 ∷ 2 ∷ 3 ∷ [])) ((n 3 ∷ []) ∷ (y 2 ∷ y 3 ∷ []) ∷ (y 1 ∷ y 3 ∷ []) ∷ []))
-    (query [] ∷ [])
+    (query [] [] ∷ [])
     (swap ∷ [])
     (14 ∷ []) (14 ∷ [])
     -- displacement leaves a constraint on its way up as it is
@@ -100,7 +100,7 @@ table =
     (4 ∷ []) (7 ∷ [])
     -- an off side whose cube lacks the universal variable goes up
     ∷ row (opened (dec forall (1 ∷ []) ++ dec exists (2 ∷ [])) ((y 2 ∷ []) ∷ []))
-    (query [] ∷ [])
+    (query [] [] ∷ [])
     (swap ∷ [])
     (4 ∷ []) (7 ∷ [])
     -- at a free variable an on side's cube that lacks it goes up and is not joined
@@ -110,12 +110,12 @@ table =
     (5 ∷ 5 ∷ []) (5 ∷ 5 ∷ [])
     -- at a universal variable likewise
     ∷ row (opened (dec forall (1 ∷ []) ++ dec exists (2 ∷ [])) ((n 1 ∷ y 2 ∷ []) ∷ []))
-    (card 0 ∷ query [] ∷ [])
+    (card 0 ∷ query [] [] ∷ [])
     (lines ([] ∷ []) [] ∷ swap ∷ [])
     (5 ∷ 5 ∷ []) (5 ∷ 5 ∷ [])
     -- a resolvent is reduced
     ∷ row (opened (dec forall (1 ∷ []) ++ dec exists (2 ∷ [])) ((y 2 ∷ []) ∷ (y 1 ∷ n 2 ∷ []) ∷ []))
-    (query [] ∷ card 0 ∷ [])
+    (query [] [] ∷ card 0 ∷ [])
     (keep ∷ lines [] [] ∷ [])
     (4 ∷ 1 ∷ []) (4 ∷ 4 ∷ [])
     -- an added rule is held in place order, not as written
@@ -125,7 +125,7 @@ table =
     (0 ∷ 11 ∷ []) (0 ∷ 11 ∷ [])
     -- constraints are ordered by place, not by number
     ∷ row (opened (dec free (4 ∷ []) ++ dec forall (3 ∷ []) ++ dec exists (2 ∷ 1 ∷ [])) ((y 2 ∷ n 1 ∷ []) ∷ (n 3 ∷ y 1 ∷ []) ∷ (n 4 ∷ []) ∷ (y 3 ∷ n 2 ∷ []) ∷ []))
-    (card 1 ∷ query [] ∷ [])
+    (card 1 ∷ query [] (y 4 ∷ []) ∷ [])
     (lines ((false ∷ []) ∷ []) (1 ∷ []) ∷ swap ∷ [])
     (13 ∷ 1 ∷ []) (13 ∷ 11 ∷ [])
     -- two Yes halves are one line, and 21 is judged on the final count
@@ -169,7 +169,7 @@ on-states =
     (11 ∷ [])
     -- step 2 comes before step 3
     ∷ given (opened [] []) (store ([] ∷ []) [])
-    (query [] ∷ [])
+    (query [] [] ∷ [])
     (keep ∷ [])
     (1 ∷ [])
     -- an equal constraint is stored again

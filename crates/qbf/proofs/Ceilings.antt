@@ -29,15 +29,15 @@ stopping =
     (cardRefused 34 [] ∷ cardRefused 21 [] ∷ [])
     (10 ∷ 9 ∷ [])
     -- a ceiling of 0 stops before the first visit, after 8
-    ∷ given A emptyStore (Call.query 0 [] ∷ Call.query 0 (y 3 ∷ []) ∷ Call.card 0 1 ∷ Call.keepCard 0 1 ∷ [])
+    ∷ given A emptyStore (Call.query 0 [] (y 1 ∷ y 2 ∷ []) ∷ Call.query 0 (y 3 ∷ []) [] ∷ Call.card 0 1 ∷ Call.keepCard 0 1 ∷ [])
     (refused 34 ∷ refused 8 ∷ cardRefused 34 (0 ∷ []) ∷ cardRefused 34 (0 ∷ []) ∷ [])
     (0 ∷ 0 ∷ 0 ∷ 0 ∷ [])
     -- a query stops too, and later the store answers
-    ∷ given A emptyStore (Call.query 2 (y 1 ∷ []) ∷ Call.query 3 (y 1 ∷ []) ∷ Call.query 1 (y 1 ∷ []) ∷ [])
+    ∷ given A emptyStore (Call.query 2 (y 1 ∷ []) (y 2 ∷ []) ∷ Call.query 3 (y 1 ∷ []) (y 2 ∷ []) ∷ Call.query 1 (y 1 ∷ []) (y 2 ∷ []) ∷ [])
     (refused 34 ∷ keep ∷ keep ∷ [])
     (2 ∷ 3 ∷ 1 ∷ [])
     -- 22 comes before 34
-    ∷ given (held paper (dec free (41 ∷ [])) []) emptyStore (Call.query 0 [] ∷ Call.card 0 1 ∷ [])
+    ∷ given (held paper (dec free (41 ∷ [])) []) emptyStore (Call.query 0 [] [] ∷ Call.card 0 1 ∷ [])
     (refused 22 ∷ cardRefused 22 (0 ∷ []) ∷ [])
     (0 ∷ 0 ∷ [])
     ∷ []
@@ -51,7 +51,7 @@ table : List Row
 table =
     -- numbers up to the formula's own limit, above 40
     row (under (capped 1000 4000) (dec free (1000 ∷ []) ++ dec exists (41 ∷ 999 ∷ [])) ((n 1000 ∷ y 41 ∷ []) ∷ (y 1000 ∷ n 41 ∷ []) ∷ (n 41 ∷ y 999 ∷ []) ∷ (y 41 ∷ n 999 ∷ []) ∷ (y 999 ∷ []) ∷ []))
-    (card 1 ∷ rule (y 1001 ∷ []) ∷ rule (y 998 ∷ []) ∷ query (y 1000 ∷ []) ∷ [])
+    (card 1 ∷ rule (y 1001 ∷ []) ∷ rule (y 998 ∷ []) ∷ query (y 1000 ∷ []) [] ∷ [])
     (lines ((true ∷ []) ∷ []) (2 ∷ []) ∷ refused 3 ∷ refused 5 ∷ swap ∷ [])
     (11 ∷ 0 ∷ 0 ∷ 5 ∷ []) (11 ∷ 0 ∷ 0 ∷ 5 ∷ [])
     -- 3 and 20 read the formula's own limits
@@ -62,7 +62,7 @@ table =
     -- any lower limit is legal, 0 too
     ∷ row (under (capped 0 0) [] []) (rule [] ∷ card 0 ∷ []) (refused 20 ∷ lines ([] ∷ []) [] ∷ []) (0 ∷ 1 ∷ []) (0 ∷ 1 ∷ [])
     -- 40 free variables
-    ∷ row (under (capped 41 1) (dec free (from 40 1) ++ dec exists (41 ∷ [])) []) (query [] ∷ []) (swap ∷ []) (1 ∷ []) (1 ∷ [])
+    ∷ row (under (capped 41 1) (dec free (from 40 1) ++ dec exists (41 ∷ [])) []) (query [] (map y (from 40 1)) ∷ []) (swap ∷ []) (1 ∷ []) (1 ∷ [])
     ∷ []
 
 malformed : List Given

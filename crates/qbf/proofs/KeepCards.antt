@@ -16,7 +16,7 @@ table =
     -- 21 is judged on the No lines, keeps the store and zeroes the table; two No halves are one line
     ∷ row B (keepCard 0 ∷ keepCard 1 ∷ []) (cardRefused 21 [] ∷ lines ([] ∷ []) (0 ∷ []) ∷ []) (4 ∷ 1 ∷ []) (7 ∷ 7 ∷ [])
     -- a line of a free variable alone; the bytes of the lines that it takes back are zero again
-    ∷ row A′ (card 2 ∷ query [] ∷ forget ∷ keepCard 5 ∷ []) (lines ((true ∷ []) ∷ []) (2 ∷ 0 ∷ []) ∷ keep ∷ done ∷ lines ((false ∷ []) ∷ []) (1 ∷ 0 ∷ 0 ∷ 0 ∷ 0 ∷ []) ∷ []) (11 ∷ 1 ∷ 0 ∷ 11 ∷ []) (11 ∷ 1 ∷ 0 ∷ 11 ∷ [])
+    ∷ row A′ (card 2 ∷ query [] (y 1 ∷ y 2 ∷ []) ∷ forget ∷ keepCard 5 ∷ []) (lines ((true ∷ []) ∷ []) (2 ∷ 0 ∷ []) ∷ keep ∷ done ∷ lines ((false ∷ []) ∷ []) (1 ∷ 0 ∷ 0 ∷ 0 ∷ 0 ∷ []) ∷ []) (11 ∷ 1 ∷ 0 ∷ 11 ∷ []) (11 ∷ 1 ∷ 0 ∷ 11 ∷ [])
     -- with no free variable one empty line if No, and none if Yes
     ∷ row (opened (dec forall (1 ∷ [])) ((y 1 ∷ []) ∷ [])) (keepCard 0 ∷ []) (lines ([] ∷ []) [] ∷ []) (1 ∷ []) (1 ∷ [])
     ∷ row (opened (dec exists (1 ∷ [])) ((y 1 ∷ []) ∷ [])) (keepCard 1 ∷ []) (lines [] (0 ∷ []) ∷ []) (3 ∷ []) (3 ∷ [])

@@ -7,3 +7,5 @@ pub mod Withdrawals
 pub mod KeepCards
 pub mod Ones
 pub mod Ceilings
+pub mod OpenQueries
+pub mod Closests

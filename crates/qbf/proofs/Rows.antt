@@ -30,14 +30,17 @@ unfoldable pub opened : Prefix → List (List Literal) → Formula
 opened ds rs = under paper ds rs
 
 -- calls under the highest ceiling, which no row's search needs
-unfoldable pub query : List Literal → Call
-query ls = Call.query highestCeiling ls
+unfoldable pub query : List Literal → List Literal → Call
+query on off = Call.query highestCeiling on off
 
 unfoldable pub card : ℕ → Call
 card size = Call.card highestCeiling size
 
 unfoldable pub keepCard : ℕ → Call
 keepCard size = Call.keepCard highestCeiling size
+
+unfoldable pub closest : ℕ → List Literal → List Literal → Call
+closest size on off = Call.closest highestCeiling size on off
 
 -- calls on a freshly opened formula: the replies of both runs, and the visits of each
 pub record Row : Type 0 where

@@ -34,7 +34,7 @@ table =
     ∷ row B (card 2 ∷ rule (y 1 ∷ []) ∷ card 2 ∷ withdraw ∷ card 2 ∷ []) (lines [] (0 ∷ 0 ∷ []) ∷ done ∷ lines [] (0 ∷ 0 ∷ []) ∷ done ∷ lines [] (0 ∷ 0 ∷ []) ∷ []) (4 ∷ 0 ∷ 1 ∷ 0 ∷ 1 ∷ []) (7 ∷ 0 ∷ 5 ∷ 0 ∷ 7 ∷ [])
     -- a learned clause that displaces another has its own record
     ∷ row (under (record { numbers = 40; clauses = 255; literals = 16; constraints = 1 }) (dec exists (1 ∷ 2 ∷ [])) ((n 2 ∷ []) ∷ (y 1 ∷ y 2 ∷ []) ∷ []))
-    (query [] ∷ rule (n 1 ∷ []) ∷ card 0 ∷ withdraw ∷ card 0 ∷ [])
+    (query [] [] ∷ rule (n 1 ∷ []) ∷ card 0 ∷ withdraw ∷ card 0 ∷ [])
     (swap ∷ done ∷ lines [] [] ∷ done ∷ lines ([] ∷ []) [] ∷ [])
     (6 ∷ 0 ∷ 3 ∷ 0 ∷ 6 ∷ []) (6 ∷ 0 ∷ 5 ∷ 0 ∷ 6 ∷ [])
     ∷ []
@@ -53,7 +53,7 @@ on-states =
     (0 ∷ 1 ∷ [])
     -- a record goes with its clause, wherever it stands
     ∷ given (opened (dec free (1 ∷ [])) ((y 1 ∷ []) ∷ (y 1 ∷ []) ∷ [])) (recorded ([] ∷ [] ∷ []) (2 ∷ 0 ∷ []) [])
-    (withdraw ∷ withdraw ∷ query [] ∷ [])
+    (withdraw ∷ withdraw ∷ query [] (y 1 ∷ []) ∷ [])
     (done ∷ done ∷ keep ∷ [])
     (0 ∷ 0 ∷ 1 ∷ [])
     -- the others keep their order
@@ -63,7 +63,7 @@ on-states =
     (0 ∷ 11 ∷ [])
     -- a record that exceeds the rules standing is refused with 22, by every call
     ∷ given (opened (dec free (1 ∷ [])) ((y 1 ∷ []) ∷ [])) (recorded ((y 1 ∷ []) ∷ []) (2 ∷ []) [])
-    (withdraw ∷ forget ∷ query [] ∷ [])
+    (withdraw ∷ forget ∷ query [] [] ∷ [])
     (refused 22 ∷ refused 22 ∷ refused 22 ∷ [])
     (0 ∷ 0 ∷ 0 ∷ [])
     -- 22 before 32
@@ -73,7 +73,7 @@ on-states =
     (0 ∷ [])
     -- 32 keeps the store
     ∷ given (opened [] []) (recorded ([] ∷ []) (0 ∷ []) [])
-    (withdraw ∷ query [] ∷ [])
+    (withdraw ∷ query [] [] ∷ [])
     (refused 32 ∷ keep ∷ [])
     (0 ∷ 1 ∷ [])
     ∷ []

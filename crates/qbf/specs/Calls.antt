@@ -1,5 +1,5 @@
--- The calls rule, query, card, forget, withdraw and keep card on a state, with every refusal, and the exactly-one form. Paper 01, "Calls and
--- card" and both lists of refusals; paper 02, wishes 4, 7, 8 and 10.
+-- The calls rule, query, card, forget, withdraw, keep card, one and closest on a state, with every refusal. Paper 01, "Calls and card" and
+-- both lists of refusals; paper 02, wishes 4, 5, 7 to 10.
 use Prim.Native.Nat.{ℕ, _+_, _*_, _-_}
 use mathlib.Core.Bool.{Bool, true, false, cond, not, _&&_, _||_}
 use mathlib.Core.List.{List, [], _∷_, _++_, map}
@@ -9,19 +9,25 @@ use lib.Dec.{leb, ltb, eqb}
 use Rattle.qbf.specs.Formula.{Limits, highest, mostFree, Quantifier, free, exists, forall, isFree, Prefix, quantifiers, Literal, numberOf, positive, Clause, Node, Formula, any, all, placeOf, place, quantifierAt}
 use Rattle.qbf.specs.Truth.{Verdict, Outcome, decided, mixed, outline, decidedNodes, select, bound, freeVariables}
 use Rattle.qbf.specs.Learning.{Polarity, Constraint, Store, constraints, emptyStore, union, lastPlace, dropped, LearningResult}
+use Rattle.qbf.specs.Plain.{PlainResult}
+use Rattle.qbf.specs.Open.{Reading, readingOf, isFull, openSearch}
 use Rattle.qbf.specs.Ceiling.{Attempt, finished, stopped, searchWithin}
 use Rattle.qbf.specs.Card.{tableOf, zeroTable}
 use Rattle.qbf.specs.One.{oneForms, oneCount}
+use Rattle.qbf.specs.Closest.{Found, closestIn}
 
 -- A call with its arguments as a caller may give them: any signed numbers; of a card's table its length. "query and either card take a
--- ceiling on visits", their first argument.
+-- ceiling on visits", their first argument; a query then gives the flags that are on, and those that are off. The closest reading is asked
+-- with a ceiling, the length of the table, and the flags of a reading.
 pub data Call : Type 0 where
   rule : List Literal → Call
-  query : ℕ → List Literal → Call
+  query : ℕ → List Literal → List Literal → Call
   card : ℕ → ℕ → Call
   forget : Call
   withdraw : Call
   keepCard : ℕ → ℕ → Call
+  one : List Literal → Call
+  closest : ℕ → ℕ → List Literal → List Literal → Call
 
 -- "Make the keep card in the same way, with topmost No nodes": the card of the lines with the verdict p
 abbrev pub cardOf : Verdict → ℕ → ℕ → Call
@@ -30,20 +36,24 @@ cardOf false ceiling size = keepCard ceiling size
 
 abbrev pub ceilingOf : Call → Option ℕ
 ceilingOf (rule ls) = none
-ceilingOf (query ceiling ls) = some ceiling
+ceilingOf (query ceiling on off) = some ceiling
 ceilingOf (card ceiling size) = some ceiling
 ceilingOf forget = none
 ceilingOf withdraw = none
 ceilingOf (keepCard ceiling size) = some ceiling
+ceilingOf (one ls) = none
+ceilingOf (closest ceiling size on off) = some ceiling
 
--- What a call answers but for its visits; `done` is an accepted rule, a rule withdrawn, or a store emptied. A card has its lines and the
--- bytes of its table, and a refused card the bytes too.
+-- What a call answers but for its visits; `done` is an accepted rule or form of rules, a rule withdrawn, or a store emptied. A card has its
+-- lines and the bytes of its table, and a refused card the bytes too. A closest reading has those of its card, and the reading with its
+-- number.
 pub data Reply : Type 0 where
   done : Reply
   refused : ℕ → Reply
-  swap keep : Reply
+  swap keep unsettled : Reply
   lines : List Node → List ℕ → Reply
   cardRefused : ℕ → List ℕ → Reply
+  found : List Node → List ℕ → Found → Reply
 
 pub record Answer : Type 0 where
   pub reply : Reply
@@ -55,11 +65,13 @@ answer r n = record { reply = r; visits = n }
 -- "A refusal returns its number .. and zeroes the card table."
 abbrev pub refusal : ℕ → Call → Reply
 refusal n (rule ls) = refused n
-refusal n (query ceiling ls) = refused n
+refusal n (query ceiling on off) = refused n
 refusal n (card ceiling size) = cardRefused n (zeroTable size)
 refusal n (keepCard ceiling size) = cardRefused n (zeroTable size)
 refusal n forget = refused n
 refusal n withdraw = refused n
+refusal n (one ls) = refused n
+refusal n (closest ceiling size on off) = cardRefused n (zeroTable size)
 
 -- ---- refusals of the arguments. "The first fault decides."
 abbrev pub _orElse_ : Option ℕ → Option ℕ → Option ℕ
@@ -87,7 +99,7 @@ ruleFault b ls =
     orElse given (eqb (length ls) 0 || ltb (b .limits .literals) (length ls)) 7
     orElse literalFault (b .limits) (b .prefix) [] ls
 
--- "8 a query names a non-flag, or a flag twice"
+-- "8 a query names a non-flag, or a flag twice", "A number given both as on and as off is 8": of the numbers on and those off in one list
 abbrev pub queryFault : Formula → List ℕ → List Literal → Option ℕ
 queryFault b seen [] = none
 queryFault b seen (l ∷ ls) =
@@ -116,7 +128,7 @@ oneFault b ls =
 abbrev pub oneRules : Prefix → List Literal → List Clause
 oneRules D ls = map (clauseOf D) (oneForms ls)
 
--- "All of its rules are added, or none"
+-- "All of its rules are added, or none"; the store is then as after a rule
 abbrev pub withOne : Option ℕ → Formula → List Literal → Formula
 withOne none b ls = record { limits = b .limits; prefix = b .prefix; clauses = b .clauses ++ oneRules (b .prefix) ls }
 withOne (some n) b ls = b
@@ -153,16 +165,16 @@ storeAfterWithdraw none n st = record { clauses = standing n (st .records) (st .
 storeAfterWithdraw (some k) n st = st
 
 -- ---- query
--- "Query takes the numbers of the flags that are on; a flag not named is off." The node of all its flags.
+-- The node of all flags of a full reading, from the numbers of those that are on.
 abbrev pub startNode : List Literal → Prefix → Node
 startNode ls [] = []
 startNode ls (d ∷ ds) = cond (isFree (d .quantifier)) (any (λ l. eqb (d .number) (numberOf l)) ls ∷ startNode ls ds) []
 
--- "Yes is swap and No is keep"; the start node of a query is never Mixed
+-- "Yes is swap and No is keep", "otherwise unsettled"; the start node of a full reading is never Mixed
 abbrev pub queryReply : {X : Type 0} → Outcome X → Reply
 queryReply (decided true x) = swap
 queryReply (decided false x) = keep
-queryReply (mixed ds) = keep
+queryReply (mixed ds) = unsettled
 
 -- ---- card
 -- "The table holds its length divided by f, rounded down; with f = 0 a line is empty and always fits."
@@ -173,6 +185,32 @@ cardReply f size ls = cond (leb (length ls * f) size) (lines ls (tableOf f size 
 -- the lines have the verdict p: Yes for a card, No for a keep card
 abbrev pub cardReplyOf : Verdict → Prefix → ℕ → Outcome (Unit {0}) → Reply
 cardReplyOf p D size o = cardReply (freeVariables D) size (select p (decidedNodes [] o))
+
+-- ---- closest
+-- "Given a full reading", "Here a flag left open is 8 too": of the numbers on and those off
+abbrev pub closestFault : Formula → List Literal → List Literal → Option ℕ
+closestFault b on off = queryFault b [] (on ++ off) orElse given (not (isFull (readingOf on off (b .prefix)))) 8
+
+-- "a card with no line gives 35"
+abbrev pub foundReply : ℕ → List Node → List ℕ → Option Found → Reply
+foundReply size ls tb none = cardRefused 35 (zeroTable size)
+foundReply size ls tb (some r) = found ls tb r
+
+-- "It works from a card made under a ceiling, whose count .. it also returns and whose lines the table then holds": the reply, from the
+-- card's, for the reading t. "then come 34 and 21 from the card"
+abbrev pub fromCard : ℕ → Node → Reply → Reply
+fromCard size t done = done
+fromCard size t (refused n) = refused n
+fromCard size t swap = swap
+fromCard size t keep = keep
+fromCard size t unsettled = unsettled
+fromCard size t (lines ls tb) = foundReply size ls tb (closestIn ls t)
+fromCard size t (cardRefused n tb) = cardRefused n tb
+fromCard size t (found ls tb r) = found ls tb r
+
+-- ".. and visits"
+abbrev pub closestAnswer : ℕ → Node → Answer → Answer
+closestAnswer size t a = answer (fromCard size t (a .reply)) (a .visits)
 
 -- ---- what a call does to a well-formed state
 pub record Called : Type 0 where
@@ -187,11 +225,23 @@ abbrev pub attemptAnswer : Reply → ℕ → (Outcome (Unit {0}) → Reply) → 
 attemptAnswer over ceiling tell (finished w) = learningAnswer tell w
 attemptAnswer over ceiling tell (stopped st) = record { store = st; out = answer over ceiling }
 
-abbrev pub learningQuery : Option ℕ → Formula → Store → ℕ → List Literal → Called
-learningQuery (some n) b st ceiling ls = record { store = st; out = answer (refused n) 0 }
-learningQuery none b st ceiling ls =
+-- an open reading's search, which fits the ceiling (true) or not. "It neither reads nor adds to the store, and its visits equal that walk's"
+abbrev pub openAnswer : Bool → Store → ℕ → PlainResult → Called
+openAnswer true st ceiling w = record { store = st; out = answer (queryReply (w .outcome)) (w .visits) }
+openAnswer false st ceiling w = record { store = st; out = answer (refused 34) ceiling }
+
+-- a query whose reading is full (true) or has an open flag; "Full readings behave as before"
+abbrev pub learningReading : Bool → Formula → Store → ℕ → List Literal → Reading → Called
+learningReading true b st ceiling on os =
     attemptAnswer (refused 34) ceiling queryReply
-    (searchWithin (b .limits) (b .prefix) (b .clauses) ceiling (bound (quantifiers (b .prefix))) (startNode ls (b .prefix)) st)
+    (searchWithin (b .limits) (b .prefix) (b .clauses) ceiling (bound (quantifiers (b .prefix))) (startNode on (b .prefix)) st)
+learningReading false b st ceiling on os =
+    let w = openSearch (b .prefix) (b .clauses) os (quantifiers (b .prefix)) [] in
+    openAnswer (leb (w .visits) ceiling) st ceiling w
+
+abbrev pub learningQuery : Option ℕ → Formula → Store → ℕ → List Literal → List Literal → Called
+learningQuery (some n) b st ceiling on off = record { store = st; out = answer (refused n) 0 }
+learningQuery none b st ceiling on off = learningReading (isFull (readingOf on off (b .prefix))) b st ceiling on (readingOf on off (b .prefix))
 
 -- "A card starts at the empty node."
 abbrev pub learningCard : Verdict → Formula → Store → ℕ → ℕ → Called
@@ -199,23 +249,34 @@ learningCard p b st ceiling size =
     attemptAnswer (cardRefused 34 (zeroTable size)) ceiling (cardReplyOf p (b .prefix) size)
     (searchWithin (b .limits) (b .prefix) (b .clauses) ceiling (quantifiers (b .prefix)) [] st)
 
+-- the swap card's search, and its store
+abbrev pub learningClosest : Option ℕ → Formula → Store → ℕ → ℕ → List Literal → Called
+learningClosest (some n) b st ceiling size on = record { store = st; out = answer (cardRefused n (zeroTable size)) 0 }
+learningClosest none b st ceiling size on =
+    let r = learningCard true b st ceiling size in
+    record { store = r .store; out = closestAnswer size (startNode on (b .prefix)) (r .out) }
+
 -- "Forget empties the store."
 abbrev pub learningCall : Formula → Store → Call → Called
 learningCall b st (rule ls) = record { store = storeAfterRule (ruleFault b ls) st; out = answer (ruleReply (ruleFault b ls)) 0 }
-learningCall b st (query ceiling ls) = learningQuery (queryFault b [] ls) b st ceiling ls
+learningCall b st (query ceiling on off) = learningQuery (queryFault b [] (on ++ off)) b st ceiling on off
 learningCall b st (card ceiling size) = learningCard true b st ceiling size
 learningCall b st (keepCard ceiling size) = learningCard false b st ceiling size
 learningCall b st forget = record { store = emptyStore; out = answer done 0 }
 learningCall b st withdraw =
     record { store = storeAfterWithdraw (withdrawFault b) (length (b .clauses) - 1) st; out = answer (ruleReply (withdrawFault b)) 0 }
+learningCall b st (closest ceiling size on off) = learningClosest (closestFault b on off) b st ceiling size on
+learningCall b st (one ls) = record { store = storeAfterRule (oneFault b ls) st; out = answer (ruleReply (oneFault b ls)) 0 }
 
 abbrev pub nextFormula : Formula → Call → Formula
 nextFormula b (rule ls) = withRule (ruleFault b ls) b ls
-nextFormula b (query ceiling ls) = b
+nextFormula b (query ceiling on off) = b
 nextFormula b (card ceiling size) = b
 nextFormula b (keepCard ceiling size) = b
 nextFormula b forget = b
 nextFormula b withdraw = withoutLast (withdrawFault b) b
+nextFormula b (one ls) = withOne (oneFault b ls) b ls
+nextFormula b (closest ceiling size on off) = b
 
 -- ---- the state, and when it is malformed
 pub record State : Type 0 where

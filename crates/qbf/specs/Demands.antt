@@ -7,9 +7,11 @@ use mathlib.Core.List.{List, [], _∷_}
 use mathlib.Core.Option.{Option, none, some}
 use lib.ListN.{length}
 use Rattle.qbf.specs.Formula.{Prefix, Clause, Node}
-use Rattle.qbf.specs.Truth.{Verdict, truth, freeVariables}
+use Rattle.qbf.specs.Truth.{Verdict, decided, mixed, truth, freeVariables}
+use Rattle.qbf.specs.Open.{Reading, isFull, completes, Settles}
 use Rattle.qbf.specs.Card.{Mem, IsLine, liesOn, Rises, tableOf, zeroTable}
-use Rattle.qbf.specs.Calls.{Call, ceilingOf, Reply, done, refused, swap, keep, lines, cardRefused, Answer, refusal, State, Stepped}
+use Rattle.qbf.specs.Closest.{Found, IsClosest, HasTruth}
+use Rattle.qbf.specs.Calls.{Call, ceilingOf, Reply, done, refused, swap, keep, unsettled, lines, cardRefused, found, Answer, refusal, State, Stepped}
 
 -- ---- demand 1: refusals
 -- the number of a refusal
@@ -18,15 +20,18 @@ refusalOf done = none
 refusalOf (refused n) = some n
 refusalOf swap = none
 refusalOf keep = none
+refusalOf unsettled = none
 refusalOf (lines ls tb) = none
 refusalOf (cardRefused n tb) = some n
+refusalOf (found ls tb r) = none
 
--- a refusal that comes after a search, whose visits are returned and whose store is kept: of a full table, or of a search that stopped
+-- a refusal that comes after a search, whose visits are returned and whose store is kept: of a full table, of a search that stopped, or of a
+-- card with no line, "which leaves what 21 leaves"
 abbrev pub AfterSearch : ℕ → Type 0
-AfterSearch n = (n ≡ 21) ⊎ (n ≡ 34)
+AfterSearch n = (n ≡ 21) ⊎ ((n ≡ 34) ⊎ (n ≡ 35))
 
 -- "A refused call leaves declarations and rules as they were." "A refusal returns .. 0 visits and the state as given .. Only 21 differs",
--- and 34, "with visits equal to the ceiling".
+-- 34, "with visits equal to the ceiling", and 35.
 pub record Leaves (n : ℕ) (x : State) (c : Call) (r : Stepped) : Type 0 where
   pub formula : r .state .formula ≡ x .formula
   pub state : (AfterSearch n → ⊥) → r .state ≡ x
@@ -66,21 +71,56 @@ CardOwed p D R size done = ⊥
 CardOwed p D R size (refused n) = ⊥
 CardOwed p D R size swap = ⊥
 CardOwed p D R size keep = ⊥
+CardOwed p D R size unsettled = ⊥
 CardOwed p D R size (lines ls tb) = CardShown p D R size ls tb
 CardOwed p D R size (cardRefused n tb) = CardFull p D R size n tb ⊎ CardStopped size n tb
+CardOwed p D R size (found ls tb r) = ⊥
 
--- what the reply to a query owes: the truth of its reading t, or a refusal of its numbers or of a search that stopped
-abbrev pub QueryOwed : Prefix → List Clause → Node → Reply → Type 0
-QueryOwed D R t done = ⊥
-QueryOwed D R t (refused n) = (n ≡ 8) ⊎ (n ≡ 34)
-QueryOwed D R t swap = truth D R t ≡ true
-QueryOwed D R t keep = truth D R t ≡ false
-QueryOwed D R t (lines ls tb) = ⊥
-QueryOwed D R t (cardRefused n tb) = ⊥
+-- what the reply to a query owes: the truth of all completions of its reading os, or both truths among them, or a refusal of its numbers or
+-- of a search that stopped
+abbrev pub QueryOwed : Prefix → List Clause → Reading → Reply → Type 0
+QueryOwed D R os done = ⊥
+QueryOwed D R os (refused n) = (n ≡ 8) ⊎ (n ≡ 34)
+QueryOwed D R os swap = Settles D R os (decided true tt)
+QueryOwed D R os keep = Settles D R os (decided false tt)
+QueryOwed D R os unsettled = Settles D R os (mixed [])
+QueryOwed D R os (lines ls tb) = ⊥
+QueryOwed D R os (cardRefused n tb) = ⊥
+QueryOwed D R os (found ls tb r) = ⊥
+
+-- ---- the closest reading, of a full reading: t completes what is recorded
+-- found: the card's lines and table are right, and of the readings for which the quantified rules are true this is the closest
+pub record ClosestShown (D : Prefix) (R : List Clause) (os : Reading) (t : Node) (size : ℕ) (ls : List Node) (tb : List ℕ) (r : Found) : Type 0 where
+  pub whole : isFull os ≡ true
+  pub given : completes os t ≡ true
+  pub card : CardShown true D R size ls tb
+  pub right : IsClosest (HasTruth true D R) t r
+
+-- refused with 8, the table all zero
+pub record ClosestUnread (size n : ℕ) (tb : List ℕ) : Type 0 where
+  pub number : n ≡ 8
+  pub zeros : tb ≡ zeroTable size
+
+-- refused with 35: no reading is a swap
+pub record ClosestNone (D : Prefix) (R : List Clause) (size n : ℕ) (tb : List ℕ) : Type 0 where
+  pub number : n ≡ 35
+  pub zeros : tb ≡ zeroTable size
+  pub never : (u : Node) → length u ≡ freeVariables D → truth D R u ≡ true → ⊥
+
+abbrev pub ClosestReplyOwed : Prefix → List Clause → Reading → Node → ℕ → Reply → Type 0
+ClosestReplyOwed D R os t size done = ⊥
+ClosestReplyOwed D R os t size (refused n) = ⊥
+ClosestReplyOwed D R os t size swap = ⊥
+ClosestReplyOwed D R os t size keep = ⊥
+ClosestReplyOwed D R os t size unsettled = ⊥
+ClosestReplyOwed D R os t size (lines ls tb) = ⊥
+ClosestReplyOwed D R os t size (cardRefused n tb) = ClosestUnread size n tb ⊎ (CardStopped size n tb ⊎ (CardFull true D R size n tb ⊎ ClosestNone D R size n tb))
+ClosestReplyOwed D R os t size (found ls tb r) = ClosestShown D R os t size ls tb r
 
 -- ---- demand 3: lists of calls
 -- "These are equal: acceptance or refusal number, swap or keep, the returned count of lines, the lines in their order and every byte
--- of the card table. The visits .. never more than the plain walk makes for that call." All but the visits is in the reply.
+-- of the card table. The visits .. never more than the plain walk makes for that call." All but the visits is in the reply, a closest
+-- reading and its number too.
 pub record Agree (l p : Answer) : Type 0 where
   pub reply : l .reply ≡ p .reply
   pub visits : l .visits ≤ p .visits

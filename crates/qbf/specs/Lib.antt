@@ -1,11 +1,13 @@
 pub mod Formula
 pub mod Truth
 pub mod Plain
+pub mod Open
 pub mod Learning
 pub mod Ceiling
 pub mod Card
 pub mod Finder
 pub mod One
+pub mod Closest
 pub mod Calls
 pub mod OneAdds
 pub mod Partition

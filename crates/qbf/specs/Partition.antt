@@ -8,7 +8,7 @@ use mathlib.Core.Option.{Option, none, some}
 use lib.ListN.{length}
 use Rattle.qbf.specs.Formula.{Formula, Node}
 use Rattle.qbf.specs.Card.{Mem, liesOn}
-use Rattle.qbf.specs.Calls.{Call, rule, query, card, forget, withdraw, keepCard, ruleFault, withdrawFault}
+use Rattle.qbf.specs.Calls.{Call, rule, query, card, forget, withdraw, keepCard, one, closest, ruleFault, withdrawFault, oneFault}
 
 -- all full readings of f free variables
 abbrev pub readings : ℕ → List Node
@@ -45,8 +45,10 @@ isRefused (some n) = true
 
 abbrev pub keepsClauses : Formula → Call → Bool
 keepsClauses b (rule ls) = isRefused (ruleFault b ls)
-keepsClauses b (query ceiling ls) = true
+keepsClauses b (query ceiling on off) = true
 keepsClauses b (card ceiling size) = true
 keepsClauses b forget = true
 keepsClauses b withdraw = isRefused (withdrawFault b)
 keepsClauses b (keepCard ceiling size) = true
+keepsClauses b (one ls) = isRefused (oneFault b ls)
+keepsClauses b (closest ceiling size on off) = true

@@ -2,7 +2,7 @@
 use Prim.Native.Nat.{ℕ, _+_, _*_, _<_, _≤_, _-_}
 use mathlib.Core.Path.{_≡_, refl, sym, ap, subst, _∙_}
 use mathlib.Core.Bool.{Bool, true, false, cond, not, _&&_, _||_}
-use mathlib.Core.List.{List, [], _∷_, map}
+use mathlib.Core.List.{List, [], _∷_}
 use mathlib.Core.Logic.{_⊎_, inl, inr}
 use mathlib.Core.Option.{Option, none, some}
 use native.Mathlib.Omega.{arith}
@@ -10,17 +10,17 @@ use borrow.Author.Tests.{le-ltb, lt-ltb, eqb-true}
 use lib.Dec.{leb, eqb}
 use lib.IntN.{ℤ, pos}
 use lib.ListN.{length, getD, take, drop}
-use Rattle.qbf.specs.Formula.{Literal, numberOf}
+use Rattle.qbf.specs.Formula.{Literal}
 use Rattle.qbf.specs.Ceiling.{highestCeiling}
-use Rattle.qbf.specs.Calls.{Call, query, cardOf, forget, withdraw}
+use Rattle.qbf.specs.Calls.{Call, cardOf, forget, withdraw}
 use Rattle.layout.specs.Words.{Bytes, same, onFirst, split, space, isDigit, digits, number, inside}
-use Rattle.layout.specs.Forms.{then, consed, items, ruleWord}
+use Rattle.layout.specs.Forms.{then, consed, items, ruleWord, oneWord}
 use Rattle.layout.specs.Opening.{textBytes}
 use Rattle.layout.specs.Program.{tableBytes}
-use Rattle.layout.specs.Session.{queryWord, cardWord, keepCardWord, forgetWord, withdrawWord, sizedBy, ruleCall, queryCall, cardCall, alone, callFrom, ceiledCall, callOf}
+use Rattle.layout.specs.Session.{queryWord, cardWord, keepCardWord, forgetWord, withdrawWord, sizedBy, ruleCall, oneCall, queryCall, cardCall, alone, callFrom, ceiledCall, callOf}
 use Rattle.reader.specs.Pieces.{piecesFrom, Piece}
 use Rattle.reader.specs.Numbers.{numOf}
-use Rattle.reader.specs.Items.{Kept, Filled}
+use Rattle.reader.specs.Items.{Filled}
 use Rattle.reader.specs.Calls.{callWordOf, callSigns, callWith, cardSize, cardSized, cardLine, CallRead}
 use Rattle.reader.specs.declared.items.Count.{Count}
 use Rattle.reader.specs.declared.items.Count.the-variants.{Items, NotItems}
@@ -32,7 +32,7 @@ use Rattle.reader.specs.declared.call.CallWord.the-variants as word
 use Rattle.reader.specs.declared.call.CallLine.the-variants as line
 use Rattle.reader.proofs.Literals.{items-on, past}
 use Rattle.reader.proofs.Lines.{rest-bytes, rest-some, by-first}
-use Rattle.reader.proofs.Keywords.{unsigned, then-none}
+use Rattle.reader.proofs.Keywords.{then-none}
 
 -- ---- words
 module _ (w : Bytes) where
@@ -60,33 +60,39 @@ module _ (w : Bytes) where
   unfolding callWordOf
   call-6 e0 e1 e2 e3 e4 e5 = rw (e0, e1, e2, e3, e4, e5)
 
-  pub call-7 : same w ruleWord ≡ false → same w queryWord ≡ false → same w cardWord ≡ false → same w keepCardWord ≡ false → same w forgetWord ≡ false → same w withdrawWord ≡ false → word.NotWord ≡ callWordOf w
+  pub call-7 : same w ruleWord ≡ false → same w queryWord ≡ false → same w cardWord ≡ false → same w keepCardWord ≡ false → same w forgetWord ≡ false → same w withdrawWord ≡ false → same w oneWord ≡ true → word.One ≡ callWordOf w
   unfolding callWordOf
-  call-7 e0 e1 e2 e3 e4 e5 = rw (e0, e1, e2, e3, e4, e5)
+  call-7 e0 e1 e2 e3 e4 e5 e6 = rw (e0, e1, e2, e3, e4, e5, e6)
 
-chosen : Bool → Bool → Bool → Bool → Bool → Bool → CallWord
-chosen a b c d e f = cond a word.Rule (cond b word.Query (cond c word.Card (cond d word.KeepCard (cond e word.Forget (cond f word.Withdraw word.NotWord)))))
+  pub call-8 : same w ruleWord ≡ false → same w queryWord ≡ false → same w cardWord ≡ false → same w keepCardWord ≡ false → same w forgetWord ≡ false → same w withdrawWord ≡ false → same w oneWord ≡ false → word.NotWord ≡ callWordOf w
+  unfolding callWordOf
+  call-8 e0 e1 e2 e3 e4 e5 e6 = rw (e0, e1, e2, e3, e4, e5, e6)
+
+chosen : Bool → Bool → Bool → Bool → Bool → Bool → Bool → CallWord
+chosen a b c d e f g = cond a word.Rule (cond b word.Query (cond c word.Card (cond d word.KeepCard (cond e word.Forget (cond f word.Withdraw (cond g word.One word.NotWord))))))
 
 by-word : (w : Bytes) (ws : List Bytes) → callFrom (w ∷ ws) ≡ then (items (callSigns (callWordOf w)) ws) (callWith (callWordOf w))
 unfolding callFrom callWordOf chosen
-by-word w ws = go (same w ruleWord) (same w queryWord) (same w cardWord) (same w keepCardWord) (same w forgetWord) (same w withdrawWord)
+by-word w ws = go (same w ruleWord) (same w queryWord) (same w cardWord) (same w keepCardWord) (same w forgetWord) (same w withdrawWord) (same w oneWord)
   where
-    go : (a b c d e f : Bool) →
+    go : (a b c d e f g : Bool) →
         cond a (then (items true ws) ruleCall)
-        (cond b (then (items false ws) queryCall)
+        (cond b (then (items true ws) queryCall)
         (cond c (then (items false ws) (cardCall true))
         (cond d (then (items false ws) (cardCall false))
         (cond e (then (items false ws) (alone forget))
         (cond f (then (items false ws) (alone withdraw))
-        none)))))
-        ≡ then (items (callSigns (chosen a b c d e f)) ws) (callWith (chosen a b c d e f))
-    go true b c d e f = refl
-    go false true c d e f = refl
-    go false false true d e f = refl
-    go false false false true e f = refl
-    go false false false false true f = refl
-    go false false false false false true = refl
-    go false false false false false false = then-none (items false ws)
+        (cond g (then (items true ws) oneCall)
+        none))))))
+        ≡ then (items (callSigns (chosen a b c d e f g)) ws) (callWith (chosen a b c d e f g))
+    go true b c d e f g = refl
+    go false true c d e f g = refl
+    go false false true d e f g = refl
+    go false false false true e f g = refl
+    go false false false false true f g = refl
+    go false false false false false true g = refl
+    go false false false false false false true = refl
+    go false false false false false false false = then-none (items false ws)
 
 -- ---- the size of a card's table
 cond-none : (x : Bool) (o : Option ℕ) → o ≡ none → cond x o none ≡ none
@@ -206,9 +212,7 @@ module _ {s : Bytes} {e : ℕ} (p : Piece space s 0 e) (w : CallWord) (g : Bool)
     rule-read h = (read .0, with-items word.Rule h, read .2)
 
     pub query-read : w ≡ word.Query → CallRead (callFrom (split space s)) (line.Query n) out
-    query-read h =
-        let u = unsigned (piecesFrom space s (e + 1)) (read .0) (no-signs word.Query h refl) in
-        (map numberOf (read .0), with-items word.Query h ∙ ap (λ (xs : List Literal). some (query highestCeiling xs)) u, subst (Kept n out) u (read .2))
+    query-read h = (read .0, with-items word.Query h, read .2)
 
     -- a card's word, by the verdict of its lines
     sized-read : (q : Bool) → callFrom (split space s) ≡ then (items false (piecesFrom space s (e + 1))) (cardCall q)
@@ -237,6 +241,9 @@ module _ {s : Bytes} {e : ℕ} (p : Piece space s 0 e) (w : CallWord) (g : Bool)
 
     pub withdraw-none : w ≡ word.Withdraw → (n ≡ 0 → ⊥) → callFrom (split space s) ≡ none
     withdraw-none h z = with-items word.Withdraw h ∙ some-items withdraw (read .0) (λ x. z (read .2 .count ∙ x))
+
+    pub one-read : w ≡ word.One → CallRead (callFrom (split space s)) (line.One n) out
+    one-read h = (read .0, with-items word.One h, read .2)
 
     pub no-word : w ≡ word.NotWord → callFrom (split space s) ≡ none
     no-word h = with-items word.NotWord h

@@ -173,6 +173,7 @@ under-line n o (line.Card size) out h = ap (λ (x : Option Call). then x (under 
 under-line n o (line.KeepCard size) out h = ap (λ (x : Option Call). then x (under n)) h
 under-line n o line.Forget out h = ap (λ (x : Option Call). then x (under n)) h
 under-line n o line.Withdraw out h = ap (λ (x : Option Call). then x (under n)) h
+under-line n o (line.One k) out h = ap (λ (x : Option Call). then x (under n)) (h .1)
 
 -- a word that makes no call with any words makes none under a ceiling
 pub word-none : (w : Bytes) (ws : List Bytes) → same w ceilingWord ≡ false → ((vs : List Bytes) → callFrom (w ∷ vs) ≡ none) → ceiledCall (w ∷ ws) ≡ none

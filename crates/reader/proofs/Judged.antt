@@ -31,11 +31,11 @@ out-of-range n o h = rw (lt-ltb (paper .numbers) n h) (by (eqb n 0))
 narrow-same : (n : ℕ) → n ≤ paper .numbers → narrow n ≡ n
 narrow-same n h = omega arith
 
-narrowed-same : (l : Literal) → numberOf l ≤ paper .numbers → narrowed l ≡ l
+pub narrowed-same : (l : Literal) → numberOf l ≤ paper .numbers → narrowed l ≡ l
 narrowed-same (pos n) h = ap pos (narrow-same n h)
 narrowed-same (negsuc n) h = let e : min n 40 ≡ n = omega arith in ap negsuc e
 
-narrowed-out : (l : Literal) → paper .numbers < numberOf l → paper .numbers < numberOf (narrowed l)
+pub narrowed-out : (l : Literal) → paper .numbers < numberOf l → paper .numbers < numberOf (narrowed l)
 narrowed-out (pos n) h = omega arith
 narrowed-out (negsuc n) h = omega arith
 

@@ -2,18 +2,18 @@
 use Prim.Native.Nat.{ℕ}
 use mathlib.Core.Path.{_≡_}
 use mathlib.Core.Bool.{Bool, true, false, cond}
-use mathlib.Core.List.{List, [], _∷_, map}
+use mathlib.Core.List.{List, [], _∷_}
 use mathlib.Core.Option.{Option, none, some}
-use lib.IntN.{ℤ, pos}
+use lib.IntN.{ℤ}
 use lib.Dec.{leb}
 use Rattle.qbf.specs.Formula.{Literal}
 use Rattle.qbf.specs.Ceiling.{highestCeiling}
 use Rattle.qbf.specs.Calls.{Call}
 use Rattle.qbf.specs.Calls as call
 use Rattle.layout.specs.Words.{Bytes, same, number}
-use Rattle.layout.specs.Forms.{ruleWord}
+use Rattle.layout.specs.Forms.{ruleWord, oneWord}
 use Rattle.layout.specs.Program.{tableBytes}
-use Rattle.layout.specs.Session.{queryWord, cardWord, keepCardWord, forgetWord, withdrawWord, ruleCall, queryCall, cardCall, alone}
+use Rattle.layout.specs.Session.{queryWord, cardWord, keepCardWord, forgetWord, withdrawWord, ruleCall, oneCall, named, queryCall, cardCall, alone}
 use Rattle.reader.specs.Items.{Kept}
 use Rattle.reader.specs.declared.number.Num.{Num}
 use Rattle.reader.specs.declared.number.Num.the-variants.{Value, NotNumber}
@@ -31,15 +31,17 @@ callWordOf w =
     (cond (same w keepCardWord) word.KeepCard
     (cond (same w forgetWord) word.Forget
     (cond (same w withdrawWord) word.Withdraw
-    word.NotWord)))))
+    (cond (same w oneWord) word.One
+    word.NotWord))))))
 
 abbrev pub callSigns : CallWord → Bool
 callSigns word.Rule = true
-callSigns word.Query = false
+callSigns word.Query = true
 callSigns word.Card = false
 callSigns word.KeepCard = false
 callSigns word.Forget = false
 callSigns word.Withdraw = false
+callSigns word.One = true
 callSigns word.NotWord = false
 
 -- the call that a word and its items make
@@ -50,6 +52,7 @@ callWith word.Card ls = cardCall true ls
 callWith word.KeepCard ls = cardCall false ls
 callWith word.Forget ls = alone call.forget ls
 callWith word.Withdraw ls = alone call.withdraw ls
+callWith word.One ls = oneCall ls
 callWith word.NotWord ls = none
 
 -- ---- cards
@@ -69,15 +72,16 @@ cardLine p (Value n) = cond (leb n tableBytes) (cardSized p n) line.NotCall
 cardLine p NotNumber = line.NotCall
 
 -- ---- calls
--- What an answer says of a line's call under a ceiling. The literals of a rule and the numbers of a query stand in the table.
+-- What an answer says of a line's call under a ceiling. The literals of a rule or an exactly-one form, and those by which a query names flags, stand in the table.
 abbrev pub CallUnder : ℕ → Option Call → CallLine → List ℤ → Type 0
 CallUnder c o line.NotCall out = o ≡ none
 CallUnder c o (line.Rule n) out = (ls : List Literal) × (o ≡ some (call.rule ls)) × Kept n out ls
-CallUnder c o (line.Query n) out = (ns : List ℕ) × (o ≡ some (call.query c (map pos ns))) × Kept n out (map pos ns)
+CallUnder c o (line.Query n) out = (ls : List Literal) × (o ≡ some (call.query c (named true ls) (named false ls))) × Kept n out ls
 CallUnder c o (line.Card size) out = o ≡ some (call.card c size)
 CallUnder c o (line.KeepCard size) out = o ≡ some (call.keepCard c size)
 CallUnder c o line.Forget out = o ≡ some call.forget
 CallUnder c o line.Withdraw out = o ≡ some call.withdraw
+CallUnder c o (line.One n) out = (ls : List Literal) × (o ≡ some (call.one ls)) × Kept n out ls
 
 -- .. under the highest
 abbrev pub CallRead : Option Call → CallLine → List ℤ → Type 0

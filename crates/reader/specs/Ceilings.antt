@@ -40,6 +40,7 @@ limitedCall (line.KeepCard size) = line.KeepCard size
 limitedCall (line.Rule n) = line.NotCall
 limitedCall line.Forget = line.NotCall
 limitedCall line.Withdraw = line.NotCall
+limitedCall (line.One n) = line.NotCall
 limitedCall line.NotCall = line.NotCall
 
 abbrev pub limitedLine : CallLine → ℕ → CeiledLine

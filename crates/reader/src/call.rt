@@ -1,5 +1,5 @@
 // A call of a session on one line, without its byte 10: `(rule ..)`, `(query ..)`, `(card)`, `(card 4)`, `(keep-card)`, `(keep-card 4)`,
-// `(forget)` or `(withdraw)`.
+// `(forget)`, `(withdraw)` or `(one ..)`.
 use crate::items::Count;
 use crate::items::rest;
 use crate::number::Num;
@@ -19,7 +19,7 @@ ghost use Rattle.reader.specs.Calls.{callWordOf, callSigns, cardSize, ca
 // "The program's card table has 65,536 bytes"
 pub const TABLE: usize = 65536;
 
-// The call of a line. The literals of a rule and the numbers of a query are counted here and lie in the lent table, as many as it
+// The call of a line. The literals of a rule or an exactly-one form, and those by which a query names flags, are counted here and lie in the lent table, as many as it
 // holds; a card has the size of its table.
 pub enum CallLine {
     Rule(usize),
@@ -28,6 +28,7 @@ pub enum CallLine {
     KeepCard(usize),
     Forget,
     Withdraw,
+    One(usize),
     NotCall,
 }
 
@@ -38,6 +39,7 @@ enum CallWord {
     KeepCard,
     Forget,
     Withdraw,
+    One,
     NotWord,
 }
 
@@ -62,20 +64,24 @@ fn call_word(w: &[u8]) -> CallWord
     if same_word(w, b"withdraw") {
         return CallWord::Withdraw;
     }
+    if same_word(w, b"one") {
+        return CallWord::One;
+    }
     CallWord::NotWord
 }
 
-// Only a rule has signed items.
+// A rule, an exactly-one form and a query have signed items.
 fn call_signs(w: CallWord) -> bool
     ensures { λ r. ⌜ r ≡ callSigns w ⌝ }
 {
     match w {
         CallWord::Rule => true,
-        CallWord::Query => false,
+        CallWord::Query => true,
         CallWord::Card => false,
         CallWord::KeepCard => false,
         CallWord::Forget => false,
         CallWord::Withdraw => false,
+        CallWord::One => true,
         CallWord::NotWord => false,
     }
 }
@@ -140,6 +146,7 @@ pub fn read_words(s: &[u8], out: &mut [i16]) -> CallLine
         } else {
             CallLine::NotCall
         },
+        CallWord::One => CallLine::One(n),
         CallWord::NotWord => CallLine::NotCall,
     }
 }

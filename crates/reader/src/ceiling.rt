@@ -66,6 +66,7 @@ fn limited(line: CallLine, ceiling: u32) -> CeiledLine
         CallLine::Rule(n) => CallLine::NotCall,
         CallLine::Forget => CallLine::NotCall,
         CallLine::Withdraw => CallLine::NotCall,
+        CallLine::One(n) => CallLine::NotCall,
         CallLine::NotCall => CallLine::NotCall,
     };
     CeiledLine {

@@ -1,51 +1,42 @@
 -- Refusal 8: the tests of the tables are those of the definition.
-use Prim.Native.Nat.{ℕ, suc, _≤_, _<_}
+use Prim.Native.Nat.{ℕ, _≤_, _<_}
 use native.Mathlib.Omega.{arith}
 use mathlib.Core.Path.{_≡_, refl, sym, ap, _∙_}
 use mathlib.Core.Logic.{_⊎_, inl, inr}
 use mathlib.Core.Bool.{Bool, true, false, not, _||_, false≢true}
-use mathlib.Core.List.{List, [], _∷_}
-use lib.ListN.{length, getD, set, replicate, length-set, length-replicate, getD-replicate, List·getD-eq-default}
+use mathlib.Core.List.{List, [], _∷_, _++_}
+use mathlib.Core.Option.{some}
+use lib.ListN.{length, getD, set, length-set}
 use lib.Seq.{getD-set-same, getD-set-other}
 use lib.Dec.{eqb, ltb}
-use borrow.Author.Tests.{eqb-true, eqb-false, ltb-false}
-use Rattle.qbf.specs.Formula.{paper, Literal, Formula, numberOf, positive, any, place}
+use borrow.Author.Tests.{eqb-true, eqb-false, ltb-false, not-false}
+use Rattle.qbf.specs.Formula.{Limits, Literal, Formula, numberOf, positive, any, place}
 use Rattle.qbf.specs.Truth.{freeVariables}
+use Rattle.qbf.specs.Open.{names}
 use Rattle.qbf.specs.Calls.{given, _orElse_, numbersOk, queryFault}
-use Rattle.theory.proofs.Basics.{dichotomy, le-or-lt, or-cases, or-false-left, or-false-right}
+use Rattle.theory.proofs.Basics.{dichotomy, le-or-lt, or-false-left, or-false-right}
 use Rattle.theory.proofs.Prefixes.{place-beyond}
 use Rattle.tables.specs.Views.{Places}
-use Rattle.reading.specs.Marking.{allOpen, barred, anyBarred}
+use Rattle.reading.specs.Marking.{barred, anyBarred, named}
+use Rattle.reading.proofs.Marking.{barred-end, unbarred-first, barred-later}
 
--- ---- the start
-pub open-length : length allOpen ≡ suc (paper .numbers)
-unfolding allOpen
-open-length = length-replicate {A = ℕ} (suc (paper .numbers)) 0
+-- the numbers that are recorded are those seen
+abbrev pub Seen : List ℕ → List ℕ → Type 0
+Seen values seen = (n : ℕ) → not (eqb (getD values n 0) 0) ≡ any (eqb n) seen
 
-pub open-at : (n : ℕ) → getD allOpen n 0 ≡ 0
-unfolding allOpen
-open-at n = by (le-or-lt (suc (paper .numbers)) n)
+pub seen-none : (values : List ℕ) → ((n : ℕ) → getD values n 0 ≡ 0) → Seen values []
+seen-none values h n = ap (λ (k : ℕ). not (eqb k 0)) (h n)
+
+seen-more : (values seen : List ℕ) (m v : ℕ) → eqb v 0 ≡ false → Seen values seen → m < length values → Seen (set values m v) (m ∷ seen)
+seen-more values seen m v is h low n = by (dichotomy (eqb n m))
   where
-    by : (suc (paper .numbers) ≤ n) ⊎ (n < suc (paper .numbers)) → getD (replicate {A = ℕ} (suc (paper .numbers)) 0) n 0 ≡ 0
-    by (inl h) = List·getD-eq-default (replicate {A = ℕ} (suc (paper .numbers)) 0) 0 {n = n} (omega (arith, h, length-replicate {A = ℕ} (suc (paper .numbers)) 0))
-    by (inr h) = getD-replicate {A = ℕ} (suc (paper .numbers)) n 0 0 h
-
--- the numbers that are on are those seen
-abbrev Seen : List ℕ → List ℕ → Type 0
-Seen values seen = (n : ℕ) → eqb (getD values n 0) 2 ≡ any (eqb n) seen
-
-seen-none : Seen allOpen []
-seen-none n = ap (λ (v : ℕ). eqb v 2) (open-at n)
-
-seen-more : (values seen : List ℕ) (m : ℕ) → Seen values seen → m < length values → Seen (set values m 2) (m ∷ seen)
-seen-more values seen m h low n = by (dichotomy (eqb n m))
-  where
-    by : (eqb n m ≡ true) ⊎ (eqb n m ≡ false) → eqb (getD (set values m 2) n 0) 2 ≡ (eqb n m || any (eqb n) seen)
+    by : (eqb n m ≡ true) ⊎ (eqb n m ≡ false) → not (eqb (getD (set values m v) n 0) 0) ≡ (eqb n m || any (eqb n) seen)
     by (inl e) =
-        ap (λ (v : ℕ). eqb v 2) (ap (λ (k : ℕ). getD (set values m 2) k 0) (eqb-true n m e) ∙ getD-set-same values m 2 0 low)
+        ap (λ (k : ℕ). not (eqb k 0)) (ap (λ (k : ℕ). getD (set values m v) k 0) (eqb-true n m e) ∙ getD-set-same values m v 0 low)
+        ∙ ap not is
         ∙ sym (ap (λ (b : Bool). b || any (eqb n) seen) e)
     by (inr e) =
-        ap (λ (v : ℕ). eqb v 2) (getD-set-other values m n 2 0 (eqb-false n m e))
+        ap (λ (k : ℕ). not (eqb k 0)) (getD-set-other values m n v 0 (eqb-false n m e))
         ∙ h n
         ∙ sym (ap (λ (b : Bool). b || any (eqb n) seen) e)
 
@@ -53,47 +44,55 @@ seen-more values seen m h low n = by (dichotomy (eqb n m))
 module _ (places : List ℕ) (free : ℕ) (values : List ℕ) (l : Literal) (e : barred places free values l ≡ false) where
   unbarred : (not (positive l) || eqb (getD places (numberOf l) 0) 0 || ltb free (getD places (numberOf l) 0)) ≡ false
   unfolding barred
-  unbarred = or-false-left _ (eqb (getD values (numberOf l) 0) 2) e
+  unbarred = or-false-left _ (not (eqb (getD values (numberOf l) 0) 0)) e
 
-  pub unbarred-declared : getD places (numberOf l) 0 ≡ 0 → ⊥
+  unbarred-declared : getD places (numberOf l) 0 ≡ 0 → ⊥
   unbarred-declared =
       eqb-false (getD places (numberOf l) 0) 0
       (or-false-right (not (positive l)) (eqb (getD places (numberOf l) 0) 0) (or-false-left (not (positive l) || eqb (getD places (numberOf l) 0) 0) (ltb free (getD places (numberOf l) 0)) unbarred))
 
-  pub unbarred-free : getD places (numberOf l) 0 ≤ free
+  unbarred-free : getD places (numberOf l) 0 ≤ free
   unbarred-free =
       ltb-false free (getD places (numberOf l) 0)
       (or-false-right (not (positive l) || eqb (getD places (numberOf l) 0) 0) (ltb free (getD places (numberOf l) 0)) unbarred)
 
--- ---- of every literal
-module _ (places : List ℕ) (free : ℕ) where
-  barred-first : (values : List ℕ) (l : Literal) (ls : List Literal) → anyBarred places free values (l ∷ ls) ≡ false
-      → (barred places free values l ≡ false) × (anyBarred places free (set values (numberOf l) 2) ls ≡ false)
-  unfolding anyBarred
-  barred-first values l ls e = (or-false-left (barred places free values l) rest e, or-false-right (barred places free values l) rest e)
-    where
-      rest : Bool
-      rest = anyBarred places free (set values (numberOf l) 2) ls
+  unbarred-open : getD values (numberOf l) 0 ≡ 0
+  unfolding barred
+  unbarred-open = eqb-true (getD values (numberOf l) 0) 0
+      (not-false _ (or-false-right (not (positive l) || eqb (getD places (numberOf l) 0) 0 || ltb free (getD places (numberOf l) 0)) (not (eqb (getD values (numberOf l) 0) 0)) e))
 
-  -- a number that is named is that of a free variable
-  pub named-free : (values : List ℕ) (ls : List Literal) → anyBarred places free values ls ≡ false → (n : ℕ) → any (λ l. eqb n (numberOf l)) ls ≡ true
-      → (getD places n 0 ≡ 0 → ⊥) × (getD places n 0 ≤ free)
-  named-free values [] e n h = absurd (false≢true h)
-  named-free values (l ∷ ls) e n h = by (or-cases (eqb n (numberOf l)) (any (λ k. eqb n (numberOf k)) ls) h) (named-free (set values (numberOf l) 2) ls (barred-first values l ls e .1) n)
+-- ---- a number that is named is that of a free variable, and was open
+pub record Fresh (places : List ℕ) (free : ℕ) (values : List ℕ) (n : ℕ) : Type 0 where
+  pub declared : getD places n 0 ≡ 0 → ⊥
+  pub low : getD places n 0 ≤ free
+  pub opened : getD values n 0 ≡ 0
+
+module _ (places : List ℕ) (free v : ℕ) where
+  pub named-fresh : (values : List ℕ) (ls : List Literal) → anyBarred places free v values ls ≡ false → (n : ℕ) → names ls n ≡ true → Fresh places free values n
+  named-fresh values [] e n h = absurd (false≢true h)
+  named-fresh values (l ∷ ls) e n h = by (dichotomy (eqb n m)) (λ q. named-fresh (set values m v) ls (unbarred-first places free v values l ls e .1) n q)
     where
+      m : ℕ
+      m = numberOf l
+
       here : barred places free values l ≡ false
-      here = barred-first values l ls e .0
+      here = unbarred-first places free v values l ls e .0
 
-      by : (eqb n (numberOf l) ≡ true) ⊎ (any (λ k. eqb n (numberOf k)) ls ≡ true) → (any (λ k. eqb n (numberOf k)) ls ≡ true → (getD places n 0 ≡ 0 → ⊥) × (getD places n 0 ≤ free))
-          → (getD places n 0 ≡ 0 → ⊥) × (getD places n 0 ≤ free)
+      by : (eqb n m ≡ true) ⊎ (eqb n m ≡ false) → (names ls n ≡ true → Fresh places free (set values m v) n) → Fresh places free values n
       by (inl q) ih =
-          let s = eqb-true n (numberOf l) q in
-          let z : getD places n 0 ≡ getD places (numberOf l) 0 = ap (λ (k : ℕ). getD places k 0) s in
-          (λ w. unbarred-declared places free values l here (sym z ∙ w), omega (arith, z, unbarred-free places free values l here))
-      by (inr q) ih = ih q
+          let s = eqb-true n m q in
+          let z : getD places n 0 ≡ getD places m 0 = ap (λ (k : ℕ). getD places k 0) s in
+          record {
+            declared = λ w. unbarred-declared places free values l here (sym z ∙ w);
+            low = omega (arith, z, unbarred-free places free values l here);
+            opened = ap (λ (k : ℕ). getD values k 0) s ∙ unbarred-open places free values l here;
+          }
+      by (inr q) ih =
+          let w = ih (sym (ap (λ (b : Bool). b || names ls n) q) ∙ h) in
+          record { declared = w .declared; low = w .low; opened = sym (getD-set-other values m n v 0 (eqb-false n m q)) ∙ w .opened }
 
 -- ---- the definition
-module _ (b : Formula) (ok : numbersOk paper [] (b .prefix) ≡ true) (places : List ℕ) (shown : Places (b .prefix) places) (free : ℕ) (is : free ≡ freeVariables (b .prefix)) where
+module _ (L : Limits) (b : Formula) (ok : numbersOk L [] (b .prefix) ≡ true) (places : List ℕ) (shown : Places (b .prefix) places) (free : ℕ) (is : free ≡ freeVariables (b .prefix)) where
   abbrev test : List ℕ → Literal → Bool
   test seen l = not (positive l) || eqb (place (b .prefix) l) 0 || ltb (freeVariables (b .prefix)) (place (b .prefix) l) || any (eqb (numberOf l)) seen
 
@@ -107,34 +106,47 @@ module _ (b : Formula) (ok : numbersOk paper [] (b .prefix) ≡ true) (places : 
       p : ℕ
       p = getD places (numberOf l) 0
 
-  unbarred-low : (values : List ℕ) (l : Literal) → barred places free values l ≡ false → numberOf l ≤ paper .numbers
-  unbarred-low values l e = by (le-or-lt (numberOf l) (paper .numbers))
+  unbarred-low : (values : List ℕ) (l : Literal) → barred places free values l ≡ false → numberOf l ≤ L .numbers
+  unbarred-low values l e = by (le-or-lt (numberOf l) (L .numbers))
     where
-      by : (numberOf l ≤ paper .numbers) ⊎ (paper .numbers < numberOf l) → numberOf l ≤ paper .numbers
+      by : (numberOf l ≤ L .numbers) ⊎ (L .numbers < numberOf l) → numberOf l ≤ L .numbers
       by (inl h) = h
-      by (inr h) = absurd (unbarred-declared places free values l e (shown .at (numberOf l) ∙ place-beyond paper (b .prefix) ok (numberOf l) h))
+      by (inr h) = absurd (unbarred-declared places free values l e (shown .at (numberOf l) ∙ place-beyond L (b .prefix) ok (numberOf l) h))
 
-  fault-barred : (values seen : List ℕ) → length values ≡ suc (paper .numbers) → Seen values seen → (ls : List Literal)
-      → queryFault b seen ls ≡ given (anyBarred places free values ls) 8
-  unfolding anyBarred
-  fault-barred values seen room h [] = refl
-  fault-barred values seen room h (l ∷ ls) =
-      ap (λ (x : Bool). given x 8 orElse queryFault b (numberOf l ∷ seen) ls) (test-barred values seen h l)
-      ∙ by (dichotomy (barred places free values l)) (λ low. fault-barred (set values (numberOf l) 2) (numberOf l ∷ seen) (length-set values (numberOf l) 2 ∙ room) (seen-more values seen (numberOf l) h low) ls)
-    where
-      rest : Bool
-      rest = anyBarred places free (set values (numberOf l) 2) ls
+  -- the first literal is barred, or it is not
+  fault-first : (values seen : List ℕ) → Seen values seen → (l : Literal) (rest : List Literal) {x : Bool} → barred places free values l ≡ x
+      → queryFault b seen (l ∷ rest) ≡ (given x 8 orElse queryFault b (numberOf l ∷ seen) rest)
+  fault-first values seen h l rest e = ap (λ (x : Bool). given x 8 orElse queryFault b (numberOf l ∷ seen) rest) (test-barred values seen h l ∙ e)
 
-      by : (barred places free values l ≡ true) ⊎ (barred places free values l ≡ false)
-          → (numberOf l < length values → queryFault b (numberOf l ∷ seen) ls ≡ given rest 8)
-          → (given (barred places free values l) 8 orElse queryFault b (numberOf l ∷ seen) ls) ≡ given (barred places free values l || rest) 8
-      by (inl e) ih =
-          ap (λ (x : Bool). given x 8 orElse queryFault b (numberOf l ∷ seen) ls) e
-          ∙ sym (ap (λ (x : Bool). given (x || rest) 8) e)
-      by (inr e) ih =
-          ap (λ (x : Bool). given x 8 orElse queryFault b (numberOf l ∷ seen) ls) e
-          ∙ ih (omega (arith, room, unbarred-low values l e))
-          ∙ sym (ap (λ (x : Bool). given (x || rest) 8) e)
+  -- the literals ls, whose variables take the value v, and the rest behind them
+  module _ (v : ℕ) (so : eqb v 0 ≡ false) where
+    pub fault-told : (values seen : List ℕ) → L .numbers < length values → Seen values seen → (ls rest : List Literal) → anyBarred places free v values ls ≡ true
+        → queryFault b seen (ls ++ rest) ≡ some 8
+    fault-told values seen wide h [] rest e = absurd (false≢true (sym (barred-end places free v values) ∙ e))
+    fault-told values seen wide h (l ∷ ls) rest e =
+        by (dichotomy (barred places free values l)) (λ low q. fault-told (set values (numberOf l) v) (numberOf l ∷ seen) (omega (arith, wide, length-set values (numberOf l) v)) (seen-more values seen (numberOf l) v so h low) ls rest q)
+      where
+        by : (barred places free values l ≡ true) ⊎ (barred places free values l ≡ false)
+            → (numberOf l < length values → anyBarred places free v (set values (numberOf l) v) ls ≡ true → queryFault b (numberOf l ∷ seen) (ls ++ rest) ≡ some 8)
+            → queryFault b seen (l ∷ ls ++ rest) ≡ some 8
+        by (inl q) ih = fault-first values seen h l (ls ++ rest) q
+        by (inr q) ih = fault-first values seen h l (ls ++ rest) q ∙ ih (omega (arith, wide, unbarred-low values l q)) (sym (barred-later places free v values l ls q) ∙ e)
 
-  pub fault-told : (ls : List Literal) → queryFault b [] ls ≡ given (anyBarred places free allOpen ls) 8
-  fault-told ls = fault-barred allOpen [] open-length seen-none ls
+    -- none of ls is barred: what is seen then, and the rest is judged by it
+    pub record Passed (values seen : List ℕ) (ls rest : List Literal) : Type 0 where
+      pub since : List ℕ
+      pub shows : Seen (named v values ls) since
+      pub same : queryFault b seen (ls ++ rest) ≡ queryFault b since rest
+
+    pub fault-passed : (values seen : List ℕ) → L .numbers < length values → Seen values seen → (ls rest : List Literal) → anyBarred places free v values ls ≡ false → Passed values seen ls rest
+    unfolding named
+    fault-passed values seen wide h [] rest e = record { since = seen; shows = h; same = refl }
+    fault-passed values seen wide h (l ∷ ls) rest e =
+        let w = fault-passed (set values (numberOf l) v) (numberOf l ∷ seen) (omega (arith, wide, length-set values (numberOf l) v)) (seen-more values seen (numberOf l) v so h low) ls rest (first .1) in
+        record { since = w .since; shows = w .shows; same = fault-first values seen h l (ls ++ rest) (first .0) ∙ w .same }
+      where
+        first : (barred places free values l ≡ false) × (anyBarred places free v (set values (numberOf l) v) ls ≡ false)
+        first = unbarred-first places free v values l ls e
+
+        low : numberOf l < length values
+        low = omega (arith, wide, unbarred-low values l (first .0))

@@ -4,7 +4,7 @@ use native.Mathlib.Nat.{not-suc-le-zero}
 use mathlib.Core.Path.{_≡_, refl, sym, ap, _∙_, subst}
 use mathlib.Core.Bool.{Bool, true, false, not, _||_, false≢true}
 use mathlib.Core.List.{List}
-use lib.ListN.{length, getD, set, length-set}
+use lib.ListN.{getD, set}
 use lib.Dec.{T, eqb, ltb}
 use lib.IntN.{pos, negsuc}
 use lib.Signed.{ltZ}
@@ -33,7 +33,7 @@ module _ (places : List ℕ) (free : ℕ) (values : List ℕ) {l : Literal} (f :
   -- p is the place of its variable
   module _ (e : ltZ (toZ w16 (ofZ w16 l)) (toZ w16 0) ≡ false) {p : ℕ} (is : p ≡ getD places (numberOf l) 0) where
     abbrev again : Bool
-    again = eqb (getD values (numberOf l) 0) 2
+    again = not (eqb (getD values (numberOf l) 0) 0)
 
     by-place : barred places free values l ≡ (eqb p 0 || ltb free p || again)
     unfolding barred
@@ -55,9 +55,9 @@ module _ (places : List ℕ) (free : ℕ) (values : List ℕ) {l : Literal} (f :
       barred-again h = sym (declared ∙ ap (λ (b : Bool). b || again) (le-ltb free p h))
 
 -- ---- a literal marked
-module _ (places : List ℕ) (free : ℕ) (values : List ℕ) (l : Literal) {b : Bool} (is : b ≡ barred places free values l) where
-  pub marked-not : b ≡ true → Marked places free values l false values
-  marked-not e = record { told = sym (ap not (sym is ∙ e)); wide = refl; shown = λ z. absurd (false≢true z) }
+module _ (places : List ℕ) (free v : ℕ) (values : List ℕ) (l : Literal) {b : Bool} (is : b ≡ barred places free values l) where
+  pub marked-not : b ≡ true → Marked places free v values l false values
+  marked-not e = record { told = sym (ap not (sym is ∙ e)); shown = λ z. absurd (false≢true z) }
 
-  pub marked-so : b ≡ false → {after : List ℕ} → after ≡ set values (numberOf l) 2 → Marked places free values l true after
-  marked-so e {after} put = record { told = sym (ap not (sym is ∙ e)); wide = ap length put ∙ length-set values (numberOf l) 2; shown = λ z. put }
+  pub marked-so : b ≡ false → {after : List ℕ} → after ≡ set values (numberOf l) v → Marked places free v values l true after
+  marked-so e put = record { told = sym (ap not (sym is ∙ e)); shown = λ z. put }

@@ -1,6 +1,6 @@
 pub mod Judging
 pub mod Marking
-pub mod Settling
 pub mod Faults
-pub mod Starting
+pub mod Recording
+pub mod Placing
 pub mod Querying

@@ -4,13 +4,20 @@ ghost use Prim.Native.Nat.{suc};
 ghost use lib.ListN.{getD, set};
 ghost use lib.Dec.{eqb};
 
-pub fn is_on<'a>(values: &'a [u8], n: usize) -> bool
-    ensures { λ r. ⌜ r ≡ eqb (getD (now (values .entry)) n 0) 2 ⌝ }
+// Past the table every variable is open.
+pub fn value_of<'a>(values: &'a [u8], n: usize) -> u8
+    ensures { λ r. ⌜ r ≡ getD (now (values .entry)) n 0 ⌝ }
 {
     if n < values.len() {
-        return values[n] == tables::ON;
+        return values[n];
     }
-    false
+    tables::OPEN
+}
+
+pub fn is_open<'a>(values: &'a [u8], n: usize) -> bool
+    ensures { λ r. ⌜ r ≡ eqb (getD (now (values .entry)) n 0) 0 ⌝ }
+{
+    value_of(values, n) == tables::OPEN
 }
 
 // The number of the variable after i others; 0 past the table.

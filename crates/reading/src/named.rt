@@ -1,13 +1,12 @@
 // The flags that a query names: each is a free variable, and is named once.
-use crate::Reading;
-use crate::cells::is_on;
+use crate::cells::is_open;
 use crate::cells::put;
 use literal::literal_place;
 use literal::number_of;
 ghost use mathlib.Core.Path.{_≡_};
 ghost use Rattle.reading.specs.Marking.{barred, Marked, Named};
 
-// "8 a query names a non-flag, or a flag twice"
+// "8 a query names a non-flag, or a flag twice"; "A number given both as on and as off is 8."
 fn is_barred<'a>(places: &'a [u16], free: usize, values: &'a [u8], lit: i16) -> bool
     ensures { λ r. ⌜ r ≡ barred (now (places .entry)) free (now (values .entry)) lit ⌝ }
 {
@@ -21,36 +20,36 @@ fn is_barred<'a>(places: &'a [u16], free: usize, values: &'a [u8], lit: i16) -> 
     if place > free {
         return true;
     }
-    is_on(values, number_of(lit).0)
+    !is_open(values, number_of(lit).0)
 }
 
-// Sets a named flag on; false where it may not be named.
-fn mark<'a>(values: &mut [u8], places: &'a [u16], free: usize, lit: i16) -> bool
-    ensures { λ r. ⌜ Marked (now (places .entry)) free (now (values .entry)) lit r (now (values .exit)) ⌝ }
+// Records a named flag; false where it may not be named.
+fn mark<'a>(values: &mut [u8], places: &'a [u16], free: usize, lit: i16, value: u8) -> bool
+    ensures { λ r. ⌜ Marked (now (places .entry)) free value (now (values .entry)) lit r (now (values .exit)) ⌝ }
 {
     if is_barred(places, free, values, lit) {
         return false;
     }
-    put(values, number_of(lit).0, tables::ON);
+    put(values, number_of(lit).0, value);
     true
 }
 
-pub fn mark_all<'a>(places: &'a [u16], free: usize, on: &'a [i16]) -> Reading
-    ensures { λ r. ⌜ Named (now (places .entry)) free (now (on .entry)) (r .ok) (r .values) ⌝ }
+// All of them, up to the first that may not be named.
+pub fn mark_all<'a>(
+    values: &mut [u8],
+    places: &'a [u16],
+    free: usize,
+    literals: &'a [i16],
+    value: u8,
+) -> bool
+    ensures { λ r. ⌜ Named (now (places .entry)) free value (now (values .entry)) (now (literals .entry)) r (now (values .exit)) ⌝ }
 {
-    let mut values = [tables::OPEN; tables::BY_NUMBER];
     let mut i: usize = 0;
-    while i < on.len() {
-        if !mark(&mut values, places, free, on[i]) {
-            return Reading {
-                ok: false,
-                values: values,
-            };
+    while i < literals.len() {
+        if !mark(values, places, free, literals[i], value) {
+            return false;
         }
         i += 1;
     }
-    Reading {
-        ok: true,
-        values: values,
-    }
+    true
 }

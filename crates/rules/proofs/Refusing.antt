@@ -1,5 +1,6 @@
--- The faults of a rule: of one literal, of the literals from the left, and of the whole.
-use Prim.Native.Nat.{ℕ, zero, suc, _+_, _≤_, _<_}
+-- The faults of a rule and of an exactly-one form: of one literal, of the literals from the left, and of the whole.
+use Prim.Native.Nat.{ℕ, zero, suc, _+_, _*_, _-_, _≤_, _<_}
+use native.Mathlib.Nat.{mul-le-mul-right}
 use native.Mathlib.Numerals.{add-one}
 use native.Mathlib.Omega.{arith}
 use mathlib.Core.Path.{_≡_, refl, sym, ap, _∙_}
@@ -13,12 +14,14 @@ use lib.ListN.{length, getD, drop, set, replicate, length-set, drop-of-length-le
 use lib.Seq.{drop-cons, getD-set-same, getD-set-other}
 use borrow.Author.Tests.{lt-ltb, le-ltb, le-leb, lt-leb, leb-false, eq-eqb, ne-eqb, eqb-false, ltb-false}
 use Rattle.qbf.specs.Formula.{paper, Prefix, Literal, numberOf, placeOf, any}
+use Rattle.qbf.specs.One.{oneCount}
 use Rattle.qbf.specs.Calls.{_orElse_, given, literalFault}
 use Rattle.theory.proofs.Basics.{or-right, or-false, or-false-right, dichotomy, eqb-true}
 use Rattle.theory.proofs.AcceptedRule.{given-none}
 use Rattle.tables.specs.Views.{Places}
 use Rattle.serving.specs.Serves.{faultOf}
-use Rattle.rules.specs.Faults.{numberFault, faultAfter, Judged}
+use Rattle.rules.specs.Faults.{numberFault, faultAfter, oneFaultAfter, Judged}
+use Rattle.rules.specs.Accepted.{Named}
 
 given-joins : (a b c : Bool) (o : Option ℕ) → (given a 3 orElse given b 5 orElse given c 6 orElse o) ≡ ((given a 3 orElse given b 5 orElse given c 6) orElse o)
 given-joins true b c o = refl
@@ -165,16 +168,76 @@ module _ (count : ℕ) (D : Prefix) (ls : List Literal) where
     pub fine-length : length ls ≤ 16
     fine-length = ltb-false 16 (length ls) (or-false-right (eqb (length ls) 0) (ltb 16 (length ls)) (given-none (eqb (length ls) 0 || ltb 16 (length ls)) 7 (literalFault paper D [] ls) (full .1) .0))
 
+-- ---- an exactly-one form
+pub pairs-few : (n : ℕ) → n ≤ paper .literals → n * (n - 1) ≤ 256
+pairs-few n h = omega (arith, h, mul-le-mul-right (n - 1) h)
+
+-- each number of literals without a fault is in range
+module _ (D : Prefix) (seen : List ℕ) (l : Literal) (ls : List Literal) (e : literalFault paper D seen (l ∷ ls) ≡ none) where
+  abbrev later : Option ℕ
+  later = literalFault paper D (numberOf l ∷ seen) ls
+
+  declared : ((eqb (numberOf l) 0 || ltb (paper .numbers) (numberOf l)) ≡ false) × ((given (eqb (placeOf D (numberOf l)) 0) 5 orElse given (any (eqb (numberOf l)) seen) 6 orElse later) ≡ none)
+  declared = given-none (eqb (numberOf l) 0 || ltb (paper .numbers) (numberOf l)) 3 (given (eqb (placeOf D (numberOf l)) 0) 5 orElse given (any (eqb (numberOf l)) seen) 6 orElse later) e
+
+  in-range : numberOf l ≤ paper .numbers
+  in-range = ltb-false (paper .numbers) (numberOf l) (or-false-right (eqb (numberOf l) 0) (ltb (paper .numbers) (numberOf l)) (declared .0))
+
+  none-later : later ≡ none
+  none-later = given-none (any (eqb (numberOf l)) seen) 6 later (given-none (eqb (placeOf D (numberOf l)) 0) 5 (given (any (eqb (numberOf l)) seen) 6 orElse later) (declared .1) .1) .1
+
+named : (D : Prefix) (seen : List ℕ) (ls : List Literal) → literalFault paper D seen ls ≡ none → Named ls
+named D seen [] e k h = absurd (omega (arith, h))
+named D seen (l ∷ ls) e zero h = in-range D seen l ls e
+named D seen (l ∷ ls) e (suc k) h = named D (numberOf l ∷ seen) ls (none-later D seen l ls e) k (omega (arith, h))
+
+module _ (count : ℕ) (D : Prefix) (ls : List Literal) where
+  abbrev counted : Option ℕ
+  counted = given (ltb (paper .clauses) (count + oneCount (length ls))) 20 orElse literalFault paper D [] ls
+
+  pub one-few : length ls < 2 → some 7 ≡ oneFaultAfter count D ls
+  one-few h = sym (ap (λ (x : Bool). given (x || ltb (paper .literals) (length ls)) 7 orElse counted) (lt-ltb (length ls) 2 h))
+
+  pub one-long : paper .literals < length ls → some 7 ≡ oneFaultAfter count D ls
+  one-long h = sym (ap (λ (x : Bool). given x 7 orElse counted) (or-right (ltb (length ls) 2) (ltb (paper .literals) (length ls)) (lt-ltb (paper .literals) (length ls) h)))
+
+  module _ (two : 2 ≤ length ls) (few : length ls ≤ paper .literals) where
+    of-length : oneFaultAfter count D ls ≡ counted
+    of-length = ap (λ (x : Bool). given x 7 orElse counted) (or-false (ltb (length ls) 2) (ltb (paper .literals) (length ls)) (le-ltb (length ls) 2 two) (le-ltb (paper .literals) (length ls) few))
+
+    pub one-full : paper .clauses < count + oneCount (length ls) → some 20 ≡ oneFaultAfter count D ls
+    one-full h = sym (of-length ∙ ap (λ (x : Bool). given x 20 orElse literalFault paper D [] ls) (lt-ltb (paper .clauses) (count + oneCount (length ls)) h))
+
+    pub one-literals : count + oneCount (length ls) ≤ paper .clauses → literalFault paper D [] ls ≡ oneFaultAfter count D ls
+    one-literals h = sym (of-length ∙ ap (λ (x : Bool). given x 20 orElse literalFault paper D [] ls) (le-ltb (paper .clauses) (count + oneCount (length ls)) h))
+
+  -- a form without a fault: there is room for its clauses, and each number is in range
+  module _ (fine : none ≡ oneFaultAfter count D ls) where
+    lengthy : ((ltb (length ls) 2 || ltb (paper .literals) (length ls)) ≡ false) × (counted ≡ none)
+    lengthy = given-none (ltb (length ls) 2 || ltb (paper .literals) (length ls)) 7 counted (sym fine)
+
+    together : (ltb (paper .clauses) (count + oneCount (length ls)) ≡ false) × (literalFault paper D [] ls ≡ none)
+    together = given-none (ltb (paper .clauses) (count + oneCount (length ls))) 20 (literalFault paper D [] ls) (lengthy .1)
+
+    pub one-fine-room : count + oneCount (length ls) ≤ paper .clauses
+    one-fine-room = ltb-false (paper .clauses) (count + oneCount (length ls)) (together .0)
+
+    pub one-fine-length : length ls ≤ paper .literals
+    one-fine-length = ltb-false (paper .literals) (length ls) (or-false-right (ltb (length ls) 2) (ltb (paper .literals) (length ls)) (lengthy .0))
+
+    pub one-fine-named : Named ls
+    one-fine-named = named D [] ls (together .1)
+
 -- ---- with the state's check
-module _ (ok : Bool) (count : ℕ) (ls : List Literal) (places : List ℕ) where
-  pub judged-malformed : ok ≡ false → Judged ok count ls places 22
-  judged-malformed e = record { malformed = λ h. refl; fault = λ v. absurd (true≢false (sym v ∙ e)) }
+module _ (ok : Bool) (places : List ℕ) (fault : Prefix → Option ℕ) where
+  pub judged-malformed : ok ≡ false → Judged ok places fault 22
+  judged-malformed e = record { malformed = λ h. refl; found = λ v. absurd (true≢false (sym v ∙ e)) }
 
-  pub judged-valid : ok ≡ true → (r : ℕ) → ((D : Prefix) → Places D places → faultOf r ≡ faultAfter count D ls) → Judged ok count ls places r
-  judged-valid v r f = record { malformed = λ e. absurd (true≢false (sym v ∙ e)); fault = λ h. f }
+  pub judged-valid : ok ≡ true → (r : ℕ) → ((D : Prefix) → Places D places → faultOf r ≡ fault D) → Judged ok places fault r
+  judged-valid v r f = record { malformed = λ e. absurd (true≢false (sym v ∙ e)); found = λ h. f }
 
-  -- an accepted rule stands on a valid state
-  pub judged-fine : {r : ℕ} → Judged ok count ls places r → r ≡ 0 → ok ≡ true
+  -- what is accepted stands on a valid state
+  pub judged-fine : {r : ℕ} → Judged ok places fault r → r ≡ 0 → ok ≡ true
   judged-fine {r} j e = by-test (dichotomy ok)
     where
       by-test : (ok ≡ true) ⊎ (ok ≡ false) → ok ≡ true

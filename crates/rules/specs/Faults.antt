@@ -1,5 +1,5 @@
--- The faults of a rule, as code gives them: a number, 0 where there is none.
-use Prim.Native.Nat.{ℕ}
+-- The faults of a rule and of an exactly-one form, as code gives them: a number, 0 where there is none.
+use Prim.Native.Nat.{ℕ, _+_}
 use mathlib.Core.Path.{_≡_}
 use mathlib.Core.Bool.{Bool, true, false, not, _||_}
 use mathlib.Core.List.{List, []}
@@ -7,6 +7,7 @@ use mathlib.Core.Option.{Option}
 use lib.Dec.{leb, ltb, eqb}
 use lib.ListN.{length}
 use Rattle.qbf.specs.Formula.{paper, Literal, Prefix}
+use Rattle.qbf.specs.One.{oneCount}
 use Rattle.qbf.specs.Calls.{_orElse_, given, literalFault}
 use Rattle.tables.specs.Views.{Places}
 use Rattle.serving.specs.Serves.{faultOf}
@@ -23,7 +24,14 @@ faultAfter count D ls =
     orElse given (eqb (length ls) 0 || ltb (paper .literals) (length ls)) 7
     orElse literalFault paper D [] ls
 
--- r is the first refusal of a rule with these literals on a state with that check, where that many clauses stand and the table shows the places
-pub record Judged (ok : Bool) (count : ℕ) (ls : List Literal) (places : List ℕ) (r : ℕ) : Type 0 where
+-- that of an exactly-one form
+abbrev pub oneFaultAfter : ℕ → Prefix → List Literal → Option ℕ
+oneFaultAfter count D ls =
+    given (ltb (length ls) 2 || ltb (paper .literals) (length ls)) 7
+    orElse given (ltb (paper .clauses) (count + oneCount (length ls))) 20
+    orElse literalFault paper D [] ls
+
+-- r is the first refusal on a state with that check, where the table shows the places of a prefix that makes this fault
+pub record Judged (ok : Bool) (places : List ℕ) (fault : Prefix → Option ℕ) (r : ℕ) : Type 0 where
   pub malformed : ok ≡ false → r ≡ 22
-  pub fault : ok ≡ true → (D : Prefix) → Places D places → faultOf r ≡ faultAfter count D ls
+  pub found : ok ≡ true → (D : Prefix) → Places D places → faultOf r ≡ fault D

@@ -6,7 +6,7 @@ ghost use Rattle.qbf.specs.Formula.{paper, Prefix};
 ghost use Rattle.qbf.specs.Calls.{literalFault};
 ghost use Rattle.tables.specs.Views.{Places};
 ghost use Rattle.serving.specs.Serves.{faultOf};
-ghost use Rattle.rules.specs.Faults.{numberFault, Judged};
+ghost use Rattle.rules.specs.Faults.{numberFault, faultAfter, Judged};
 
 // The rule is accepted.
 pub const NONE: u16 = 0;
@@ -21,10 +21,10 @@ const UNDECLARED: u16 = 5;
 const REPEATED: u16 = 6;
 
 // "7 no literal, or over 16"
-const LENGTH: u16 = 7;
+pub const LENGTH: u16 = 7;
 
 // "20 a rule when 255 stand"
-const FULL: u16 = 20;
+pub const FULL: u16 = 20;
 
 // "22 the state is malformed"
 pub const MALFORMED: u16 = 22;
@@ -57,7 +57,7 @@ fn number_fault(n: usize, places: &[u16; tables::BY_NUMBER], marks: &[u8; tables
 }
 
 // "each number from the left"
-fn literals_fault<'a>(lits: &'a [i16], places: &'a [u16; tables::BY_NUMBER]) -> u16
+pub fn literals_fault<'a>(lits: &'a [i16], places: &'a [u16; tables::BY_NUMBER]) -> u16
     ensures { λ r. ⌜
         ((D : Prefix) →
         Places D (now (places .entry)) →
@@ -85,7 +85,13 @@ pub fn rule_fault<'a>(
     lits: &'a [i16],
     places: &'a [u16; tables::BY_NUMBER],
 ) -> u16
-    ensures { λ r. ⌜ Judged ok (getD (now (sizes .entry)) 0 0) (now (lits .entry)) (now (places .entry)) r ⌝ }
+    ensures { λ r. ⌜
+        Judged
+        ok
+        (now (places .entry))
+        (λ D. faultAfter (getD (now (sizes .entry)) 0 0) D (now (lits .entry)))
+        r
+        ⌝ }
 {
     if !ok {
         return MALFORMED;

@@ -2,7 +2,7 @@
 use Prim.Native.Nat.{ℕ, suc, _+_, _-_, _*_, _^_, _≤_, _<_, zero-le}
 use native.Mathlib.Omega.{arith}
 use mathlib.Core.Path.{_≡_, sym, ap, _∙_, subst}
-use mathlib.Core.Bool.{Bool, true, false, cond}
+use mathlib.Core.Bool.{Bool, true, false, cond, true≢false}
 use mathlib.Core.List.{List}
 use Rattle.qbf.specs.Formula.{paper, Prefix, Node}
 use Rattle.qbf.specs.Ceiling.{Attempt}
@@ -12,15 +12,18 @@ use Rattle.search_entry.specs.Entry.{Bounded}
 use Rattle.search_entry.specs.declared.Bounds.{Bounds}
 use Rattle.search_entry.specs.declared.Source.the-variants.{Area}
 use Rattle.node.specs.Node.{boundsOf, Finished, Grown, settledLines}
-use Rattle.search.specs.Search.{left, Room, Asked, AskedOpen, AskedBelow, Counts, Result}
+use Rattle.inner.specs.Inner.{LeafBounded}
+use Rattle.inner.specs.declared.Leaf.{Leaf}
+use Rattle.inner.specs.declared.Leaf.the-variants as found
+use Rattle.search.specs.Search.{left, sideAt, Room, Asked, AskedOpen, AskedBelow, Counts, Result, isOpen, concludedOf}
 use Rattle.node.specs.declared.Verdict.{Verdict}
-use Rattle.node.specs.declared.Verdict.the-variants.{Mixed}
+use Rattle.node.specs.declared.Verdict.the-variants.{Yes, No, Mixed}
 use Rattle.node.specs.declared.Position.{Position}
 use Rattle.node.specs.declared.Answer.{Answer}
 
 -- the positions of the sides, and an answer, as the code makes them
 abbrev pub below : Position → ℕ → ℕ → Position
-below p v l = record { at = p .at + 1; free = p .free; budget = v; lines = l; words = p .words; yes = p .yes }
+below p v l = sideAt p v l
 
 abbrev pub answered : Verdict → Bounds → ℕ → ℕ → Answer
 answered v b k l = record { verdict = v; source = b .source; start = b .start; len = b .len; budget = k; lines = l }
@@ -52,6 +55,12 @@ module _ (p : Position) where
   counts-stopped {cl} {ql} r e =
       subst (λ (x : Answer). Counts cl ql p x cl ql) (sym e)
       (record { bounded = record { short = zero-le; inside = zero-le }; lines-more = omega arith; lines-fewer = omega arith; clauses = omega arith; cubes = omega arith })
+
+  -- a step decided the node
+  pub counts-concluded : {cl ql : List ℕ} (l : Leaf) → isOpen l ≡ false → LeafBounded l → (r : Answer) → r ≡ concludedOf l p → Counts cl ql p r cl ql
+  counts-concluded (found.No b) h bounded r e = counts-settled r No b e bounded
+  counts-concluded (found.Yes b) h bounded r e = counts-settled r Yes b e bounded
+  counts-concluded found.Open h bounded r e = absurd (true≢false h)
 
   module _ (more : p .at < paper .numbers) where
     -- what a side asks
@@ -154,6 +163,24 @@ module _ (p : Position) where
 
       pub lines-small : (saved : ℕ) → Room saved cl ql p → off .lines < 2 ^ 63
       lines-small saved h = omega (arith, h .lines, c .lines-fewer)
+
+-- room for one line more is room for none
+pub asked-on : {cs cl qs ql : List ℕ} (saved n : ℕ) (p : Position) (v l m : ℕ) → AskedBelow n saved cs cl qs ql (sideAt p v l) → m ≤ l → (q : Position) → q ≡ sideAt p v m
+    → AskedBelow n saved cs cl qs ql q
+asked-on {cs} {cl} {qs} {ql} saved n p v l m a h q e =
+    subst (AskedBelow n saved cs cl qs ql) (sym e)
+    (record {
+      asked = record {
+        shelves = a .asked .shelves;
+        room = record { within = k .within; free = k .free; words = k .words; aside = k .aside; lines = omega (arith, k .lines, h); clauses = k .clauses; cubes = k .cubes };
+      };
+      inner = a .inner;
+      used = a .used;
+      own = a .own;
+    })
+  where
+    k : Room saved cl ql (sideAt p v l)
+    k = a .asked .room
 
 -- the cells of `saved` that are in use are passed over
 pub part-asked : {cs cl qs ql : List ℕ} (saved aside part : ℕ) (p : Position) → AskedBelow aside saved cs cl qs ql p → saved ≤ aside + part → Asked part cs cl qs ql p

@@ -3,12 +3,12 @@ use Prim.Native.Nat.{ℕ, suc, _+_, _-_, _≤_, _<_}
 use native.Mathlib.Omega.{arith}
 use mathlib.Core.Path.{_≡_, refl, sym, ap, _∙_, subst}
 use mathlib.Core.Logic.{_⊎_, inl, inr}
-use mathlib.Core.Bool.{Bool, true, false}
+use mathlib.Core.Bool.{Bool, true, false, true≢false}
 use mathlib.Core.List.{List, [], _∷_, append-nil}
 use mathlib.Core.Option.{Option, none, some}
 use lib.ListN.{length, take, drop, length-map, drop-of-length-le}
 use lib.Dec.{eqb}
-use Rattle.qbf.specs.Formula.{paper, Quantifier, free, exists, forall, Prefix, Clause, Node, _▹_, quantifiers, quantifierAt}
+use Rattle.qbf.specs.Formula.{paper, Quantifier, free, Prefix, Clause, Node, _▹_, quantifiers, quantifierAt}
 use Rattle.qbf.specs.Truth.{Outcome, decided}
 use Rattle.qbf.specs.Learning.{Constraint, Store, leaf, firstDead, lowestDead, reducedFound, concludeBy}
 use Rattle.qbf.specs.Ceiling.{Attempt, finished, belowWithin, settleWithin, visitWithin}
@@ -20,7 +20,7 @@ use Rattle.theory.proofs.Lowest.{lowest-none}
 use Rattle.theory.proofs.CeilingLaws.{raise-nothing-within}
 use Rattle.tables.specs.Formed.{Formed}
 use Rattle.tables.specs.Views.{quantifierCode}
-use Rattle.tables.specs.Codes.{codes, given, Quantified}
+use Rattle.tables.specs.Codes.{codes, given}
 use Rattle.tables.specs.Shelves.{codeCount}
 use Rattle.tables.specs.Sets.{Descended}
 use Rattle.tables.specs.Records.{Ledger}
@@ -33,9 +33,10 @@ use Rattle.search_entry.specs.declared.Bounds.{Bounds}
 use Rattle.search_entry.specs.declared.Source.the-variants.{Area}
 use Rattle.cover.specs.Cover.{Covers}
 use Rattle.node.specs.Node.{storedBy, Reads, Shown, NextKind}
-use Rattle.search.specs.Search.{Task, Opened, Result, Visited, Followed, Branched, visitOf, belowOf, branchOf}
+use Rattle.node.proofs.NextPlace.{code-known, next-inside, kind-here}
+use Rattle.search.specs.Search.{Task, Opened, Result, Visited, Followed, visitOf, belowOf, branchOf, isOpen, concludedOf}
 use Rattle.node.specs.declared.Verdict.{Verdict}
-use Rattle.node.specs.declared.Verdict.the-variants.{No, Mixed}
+use Rattle.node.specs.declared.Verdict.the-variants.{Yes, No, Mixed}
 use Rattle.node.specs.declared.Position.{Position}
 use Rattle.node.specs.declared.Answer.{Answer}
 use Rattle.search.proofs.Counts as counts
@@ -43,50 +44,13 @@ use Rattle.search.proofs.Keeping.{entered-below}
 use Rattle.inner.proofs.Stepping.{facts, rising}
 use Rattle.search.proofs.Branching.{shaped, rest, one}
 
--- ---- the next quantifier, by the tables
-one-code : (a b : Quantifier) → quantifierCode a ≡ quantifierCode b → a ≡ b
-one-code free free e = refl
-one-code free exists e = absurd (omega (arith, e))
-one-code free forall e = absurd (omega (arith, e))
-one-code exists free e = absurd (omega (arith, e))
-one-code exists exists e = refl
-one-code exists forall e = absurd (omega (arith, e))
-one-code forall free e = absurd (omega (arith, e))
-one-code forall exists e = absurd (omega (arith, e))
-one-code forall forall e = refl
-
-code-small : (κ : Quantifier) → quantifierCode κ < 3
-code-small free = omega arith
-code-small exists = omega arith
-code-small forall = omega arith
-
-code-known : (κ : Quantifier) (k : ℕ) → k ≡ quantifierCode κ → (k ≡ 1 → ⊥) → (k ≡ 2 → ⊥) → (k ≡ 0 → ⊥) → ⊥
-code-known free k e a b c = c e
-code-known exists k e a b c = a e
-code-known forall k e a b c = b e
-
--- a place is left where the table has a quantifier for it
-pub more-places : (kd : List ℕ) (at k : ℕ) → NextKind kd at k → k < 3 → at < paper .numbers
-more-places kd at k h low = by (le-or-lt (paper .numbers) at)
-  where
-    by : (paper .numbers ≤ at) ⊎ (at < paper .numbers) → at < paper .numbers
-    by (inl le) = absurd (omega (arith, h .none le))
-    by (inr lt) = lt
-
-module _ (D : Prefix) (kd : List ℕ) (shown : Quantified D kd) (at k : ℕ) (next : NextKind kd at k) where
-  -- it is one of the prefix
-  next-inside : k < 3 → at < length D
-  next-inside low = by (le-or-lt (length D) at)
-    where
-      lt : at < paper .numbers
-      lt = more-places kd at k next low
-
-      by : (length D ≤ at) ⊎ (at < length D) → at < length D
-      by (inl le) = absurd (omega (arith, low, next .more lt, shown .end (suc at) false (omega (arith, le)) (omega (arith, lt))))
-      by (inr inD) = inD
-
-  kind-here : at < length D → length D ≤ paper .numbers → k ≡ quantifierCode (quantifierAt D (suc at))
-  kind-here inD few = next .more (omega (arith, inD, few)) ∙ shown .at (suc at) false (omega (arith, inD))
+-- at an open node whose next variable has the quantifier of that code
+pub record Branched (kind : ℕ) (p : Position) (r : Answer)
+    (clauses sets quantifiers statuses cs cl qs ql table sat marks area cs′ cl′ qs′ ql′ table′ : List ℕ) : Type 0 where
+  pub result : (D : Prefix) (s : Node) (ls : List Node) (R : List Clause) (g : Ledger) (st : Store) (κ : Quantifier)
+      → Task D s ls R g st clauses sets quantifiers statuses cs cl qs ql table (p .at) p → Opened D s R p sat marks
+      → p .at < length D → quantifierAt D (suc (p .at)) ≡ κ → quantifierCode κ ≡ kind
+      → Result D g ls (branchOf D R κ p s st) p r clauses area cs′ cl′ qs′ ql′ table′
 
 -- a prefix has no more variables than there are numbers
 prefix-short : (D : Prefix) (R : List Clause) (st : Store) → Formed D R st → length D ≤ paper .numbers
@@ -181,6 +145,15 @@ module _ {D : Prefix} {s : Node} {ls : List Node} {R : List Clause} {g : Ledger}
       next : ℕ → Node → Store → Attempt
       next = belowWithin paper D R (drop (p .at) (quantifiers D))
 
+  pub concluded-result : 2 ≤ p .budget → {l : Leaf} {wc : ℕ} {up sat mk : List ℕ} → Concluded D R s st l wc cls cs qs up sat mk → isOpen l ≡ false → (r : Answer) → r ≡ concludedOf l p
+      → Result D g ls (visitOf D R p s st) p r cls up cs cl qs ql tb
+  concluded-result made {l} {up = up} w h r q = by l refl h q
+    where
+      by : (m : Leaf) → l ≡ m → isOpen m ≡ false → r ≡ concludedOf m p → Result D g ls (visitOf D R p s st) p r cls up cs cl qs ql tb
+      by (found.No b) e h q = let x = said-no w e in leaf-result made No false (x .0) b up (x .1) (x .0, refl, x .2) r q
+      by (found.Yes b) e h q = let x = said-yes w e in leaf-result made Yes true (x .0) b up (x .1) (x .0, refl, x .2) r q
+      by found.Open e h q = absurd (true≢false h)
+
   -- the node is open: what follows is asked at the same position
   pub open-result : 2 ≤ p .budget → {r : Leaf} {wc : ℕ} {up up′ cs′ cl′ qs′ ql′ tb′ sat mk : List ℕ} (a : Answer) → Concluded D R s st r wc cls cs qs up sat mk → r ≡ found.Open → p .words ≡ wc
       → Followed p a cls sets kd ss cs cl qs ql tb sat mk up′ cs′ cl′ qs′ ql′ tb′ → Result D g ls (visitOf D R p s st) p a cls up′ cs′ cl′ qs′ ql′ tb′
@@ -214,14 +187,6 @@ module _ {D : Prefix} {s : Node} {ls : List Node} {R : List Clause} {g : Ledger}
         let inD : p .at < length D = next-inside D kd (task .shown .quantified) (p .at) k next low in
         branch-result κ r inD refl (h .result D s ls R g st κ task opened inD refl (sym (at-kind inD)))
 
-    -- a kind is that of one quantifier only
-    pub kind-result : (κ : Quantifier) {sat mk up cs′ cl′ qs′ ql′ tb′ : List ℕ} → k ≡ quantifierCode κ → Opened D s R p sat mk
-        → Branched (quantifierCode κ) p r cls sets kd ss cs cl qs ql tb sat mk up cs′ cl′ qs′ ql′ tb′ → Result D g ls (belowOf D R p s st) p r cls up cs′ cl′ qs′ ql′ tb′
-    kind-result κ e opened h =
-        let inD : p .at < length D = next-inside D kd (task .shown .quantified) (p .at) k next (subst (λ (n : ℕ). n < 3) (sym e) (code-small κ)) in
-        let is : quantifierAt D (suc (p .at)) ≡ κ = one-code (quantifierAt D (suc (p .at))) κ (sym (at-kind inD) ∙ e) in
-        branch-result κ r inD is (h .result D s ls R g st κ task opened inD is refl)
-
     -- no place is left
     pub end-result : 2 ≤ p .budget → (b : Bounds) → b .len ≡ 0 → (up : List ℕ) → (k ≡ 1 → ⊥) → (k ≡ 2 → ⊥) → (k ≡ 0 → ⊥)
         → r ≡ counts.answered No b (p .budget - 1) (p .lines) → Result D g ls (belowOf D R p s st) p r cls up cs cl qs ql tb
@@ -245,6 +210,20 @@ module _ {D : Prefix} {s : Node} {ls : List Node} {R : List Clause} {g : Ledger}
           where
             whole : belowOf D R p s st ≡ finished (record { outcome = decided false []; store = st; visits = 1 })
             whole = ap (λ (x : List Quantifier). belowWithin paper D R x (p .budget - 2) s st) (drop-of-length-le (quantifiers D) {i = p .at} (omega (arith, le, length-map D (λ d. d .quantifier))))
+
+-- ---- by the test of what the steps found
+pub open-is : (l : Leaf) → isOpen l ≡ true → l ≡ found.Open
+open-is (found.No b) e = absurd (true≢false (sym e))
+open-is (found.Yes b) e = absurd (true≢false (sym e))
+open-is found.Open e = refl
+
+-- the start node is open, and its rows are as they were
+pub followed-as : {p : Position} {r r′ : Answer} {cls sets kd ss cs cl qs ql tb sat sat₁ mk mk₁ up cs′ cl′ qs′ ql′ tb′ : List ℕ} → r ≡ r′ → sat₁ ≡ sat → mk₁ ≡ mk
+    → Followed p r cls sets kd ss cs cl qs ql tb sat₁ mk₁ up cs′ cl′ qs′ ql′ tb′ → Followed p r′ cls sets kd ss cs cl qs ql tb sat mk up cs′ cl′ qs′ ql′ tb′
+followed-as {p} {r} {r′} {cls} {sets} {kd} {ss} {cs} {cl} {qs} {ql} {tb} {sat} {sat₁} {mk} {mk₁} {up} {cs′} {cl′} {qs′} {ql′} {tb′} e a b w =
+    subst (λ (x : Answer). Followed p x cls sets kd ss cs cl qs ql tb sat mk up cs′ cl′ qs′ ql′ tb′) e
+    (subst (λ (x : List ℕ). Followed p r cls sets kd ss cs cl qs ql tb x mk up cs′ cl′ qs′ ql′ tb′) a
+    (subst (λ (x : List ℕ). Followed p r cls sets kd ss cs cl qs ql tb sat₁ x up cs′ cl′ qs′ ql′ tb′) b w))
 
 -- ---- one value longer
 -- a side is the visit of the node one place longer

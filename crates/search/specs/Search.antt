@@ -2,8 +2,8 @@
 -- every prefix, clauses, store, node and list of lines that the tables show.
 use Prim.Native.Nat.{ℕ, suc, _+_, _-_, _*_, _^_, _≤_, _<_}
 use mathlib.Core.Path.{_≡_}
-use mathlib.Core.Bool.{Bool}
-use mathlib.Core.List.{List, _++_}
+use mathlib.Core.Bool.{Bool, true, false, cond}
+use mathlib.Core.List.{List, [], _∷_, _++_}
 use mathlib.Core.Option.{none}
 use lib.ListN.{length, take, drop}
 use Rattle.qbf.specs.Formula.{paper, Quantifier, Prefix, Clause, Node, _▹_, quantifiers, quantifierAt}
@@ -19,10 +19,13 @@ use Rattle.tables.specs.Shelves.{Shelves, newestOf}
 use Rattle.tables.specs.Records.{Ledger, StoreKept}
 use Rattle.tables.specs.Matrices.{MatrixShown, RowLength}
 use Rattle.tables.specs.Sets.{Descended, RowsKept}
-use Rattle.inner.specs.Inner.{Entered}
+use Rattle.inner.specs.Inner.{LeafBounded, Entered, NodeShown, Concluded}
+use Rattle.inner.specs.declared.Leaf.{Leaf}
+use Rattle.inner.specs.declared.Leaf.the-variants.{No, Yes, Open}
 use Rattle.search_entry.specs.Entry.{Bounded}
-use Rattle.node.specs.Node.{boundsOf, entryOf, Reads, Shown, newLines}
-use Rattle.node.specs.declared.Verdict.the-variants.{Mixed}
+use Rattle.search_entry.specs.declared.Source.the-variants.{Area}
+use Rattle.node.specs.Node.{boundsOf, entryOf, Reads, Shown, newLines, LineTask, linedOf}
+use Rattle.node.specs.declared.Verdict.the-variants as verdict
 use Rattle.node.specs.declared.Position.{Position}
 use Rattle.node.specs.declared.Answer.{Answer}
 
@@ -30,6 +33,10 @@ use Rattle.node.specs.declared.Answer.{Answer}
 -- the places that can be below a position
 abbrev pub left : Position → ℕ
 left p = paper .numbers - p .at
+
+-- the position of a side, with that budget and those lines
+abbrev pub sideAt : Position → ℕ → ℕ → Position
+sideAt p v l = record { at = p .at + 1; free = p .free; budget = v; lines = l; words = p .words; yes = p .yes }
 
 -- of the counts: room for the constraints put aside, for the lines and for the numbers of stored rows, which grow no faster than the budget falls
 pub record Room (saved : ℕ) (cl ql : List ℕ) (p : Position) : Type 0 where
@@ -44,6 +51,12 @@ pub record Room (saved : ℕ) (cl ql : List ℕ) (p : Position) : Type 0 where
 pub record Asked (saved : ℕ) (cs cl qs ql : List ℕ) (p : Position) : Type 0 where
   pub shelves : Shelves cs cl qs ql
   pub room : Room saved cl ql p
+
+-- at the start node its visit may be made; an inner node has a last place
+pub record AskedAt (start : Bool) (saved : ℕ) (cs cl qs ql : List ℕ) (p : Position) : Type 0 where
+  pub asked : Asked saved cs cl qs ql p
+  pub made : start ≡ true → 2 ≤ p .budget
+  pub inner : start ≡ false → 1 ≤ p .at
 
 -- where the node's own visit may be made
 pub record AskedOpen (saved : ℕ) (cs cl qs ql : List ℕ) (p : Position) : Type 0 where
@@ -113,7 +126,7 @@ pub record Done (D : Prefix) (g : Ledger) (ls : List Node) (o : LearningResult) 
 
 -- it was stopped, with the store st
 pub record Halted (D : Prefix) (g : Ledger) (st : Store) (r : Answer) (cs cl qs ql : List ℕ) : Type 0 where
-  pub verdict : r .verdict ≡ Mixed
+  pub verdict : r .verdict ≡ verdict.Mixed
   pub stored : StoreKept D g st cs cl qs ql
   pub spent : r .budget ≡ 0
 
@@ -157,10 +170,49 @@ pub record Followed (p : Position) (r : Answer)
       → Task D s ls R g st clauses sets quantifiers statuses cs cl qs ql table (p .at) p → Opened D s R p sat marks
       → Result D g ls (belowOf D R p s st) p r clauses area cs′ cl′ qs′ ql′ table′
 
--- at an open node whose next variable has the quantifier of that code
-pub record Branched (kind : ℕ) (p : Position) (r : Answer)
+-- at a node: an open one at the start, else the inner node of the position
+pub record Reached (start : Bool) (p : Position) (r : Answer)
     (clauses sets quantifiers statuses cs cl qs ql table sat marks area cs′ cl′ qs′ ql′ table′ : List ℕ) : Type 0 where
-  pub result : (D : Prefix) (s : Node) (ls : List Node) (R : List Clause) (g : Ledger) (st : Store) (κ : Quantifier)
-      → Task D s ls R g st clauses sets quantifiers statuses cs cl qs ql table (p .at) p → Opened D s R p sat marks
-      → p .at < length D → quantifierAt D (suc (p .at)) ≡ κ → quantifierCode κ ≡ kind
-      → Result D g ls (branchOf D R κ p s st) p r clauses area cs′ cl′ qs′ ql′ table′
+  pub followed : start ≡ true → Followed p r clauses sets quantifiers statuses cs cl qs ql table sat marks area cs′ cl′ qs′ ql′ table′
+  pub visited : start ≡ false → Visited p r clauses sets quantifiers statuses cs cl qs ql table sat marks area cs′ cl′ qs′ ql′ table′
+
+-- ---- steps 1 to 4
+abbrev pub isOpen : Leaf → Bool
+isOpen (No b) = false
+isOpen (Yes b) = false
+isOpen Open = true
+
+-- the answer of the node that they decide; an open one has none yet
+abbrev pub concludedOf : Leaf → Position → Answer
+concludedOf (No b) p = record { verdict = verdict.No; source = b .source; start = b .start; len = b .len; budget = p .budget - 1; lines = p .lines }
+concludedOf (Yes b) p = record { verdict = verdict.Yes; source = b .source; start = b .start; len = b .len; budget = p .budget - 1; lines = p .lines }
+concludedOf Open p = record { verdict = verdict.Mixed; source = Area; start = 0; len = 0; budget = 0; lines = p .lines }
+
+-- at the start node nothing is done; at an inner node they are taken
+pub record StepsTaken (start : Bool) (at words : ℕ) (r : Leaf) (clauses sets quantifiers statuses cs cl qs ql sat marks area sat′ marks′ : List ℕ) : Type 0 where
+  pub bounded : LeafBounded r
+  pub rows : RowsKept at words sat sat′ marks marks′
+  pub skipped : start ≡ true → (r ≡ Open) × (sat′ ≡ sat) × (marks′ ≡ marks)
+  pub taken : start ≡ false → (D : Prefix) (R : List Clause) (s : Node) (st : Store) (k : ℕ)
+      → NodeShown D R s st at words clauses sets quantifiers statuses cs cl qs ql → Entered D s R words sat marks k
+      → Concluded D R s st r words clauses cs qs area sat′ marks′
+
+-- ---- step 5, between the sides
+-- The off side's line is written where `one` says that it is one: n lines become `lines`, and the table becomes `table′`.
+pub record OffLined (one : Bool) (p : Position) (n : ℕ) (statuses table table′ : List ℕ) (lines : ℕ) : Type 0 where
+  pub counted : lines ≡ cond one (n + 1) n
+  pub size : length table′ ≡ length table
+  pub same : one ≡ false → table′ ≡ table
+  pub covers : (s : Node) (b : Bool) (ls : List Node) → LineTask s ls statuses table p n → 1 ≡ byteOf b → Covers (p .free) table′ (ls ++ cond one ((s ▹ b) ∷ []) [])
+
+-- the on side of a variable whose quantifier has that code: the off side's line is written, then the side is visited
+pub record Turned (kind : ℕ) (p : Position) (off r : Answer)
+    (clauses sets quantifiers statuses cs cl qs ql table sat marks saved area cs′ cl′ qs′ ql′ statuses′ table′ sat′ marks′ saved′ : List ℕ) : Type 0 where
+  pub lines : ℕ
+  pub between : List ℕ
+  pub lined : OffLined (linedOf kind (p .yes) (off .verdict)) p (off .lines) statuses table between lines
+  pub position : Position
+  pub is : position ≡ sideAt p (off .budget) lines
+  pub left : Left (position .at) position r cl ql statuses between sat marks cs′ cl′ qs′ ql′ statuses′ table′ sat′ marks′
+  pub aside : AsideKept (off .len) saved saved′
+  pub visited : SideVisited 2 position r clauses sets quantifiers statuses cs cl qs ql between sat marks area cs′ cl′ qs′ ql′ table′

@@ -40,15 +40,20 @@ found-any f xs (some x) w = sym (→any f xs x (w .0) (w .1))
 
 -- ---- a dead clause, by the index of the first
 module _ {flat : List ℤ} {sizes kinds values : List ℕ} {r : ℕ} (f : NextDead flat sizes kinds values 0 r)
-    (D : Prefix) (s : Node) (k : Kinds D kinds) (v : Values D s values) (cs : List Constraint) where
-  pub no-by-clause : r < getD sizes 0 0 → true ≡ isNo D s (rowsOf (paper .literals) flat sizes) cs
-  no-by-clause h = ap (λ (b : Bool). b || any (matching D false s) cs) (sym (rows-some (dead D s) (paper .literals) flat sizes r h (f .is-dead h D s k v)))
+    (D : Prefix) (s : Node) (k : Kinds D kinds) (v : Values D s values) where
+  pub dead-found : r < getD sizes 0 0 → true ≡ any (dead D s) (rowsOf (paper .literals) flat sizes)
+  dead-found h = sym (rows-some (dead D s) (paper .literals) flat sizes r h (f .is-dead h D s k v))
 
-  pub no-by-learned : getD sizes 0 0 ≤ r → {b : Bool} → b ≡ any (matching D false s) cs → b ≡ isNo D s (rowsOf (paper .literals) flat sizes) cs
-  no-by-learned h e =
-      e
-      ∙ ap (λ (b : Bool). b || any (matching D false s) cs)
-      (sym (rows-none (dead D s) (paper .literals) flat sizes (λ j m. f .alive D s k v j (omega arith) (omega (arith, m, h)))))
+  pub none-dead : getD sizes 0 0 ≤ r → false ≡ any (dead D s) (rowsOf (paper .literals) flat sizes)
+  none-dead h = sym (rows-none (dead D s) (paper .literals) flat sizes (λ j m. f .alive D s k v j (omega arith) (omega (arith, m, h))))
+
+-- steps 1 and 2, by whether a clause is dead
+module _ (D : Prefix) (s : Node) (R : List Clause) (cs : List Constraint) {a : Bool} (is : a ≡ any (dead D s) R) where
+  pub no-by-clause : a ≡ true → true ≡ isNo D s R cs
+  no-by-clause e = ap (λ (b : Bool). b || any (matching D false s) cs) (sym e ∙ is)
+
+  pub no-by-learned : a ≡ false → {b : Bool} → b ≡ any (matching D false s) cs → b ≡ isNo D s R cs
+  no-by-learned e q = q ∙ ap (λ (b : Bool). b || any (matching D false s) cs) (sym e ∙ is)
 
 -- ---- the outcome, without its constraint
 abbrev outcomeOf : Option Constraint → Option Constraint → Option Constraint → Option Constraint → Option (Outcome Constraint)

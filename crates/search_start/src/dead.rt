@@ -1,8 +1,9 @@
 // Step 1 of a visit: the dead clauses, in order of adding.
+ghost use mathlib.Core.Path.{_≡_};
 ghost use Prim.Native.Nat.{_≤_};
 ghost use lib.ListN.{getD};
-ghost use Rattle.qbf.specs.Formula.{paper};
-ghost use Rattle.tables.specs.Views.{Standing};
+ghost use Rattle.qbf.specs.Formula.{paper, Prefix, Node, any, dead};
+ghost use Rattle.tables.specs.Views.{Kinds, Values, Standing, rowsOf};
 ghost use Rattle.search_start.specs.Dead.{NextDead};
 use literal::TRUE;
 use literal::cell_at;
@@ -49,4 +50,26 @@ pub fn next_dead<'a>(
         return k;
     }
     count
+}
+
+// Whether a clause is dead, at whatever node the values show.
+pub fn any_dead<'a>(
+    clauses: &'a [i16],
+    sizes: &'a [u16],
+    kinds: &'a [u16],
+    values: &'a [u8],
+) -> bool
+    requires { ⌜ Standing (paper .literals) (now clauses) (now sizes) ⌝ }
+    ensures { λ r. ⌜
+        ((D : Prefix) (s : Node)
+        → Kinds D (now (kinds .entry))
+        → Values D s (now (values .entry))
+        → r ≡ any (dead D s) (rowsOf (paper .literals) (now (clauses .entry)) (now (sizes .entry))))
+        ⌝ }
+{
+    let count = cell_at(sizes, 0) as usize;
+    if next_dead(clauses, sizes, kinds, values, 0) < count {
+        return true;
+    }
+    false
 }

@@ -5,8 +5,7 @@ ghost use lib.ListN.{length};
 ghost use Rattle.qbf.specs.Formula.{paper, Prefix, Node};
 ghost use Rattle.tables.specs.Views.{Places, Kinds, Values, Standing, rowsOf};
 ghost use Rattle.search_start.specs.Start.{isNo, isYes, Concludes};
-use dead::next_dead;
-use literal::cell_at;
+use dead::any_dead;
 use matches::any_match;
 use satisfied::all_satisfied;
 
@@ -50,8 +49,7 @@ fn is_no<'a>(
         (rowsOf width (now (learned .entry)) (now («learned_sizes» .entry))))
         ⌝ }
 {
-    let count = cell_at(sizes, 0) as usize;
-    if next_dead(clauses, sizes, kinds, values, 0) < count {
+    if any_dead(clauses, sizes, kinds, values) {
         return true;
     }
     any_match(learned, learned_sizes, width, places, values, false, at)

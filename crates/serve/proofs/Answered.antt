@@ -3,14 +3,16 @@ use Prim.Native.Nat.{ℕ, zero, suc}
 use native.Mathlib.Omega.{arith}
 use mathlib.Core.Path.{_≡_, refl, ap, _∙_}
 use mathlib.Core.Bool.{Bool, true, false}
-use mathlib.Core.List.{List, []}
+use mathlib.Core.List.{List, [], _++_}
 use mathlib.Core.Option.{Option, none, some}
-use lib.Dec.{eqb}
+use lib.Dec.{eqb, leb}
 use lib.ListN.{length}
 use Rattle.qbf.specs.Formula.{Prefix, Literal, quantifiers}
 use Rattle.qbf.specs.Truth.{Outcome, decided, mixed, outline, bound}
+use Rattle.qbf.specs.Plain.{PlainResult}
+use Rattle.qbf.specs.Open.{Reading, readingOf, isFull, openSearch}
 use Rattle.qbf.specs.Ceiling.{Attempt, finished, stopped, searchWithin}
-use Rattle.qbf.specs.Calls.{Call, rule, query, forget, withdraw, given, Reply, done, refused, swap, keep, lines, cardRefused, Answer, answer, ruleFault, ruleReply, queryFault, startNode, queryReply, attemptAnswer, learningQuery, State as Read, guarded, wellFormed}
+use Rattle.qbf.specs.Calls.{Call, rule, one, query, forget, withdraw, given, Reply, done, refused, swap, keep, unsettled, lines, cardRefused, found, Answer, answer, ruleFault, oneFault, ruleReply, queryFault, startNode, queryReply, openAnswer, attemptAnswer, learningReading, learningQuery, State as Read, guarded, wellFormed}
 use Rattle.layout.specs.Words.{Bytes}
 use Rattle.layout.specs.Output.{refusalText}
 use Rattle.layout.specs.Session.{doneText, refusedText, answerText}
@@ -20,12 +22,12 @@ use Rattle.serving.specs.Serves.{Said, saidReply, saidOf, number, outOf, Serves
 use Rattle.rules.specs.Rules.{changeSaid}
 use Rattle.rules.specs.declared.Change.{Change}
 use Rattle.serving.proofs.Numbered.{Numbered}
-use Rattle.opening.proofs.Numbered.{rule-numbered}
-use Rattle.answers.specs.Answers.{rulingSaid}
-use Rattle.answers.specs.declared.Ruling.{Ruling}
-use Rattle.answers.specs.declared.Ruling.the-variants as ruling
+use Rattle.opening.proofs.Numbered.{rule-numbered, one-numbered}
+use Rattle.replies.specs.Replies.{rulingSaid}
+use Rattle.replies.specs.declared.Ruling.{Ruling}
+use Rattle.replies.specs.declared.Ruling.the-variants as ruling
 use Rattle.serve.specs.Line.{prefixRead, CallServed}
-use Rattle.serve.specs.Texts.{changeText, rulingText}
+use Rattle.answer_text.specs.Texts.{changeText, rulingText}
 
 -- ---- rule, withdraw and forget
 -- done, or refused with a number
@@ -35,8 +37,10 @@ Changing (refused zero) = ⊥
 Changing (refused (suc n)) = Unit {0}
 Changing swap = ⊥
 Changing keep = ⊥
+Changing unsettled = ⊥
 Changing (lines ls tb) = ⊥
 Changing (cardRefused n tb) = ⊥
+Changing (found ls tb r) = ⊥
 
 fault-changing : (o : Option ℕ) → Numbered o → Changing (ruleReply o)
 fault-changing none h = tt
@@ -49,6 +53,14 @@ rule-changing ls (some y) = by (wellFormed y)
   where
     by : (g : Bool) → Changing (guarded g y (rule ls) .out .reply)
     by true = fault-changing (ruleFault (y .formula) ls) (rule-numbered (y .formula) ls)
+    by false = tt
+
+pub one-changing : (ls : List Literal) (o : Option Read) → Changing (outOf o (one ls) .reply)
+one-changing ls none = tt
+one-changing ls (some y) = by (wellFormed y)
+  where
+    by : (g : Bool) → Changing (guarded g y (one ls) .out .reply)
+    by true = fault-changing (oneFault (y .formula) ls) (one-numbered (y .formula) ls)
     by false = tt
 
 pub withdraw-changing : (o : Option Read) → Changing (outOf o withdraw .reply)
@@ -85,8 +97,10 @@ change-text D c n a plain h = by (a .reply) (a .visits) h
     by (refused (suc m)) k h = plain (suc m) n k
     by swap k h = absurd h
     by keep k h = absurd h
+    by unsettled k h = absurd h
     by (lines ls tb) k h = absurd h
     by (cardRefused m tb) k h = absurd h
+    by (found ls tb r) k h = absurd h
 
 -- a call that is done or refused, from its contract and the text
 pub change-served : (x : State) (c : Call) (n : ℕ) (ch : Change) (x′ : State) (t : Bytes) → Searchless c → ((o : Option Read) → Changing (outOf o c .reply)) → Serves x c (changeSaid ch) x′
@@ -104,41 +118,61 @@ Asking done = ⊥
 Asking (refused n) = Unit {0}
 Asking swap = Unit {0}
 Asking keep = Unit {0}
+Asking unsettled = Unit {0}
 Asking (lines ls tb) = ⊥
 Asking (cardRefused n tb) = ⊥
+Asking (found ls tb r) = ⊥
 
-query-asking : (top : ℕ) (ls : List Literal) (o : Option Read) → Asking (outOf o (query top ls) .reply)
-query-asking top ls none = tt
-query-asking top ls (some y) = by (wellFormed y)
+query-asking : (top : ℕ) (on off : List Literal) (o : Option Read) → Asking (outOf o (query top on off) .reply)
+query-asking top on off none = tt
+query-asking top on off (some y) = by (wellFormed y)
   where
     verdict : (o : Outcome (Unit {0})) → Asking (queryReply o)
     verdict (decided true e) = tt
     verdict (decided false e) = tt
     verdict (mixed ds) = tt
 
-    asked : (o : Option ℕ) → Asking (learningQuery o (y .formula) (y .store) top ls .out .reply)
-    asked none = by-end (searchWithin (y .formula .limits) (y .formula .prefix) (y .formula .clauses) top (bound (quantifiers (y .formula .prefix))) (startNode ls (y .formula .prefix)) (y .store))
-      where
-        by-end : (t : Attempt) → Asking (attemptAnswer (refused 34) top queryReply t .out .reply)
-        by-end (finished o) = verdict (outline (o .outcome))
-        by-end (stopped st) = tt
+    by-end : (t : Attempt) → Asking (attemptAnswer (refused 34) top queryReply t .out .reply)
+    by-end (finished o) = verdict (outline (o .outcome))
+    by-end (stopped st) = tt
+
+    by-fit : (t : Bool) (w : PlainResult) → Asking (openAnswer t (y .store) top w .out .reply)
+    by-fit true w = verdict (w .outcome)
+    by-fit false w = tt
+
+    read : (full : Bool) (os : Reading) → Asking (learningReading full (y .formula) (y .store) top on os .out .reply)
+    read true os = by-end (searchWithin (y .formula .limits) (y .formula .prefix) (y .formula .clauses) top (bound (quantifiers (y .formula .prefix))) (startNode on (y .formula .prefix)) (y .store))
+    read false os =
+        let w = openSearch (y .formula .prefix) (y .formula .clauses) os (quantifiers (y .formula .prefix)) [] in
+        by-fit (leb (w .visits) top) w
+
+    asked : (o : Option ℕ) → Asking (learningQuery o (y .formula) (y .store) top on off .out .reply)
+    asked none = read (isFull (readingOf on off (y .formula .prefix))) (readingOf on off (y .formula .prefix))
     asked (some n) = tt
 
-    by : (g : Bool) → Asking (guarded g y (query top ls) .out .reply)
-    by true = asked (queryFault (y .formula) [] ls)
+    by : (g : Bool) → Asking (guarded g y (query top on off) .out .reply)
+    by true = asked (queryFault (y .formula) [] (on ++ off))
     by false = tt
 
-query-text : (D : Prefix) (top : ℕ) (ls : List Literal) (n : ℕ) (q : Ruling) (k : ℕ) (a : Answer) → Asking (a .reply) → rulingSaid q k ≡ saidOf a → rulingText q k n ≡ answerText D (query top ls) n a
+query-text : (D : Prefix) (top : ℕ) (on off : List Literal) (n : ℕ) (q : Ruling) (k : ℕ) (a : Answer) → Asking (a .reply) → rulingSaid q k ≡ saidOf a → rulingText q k n ≡ answerText D (query top on off) n a
 unfolding answerText
-query-text D top ls n q k a h e = by q (a .reply) (a .visits) h e
+query-text D top on off n q k a h e = by q (a .reply) (a .visits) h e
   where
-    by : (q : Ruling) (r : Reply) (v : ℕ) → Asking r → rulingSaid q k ≡ saidReply r v → rulingText q k n ≡ answerText D (query top ls) n (answer r v)
+    by : (q : Ruling) (r : Reply) (v : ℕ) → Asking r → rulingSaid q k ≡ saidReply r v → rulingText q k n ≡ answerText D (query top on off) n (answer r v)
     by q done v h e = absurd h
     by q (lines ns tb) v h e = absurd h
     by q (cardRefused m tb) v h e = absurd h
+    by q (found ns tb r) v h e = absurd h
     by ruling.Swap swap v h e = ap (λ (s : Said). rulingText ruling.Swap (s .visits) n) e
     by ruling.Keep keep v h e = ap (λ (s : Said). rulingText ruling.Keep (s .visits) n) e
     by (ruling.Refused m) (refused p) v h e = ap (λ (s : Said). rulingText (ruling.Refused (number (s .refusal))) (s .visits) n) e
+    by ruling.Unsettled unsettled v h e = ap (λ (s : Said). rulingText ruling.Unsettled (s .visits) n) e
+    by ruling.Swap unsettled v h e = absurd (omega (arith, ap (λ (s : Said). s .verdict) e))
+    by ruling.Keep unsettled v h e = absurd (omega (arith, ap (λ (s : Said). s .verdict) e))
+    by ruling.Unsettled swap v h e = absurd (omega (arith, ap (λ (s : Said). s .verdict) e))
+    by ruling.Unsettled keep v h e = absurd (omega (arith, ap (λ (s : Said). s .verdict) e))
+    by ruling.Unsettled (refused p) v h e = absurd (omega (arith, ap (λ (s : Said). s .verdict) e))
+    by (ruling.Refused m) unsettled v h e = absurd (omega (arith, ap (λ (s : Said). s .verdict) e))
     by ruling.Swap keep v h e = absurd (omega (arith, ap (λ (s : Said). s .verdict) e))
     by ruling.Swap (refused p) v h e = absurd (omega (arith, ap (λ (s : Said). s .verdict) e))
     by ruling.Keep swap v h e = absurd (omega (arith, ap (λ (s : Said). s .verdict) e))
@@ -146,10 +180,10 @@ query-text D top ls n q k a h e = by q (a .reply) (a .visits) h e
     by (ruling.Refused m) swap v h e = absurd (omega (arith, ap (λ (s : Said). s .verdict) e))
     by (ruling.Refused m) keep v h e = absurd (omega (arith, ap (λ (s : Said). s .verdict) e))
 
-pub query-answered : (top : ℕ) (x : State) (ls : List Literal) (n : ℕ) (q : Ruling) (k : ℕ) (x′ : State) (t : Bytes) → Serves x (query top ls) (rulingSaid q k) x′ → t ≡ rulingText q k n → CallServed x (some (query top ls)) n t x′
-query-answered top x ls n q k x′ t s e =
+pub query-answered : (top : ℕ) (x : State) (on off : List Literal) (n : ℕ) (q : Ruling) (k : ℕ) (x′ : State) (t : Bytes) → Serves x (query top on off) (rulingSaid q k) x′ → t ≡ rulingText q k n → CallServed x (some (query top on off)) n t x′
+query-answered top x on off n q k x′ t s e =
     record {
-      text = e ∙ query-text (prefixRead (readState x)) top ls n q k (outOf (readState x) (query top ls)) (query-asking top ls (readState x)) (s .answered);
+      text = e ∙ query-text (prefixRead (readState x)) top on off n q k (outOf (readState x) (query top on off)) (query-asking top on off (readState x)) (s .answered);
       next = s .next;
       kept = s .kept;
     }

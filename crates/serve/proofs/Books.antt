@@ -26,15 +26,15 @@ use Rattle.editions_laws.proofs.Formed.{opened-formula}
 use Rattle.state.specs.declared.State.{State}
 use Rattle.state.specs.Reading.{readState}
 use Rattle.serving.specs.Serves.{Said, saidOf, number, outOf, Serves}
-use Rattle.answers.specs.Answers.{cardSaid}
-use Rattle.answers.specs.declared.Printed.{Printed}
+use Rattle.replies.specs.Replies.{cardSaid}
+use Rattle.replies.specs.declared.Printed.{Printed}
 use Rattle.opening.specs.Opened.{OpenedAs}
 use Rattle.opening.specs.declared.Opened.{Opened as Answered}
 use Rattle.writer.specs.Wrote.{Wrote}
 use Rattle.serve.specs.Line.{prefixRead, lineAnswer}
-use Rattle.answers.proofs.Told.{card-said}
+use Rattle.replies.proofs.Told.{card-said}
 use Rattle.edition_opening.proofs.Apart.{edition-apart}
-use Rattle.serve.proofs.Room.{wrote-as}
+use Rattle.answer_text.proofs.Room.{wrote-as}
 use Rattle.serve.proofs.FreeLines.{cardLines}
 use Rattle.serve.proofs.CardTexts.{Listed, Refused, formed-cases, said-by, text-by}
 

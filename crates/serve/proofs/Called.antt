@@ -1,45 +1,50 @@
 -- What was served, as the call that was read.
 use Prim.Native.Nat.{ℕ, suc, _≤_, min}
 use native.Mathlib.Omega.{arith}
-use mathlib.Core.Path.{_≡_, refl, sym, subst, _∙_}
+use mathlib.Core.Path.{_≡_, refl, sym, ap, subst, _∙_}
 use mathlib.Core.Bool.{Bool, true, false, cond}
-use mathlib.Core.List.{List, [], _∷_, map}
+use mathlib.Core.List.{List, [], _∷_}
 use mathlib.Core.Option.{Option, none, some}
 use borrow.Author.Tests.{leb-true}
-use lib.IntN.{ℤ, pos}
+use lib.IntN.{ℤ}
 use lib.ListN.{length, take}
 use lib.Dec.{leb, ltb}
 use Rattle.qbf.specs.Formula.{paper, Literal, numberOf}
 use Rattle.qbf.specs.Ceiling.{highestCeiling}
-use Rattle.qbf.specs.Calls.{Call, rule, query, card, keepCard, cardOf, forget, withdraw}
+use Rattle.qbf.specs.Calls.{Call, rule, query, card, keepCard, cardOf, forget, withdraw, one, closest}
 use Rattle.layout.specs.Words.{Bytes, space, split, same, inside}
-use Rattle.layout.specs.Forms.{then, items, ruleWord}
+use Rattle.layout.specs.Forms.{then, items, ruleWord, oneWord}
 use Rattle.layout.specs.Output.{refusalText}
 use Rattle.layout.specs.Opening as opening
 use Rattle.layout.specs.Program.{tableBytes}
 use Rattle.layout.specs.Ceilings.{ceiled}
-use Rattle.layout.specs.Session.{queryWord, cardWord, keepCardWord, forgetWord, withdrawWord, ruleCall, queryCall, cardCall, alone, callFrom, under, underGiven, ceiledCall, callOf}
+use Rattle.layout.specs.Session.{queryWord, cardWord, keepCardWord, forgetWord, withdrawWord, ruleCall, oneCall, named, queryCall, cardCall, alone, callFrom, under, underGiven, ceiledCall, callOf}
+use Rattle.sessions.specs.Session.{Card}
 use Rattle.state.specs.declared.State.{State}
+use Rattle.state.specs.Reading.{readState}
 use Rattle.reader.specs.Items.{Kept}
 use Rattle.reader.specs.Calls.{CallUnder}
 use Rattle.reader.specs.declared.call.CallLine.{CallLine}
 use Rattle.reader.specs.declared.call.CallLine.the-variants as line
 use Rattle.serve.specs.declared.Turn.{Turn}
-use Rattle.serve.specs.declared.shown.Shown.{Shown}
-use Rattle.serve.specs.Shown.{cardIn}
-use Rattle.serve.specs.Line.{CallServed, Turned, TurnedBeside}
+use Rattle.answer_text.specs.declared.shown.Shown.{Shown}
+use Rattle.answer_text.specs.Shown.{cardIn}
+use Rattle.serve.specs.Line.{CallServed, lineCard, Turned, TurnedBeside}
 use Rattle.serve.specs.Calls.{Small}
-use Rattle.serve.proofs.Cut.{rule-served, rule-card, query-served}
+use Rattle.named.proofs.Standing.{deciding, flags-standing}
+use Rattle.serve.proofs.Cut.{rule-served, rule-card, one-served, one-card, query-served}
 
 -- ---- a card asks for no more than the table has
 abbrev Fits : Option Call → Type 0
 Fits none = Unit {0}
 Fits (some (rule ls)) = Unit {0}
-Fits (some (query top ls)) = Unit {0}
+Fits (some (query top on off)) = Unit {0}
 Fits (some (card top size)) = size ≤ tableBytes
 Fits (some (keepCard top size)) = size ≤ tableBytes
 Fits (some forget) = Unit {0}
 Fits (some withdraw) = Unit {0}
+Fits (some (one ls)) = Unit {0}
+Fits (some (closest top size on off)) = Unit {0}
 
 fits-then : {A : Type 0} (o : Option A) (f : A → Option Call) → ((a : A) → Fits (f a)) → Fits (then o f)
 fits-then none f h = tt
@@ -71,21 +76,24 @@ unfolding callFrom
 fits-from [] = tt
 fits-from (w ∷ ws) =
     fits-cond (same w ruleWord) _ _ (fits-then (items true ws) ruleCall (λ ls. tt))
-    (fits-cond (same w queryWord) _ _ (fits-then (items false ws) queryCall (λ ls. tt))
+    (fits-cond (same w queryWord) _ _ (fits-then (items true ws) queryCall (λ ls. tt))
     (fits-cond (same w cardWord) _ _ (fits-then (items false ws) (cardCall true) (fits-card true))
     (fits-cond (same w keepCardWord) _ _ (fits-then (items false ws) (cardCall false) (fits-card false))
     (fits-cond (same w forgetWord) _ _ (fits-then (items false ws) (alone forget) (fits-alone forget tt))
-    (fits-cond (same w withdrawWord) _ none (fits-then (items false ws) (alone withdraw) (fits-alone withdraw tt)) tt)))))
+    (fits-cond (same w withdrawWord) _ _ (fits-then (items false ws) (alone withdraw) (fits-alone withdraw tt))
+    (fits-cond (same w oneWord) _ none (fits-then (items true ws) oneCall (λ ls. tt)) tt))))))
 
 -- under any ceiling
 fits-under : (n : ℕ) (o : Option Call) → Fits o → Fits (then o (under n))
 fits-under n none h = tt
 fits-under n (some (rule ls)) h = tt
-fits-under n (some (query m ls)) h = tt
+fits-under n (some (query m on off)) h = tt
 fits-under n (some (card m size)) h = h
 fits-under n (some (keepCard m size)) h = h
 fits-under n (some forget) h = tt
 fits-under n (some withdraw) h = tt
+fits-under n (some (one ls)) h = tt
+fits-under n (some (closest m size on off)) h = tt
 
 fits-given : (g : Option ℕ) (o : Option Call) → Fits o → Fits (underGiven g o)
 fits-given none o h = h
@@ -106,26 +114,48 @@ small-call l top (line.Card size) out h = subst Fits h (fits-call l)
 small-call l top (line.KeepCard size) out h = subst Fits h (fits-call l)
 small-call l top line.Forget out h = tt
 small-call l top line.Withdraw out h = tt
+small-call l top (line.One n) out h = tt
 small-call l top line.NotCall out h = tt
 
 -- ---- by the literals that stand in the table
-module _ {x : State} {number : ℕ} {s : Shown} {r : Turn} {d : Bytes} (n : ℕ) (lits : List ℤ) (room : length lits ≡ suc (paper .numbers)) where
-  pub rule-turned : (k : ℕ) → k ≡ min n (suc (paper .numbers)) → TurnedBeside x (some (rule (take k lits))) number s r d → (ls : List Literal) → Kept n lits ls → TurnedBeside x (some (rule ls)) number s r d
-  rule-turned k e h ls q = λ t. by (subst (λ (m : ℕ). Turned x (some (rule (take m lits))) number s t r t d) e (h t))
+module _ {x : State} {number : ℕ} {s : Shown} {r : Turn} {d : Bytes} (n : ℕ) (lits : List ℤ) (wide : length lits ≡ suc (paper .numbers)) where
+  -- a call that adds clauses, by its literals' first ones
+  adding-turned : (make : List Literal → Call) (ls : List Literal)
+      → ((t : Bytes) (x′ : State) → CallServed x (some (make (take (min n (suc (paper .numbers))) lits))) number t x′ → CallServed x (some (make ls)) number t x′)
+      → ((z : Option Card) → lineCard (readState x) (some (make (take (min n (suc (paper .numbers))) lits))) z ≡ lineCard (readState x) (some (make ls)) z)
+      → (k : ℕ) → k ≡ min n (suc (paper .numbers)) → TurnedBeside x (some (make (take k lits))) number s r d → TurnedBeside x (some (make ls)) number s r d
+  adding-turned make ls served card k e h = λ t. by (subst (λ (m : ℕ). Turned x (some (make (take m lits))) number s t r t d) e (h t))
     where
-      by : {t : Bytes} → Turned x (some (rule (take (min n (suc (paper .numbers))) lits))) number s t r t d → Turned x (some (rule ls)) number s t r t d
+      by : {t : Bytes} → Turned x (some (make (take (min n (suc (paper .numbers))) lits))) number s t r t d → Turned x (some (make ls)) number s t r t d
+      by {t} u = record { within = u .within; served = served (take (r .length) d) (r .state) (u .served); shown = u .shown ∙ card (cardIn s t) }
+
+  pub rule-turned : (k : ℕ) → k ≡ min n (suc (paper .numbers)) → TurnedBeside x (some (rule (take k lits))) number s r d → (ls : List Literal) → Kept n lits ls → TurnedBeside x (some (rule ls)) number s r d
+  rule-turned k e h ls q = adding-turned rule ls (λ t x′ w. rule-served x n lits wide number t x′ ls q w) (rule-card x n lits wide ls q) k e h
+
+  pub one-turned : (k : ℕ) → k ≡ min n (suc (paper .numbers)) → TurnedBeside x (some (one (take k lits))) number s r d → (ls : List Literal) → Kept n lits ls → TurnedBeside x (some (one ls)) number s r d
+  one-turned k e h ls q = adding-turned one ls (λ t x′ w. one-served x n lits wide number t x′ ls q w) (one-card x n lits wide ls q) k e h
+
+  -- the flags that are on and those that are off, in tables of the same length
+  pub query-turned : (top k : ℕ) → k ≡ min n (suc (paper .numbers))
+      → (ons : ℕ) (on : List ℤ) → length on ≡ suc (paper .numbers) → Kept ons on (named true (take k lits))
+      → (offs : ℕ) (off : List ℤ) → length off ≡ suc (paper .numbers) → Kept offs off (named false (take k lits))
+      → {a b : ℕ} → a ≡ min ons (suc (paper .numbers)) → b ≡ min offs (suc (paper .numbers))
+      → TurnedBeside x (some (query top (take a on) (take b off))) number s r d
+      → (ls : List Literal) → Kept n lits ls → TurnedBeside x (some (query top (named true ls) (named false ls))) number s r d
+  query-turned top k e ons on on-room p offs off off-room q {a} {b} ea eb h ls z = λ t. by (h t)
+    where
+      standing : (v : Bool) (m : ℕ) (out : List ℤ) → length out ≡ suc (paper .numbers) → Kept m out (named v (take k lits)) → {c : ℕ} → c ≡ min m (suc (paper .numbers)) → take c out ≡ named v (deciding ls)
+      standing v m out room w {c} i =
+          ap (λ (j : ℕ). take j out) i
+          ∙ flags-standing n lits wide ls z v m out room (subst (λ (j : ℕ). Kept m out (named v (take j lits))) e w)
+
+      by : {t : Bytes} → Turned x (some (query top (take a on) (take b off))) number s t r t d → Turned x (some (query top (named true ls) (named false ls))) number s t r t d
       by {t} u =
           record {
             within = u .within;
-            served = rule-served x n lits room number (take (r .length) d) (r .state) ls q (u .served);
-            shown = u .shown ∙ rule-card x n lits room ls q (cardIn s t);
+            served = query-served x number (take (r .length) d) (r .state) top ls (take a on) (take b off) (standing true ons on on-room p ea) (standing false offs off off-room q eb) (u .served);
+            shown = u .shown;
           }
-
-  pub query-turned : (top k : ℕ) → k ≡ min n (suc (paper .numbers)) → TurnedBeside x (some (query top (take k lits))) number s r d → (ns : List ℕ) → Kept n lits (map pos ns) → TurnedBeside x (some (query top (map pos ns))) number s r d
-  query-turned top k e h ns q = λ t. by (subst (λ (m : ℕ). Turned x (some (query top (take m lits))) number s t r t d) e (h t))
-    where
-      by : {t : Bytes} → Turned x (some (query top (take (min n (suc (paper .numbers))) lits))) number s t r t d → Turned x (some (query top (map pos ns))) number s t r t d
-      by {t} u = record { within = u .within; served = query-served x n lits room number (take (r .length) d) (r .state) top ns q (u .served); shown = u .shown }
 
 -- ---- by the kind of the call
 module _ {x : State} {number : ℕ} {s₀ : Shown} {t₀ : Bytes} {r : Turn} {t d : Bytes} where
@@ -139,11 +169,17 @@ module _ {x : State} {number : ℕ} {s₀ : Shown} {t₀ : Bytes} {r : Turn} {t 
         by : CallUnder top c (line.Rule n) lits → Turned x c number s₀ t₀ r t d
         by (ls, i, k) = meant c (some (rule ls)) i (u ls k)
 
-    pub called-query : (n : ℕ) → q ≡ line.Query n → ((ns : List ℕ) → Kept n lits (map pos ns) → Turned x (some (query top (map pos ns))) number s₀ t₀ r t d) → Turned x c number s₀ t₀ r t d
+    pub called-one : (n : ℕ) → q ≡ line.One n → ((ls : List Literal) → Kept n lits ls → Turned x (some (one ls)) number s₀ t₀ r t d) → Turned x c number s₀ t₀ r t d
+    called-one n e u = by (subst (λ (z : CallLine). CallUnder top c z lits) e h)
+      where
+        by : CallUnder top c (line.One n) lits → Turned x c number s₀ t₀ r t d
+        by (ls, i, k) = meant c (some (one ls)) i (u ls k)
+
+    pub called-query : (n : ℕ) → q ≡ line.Query n → ((ls : List Literal) → Kept n lits ls → Turned x (some (query top (named true ls) (named false ls))) number s₀ t₀ r t d) → Turned x c number s₀ t₀ r t d
     called-query n e u = by (subst (λ (z : CallLine). CallUnder top c z lits) e h)
       where
         by : CallUnder top c (line.Query n) lits → Turned x c number s₀ t₀ r t d
-        by (ns, i, k) = meant c (some (query top (map pos ns))) i (u ns k)
+        by (ls, i, k) = meant c (some (query top (named true ls) (named false ls))) i (u ls k)
 
     pub called-card : (size : ℕ) → q ≡ line.Card size → Turned x (some (card top size)) number s₀ t₀ r t d → Turned x c number s₀ t₀ r t d
     called-card size e u = meant c (some (card top size)) (subst (λ (z : CallLine). CallUnder top c z lits) e h) u

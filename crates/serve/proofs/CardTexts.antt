@@ -31,25 +31,18 @@ use Rattle.state.proofs.Valid.{valid-facts, valid-numbers, valid-quantified}
 use Rattle.serving.specs.Serves.{Said, said, saidReply, saidOf, number, faultOf, told, outOf, Serves}
 use Rattle.serving.proofs.Numbered.{served-told}
 use Rattle.serving.proofs.Calls.{malformed}
-use Rattle.answers.specs.Answers.{cardSaid}
-use Rattle.answers.proofs.Told.{card-said}
-use Rattle.answers.specs.declared.Printed.{Printed}
-use Rattle.answers.specs.declared.Printed.the-variants as printed
+use Rattle.replies.specs.Replies.{cardSaid}
+use Rattle.replies.proofs.Told.{card-said}
+use Rattle.replies.specs.declared.Printed.{Printed}
+use Rattle.replies.specs.declared.Printed.the-variants as printed
 use Rattle.answers.proofs.Running.{free-within, free-small}
 use Rattle.writer.specs.Rows.{cardRows}
 use Rattle.writer.proofs.Shown.{card-shown, card-most}
-use Rattle.serve.specs.Line.{prefixRead, lineAnswer, CallServed, answerBytes}
+use Rattle.answer_text.specs.Room.{answerBytes}
+use Rattle.serve.specs.Line.{prefixRead, lineAnswer, CallServed}
 use Rattle.serve.proofs.FreeLines.{cardLines, lines-within, one-line}
 
 -- ---- a refused card
-pub overflow-text : (n line visits : ℕ) → n ≡ 21 → overflowText n line visits ≡ searchRefusalText n line visits
-overflow-text n line visits e = ap (λ (k : ℕ). overflowText k line visits) e ∙ ap (λ (k : ℕ). searchRefusalText k line visits) (sym e)
-
-pub stopped-text : (n line visits : ℕ) → n ≡ 34 → overflowText n line visits ≡ searchRefusalText n line visits
-stopped-text n line visits e = ap (λ (k : ℕ). overflowText k line visits) e ∙ ap (λ (k : ℕ). searchRefusalText k line visits) (sym e)
-
-pub other-text : (n line visits : ℕ) → (n ≡ 21 → ⊥) → (n ≡ 34 → ⊥) → refusalText n line ≡ searchRefusalText n line visits
-other-text n line visits h k = sym (rw (ne-eqb n 21 h, ne-eqb n 34 k))
 
 -- ---- a card by the verdict of its lines
 pub card-called : (top : ℕ) (p : Bool) (size : ℕ) (y : Read) → guarded true y (cardOf p top size) .out ≡ learningCard p (y .formula) (y .store) top size .out

@@ -2,27 +2,27 @@
 use Prim.Native.Nat.{ℕ, suc, min}
 use mathlib.Core.Path.{_≡_, refl, sym, ap, subst, _∙_}
 use mathlib.Core.Bool.{Bool, true, false, cond}
-use mathlib.Core.List.{List, [], map}
+use mathlib.Core.List.{List, []}
 use mathlib.Core.Option.{Option, none, some}
-use native.Mathlib.Omega.{arith}
-use lib.IntN.{ℤ, pos}
-use lib.ListN.{length, take, length-map}
-use lib.Seq.{take-all}
+use lib.IntN.{ℤ}
+use lib.ListN.{length, take}
 use Rattle.qbf.specs.Formula.{Limits, paper, Prefix, Literal, Formula}
-use Rattle.qbf.specs.Calls.{Call, rule, query, Reply, done, refused, swap, keep, lines, cardRefused, Answer, answer, ruleFault, ruleReply, withRule, storeAfterRule, queryFault, learningQuery, numbersOk, State as Read, Stepped, step, guarded, wellFormed}
+use Rattle.qbf.specs.Calls.{Call, rule, one, query, Reply, done, refused, swap, keep, unsettled, lines, cardRefused, found, Answer, answer, ruleFault, oneFault, ruleReply, withRule, withOne, storeAfterRule, queryFault, learningQuery, numbersOk, State as Read, Stepped, step, guarded, wellFormed}
 use Rattle.qbf.specs.Demands.{refusalOf}
 use Rattle.theory.proofs.WellFormed.{state-facts, numbers-ok}
 use Rattle.layout.specs.Words.{Bytes}
 use Rattle.layout.specs.Output.{cardText}
-use Rattle.layout.specs.Session.{doneText, refusedText, listsYes, answerText}
+use Rattle.layout.specs.Session.{named, doneText, refusedText, listsYes, answerText}
 use Rattle.state.specs.declared.State.{State}
 use Rattle.state.specs.Reading.{fits, stateIn, readState}
 use Rattle.serving.specs.Serves.{outOf, nextOf}
-use Rattle.reader.specs.Items.{narrowed, Kept}
-use Rattle.reader.proofs.Judged.{cut-same, rule-cut, rule-cut-same}
+use Rattle.reader.specs.Items.{Kept}
+use Rattle.reader.proofs.Judged.{rule-cut, rule-cut-same}
 use Rattle.sessions.specs.Session.{Card, cardAfterRule}
 use Rattle.serve.specs.Line.{prefixRead, CallServed, lineCard}
-use Rattle.serve.proofs.Queries.{query-width, first-decide, query-judged, query-same}
+use Rattle.edition_opening.proofs.Judged.{one-cut, one-cut-same}
+use Rattle.named.proofs.Judged.{flags, flags-judged, flags-same}
+use Rattle.named.proofs.Standing.{deciding, flags-standing}
 
 -- ---- one step
 module _ (y : Read) where
@@ -32,53 +32,64 @@ module _ (y : Read) where
   abbrev ruleStep : List Literal → Option ℕ → Stepped
   ruleStep a o = record { state = record { formula = withRule o b a; store = storeAfterRule o (y .store) }; out = answer (ruleReply o) 0 }
 
-  -- one fault, and the same literals where there is none: the same step
-  rule-step : (a c : List Literal) → ruleFault b a ≡ ruleFault b c → (ruleFault b c ≡ none → a ≡ c) → step y (rule a) ≡ step y (rule c)
-  rule-step a c e same = by (ruleFault b c) refl
+  abbrev oneStep : List Literal → Option ℕ → Stepped
+  oneStep a o = record { state = record { formula = withOne o b a; store = storeAfterRule o (y .store) }; out = answer (ruleReply o) 0 }
+
+  -- a call that adds clauses for its literals: one fault, and the same literals where there is none, is the same step
+  adding-step : (make : List Literal → Call) (fault : List Literal → Option ℕ) (stepped : List Literal → Option ℕ → Stepped)
+      → ((a : List Literal) → guarded true y (make a) ≡ stepped a (fault a)) → ((a c : List Literal) → guarded false y (make a) ≡ guarded false y (make c)) → ((a c : List Literal) (n : ℕ) → stepped a (some n) ≡ stepped c (some n))
+      → (a c : List Literal) → fault a ≡ fault c → (fault c ≡ none → a ≡ c) → step y (make a) ≡ step y (make c)
+  adding-step make fault stepped made malformed refusing a c e same = by (fault c) refl
     where
-      by : (o : Option ℕ) → ruleFault b c ≡ o → step y (rule a) ≡ step y (rule c)
-      by none q = ap (λ (ls : List Literal). step y (rule ls)) (same q)
+      by : (o : Option ℕ) → fault c ≡ o → step y (make a) ≡ step y (make c)
+      by none q = ap (λ (ls : List Literal). step y (make ls)) (same q)
       by (some n) q = go (wellFormed y)
         where
-          go : (g : Bool) → guarded g y (rule a) ≡ guarded g y (rule c)
-          go true = ap (ruleStep a) (e ∙ q) ∙ sym (ap (ruleStep c) q)
-          go false = refl
+          go : (g : Bool) → guarded g y (make a) ≡ guarded g y (make c)
+          go true = made a ∙ ap (stepped a) (e ∙ q) ∙ refusing a c n ∙ sym (ap (stepped c) q) ∙ sym (made c)
+          go false = malformed a c
+
+  -- a query by the literals that name its flags
+  abbrev flagsQuery : ℕ → List Literal → Call
+  flagsQuery top ls = query top (named true ls) (named false ls)
 
   abbrev queryStep : ℕ → List Literal → Option ℕ → Stepped
-  queryStep top a o = record { state = record { formula = b; store = learningQuery o b (y .store) top a .store }; out = learningQuery o b (y .store) top a .out }
+  queryStep top ls o =
+      let r = learningQuery o b (y .store) top (named true ls) (named false ls) in
+      record { state = record { formula = b; store = r .store }; out = r .out }
 
-  query-step : (top : ℕ) (a c : List Literal) → (wellFormed y ≡ true → (queryFault b [] a ≡ queryFault b [] c) × (queryFault b [] c ≡ none → a ≡ c)) → step y (query top a) ≡ step y (query top c)
+  query-step : (top : ℕ) (a c : List Literal) → (wellFormed y ≡ true → (queryFault b [] (flags a) ≡ queryFault b [] (flags c)) × (queryFault b [] (flags c) ≡ none → (v : Bool) → named v a ≡ named v c))
+      → step y (flagsQuery top a) ≡ step y (flagsQuery top c)
   query-step top a c h = go (wellFormed y) refl
     where
-      go : (g : Bool) → wellFormed y ≡ g → guarded g y (query top a) ≡ guarded g y (query top c)
+      go : (g : Bool) → wellFormed y ≡ g → guarded g y (flagsQuery top a) ≡ guarded g y (flagsQuery top c)
       go false e = refl
-      go true e = by (queryFault b [] c) refl
+      go true e = by (queryFault b [] (flags c)) refl
         where
-          by : (o : Option ℕ) → queryFault b [] c ≡ o → guarded true y (query top a) ≡ guarded true y (query top c)
-          by none q = ap (λ (ls : List Literal). guarded true y (query top ls)) (h e .1 q)
+          by : (o : Option ℕ) → queryFault b [] (flags c) ≡ o → guarded true y (flagsQuery top a) ≡ guarded true y (flagsQuery top c)
+          by none q = let same = h e .1 q in (λ i. guarded true y (query top (same true i) (same false i)))
           by (some n) q = ap (queryStep top a) (h e .0 ∙ q) ∙ sym (ap (queryStep top c) q)
 
 module _ (y : Read) (is-paper : y .formula .limits ≡ paper) (n : ℕ) (out : List ℤ) (room : length out ≡ suc (paper .numbers)) where
   pub rule-same-step : (ls : List Literal) → Kept n out ls → step y (rule (take (min n (suc (paper .numbers))) out)) ≡ step y (rule ls)
-  rule-same-step ls k = rule-step y (take (min n (suc (paper .numbers))) out) ls (rule-cut (y .formula) is-paper n out ls room k) (rule-cut-same (y .formula) is-paper n out ls room k)
+  rule-same-step ls k =
+      adding-step y rule (ruleFault (y .formula)) (ruleStep y) (λ a. refl) (λ a c. refl) (λ a c m. refl) (take (min n (suc (paper .numbers))) out) ls
+      (rule-cut (y .formula) is-paper n out ls room k)
+      (rule-cut-same (y .formula) is-paper n out ls room k)
 
-  module _ (top : ℕ) (ns : List ℕ) (k : Kept n out (map pos ns)) where
-    pub query-cut : step y (query top (take (min n (suc (paper .numbers))) out)) ≡ step y (query top (map pos ns))
-    query-cut = ap (λ (a : List Literal). step y (query top a)) standing ∙ query-step y top (take (suc (paper .numbers)) (map narrowed (map pos ns))) (map pos ns) (λ w. (judged w, same w))
-      where
-        standing : take (min n (suc (paper .numbers))) out ≡ take (suc (paper .numbers)) (map narrowed (map pos ns))
-        standing = cut-same n (suc (paper .numbers)) out room ∙ k .first ∙ ap (λ (m : ℕ). take m (map narrowed (map pos ns))) room
+  pub one-same-step : (ls : List Literal) → Kept n out ls → step y (one (take (min n (suc (paper .numbers))) out)) ≡ step y (one ls)
+  one-same-step ls k =
+      adding-step y one (oneFault (y .formula)) (oneStep y) (λ a. refl) (λ a c. refl) (λ a c m. refl) (take (min n (suc (paper .numbers))) out) ls
+      (one-cut (y .formula) is-paper n out ls room k)
+      (one-cut-same (y .formula) is-paper n out ls room k)
 
-        fine : wellFormed y ≡ true → numbersOk paper [] (y .formula .prefix) ≡ true
-        fine w = subst (λ (L : Limits). numbersOk L [] (y .formula .prefix) ≡ true) is-paper (numbers-ok (y .formula) (state-facts y w .formula-ok))
+-- the flags by what stands in the tables of those that are on and those that are off
+module _ (y : Read) (is-paper : y .formula .limits ≡ paper) (top : ℕ) (ls : List Literal) where
+  fine : wellFormed y ≡ true → numbersOk paper [] (y .formula .prefix) ≡ true
+  fine w = subst (λ (L : Limits). numbersOk L [] (y .formula .prefix) ≡ true) is-paper (numbers-ok (y .formula) (state-facts y w .formula-ok))
 
-        judged : wellFormed y ≡ true → queryFault (y .formula) [] (take (suc (paper .numbers)) (map narrowed (map pos ns))) ≡ queryFault (y .formula) [] (map pos ns)
-        judged w = first-decide (y .formula) paper (fine w) (map narrowed (map pos ns)) ∙ query-judged (y .formula) (fine w) [] ns
-
-        same : wellFormed y ≡ true → queryFault (y .formula) [] (map pos ns) ≡ none → take (suc (paper .numbers)) (map narrowed (map pos ns)) ≡ map pos ns
-        same w e =
-            take-all (suc (paper .numbers)) (map narrowed (map pos ns)) (omega (arith, query-width (y .formula) paper (fine w) (map pos ns) e, length-map (map pos ns) narrowed))
-            ∙ query-same (y .formula) (fine w) [] ns e
+  pub query-cut : (on off : List Literal) → on ≡ named true (deciding ls) → off ≡ named false (deciding ls) → step y (query top on off) ≡ step y (query top (named true ls) (named false ls))
+  query-cut on off e d = (λ i. step y (query top (e i) (d i))) ∙ query-step y top (deciding ls) ls (λ w. (flags-judged (y .formula) (fine w) ls, flags-same (y .formula) (fine w) ls))
 
 -- ---- a call as served
 -- the text of an answer names the call only where nothing else is said, and where lines are listed
@@ -91,8 +102,10 @@ answer-same D c c′ n a e refusals lists = by (a .reply) (a .visits)
     by (refused m) v = ap (λ (f : ℕ → ℕ → ℕ → Bytes). f m n v) refusals
     by swap v = refl
     by keep v = refl
+    by unsettled v = refl
     by (lines ls tb) v = ap (λ (p : Bool). cardText p D ls v) lists
     by (cardRefused m tb) v = refl
+    by (found ls tb r) v = refl
 
 abbrev pub Papered : Option Read → Type 0
 Papered none = Unit {0}
@@ -133,11 +146,22 @@ pub rule-card : (x : State) (n : ℕ) (out : List ℤ) → length out ≡ suc (p
 rule-card x n out room ls k z =
     ap (λ (a : Answer). cardAfterRule (a .reply) z) (same-out (rule (take (min n (suc (paper .numbers))) out)) (rule ls) refl refl refl refl (λ y p. rule-same-step y p n out room ls k) (readState x) (papered x))
 
+-- an exactly-one form likewise
+pub one-card : (x : State) (n : ℕ) (out : List ℤ) → length out ≡ suc (paper .numbers) → (ls : List Literal) → Kept n out ls → (z : Option Card)
+    → lineCard (readState x) (some (one (take (min n (suc (paper .numbers))) out))) z ≡ lineCard (readState x) (some (one ls)) z
+one-card x n out room ls k z =
+    ap (λ (a : Answer). cardAfterRule (a .reply) z) (same-out (one (take (min n (suc (paper .numbers))) out)) (one ls) refl refl refl refl (λ y p. one-same-step y p n out room ls k) (readState x) (papered x))
+
 module _ (x : State) (n : ℕ) (out : List ℤ) (room : length out ≡ suc (paper .numbers)) (line : ℕ) (t : Bytes) (x′ : State) where
+  -- an exactly-one form by what stands in the table
+  pub one-served : (ls : List Literal) → Kept n out ls → CallServed x (some (one (take (min n (suc (paper .numbers))) out))) line t x′ → CallServed x (some (one ls)) line t x′
+  one-served ls k s = served-as (one (take (min n (suc (paper .numbers))) out)) (one ls) refl refl refl refl (λ y p. one-same-step y p n out room ls k) x line t x′ s
+
   -- a rule by what stands in the table
   pub rule-served : (ls : List Literal) → Kept n out ls → CallServed x (some (rule (take (min n (suc (paper .numbers))) out))) line t x′ → CallServed x (some (rule ls)) line t x′
   rule-served ls k s = served-as (rule (take (min n (suc (paper .numbers))) out)) (rule ls) refl refl refl refl (λ y p. rule-same-step y p n out room ls k) x line t x′ s
 
-  -- a query likewise
-  pub query-served : (top : ℕ) (ns : List ℕ) → Kept n out (map pos ns) → CallServed x (some (query top (take (min n (suc (paper .numbers))) out))) line t x′ → CallServed x (some (query top (map pos ns))) line t x′
-  query-served top ns k s = served-as (query top (take (min n (suc (paper .numbers))) out)) (query top (map pos ns)) refl refl refl refl (λ y p. query-cut y p n out room top ns k) x line t x′ s
+-- a query by what stands in the tables of its flags
+pub query-served : (x : State) (line : ℕ) (t : Bytes) (x′ : State) (top : ℕ) (ls on off : List Literal) → on ≡ named true (deciding ls) → off ≡ named false (deciding ls)
+    → CallServed x (some (query top on off)) line t x′ → CallServed x (some (query top (named true ls) (named false ls))) line t x′
+query-served x line t x′ top ls on off e d s = served-as (query top on off) (query top (named true ls) (named false ls)) refl refl refl refl (λ y p. query-cut y p top ls on off e d) x line t x′ s

@@ -12,7 +12,7 @@ use native.Mathlib.Omega.{arith}
 use lib.Dec.{eqb}
 use Rattle.qbf.specs.Truth.{freeVariables}
 use Rattle.qbf.specs.Card.{tableOf}
-use Rattle.qbf.specs.Calls.{Call, cardOf, Reply, done, refused, swap, keep, lines, cardRefused, Answer, State as Read, wellFormed}
+use Rattle.qbf.specs.Calls.{Call, cardOf, Reply, done, refused, swap, keep, unsettled, lines, cardRefused, found, Answer, State as Read, wellFormed}
 use Rattle.layout.specs.Words.{Bytes}
 use Rattle.sessions.specs.Session.{Card, cardOf as shownOf, cardAfterRule, cardAfter}
 use Rattle.state.specs.declared.State.{State}
@@ -21,11 +21,11 @@ use Rattle.state.proofs.Valid.{valid-facts, valid-numbers, valid-quantified}
 use Rattle.serving.specs.Serves.{Said, said, saidReply, number, outOf, Serves}
 use Rattle.rules.specs.Rules.{changeSaid}
 use Rattle.rules.specs.declared.Change.{Change}
-use Rattle.answers.specs.Answers.{cardSaid}
-use Rattle.answers.specs.declared.Printed.{Printed}
-use Rattle.answers.proofs.Told.{card-said}
-use Rattle.serve.specs.declared.shown.Shown.{Shown}
-use Rattle.serve.specs.Shown.{cardIn, noCard, CardTold}
+use Rattle.replies.specs.Replies.{cardSaid}
+use Rattle.replies.specs.declared.Printed.{Printed}
+use Rattle.replies.proofs.Told.{card-said}
+use Rattle.answer_text.specs.declared.shown.Shown.{Shown}
+use Rattle.answer_text.specs.Shown.{cardIn, noCard, CardTold}
 use Rattle.serve.specs.Line.{prefixRead, lineCard}
 use Rattle.serve.proofs.Answered.{Changing}
 use Rattle.serve.proofs.FreeLines.{cardLines}
@@ -42,8 +42,10 @@ rule-left s t (refused zero) k h = absurd h
 rule-left s t (refused (suc n)) k h = ap (λ (b : Bool). cardIn (cond b noCard s) t) (some-number n)
 rule-left s t swap k h = absurd h
 rule-left s t keep k h = absurd h
+rule-left s t unsettled k h = absurd h
 rule-left s t (lines ls tb) k h = absurd h
 rule-left s t (cardRefused n tb) k h = absurd h
+rule-left s t (found ls tb r) k h = absurd h
 
 -- from the contract of the call and the number of its refusal
 pub rule-leaves : (x : State) (c : Call) (ch : Change) (x′ : State) (s : Shown) (n : ℕ) → Changing (outOf (readState x) c .reply) → Serves x c (changeSaid ch) x′ → n ≡ number (changeSaid ch .refusal)

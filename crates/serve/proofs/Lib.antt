@@ -1,9 +1,8 @@
-pub mod Queries
 pub mod Cut
 pub mod FreeLines
 pub mod Answered
 pub mod Demands
-pub mod Room
+pub mod Turns
 pub mod CardTexts
 pub mod LastCard
 pub mod Called

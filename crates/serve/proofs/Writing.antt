@@ -20,10 +20,10 @@ use Rattle.writer.specs.Wrote.{Wrote}
 use Rattle.book_writer.specs.Writes.{Answer, answered, told, writtenOf, Writes}
 use Rattle.book_writer.proofs.Books.{count-within}
 use Rattle.serve.specs.declared.Turn.{Turn}
-use Rattle.serve.specs.declared.shown.Shown.{Shown}
+use Rattle.answer_text.specs.declared.shown.Shown.{Shown}
 use Rattle.serve.specs.Line.{writeAnswer, WriteTurned}
 use Rattle.serve.proofs.Cut.{Papered, papered}
-use Rattle.serve.proofs.Room.{within}
+use Rattle.answer_text.proofs.Room.{within}
 
 -- ---- what was answered
 module _ (n : ℕ) where

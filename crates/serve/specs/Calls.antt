@@ -2,7 +2,7 @@
 use Prim.Native.Nat.{_≤_}
 use Rattle.layout.specs.Program.{tableBytes}
 use Rattle.reader.specs.declared.call.CallLine.{CallLine}
-use Rattle.reader.specs.declared.call.CallLine.the-variants.{Rule, Query, Card, KeepCard, Forget, Withdraw, NotCall}
+use Rattle.reader.specs.declared.call.CallLine.the-variants.{Rule, Query, Card, KeepCard, Forget, Withdraw, One, NotCall}
 
 abbrev pub Small : CallLine → Type 0
 Small (Rule n) = Unit {0}
@@ -11,4 +11,5 @@ Small (Card size) = size ≤ tableBytes
 Small (KeepCard size) = size ≤ tableBytes
 Small Forget = Unit {0}
 Small Withdraw = Unit {0}
+Small (One n) = Unit {0}
 Small NotCall = Unit {0}

@@ -1,17 +1,15 @@
 -- What a call or the book's text owes for every state and line number: the answer, the next state and the card answered last are those of the
 -- session's definition.
-use Prim.Native.Nat.{ℕ, _+_, _*_, _≤_}
+use Prim.Native.Nat.{ℕ, _≤_}
 use mathlib.Core.Path.{_≡_}
 use mathlib.Core.List.{[]}
 use mathlib.Core.Option.{Option, none, some}
 use lib.ListN.{length, take}
 use Rattle.qbf.specs.Formula.{Prefix}
-use Rattle.qbf.specs.Card.{zeroTable}
 use Rattle.qbf.specs.Calls.{Call, State as Read}
 use Rattle.qbf.specs.Demands.{AfterSearch, refusalOf}
 use Rattle.layout.specs.Words.{Bytes}
 use Rattle.layout.specs.Output.{refusalText}
-use Rattle.layout.specs.Program.{tableBytes}
 use Rattle.layout.specs.Session.{answerText}
 use Rattle.sessions.specs.Session.{tableFor, writtenAnswer, Card, cardAfter}
 use Rattle.state.specs.declared.State.{State}
@@ -19,8 +17,8 @@ use Rattle.state.specs.Reading.{readState}
 use Rattle.serving.specs.Serves.{outOf, nextOf}
 use Rattle.book_writer.specs.Writes.{writtenOf}
 use Rattle.serve.specs.declared.Turn.{Turn}
-use Rattle.serve.specs.declared.shown.Shown.{Shown}
-use Rattle.serve.specs.Shown.{cardIn}
+use Rattle.answer_text.specs.declared.shown.Shown.{Shown}
+use Rattle.answer_text.specs.Shown.{cardIn}
 
 -- ---- a call, or none, on a state that reads or does not
 abbrev pub prefixRead : Option Read → Prefix
@@ -63,11 +61,6 @@ lineCard o none z = z
 lineCard o (some c) z = cardAfter (prefixRead o) c (outOf o c .reply) z
 
 -- ---- the lent table
--- No answer is longer. All lines of a card together have no more places than its table has bytes, and there are no more lines than
--- that; a line has at most 8 bytes for each of its places and 7 more, what is no line at most 50.
-abbrev pub answerBytes : ℕ
-answerBytes = 15 * tableBytes + 50
-
 -- the answer stands at the start of the table d; the card answered last was told by s₀ and t₀, and is by the turn and t
 pub record Turned (x : State) (c : Option Call) (n : ℕ) (s₀ : Shown) (t₀ : Bytes) (r : Turn) (t d : Bytes) : Type 0 where
   pub within : r .length ≤ length d
@@ -84,7 +77,3 @@ pub record WriteTurned (x : State) (size : Option ℕ) (n : ℕ) (s : Shown) (r 
   pub text : take (r .length) d ≡ writeAnswer (readState x) n size
   pub state : r .state ≡ x
   pub shown : r .shown ≡ s
-
--- "A table too short is 31 .. and zeroed" (paper 02): one that is too short for some answers. Nothing else is done, and nothing is written.
-abbrev pub TooShort : ℕ → ℕ → Bytes → Bytes → Type 0
-TooShort refusal written d₀ d = (refusal ≡ 31) × (written ≡ 0) × (d ≡ zeroTable (length d₀))

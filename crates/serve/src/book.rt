@@ -1,13 +1,16 @@
-// What the program `card` prints for a text, and what a session prints for one that is refused.
+// What the program `card` prints for a text.
 use crate::card::put_shown;
-use crate::refusal::refuse;
-use answers::lines_of;
-use answers::refusal_of;
+use answer_text::ANSWER;
+use answer_text::book::short;
+use answer_text::book::told;
+use answer_text::refusal::refuse;
+use answer_text::refusal::refuse_card;
 use book_writer::NONE;
-use book_writer::TEXT_TABLE_TOO_SHORT;
 use book_writer::Written;
 use edition_opening::Editions;
 use edition_opening::open_editions;
+use replies::lines_of;
+use replies::refusal_of;
 use state::State;
 ghost use mathlib.Core.Path.{_≡_};
 ghost use mathlib.Core.Bool.{true};
@@ -23,31 +26,8 @@ ghost use Rattle.layout.specs.Program.{tableBytes, answerPrinted};
 ghost use Rattle.editions.specs.Program.{cardProgram};
 ghost use Rattle.state.specs.Reading.{readState};
 ghost use Rattle.writer.specs.Wrote.{Wrote};
-ghost use Rattle.serve.specs.Line.{answerBytes, TooShort};
-ghost use Rattle.serve.specs.Books.{PrintsCard, PrintsRefusal};
-
-// "a card too large prints only `(refused 21 0)`"
-const NO_LINE: u64 = 0;
-
-// In a table of fewer than ANSWER bytes nothing is written.
-fn short(out: &mut [u8]) -> Written
-    ensures { λ r. ⌜ TooShort (r .refusal) (r .length) (now (out .entry)) (now (out .exit)) ⌝ }
-{
-    cover::clear(out);
-    Written {
-        refusal: TEXT_TABLE_TOO_SHORT,
-        length: 0,
-    }
-}
-
-fn told(length: usize) -> Written
-    ensures { λ r. ⌜ (r .refusal ≡ 0) × (r .length ≡ length) ⌝ }
-{
-    Written {
-        refusal: NONE,
-        length: length,
-    }
-}
+ghost use Rattle.answer_text.specs.Room.{answerBytes};
+ghost use Rattle.serve.specs.Books.{PrintsCard};
 
 // The card of a state with an empty store, in a lent table.
 fn print_in(x: State, table: &mut [u8], out: &mut [u8]) -> usize
@@ -79,7 +59,7 @@ fn print_in(x: State, table: &mut [u8], out: &mut [u8]) -> usize
     let visits = shown.visits;
     let refusal = refusal_of(printed);
     if refusal != NONE {
-        return refuse(out, refusal, NO_LINE);
+        return refuse_card(out, refusal);
     }
     let lines = lines_of(printed);
     put_shown(out, x, table, lines, visits, true, tables::HIGHEST_CEILING)
@@ -114,18 +94,8 @@ fn print_text(text: &[u8], out: &mut [u8]) -> usize
 pub fn print_card(text: &[u8], out: &mut [u8]) -> Written
     ensures { λ r. ⌜ PrintsCard (now (text .entry)) (now (out .entry)) r (now (out .exit)) ⌝ }
 {
-    if out.len() < crate::ANSWER {
+    if out.len() < ANSWER {
         return short(out);
     }
     told(print_text(text, out))
-}
-
-// What a session prints for a text that is refused.
-pub fn print_refusal(refusal: u16, line: usize, out: &mut [u8]) -> Written
-    ensures { λ r. ⌜ PrintsRefusal refusal line (now (out .entry)) r (now (out .exit)) ⌝ }
-{
-    if out.len() < crate::ANSWER {
-        return short(out);
-    }
-    told(refuse(out, refusal, line as u64))
 }

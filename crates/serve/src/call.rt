@@ -3,28 +3,31 @@
 use crate::Turn;
 use crate::card::serve_card;
 use crate::change::serve_forget;
+use crate::change::serve_one;
 use crate::change::serve_rule;
 use crate::change::serve_withdraw;
 use crate::query::serve_query;
-use crate::refusal::refuse;
-use crate::shown::Shown;
+use answer_text::refusal::refuse;
+use answer_text::shown::Shown;
+use named::named;
 use reader::call::CallLine;
 use reader::call::TABLE;
 use reader::ceiling::read_call;
 use reader::line::kept;
 use state::State;
 ghost use mathlib.Core.Path.{_≡_};
-ghost use mathlib.Core.List.{List, map};
+ghost use mathlib.Core.Bool.{true, false};
+ghost use mathlib.Core.List.{List};
 ghost use mathlib.Core.Option.{Option, none, some};
 ghost use Prim.Native.Nat.{ℕ, suc, _≤_};
-ghost use lib.IntN.{pos};
 ghost use lib.ListN.{length};
 ghost use Rattle.qbf.specs.Formula.{paper, Literal};
-ghost use Rattle.qbf.specs.Calls.{Call, rule, query};
-ghost use Rattle.layout.specs.Session.{callOf};
+ghost use Rattle.qbf.specs.Calls.{Call, rule, query, one};
+ghost use Rattle.layout.specs.Session.{named, callOf};
 ghost use Rattle.reader.specs.Items.{Kept};
 ghost use Rattle.reader.specs.Calls.{CallUnder};
-ghost use Rattle.serve.specs.Line.{answerBytes, Turned, TurnedBeside};
+ghost use Rattle.answer_text.specs.Room.{answerBytes};
+ghost use Rattle.serve.specs.Line.{Turned, TurnedBeside};
 ghost use Rattle.serve.specs.Calls.{Small};
 
 // "1 text not in the layout"
@@ -41,6 +44,17 @@ fn rule_of(x: State, lits: &[i16], n: usize, line: u64, shown: Shown, out: &mut 
     serve_rule(x, &lits[..k], line, shown, out)
 }
 
+fn one_of(x: State, lits: &[i16], n: usize, line: u64, shown: Shown, out: &mut [u8]) -> Turn
+    requires { ⌜ length (now lits) ≡ suc (paper .numbers) ⌝ }
+    requires { ⌜ answerBytes ≤ length (now out) ⌝ }
+    ensures { λ r. ⌜ ((ls : List Literal)
+        → Kept n (now (lits .entry)) ls
+        → TurnedBeside x (some (one ls)) line shown r (now (out .exit))) ⌝ }
+{
+    let k = kept(n);
+    serve_one(x, &lits[..k], line, shown, out)
+}
+
 fn query_of(
     x: State,
     lits: &[i16],
@@ -52,12 +66,16 @@ fn query_of(
 ) -> Turn
     requires { ⌜ length (now lits) ≡ suc (paper .numbers) ⌝ }
     requires { ⌜ answerBytes ≤ length (now out) ⌝ }
-    ensures { λ r. ⌜ ((ns : List ℕ)
-        → Kept n (now (lits .entry)) (map pos ns)
-        → TurnedBeside x (some (query ceiling (map pos ns))) line shown r (now (out .exit))) ⌝ }
+    ensures { λ r. ⌜ ((ls : List Literal)
+        → Kept n (now (lits .entry)) ls
+        → TurnedBeside x (some (query ceiling (named true ls) (named false ls))) line shown r (now (out .exit))) ⌝ }
 {
     let k = kept(n);
-    serve_query(x, &lits[..k], line, shown, out, ceiling)
+    let mut on = [0i16; tables::BY_NUMBER];
+    let mut off = [0i16; tables::BY_NUMBER];
+    let ons = kept(named(&lits[..k], true, &mut on));
+    let offs = kept(named(&lits[..k], false, &mut off));
+    serve_query(x, &on[..ons], &off[..offs], line, shown, out, ceiling)
 }
 
 // A line that is no call leaves the state.
@@ -97,6 +115,7 @@ fn serve_call(
         CallLine::KeepCard(size) => serve_card(x, size, false, line, cards, out, ceiling),
         CallLine::Forget => serve_forget(x, line, shown, out),
         CallLine::Withdraw => serve_withdraw(x, line, shown, out),
+        CallLine::One(n) => one_of(x, lits, n, line, shown, out),
         CallLine::NotCall => no_call(x, line, shown, out),
     }
 }

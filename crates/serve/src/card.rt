@@ -1,12 +1,11 @@
 // The line of a card or keep card: its lines and visits, or refused.
 use crate::Turn;
-use crate::refusal::refuse;
-use crate::shown::card_of;
-use answers::lines_of;
-use answers::refusal_of;
+use answer_text::refusal::put_search_refusal;
+use answer_text::shown::card_of;
 use reader::call::TABLE;
+use replies::lines_of;
+use replies::refusal_of;
 use state::State;
-use writer::answer::put_overflow;
 use writer::card::put_card;
 ghost use mathlib.Core.Path.{_≡_};
 ghost use mathlib.Core.List.{_++_};
@@ -16,26 +15,12 @@ ghost use lib.ListN.{length};
 ghost use Rattle.qbf.specs.Calls.{cardOf};
 ghost use Rattle.layout.specs.Words.{Bytes};
 ghost use Rattle.layout.specs.Program.{tableBytes};
-ghost use Rattle.layout.specs.Session.{searchRefusalText};
 ghost use Rattle.state.specs.Reading.{readState};
 ghost use Rattle.serving.specs.Serves.{said, saidOf, outOf};
 ghost use Rattle.writer.specs.Wrote.{Wrote};
-ghost use Rattle.serve.specs.declared.shown.Shown.{Shown};
-ghost use Rattle.serve.specs.Line.{lineAnswer, answerBytes, Turned};
-
-// A card too large and a stopped call tell their visits.
-pub fn put_search_refusal(out: &mut [u8], refusal: u16, visits: u64, line: u64) -> usize
-    requires { ⌜ answerBytes ≤ length (now out) ⌝ }
-    ensures { λ r. ⌜ Wrote (now (out .entry)) 0 (searchRefusalText refusal line visits) (now (out .exit)) r ⌝ }
-{
-    if refusal == answers::TOO_MANY_LINES {
-        return put_overflow(out, 0, refusal as u64, line, visits);
-    }
-    if refusal == answers::STOPPED {
-        return put_overflow(out, 0, refusal as u64, line, visits);
-    }
-    refuse(out, refusal, line)
-}
+ghost use Rattle.answer_text.specs.declared.shown.Shown.{Shown};
+ghost use Rattle.answer_text.specs.Room.{answerBytes};
+ghost use Rattle.serve.specs.Line.{lineAnswer, Turned};
 
 // The card whose lines stand in the table.
 pub fn put_shown(

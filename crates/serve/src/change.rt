@@ -1,31 +1,17 @@
-// The lines of rule, withdraw and forget: accepted, withdrawn, forgotten, or refused. The tables of the state are lent to the call, those that it may write as copies.
+// The lines of rule, one, withdraw and forget: accepted, withdrawn, forgotten, or refused. The tables of the state are lent to the call, those that it may write as copies.
 use crate::Turn;
-use crate::refusal::refuse;
-use crate::shown::Shown;
-use crate::shown::after_rule;
+use answer_text::change::put_change;
+use answer_text::shown::Shown;
+use answer_text::shown::after_rule;
 use rules::in_place;
 use rules::refusal_of;
 use state::State;
-use writer::bytes::put_word;
 ghost use mathlib.Core.Option.{some};
 ghost use Prim.Native.Nat.{_≤_};
 ghost use lib.ListN.{length};
-ghost use Rattle.qbf.specs.Calls.{rule, forget, withdraw};
-ghost use Rattle.writer.specs.Wrote.{Wrote};
-ghost use Rattle.serve.specs.Line.{answerBytes, TurnedBeside};
-ghost use Rattle.serve.specs.Texts.{changeText};
-
-// The word of a call that is done, or the refusal.
-fn put_change(out: &mut [u8], done: &[u8], refusal: u16, line: u64) -> usize
-    requires { ⌜ length (now done) ≤ 12 ⌝ }
-    requires { ⌜ answerBytes ≤ length (now out) ⌝ }
-    ensures { λ r. ⌜ Wrote (now (out .entry)) 0 (changeText (now (done .entry)) refusal line) (now (out .exit)) r ⌝ }
-{
-    if refusal == 0 {
-        return put_word(out, 0, done);
-    }
-    refuse(out, refusal, line)
-}
+ghost use Rattle.qbf.specs.Calls.{rule, one, forget, withdraw};
+ghost use Rattle.answer_text.specs.Room.{answerBytes};
+ghost use Rattle.serve.specs.Line.{TurnedBeside};
 
 pub fn serve_rule(x: State, lits: &[i16], line: u64, shown: Shown, out: &mut [u8]) -> Turn
     requires { ⌜ answerBytes ≤ length (now out) ⌝ }
@@ -56,6 +42,39 @@ pub fn serve_rule(x: State, lits: &[i16], line: u64, shown: Shown, out: &mut [u8
         state: next,
         length: length,
         shown: after_rule(shown, refusal),
+    }
+}
+
+pub fn serve_one(x: State, lits: &[i16], line: u64, shown: Shown, out: &mut [u8]) -> Turn
+    requires { ⌜ answerBytes ≤ length (now out) ⌝ }
+    ensures { λ r. ⌜ TurnedBeside x (some (one (now (lits .entry)))) line shown r (now (out .exit)) ⌝ }
+{
+    let mut clauses = x.clauses;
+    let mut clause_sizes = x.clause_sizes;
+    let mut cube_sizes = x.learned_cube_sizes;
+    let change = in_place::one(
+        &x.numbers,
+        &x.levels,
+        &x.kinds,
+        &mut clauses,
+        &mut clause_sizes,
+        &x.learned_clauses,
+        &x.learned_clause_sizes,
+        &x.learned_cubes,
+        &mut cube_sizes,
+        lits,
+    );
+    let mut next = x;
+    next.clauses = clauses;
+    next.clause_sizes = clause_sizes;
+    next.learned_cube_sizes = cube_sizes;
+    let refusal = refusal_of(change);
+    let length = put_change(out, b"(accepted)\n", refusal, line);
+    let left = after_rule(shown, refusal);
+    Turn {
+        state: next,
+        length: length,
+        shown: left,
     }
 }
 

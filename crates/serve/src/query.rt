@@ -1,39 +1,26 @@
-// The line of a query: swap or keep with the visits, or refused.
+// The line of a query: swap, keep or unsettled with the visits, or refused.
 use crate::Turn;
-use crate::card::put_search_refusal;
-use crate::shown::Shown;
-use answers::Ruling;
+use answer_text::query::put_ruling;
+use answer_text::shown::Shown;
 use state::State;
-use writer::answer::put_query;
 ghost use mathlib.Core.Option.{some};
 ghost use Prim.Native.Nat.{_≤_};
 ghost use lib.ListN.{length};
 ghost use Rattle.qbf.specs.Calls.{query};
-ghost use Rattle.writer.specs.Wrote.{Wrote};
-ghost use Rattle.serve.specs.Line.{answerBytes, TurnedBeside};
-ghost use Rattle.serve.specs.Texts.{rulingText};
+ghost use Rattle.answer_text.specs.Room.{answerBytes};
+ghost use Rattle.serve.specs.Line.{TurnedBeside};
 
-fn put_ruling(out: &mut [u8], ruling: Ruling, visits: u64, line: u64) -> usize
-    requires { ⌜ answerBytes ≤ length (now out) ⌝ }
-    ensures { λ r. ⌜ Wrote (now (out .entry)) 0 (rulingText ruling visits line) (now (out .exit)) r ⌝ }
-{
-    match ruling {
-        Ruling::Swap => put_query(out, 0, true, visits),
-        Ruling::Keep => put_query(out, 0, false, visits),
-        Ruling::Refused(n) => put_search_refusal(out, n, visits, line),
-    }
-}
-
-pub fn serve_query(
+pub fn serve_query<'a>(
     x: State,
-    on: &[i16],
+    on: &'a [i16],
+    off: &'a [i16],
     line: u64,
     shown: Shown,
     out: &mut [u8],
     ceiling: u32,
 ) -> Turn
     requires { ⌜ answerBytes ≤ length (now out) ⌝ }
-    ensures { λ r. ⌜ TurnedBeside x (some (query ceiling (now (on .entry)))) line shown r (now (out .exit)) ⌝ }
+    ensures { λ r. ⌜ TurnedBeside x (some (query ceiling (now (on .entry)) (now (off .entry)))) line shown r (now (out .exit)) ⌝ }
 {
     let mut learned_clauses = x.learned_clauses;
     let mut learned_clause_sizes = x.learned_clause_sizes;
@@ -50,6 +37,7 @@ pub fn serve_query(
         &mut learned_cubes,
         &mut learned_cube_sizes,
         on,
+        off,
         ceiling,
     );
     let mut next = x;

@@ -1,7 +1,7 @@
 // The line that asks for the book's text: it is written into the first bytes of the lent table, or refused.
 use crate::Turn;
-use crate::refusal::refuse;
-use crate::shown::Shown;
+use answer_text::refusal::refuse;
+use answer_text::shown::Shown;
 use book_writer::LONGEST;
 use book_writer::NONE;
 use book_writer::write_book;
@@ -9,7 +9,8 @@ use state::State;
 ghost use mathlib.Core.Option.{none, some};
 ghost use Prim.Native.Nat.{_≤_};
 ghost use lib.ListN.{length};
-ghost use Rattle.serve.specs.Line.{answerBytes, WriteTurned};
+ghost use Rattle.answer_text.specs.Room.{answerBytes};
+ghost use Rattle.serve.specs.Line.{WriteTurned};
 
 // `(write 4)`: the first bytes of the table, as many as the line asks for.
 pub fn serve_write(x: State, size: usize, line: u64, shown: Shown, out: &mut [u8]) -> Turn

@@ -4,22 +4,24 @@ use native.Mathlib.Omega.{arith}
 use mathlib.Core.Path.{_≡_, refl, sym, ap, subst, _∙_}
 use mathlib.Core.Logic.{inl}
 use mathlib.Core.Bool.{Bool, true, false, cond}
-use mathlib.Core.List.{List, []}
+use mathlib.Core.List.{List, [], _++_}
 use mathlib.Core.Option.{Option, none, some}
 use lib.ListN.{length}
 use lib.Dec.{leb}
 use Rattle.qbf.specs.Formula.{Formula, Node, Literal, quantifiers}
 use Rattle.qbf.specs.Truth.{Outcome, decided, mixed, outline, bound, select, decidedNodes, freeVariables}
+use Rattle.qbf.specs.Plain.{PlainResult}
+use Rattle.qbf.specs.Open.{Reading, readingOf, isFull, openSearch}
 use Rattle.qbf.specs.Ceiling.{Attempt, finished, stopped, searchWithin}
 use Rattle.qbf.specs.Card.{Mem, tableOf, zeroTable}
-use Rattle.qbf.specs.Calls.{Call, rule, query, card, forget, withdraw, keepCard, cardOf, Reply, done, refused, swap, keep, lines, cardRefused, Answer, answer, refusal, ruleFault, ruleReply, withdrawFault, queryFault, queryReply, cardReplyOf, attemptAnswer, learningQuery, learningCard, ceilingOf, startNode, guarded, wellFormed, State as Read, step}
+use Rattle.qbf.specs.Closest.{Found, closestIn}
+use Rattle.qbf.specs.Calls.{Call, rule, query, card, forget, withdraw, keepCard, one, closest, cardOf, Reply, done, refused, swap, keep, unsettled, lines, cardRefused, found, Answer, answer, refusal, ruleFault, oneFault, ruleReply, withdrawFault, closestFault, foundReply, fromCard, queryFault, queryReply, cardReplyOf, attemptAnswer, openAnswer, learningReading, learningQuery, learningCard, learningClosest, ceilingOf, startNode, guarded, wellFormed, State as Read, step}
 use Rattle.qbf.specs.Demands.{AfterSearch, refusalOf}
 use Rattle.theory.proofs.AcceptedRule.{some-none}
 use Rattle.theory.proofs.Refusals.{refusals}
 use Rattle.theory.proofs.Demands.{demand-1, refusal-known, visits-under-ceiling}
 use Rattle.state.specs.declared.State.{State}
-use Rattle.state.specs.Reading.{readState}
-use Rattle.serving.specs.Serves.{Said, said, saidReply, saidOf, number, outOf, nextOf, Serves}
+use Rattle.serving.specs.Serves.{Said, said, saidReply, saidOf, number, outOf, nextOf, ServesBy}
 use Rattle.serving.specs.Demands.{formulaOf, zeroed, Refused, LeavesIfRefused, UnderCeiling}
 use Rattle.serving.proofs.Numbered.{said-refusal, said-visits}
 
@@ -32,11 +34,13 @@ refused-as c e = ap (λ (m : ℕ). refusal m c) e
 
 refusal-number : (c : Call) (k : ℕ) → refusalOf (refusal k c) ≡ some k
 refusal-number (rule ls) k = refl
-refusal-number (query top ls) k = refl
+refusal-number (query top on off) k = refl
 refusal-number (card top size) k = refl
 refusal-number forget k = refl
 refusal-number withdraw k = refl
 refusal-number (keepCard top size) k = refl
+refusal-number (one ls) k = refl
+refusal-number (closest top size on off) k = refl
 
 module _ (n : ℕ) where
   -- the reply to c is the refusal with n, if it is refused with n
@@ -46,13 +50,10 @@ module _ (n : ℕ) where
   as-malformed : (c : Call) → AsRefused c (refusal 22 c)
   as-malformed c e = refused-as c (same-number (sym (refusal-number c 22) ∙ e))
 
-  as-rule : (ls : List Literal) (o : Option ℕ) → AsRefused (rule ls) (ruleReply o)
-  as-rule ls none e = absurd (some-none (sym e))
-  as-rule ls (some k) e = refused-as (rule ls) (same-number e)
-
-  as-withdraw : (o : Option ℕ) → AsRefused withdraw (ruleReply o)
-  as-withdraw none e = absurd (some-none (sym e))
-  as-withdraw (some k) e = refused-as withdraw (same-number e)
+  -- a rule, an exactly-one form or a withdrawal, judged without a search
+  as-judged : (c : Call) → ((k : ℕ) → refused k ≡ refusal k c) → (o : Option ℕ) → AsRefused c (ruleReply o)
+  as-judged c is none e = absurd (some-none (sym e))
+  as-judged c is (some k) e = is k ∙ refused-as c (same-number e)
 
   module _ (y : Read) where
     abbrev b : Formula
@@ -64,16 +65,29 @@ module _ (n : ℕ) where
     as-attempt c over halt top tell each (finished w) e = each (outline (w .outcome)) e
     as-attempt c over halt top tell each (stopped st) e = halt e
 
-    as-query : (top : ℕ) (ls : List Literal) (o : Option ℕ) → AsRefused (query top ls) (learningQuery o b (y .store) top ls .out .reply)
-    as-query top ls none e =
-        as-attempt (query top ls) (refused 34) (λ q. refused-as (query top ls) (same-number q)) top queryReply verdict
-        (searchWithin (b .limits) (b .prefix) (b .clauses) top (bound (quantifiers (b .prefix))) (startNode ls (b .prefix)) (y .store)) e
-      where
-        verdict : (o : Outcome (Unit {0})) → AsRefused (query top ls) (queryReply o)
-        verdict (decided true u) q = absurd (some-none (sym q))
-        verdict (decided false u) q = absurd (some-none (sym q))
-        verdict (mixed ds) q = absurd (some-none (sym q))
-    as-query top ls (some k) e = refused-as (query top ls) (same-number e)
+    -- the query of a reading
+    module _ (top : ℕ) (on off : List Literal) where
+      abbrev asked : Call
+      asked = query top on off
+
+      ruled : (o : Outcome (Unit {0})) → AsRefused asked (queryReply o)
+      ruled (decided true u) e = absurd (some-none (sym e))
+      ruled (decided false u) e = absurd (some-none (sym e))
+      ruled (mixed ds) e = absurd (some-none (sym e))
+
+      as-open : (w : PlainResult) (fit : Bool) → AsRefused asked (openAnswer fit (y .store) top w .out .reply)
+      as-open w true e = ruled (w .outcome) e
+      as-open w false e = refused-as asked (same-number e)
+
+      as-reading : (os : Reading) (full : Bool) → AsRefused asked (learningReading full b (y .store) top on os .out .reply)
+      as-reading os true e =
+          as-attempt asked (refused 34) (λ q. refused-as asked (same-number q)) top queryReply ruled
+          (searchWithin (b .limits) (b .prefix) (b .clauses) top (bound (quantifiers (b .prefix))) (startNode on (b .prefix)) (y .store)) e
+      as-reading os false e = let w = openSearch (b .prefix) (b .clauses) os (quantifiers (b .prefix)) [] in as-open w (leb (w .visits) top) e
+
+      as-query : (o : Option ℕ) → AsRefused asked (learningQuery o b (y .store) top on off .out .reply)
+      as-query none e = as-reading (readingOf on off (b .prefix)) (isFull (readingOf on off (b .prefix))) e
+      as-query (some k) e = refused-as asked (same-number e)
 
     as-card : (p : Bool) (top size : ℕ) → AsRefused (cardOf p top size) (learningCard p b (y .store) top size .out .reply)
     as-card p top size e =
@@ -94,14 +108,39 @@ module _ (n : ℕ) where
             by true z = absurd (some-none (sym z))
             by false z = zeroed-card 21 p ∙ refused-as (cardOf p top size) (same-number z)
 
+    -- the closest reading, from the reply to its card
+    module _ (top size : ℕ) (on off : List Literal) where
+      abbrev near : Call
+      near = closest top size on off
+
+      as-found : (ls : List Node) (tb : List ℕ) (o : Option Found) → AsRefused near (foundReply size ls tb o)
+      as-found ls tb none e = refused-as near (same-number e)
+      as-found ls tb (some r) e = absurd (some-none (sym e))
+
+      as-from : (t : Node) (r : Reply) → AsRefused (card top size) r → AsRefused near (fromCard size t r)
+      as-from t done h e = h e
+      as-from t (refused k) h e = h e
+      as-from t swap h e = h e
+      as-from t keep h e = h e
+      as-from t unsettled h e = h e
+      as-from t (lines ls tb) h e = as-found ls tb (closestIn ls t) e
+      as-from t (cardRefused k tb) h e = h e
+      as-from t (found ls tb r) h e = h e
+
+      as-closest : (o : Option ℕ) → AsRefused near (learningClosest o b (y .store) top size on .out .reply)
+      as-closest none e = as-from (startNode on (b .prefix)) (learningCard true b (y .store) top size .out .reply) (as-card true top size) e
+      as-closest (some k) e = refused-as near (same-number e)
+
     as-guarded : (g : Bool) (c : Call) → AsRefused c (guarded g y c .out .reply)
     as-guarded false c e = as-malformed c e
-    as-guarded true (rule ls) e = as-rule ls (ruleFault b ls) e
-    as-guarded true (query top ls) e = as-query top ls (queryFault b [] ls) e
+    as-guarded true (rule ls) e = as-judged (rule ls) (λ k. refl) (ruleFault b ls) e
+    as-guarded true (query top on off) e = as-query top on off (queryFault b [] (on ++ off)) e
     as-guarded true (card top size) e = as-card true top size e
     as-guarded true forget e = absurd (some-none (sym e))
-    as-guarded true withdraw e = as-withdraw (withdrawFault b) e
+    as-guarded true withdraw e = as-judged withdraw (λ k. refl) (withdrawFault b) e
     as-guarded true (keepCard top size) e = as-card false top size e
+    as-guarded true (one ls) e = as-judged (one ls) (λ k. refl) (oneFault b ls) e
+    as-guarded true (closest top size on off) e = as-closest top size on off (closestFault b on off) e
 
   as-refused : (o : Option Read) (c : Call) → AsRefused c (outOf o c .reply)
   as-refused none c e = as-malformed c e
@@ -110,22 +149,26 @@ module _ (n : ℕ) where
 -- ---- what it says, and what it leaves
 pub refusal-said : (c : Call) (n k : ℕ) → saidReply (refusal n c) k ≡ said (some n) 0 0 k (zeroed c)
 refusal-said (rule ls) n k = refl
-refusal-said (query top ls) n k = refl
+refusal-said (query top on off) n k = refl
 refusal-said (card top size) n k = refl
 refusal-said forget n k = refl
 refusal-said withdraw n k = refl
 refusal-said (keepCard top size) n k = refl
+refusal-said (one ls) n k = refl
+refusal-said (closest top size on off) n k = refl
 
 known : (n : ℕ) (o : Option Read) (c : Call) → refusalOf (outOf o c .reply) ≡ some n → Mem n (refusals c)
 known n none c e = subst (λ (k : ℕ). Mem k (refusals c)) (same-number (sym (refusal-number c 22) ∙ e)) (first c)
   where
     first : (c : Call) → Mem 22 (refusals c)
     first (rule ls) = inl refl
-    first (query top ls) = inl refl
+    first (query top on off) = inl refl
     first (card top size) = inl refl
     first forget = inl refl
     first withdraw = inl refl
     first (keepCard top size) = inl refl
+    first (one ls) = inl refl
+    first (closest top size on off) = inl refl
 known n (some y) c e = refusal-known y c n e
 
 no-visits : (n : ℕ) (o : Option Read) (c : Call) → refusalOf (outOf o c .reply) ≡ some n → (AfterSearch n → ⊥) → outOf o c .visits ≡ 0
@@ -142,15 +185,15 @@ same-formula n none c e = refl
 same-formula n (some y) c e = ap some (demand-1 y c n e .formula)
 
 -- no more visits than the ceiling
-pub under-ceiling : (x : State) (c : Call) (a : Said) (x′ : State) → Serves x c a x′ → UnderCeiling x c a x′
-under-ceiling x c a x′ s n top = subst (λ (q : Said). q .visits ≤ n) (sym (s .answered)) (subst (λ (k : ℕ). k ≤ n) (sym (said-visits (outOf (readState x) c .reply) (outOf (readState x) c .visits))) (few (readState x)))
+pub under-ceiling : {read : State → Option Read} (x : State) (c : Call) (a : Said) (x′ : State) → ServesBy read x c a x′ → UnderCeiling x c a x′
+under-ceiling {read} x c a x′ s n top = subst (λ (q : Said). q .visits ≤ n) (sym (s .answered)) (subst (λ (k : ℕ). k ≤ n) (sym (said-visits (outOf (read x) c .reply) (outOf (read x) c .visits))) (few (read x)))
   where
     few : (o : Option Read) → outOf o c .visits ≤ n
     few none = zero-le
     few (some y) = visits-under-ceiling y c n top
 
-pub refused-leaves : (x : State) (c : Call) (a : Said) (x′ : State) → Serves x c a x′ → LeavesIfRefused x c a x′
-refused-leaves x c a x′ s n e =
+pub refused-leaves : {read : State → Option Read} (x : State) (c : Call) (a : Said) (x′ : State) → ServesBy read x c a x′ → LeavesIfRefused read x c a x′
+refused-leaves {read} x c a x′ s n e =
     record {
       known = known n o c r;
       answer = says ∙ ap (λ (k : ℕ). said (some n) 0 0 k (zeroed c)) (sym (ap (λ (q : Said). q .visits) says));
@@ -161,7 +204,7 @@ refused-leaves x c a x′ s n e =
     }
   where
     o : Option Read
-    o = readState x
+    o = read x
 
     out : Answer
     out = outOf o c

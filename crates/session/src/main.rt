@@ -1,8 +1,8 @@
 // The program `session`: a book on standard input, then one call to a line, each answered as soon as its line is read.
+use answer_text::ANSWER;
 use input::read_more;
 use output::print;
 use reader::call::TABLE;
-use serve::ANSWER;
 use session_turn::ROOM;
 use session_turn::turn;
 ghost use Prim.Native.Nat.{_<_};

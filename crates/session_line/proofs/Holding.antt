@@ -4,8 +4,9 @@ use mathlib.Core.Path.{_≡_, refl, sym, subst}
 use mathlib.Core.Bool.{Bool, true, false}
 use mathlib.Core.List.{List, [], _∷_}
 use mathlib.Core.Option.{Option, none, some}
-use Rattle.qbf.specs.Formula.{Formula, Literal}
-use Rattle.qbf.specs.Calls.{Call, rule, forget, withdraw, Reply, done, refused, swap, keep, lines, cardRefused, query, card, keepCard, State, Stepped, step, guarded, formulaOk, ruleFault, ruleReply, withRule, withdrawFault, withoutLast}
+use Rattle.qbf.specs.Formula.{Formula, Literal, Node}
+use Rattle.qbf.specs.Calls.{Call, rule, forget, withdraw, Reply, done, refused, swap, keep, unsettled, lines, cardRefused, found, query, card, keepCard, one, closest, State, Stepped, step, guarded, formulaOk, ruleFault, ruleReply, withRule, oneFault, withOne, closestFault, foundReply, fromCard, learningCard, learningClosest, startNode, withdrawFault, withoutLast}
+use Rattle.qbf.specs.Closest.{Found, closestIn}
 use Rattle.qbf.specs.Runs.{fresh}
 use Rattle.qbf.specs.Demands.{CardOwed}
 use Rattle.theory.proofs.Runs.{Reached, fresh-reached, reached-formed, call-ok}
@@ -20,6 +21,11 @@ rule-holds : (b : Formula) (ls : List Literal) (z : Option Card) → Holds b z �
 rule-holds b ls z h none = tt
 rule-holds b ls z h (some n) = h
 
+-- an exactly-one form likewise
+one-holds : (b : Formula) (ls : List Literal) (z : Option Card) → Holds b z → (o : Option ℕ) → Holds (withOne o b ls) (cardAfterRule (ruleReply o) z)
+one-holds b ls z h none = tt
+one-holds b ls z h (some n) = h
+
 -- and so does a withdrawal
 withdraw-holds : (b : Formula) (z : Option Card) → Holds b z → (o : Option ℕ) → Holds (withoutLast o b) (cardAfterRule (ruleReply o) z)
 withdraw-holds b z h none = tt
@@ -32,6 +38,23 @@ card-holds p b size done h = absurd h
 card-holds p b size (refused n) h = absurd h
 card-holds p b size swap h = absurd h
 card-holds p b size keep h = absurd h
+card-holds p b size unsettled h = absurd h
+card-holds p b size (found ls tb r) h = absurd h
+
+-- a closest reading leaves the card that it was found on
+closest-holds : (b : Formula) (size : ℕ) (t : Node) (r : Reply) → CardOwed true (b .prefix) (b .clauses) size r → Holds b (cardOf (b .prefix) (fromCard size t r))
+closest-holds b size t (lines ls tb) h = by (closestIn ls t)
+  where
+    by : (o : Option Found) → Holds b (cardOf (b .prefix) (foundReply size ls tb o))
+    by none = tt
+    by (some f) = record { verdict = true; size = size; them = ls; shown = h; lines = refl; free = refl }
+closest-holds b size t (cardRefused n tb) h = tt
+closest-holds b size t done h = absurd h
+closest-holds b size t (refused n) h = absurd h
+closest-holds b size t swap h = absurd h
+closest-holds b size t keep h = absurd h
+closest-holds b size t unsettled h = absurd h
+closest-holds b size t (found ls tb r) h = absurd h
 
 module _ (x : State) (reached : Reached x) (z : Option Card) (h : Holds (x .formula) z) where
   abbrev Kept : Call → Stepped → Type 0
@@ -45,13 +68,21 @@ module _ (x : State) (reached : Reached x) (z : Option Card) (h : Holds (x .form
 
   call-holds : (c : Call) → Kept c (step x c)
   call-holds (rule ls) = as-step (rule ls) (call-ok x reached (rule ls) .next, rule-holds (x .formula) ls z h (ruleFault (x .formula) ls))
-  call-holds (query top ls) = as-step (query top ls) (call-ok x reached (query top ls) .next, h)
+  call-holds (query top on off) = as-step (query top on off) (call-ok x reached (query top on off) .next, h)
   call-holds (card top size) =
       as-step (card top size)
       (call-ok x reached (card top size) .next, card-holds true (x .formula) size (guarded true x (card top size) .out .reply) (subst (λ (f : Call → Stepped). CardOwed true (x .formula .prefix) (x .formula .clauses) size (f (card top size) .out .reply)) stepped (card-owed x reached true top size)))
   call-holds (keepCard top size) =
       as-step (keepCard top size)
       (call-ok x reached (keepCard top size) .next, card-holds false (x .formula) size (guarded true x (keepCard top size) .out .reply) (subst (λ (f : Call → Stepped). CardOwed false (x .formula .prefix) (x .formula .clauses) size (f (keepCard top size) .out .reply)) stepped (card-owed x reached false top size)))
+  call-holds (one ls) = as-step (one ls) (call-ok x reached (one ls) .next, one-holds (x .formula) ls z h (oneFault (x .formula) ls))
+  call-holds (closest top size on off) = as-step (closest top size on off) (call-ok x reached (closest top size on off) .next, by (closestFault (x .formula) on off))
+    where
+      by : (o : Option ℕ) → Holds (x .formula) (cardOf (x .formula .prefix) (learningClosest o (x .formula) (x .store) top size on .out .reply))
+      by (some n) = tt
+      by none =
+          closest-holds (x .formula) size (startNode on (x .formula .prefix)) (learningCard true (x .formula) (x .store) top size .out .reply)
+          (subst (λ (f : Call → Stepped). CardOwed true (x .formula .prefix) (x .formula .clauses) size (f (card top size) .out .reply)) stepped (card-owed x reached true top size))
   call-holds forget = as-step forget (call-ok x reached forget .next, h)
   call-holds withdraw = as-step withdraw (call-ok x reached withdraw .next, withdraw-holds (x .formula) z h (withdrawFault (x .formula)))
 

@@ -18,10 +18,11 @@ use Rattle.sessions.specs.Session.{Request, write, page, callRequest, requestOf
 use Rattle.state.specs.declared.State.{State}
 use Rattle.writer.specs.Wrote.{Wrote}
 use Rattle.serve.specs.declared.Turn.{Turn}
-use Rattle.serve.specs.declared.shown.Shown.{Shown}
-use Rattle.serve.specs.Shown.{cardIn}
-use Rattle.serve.specs.Line.{Turned, WriteTurned, answerBytes, TooShort}
-use Rattle.serve.proofs.Room.{within}
+use Rattle.answer_text.specs.declared.shown.Shown.{Shown}
+use Rattle.answer_text.specs.Shown.{cardIn}
+use Rattle.answer_text.specs.Room.{answerBytes, TooShort}
+use Rattle.serve.specs.Line.{Turned, WriteTurned}
+use Rattle.answer_text.proofs.Room.{within}
 use Rattle.session_line.specs.declared.Spoken.{Spoken}
 use Rattle.session_line.specs.Line.{pageRows, PageTurned, RequestTurned, spokenTurn, ServesLine}
 

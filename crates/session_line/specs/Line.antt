@@ -13,9 +13,10 @@ use Rattle.sessions.specs.Session.{Request, call, write, page, requestOf, Card,
 use Rattle.state.specs.declared.State.{State}
 use Rattle.state.specs.Reading.{readState}
 use Rattle.serve.specs.declared.Turn.{Turn}
-use Rattle.serve.specs.declared.shown.Shown.{Shown}
-use Rattle.serve.specs.Shown.{cardIn}
-use Rattle.serve.specs.Line.{CallServed, lineCard, writeAnswer, answerBytes, TooShort}
+use Rattle.answer_text.specs.declared.shown.Shown.{Shown}
+use Rattle.answer_text.specs.Shown.{cardIn}
+use Rattle.answer_text.specs.Room.{answerBytes, TooShort}
+use Rattle.serve.specs.Line.{CallServed, lineCard, writeAnswer}
 use Rattle.session_line.specs.declared.Spoken.{Spoken}
 
 -- ---- a request: line n on the state x, with z the card answered last, was answered by t and left x′ and z′

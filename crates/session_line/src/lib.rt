@@ -1,15 +1,15 @@
 // One line of a session on a state by value: its request is read and served, and the answer written into a lent table. The lines of the card
 // answered last stay in a table of their own, from which `(page 1)` prints.
+use answer_text::ANSWER;
+use answer_text::shown::Shown;
 use book_writer::NONE;
 use book_writer::TEXT_TABLE_TOO_SHORT;
 use reader::call::TABLE;
 use reader::request::RequestLine;
 use reader::request::read_request;
 use rows::serve_page;
-use serve::ANSWER;
 use serve::Turn;
 use serve::call::serve_made;
-use serve::shown::Shown;
 use serve::write::serve_whole;
 use serve::write::serve_write;
 use state::State;
@@ -17,13 +17,13 @@ ghost use Prim.Native.Nat.{_≤_};
 ghost use lib.ListN.{length};
 ghost use Rattle.sessions.specs.Session.{requestOf};
 ghost use Rattle.reader.specs.Requests.{fromLine, RequestRead};
-ghost use Rattle.serve.specs.Line.{answerBytes};
+ghost use Rattle.answer_text.specs.Room.{answerBytes};
 ghost use Rattle.session_line.specs.Line.{RequestTurned, ServesLine};
 
 mod rows; // a page of the card answered last
 
 // The length of a text as `book_writer::Written` says, the next state, and the card answered last. A lent table of fewer bytes than
-// serve::ANSWER is too short, whatever the answer would need: it is zeroed.
+// answer_text::ANSWER is too short, whatever the answer would need: it is zeroed.
 #[repr(C)]
 pub struct Spoken {
     pub refusal: u16,
@@ -54,7 +54,7 @@ fn serve_request(
     }
 }
 
-// The line without its byte 10, and its number in the input. In a table of fewer than serve::ANSWER bytes nothing is served.
+// The line without its byte 10, and its number in the input. In a table of fewer than answer_text::ANSWER bytes nothing is served.
 pub fn serve_line(
     x: State,
     line: &[u8],

@@ -1,18 +1,18 @@
 // The line that asks for a page of the card answered last: its 24 rows, or 36.
+use answer_text::refusal::refuse;
+use answer_text::shown::NO_PAGE;
+use answer_text::shown::Shown;
 use page::lent::put_page;
 use reader::call::TABLE;
 use serve::Turn;
-use serve::refusal::refuse;
-use serve::shown::NO_PAGE;
-use serve::shown::Shown;
 use state::State;
 ghost use mathlib.Core.Path.{_≡_};
 ghost use Prim.Native.Nat.{_≤_, min};
 ghost use lib.ListN.{length};
 ghost use Rattle.sessions.specs.Session.{pageAnswer};
 ghost use Rattle.writer.specs.Wrote.{Wrote};
-ghost use Rattle.serve.specs.Line.{answerBytes};
-ghost use Rattle.serve.specs.Shown.{cardIn};
+ghost use Rattle.answer_text.specs.Room.{answerBytes};
+ghost use Rattle.answer_text.specs.Shown.{cardIn};
 ghost use Rattle.session_line.specs.Line.{PageTurned, pageRows};
 
 // How many bytes of the table a card has.

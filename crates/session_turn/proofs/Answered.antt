@@ -12,11 +12,12 @@ use Rattle.layout.specs.Words.{Bytes, newline}
 use Rattle.sessions.specs.Session.{requestOf, turnOf}
 use Rattle.reader.specs.Pieces.{Piece}
 use Rattle.state.specs.Reading.{readState}
-use Rattle.serve.specs.Shown.{cardIn}
+use Rattle.answer_text.specs.Shown.{cardIn}
 use Rattle.session_line.specs.declared.Spoken.{Spoken}
 use Rattle.session_line.specs.Line.{ServesLine}
 use Rattle.session_turn.specs.declared.Session.{Session}
-use Rattle.session_turn.specs.Turns.{Over, nextNumber, lineFrom, lineAt, LineAnswered, lastText, LineEnded, skips, Refilled, LineTurned}
+use Rattle.line_buffer.specs.Numbers.{nextNumber}
+use Rattle.session_turn.specs.Turns.{Over, lineFrom, lineAt, LineAnswered, lastText, LineEnded, skips, Refilled, LineTurned}
 use Rattle.session_turn.proofs.Served.{spoken-within, spoken-text, spoken-state, spoken-shown}
 
 -- ---- a whole line

@@ -18,11 +18,12 @@ use Rattle.opening.specs.declared.Opened.{Opened}
 use Rattle.opening.specs.Opened.{OpenedAs}
 use Rattle.edition_opening.proofs.Apart.{edition-apart}
 use Rattle.book_writer.specs.declared.Written.{Written}
-use Rattle.serve.specs.Books.{Prints}
-use Rattle.serve.specs.Shown.{noCard}
-use Rattle.serve.specs.declared.shown.Shown.{Shown}
+use Rattle.answer_text.specs.Books.{Prints}
+use Rattle.answer_text.specs.Shown.{noCard}
+use Rattle.answer_text.specs.declared.shown.Shown.{Shown}
 use Rattle.session_turn.specs.declared.Session.{Session}
-use Rattle.session_turn.specs.Turns.{Over, Ends, WaitsForBook, nextNumber, Behind, BookLeft, BookOpened, BookClosed, BookNotEnded, BookAt, BookTurned}
+use Rattle.line_buffer.specs.Numbers.{nextNumber}
+use Rattle.session_turn.specs.Turns.{Over, Ends, WaitsForBook, Behind, BookLeft, BookOpened, BookClosed, BookNotEnded, BookAt, BookTurned}
 
 pub refused-ends : {t d₀ d : Bytes} {v : Written} {r : Session} → Prints t d₀ v d → Over (v .length) r → Ends t d₀ r d
 refused-ends {t} {d₀} {d} {v} {r} w o =

@@ -1,4 +1,3 @@
-pub mod Moving
 pub mod Books
 pub mod Served
 pub mod Turns

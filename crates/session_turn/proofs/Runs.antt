@@ -17,9 +17,10 @@ use Rattle.feeding.specs.Lines.{Step, after, fed}
 use Rattle.feeding.specs.Sessions.{Held, book, calls, over, start, behind, onByte, atEnd, serveCall}
 use Rattle.feeding.proofs.Lines.{fed-append, lineSteps}
 use Rattle.feeding.proofs.Sessions.{fed-over, fed-calls, fed-book, whole, by-steps}
-use Rattle.serve.specs.Shown.{cardIn}
+use Rattle.answer_text.specs.Shown.{cardIn}
 use Rattle.session_turn.specs.declared.Session.{Session}
-use Rattle.session_turn.specs.Turns.{lastNumber, started, partIn, callsIn, Shows, Quiet, unused, feed, Ready, Went, Finished, hasEnded, Turned}
+use Rattle.line_buffer.specs.Numbers.{lastNumber}
+use Rattle.session_turn.specs.Turns.{started, partIn, callsIn, Shows, Quiet, unused, feed, Ready, Went, Finished, hasEnded, Turned}
 use Rattle.session_turn.specs.Runs.{Reading, Round, Ran}
 use Rattle.session_turn.proofs.Books.{all-book}
 use Rattle.session_turn.proofs.Turns.{true-false, shows-over, shows-book, as-over, as-book, as-calls}

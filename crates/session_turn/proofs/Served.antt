@@ -9,9 +9,9 @@ use Rattle.layout.specs.Words.{Bytes, inside}
 use Rattle.sessions.specs.Session.{requestOf, turnOf}
 use Rattle.state.specs.declared.State.{State}
 use Rattle.state.specs.Reading.{readState}
-use Rattle.serve.specs.declared.shown.Shown.{Shown}
-use Rattle.serve.specs.Shown.{cardIn}
-use Rattle.serve.specs.Line.{answerBytes}
+use Rattle.answer_text.specs.declared.shown.Shown.{Shown}
+use Rattle.answer_text.specs.Shown.{cardIn}
+use Rattle.answer_text.specs.Room.{answerBytes}
 use Rattle.session_line.specs.declared.Spoken.{Spoken}
 use Rattle.session_line.specs.Line.{ServesLine}
 use Rattle.session_line.proofs.Session.{text-is, next-is, card-is}

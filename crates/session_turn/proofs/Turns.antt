@@ -29,10 +29,11 @@ use Rattle.reader.specs.Books.{lineCount, BookEnd}
 use Rattle.reader.specs.Pieces.{piecesFrom, Piece}
 use Rattle.reader.proofs.Texts.{pieces-at}
 use Rattle.state.specs.Reading.{readState}
-use Rattle.serve.specs.Shown.{cardIn, noCard}
-use Rattle.serve.specs.Line.{answerBytes}
+use Rattle.answer_text.specs.Shown.{cardIn, noCard}
+use Rattle.answer_text.specs.Room.{answerBytes}
 use Rattle.session_turn.specs.declared.Session.{Session}
-use Rattle.session_turn.specs.Turns.{lastNumber, Over, Ends, WaitsForBook, Calling, nextNumber, Behind, BookLeft, BookAt, BookTurned, Served, lineFrom, lineAt, LineAnswered, lastText, LineEnded, skips, Refilled, LineTurned, partIn, callsIn, ShowsAs, Shows, Quiet, unused, feed, Ready, Kept, Went, Finished, hasEnded, Turned}
+use Rattle.line_buffer.specs.Numbers.{lastNumber, nextNumber}
+use Rattle.session_turn.specs.Turns.{Over, Ends, WaitsForBook, Calling, Behind, BookLeft, BookAt, BookTurned, Served, lineFrom, lineAt, LineAnswered, lastText, LineEnded, skips, Refilled, LineTurned, partIn, callsIn, ShowsAs, Shows, Quiet, unused, feed, Ready, Kept, Went, Finished, hasEnded, Turned}
 use Rattle.session_turn.proofs.Books.{all-book, count-book, count-few}
 use Rattle.session_turn.proofs.Served.{no-request}
 

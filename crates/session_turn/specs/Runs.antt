@@ -5,7 +5,7 @@ use mathlib.Core.Bool.{true, false}
 use mathlib.Core.List.{List, [], _∷_, _++_}
 use lib.ListN.{length, take, drop}
 use Rattle.layout.specs.Words.{Bytes}
-use Rattle.serve.specs.Line.{answerBytes}
+use Rattle.answer_text.specs.Room.{answerBytes}
 use Rattle.session_turn.specs.declared.Session.{Session}
 use Rattle.session_turn.specs.Turns.{Turned}
 

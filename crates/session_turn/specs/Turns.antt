@@ -20,13 +20,10 @@ use Rattle.feeding.specs.Sessions.{Left, Held, book, calls, over, start, unende
 use Rattle.reader.specs.Books.{lineCount, BookEnd}
 use Rattle.reader.specs.Pieces.{Piece}
 use Rattle.state.specs.Reading.{readState}
-use Rattle.serve.specs.Shown.{cardIn, noCard}
-use Rattle.serve.specs.Line.{answerBytes}
+use Rattle.answer_text.specs.Shown.{cardIn, noCard}
+use Rattle.answer_text.specs.Room.{answerBytes}
+use Rattle.line_buffer.specs.Numbers.{lastNumber, nextNumber}
 use Rattle.session_turn.specs.declared.Session.{Session}
-
--- a line's number has 64 bits
-abbrev pub lastNumber : ℕ
-lastNumber = 18446744073709551615
 
 -- ---- what is printed stands at the start of the table d, where that was large enough
 abbrev pub Printed : Bytes → Bytes → ℕ → Bytes → Type 0
@@ -67,9 +64,6 @@ pub record Calling (i k n : ℕ) (long wait : Bool) (r : Session) : Type 0 where
   pub at : r .at ≡ i
   pub held : r .held ≡ k
   pub number : r .number ≡ n
-
-abbrev pub nextNumber : ℕ → ℕ
-nextNumber n = min (n + 1) lastNumber
 
 pub record Behind (b : Read) (n end held : ℕ) (r : Session) : Type 0 where
   pub calling : Calling end held (nextNumber n) false false r

@@ -1,13 +1,13 @@
 // The book at the start of the input.
 use crate::Session;
-use crate::input::next_number;
 use crate::over;
+use answer_text::book::print_refusal;
+use answer_text::shown::no_card;
 use edition_opening::Editions;
 use edition_opening::open_editions;
+use line_buffer::next_number;
 use reader::text::book_end;
 use reader::text::line_count;
-use serve::book::print_refusal;
-use serve::shown::no_card;
 ghost use Prim.Native.Nat.{_≤_};
 ghost use lib.ListN.{length};
 ghost use Rattle.layout.specs.Output.{refusalText};

@@ -1,18 +1,16 @@
 // The program `session` without its reads and writes: a turn on a lent buffer takes one line of what was read, or the book, says what is to be
 // printed, and whether more has to be read first.
+use answer_text::shown::Shown;
+use answer_text::shown::no_card;
 use book::book_turn;
+use line_buffer::has_ended;
+use line_buffer::is_last;
 use lines::line_turn;
 use reader::call::TABLE;
-use serve::shown::Shown;
-use serve::shown::no_card;
 use state::State;
-ghost use mathlib.Core.Path.{_≡_};
-ghost use mathlib.Core.Bool.{_&&_, _||_};
-ghost use lib.Dec.{eqb};
 ghost use Rattle.session_turn.specs.Turns.{Turned, Over, started};
 
 mod book; // the book
-mod input; // the buffer
 mod lines; // the lines behind it
 
 // text[at..held] has been read and is not used yet; where the program waits, more is to be read behind it. A line that is too long is skipped to
@@ -71,26 +69,6 @@ fn over(length: usize) -> Session
         state: none,
         shown: card,
     }
-}
-
-// A read that was asked for gave nothing.
-fn has_ended(waits: bool, got: usize) -> bool
-    ensures { λ r. ⌜ r ≡ (waits && eqb got 0) ⌝ }
-{
-    if waits {
-        return got == 0;
-    }
-    false
-}
-
-// No more can be read behind what is held.
-fn is_last(ended: bool, held: usize, room: usize) -> bool
-    ensures { λ r. ⌜ r ≡ (ended || eqb held room) ⌝ }
-{
-    if ended {
-        return true;
-    }
-    held == room
 }
 
 // Where the program waited, `got` bytes were read behind what it held, and none where the input has ended. A turn on a buffer that is not the

@@ -1,27 +1,18 @@
 // The calls behind the book, one to a line.
 use crate::Session;
-use crate::input::next_number;
-use crate::input::to_front;
 use crate::over;
+use line_buffer::is_skipped;
+use line_buffer::is_unended;
+use line_buffer::kept_bytes;
+use line_buffer::line_start;
+use line_buffer::next_number;
+use line_buffer::to_front;
 use reader::call::TABLE;
 use reader::text::line_end;
 use session_line::serve_line;
-ghost use mathlib.Core.Path.{_≡_};
-ghost use mathlib.Core.Bool.{cond, true, _||_};
 ghost use Prim.Native.Nat.{_≤_, _<_};
 ghost use lib.ListN.{length};
-ghost use lib.Dec.{eqb, ltb};
 ghost use Rattle.session_turn.specs.Turns.{LineAnswered, LineEnded, Refilled, LineTurned};
-
-// A line that is too long is no call, as an empty one is none.
-fn line_start(skipping: bool, at: usize, end: usize) -> usize
-    ensures { λ r. ⌜ r ≡ cond skipping end at ⌝ }
-{
-    if skipping {
-        return end;
-    }
-    at
-}
 
 // The line that ends at `end`.
 fn answer_line(
@@ -57,15 +48,6 @@ fn answer_line(
     }
 }
 
-fn is_unended(skipping: bool, at: usize, held: usize) -> bool
-    ensures { λ r. ⌜ r ≡ (skipping || ltb at held) ⌝ }
-{
-    if skipping {
-        return true;
-    }
-    at < held
-}
-
 // The input has ended: a last line that is not ended is no call, as an empty one is none.
 fn last_line(s: Session, held: usize, cards: &mut [u8; TABLE], answer: &mut [u8]) -> Session
     ensures { λ r. ⌜
@@ -79,25 +61,6 @@ fn last_line(s: Session, held: usize, cards: &mut [u8; TABLE], answer: &mut [u8]
         return over(spoken.length);
     }
     over(0)
-}
-
-// A line that fills the buffer is too long.
-fn is_skipped(skipping: bool, left: usize, room: usize) -> bool
-    ensures { λ r. ⌜ r ≡ cond skipping true (eqb left room) ⌝ }
-{
-    if skipping {
-        return true;
-    }
-    left == room
-}
-
-fn kept_bytes(skipping: bool, left: usize) -> usize
-    ensures { λ r. ⌜ r ≡ cond skipping 0 left ⌝ }
-{
-    if skipping {
-        return 0;
-    }
-    left
 }
 
 // No whole line is held: what there is goes to the front, or is skipped where it fills the buffer.

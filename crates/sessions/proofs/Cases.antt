@@ -50,13 +50,20 @@ rows =
     -- a ceiling stops the search before the visit that would exceed it, and the store is kept; exactly the needed visits are finished
     ∷ row "(card (ceiling 10))\n(card 4 (ceiling 9))\n(keep-card 3 (ceiling 9))\n(keep-card (ceiling 8))\n"
     "(refused 34 9 (visits 10))\n(card 1)\n(line (no 1) 2)\n(line 1 2)\n(visits 9)\n(end)\n(refused 21 11 (visits 9))\n(refused 34 12 (visits 8))\n"
-    ∷ row "(query 1 (ceiling 2))\n(query 2 (ceiling 0))\n(query 3 (ceiling 0))\n(query 2 (ceiling 4294967295))\n(query 2 (ceiling 1))\n" "(refused 34 9 (visits 2))\n(refused 34 10 (visits 0))\n(refused 8 11)\n(swap (visits 1))\n(swap (visits 1))\n"
+    ∷ row "(query 1 (no 2) (ceiling 2))\n(query (no 1) 2 (ceiling 0))\n(query 3 (ceiling 0))\n(query (no 1) 2 (ceiling 4294967295))\n(query 2 (no 1) (ceiling 1))\n" "(refused 34 9 (visits 2))\n(refused 34 10 (visits 0))\n(refused 8 11)\n(swap (visits 1))\n(swap (visits 1))\n"
+    -- a flag that is not named is open: such a query does not touch the store, so a full reading between two of them is learned from as before
+    ∷ row "(query 2)\n(query (no 2))\n(query)\n(query 1)\n(query (no 1))\n(query 1 (no 2))\n(query)\n(query (no 2) 1)\n"
+    "(swap (visits 7))\n(keep (visits 7))\n(unsettled (visits 11))\n(unsettled (visits 8))\n(unsettled (visits 4))\n(keep (visits 3))\n(unsettled (visits 11))\n(keep (visits 1))\n"
+    ∷ row "(query (ceiling 10))\n(query (ceiling 11))\n" "(refused 34 9 (visits 10))\n(unsettled (visits 11))\n"
     -- what is no ceiling, or a ceiling that is not the last item, and calls that have none
     ∷ row "(card (ceiling 4294967296))\n(card (ceiling 01))\n(card (ceiling 4) 4)\n(card (ceiling))\n(card (ceiling 1) (ceiling 1))\n" "(refused 1 9)\n(refused 1 10)\n(refused 1 11)\n(refused 1 12)\n(refused 1 13)\n"
     ∷ row "(rule 1 (ceiling 4))\n(forget (ceiling 4))\n(write (ceiling 4))\n(page (ceiling 1))\n(ceiling 4)\n(card (ceiling 4 5))\n(card (ceiling 10000000000))\n" "(refused 1 9)\n(refused 1 10)\n(refused 1 11)\n(refused 1 12)\n(refused 1 13)\n(refused 1 14)\n(refused 1 15)\n"
     ∷ row "(rule 1 (no 2))\n(rule)\n(rule 1 41)\n(rule 1 5)\n(rule (no 1) 1)\n" "(accepted)\n(refused 7 10)\n(refused 3 11)\n(refused 5 12)\n(refused 6 13)\n"
+    -- an exactly-one form is accepted as a whole, or not at all; the withdrawal takes its last rule
+    ∷ row "(one 1 2)\n(query 1 2)\n(withdraw)\n(query 1 2)\n(one)\n(one 1)\n(one 1 5)\n(one 1 (ceiling 3))\n(one )\n"
+    "(accepted)\n(keep (visits 1))\n(withdrawn)\n(swap (visits 3))\n(refused 7 13)\n(refused 7 14)\n(refused 5 15)\n(refused 1 16)\n(refused 1 17)\n"
     ∷ row "(withdraw 1)\n(withdraw)\n(withdraw)\n(withdraw)\n(withdraw)\n(card 2)\n" "(refused 1 9)\n(withdrawn)\n(withdrawn)\n(withdrawn)\n(refused 32 13)\n(card 1)\n(line)\n(visits 1)\n(end)\n"
-    ∷ row "(query 3)\n(query 1 1)\n(query 0)\n(query 99999)\n(query (no 1))\n" "(refused 8 9)\n(refused 8 10)\n(refused 8 11)\n(refused 8 12)\n(refused 1 13)\n"
+    ∷ row "(query 3)\n(query 1 1)\n(query 0)\n(query 99999)\n(query 2 (no 1) (no 2))\n(query (no 3))\n(query (no))\n" "(refused 8 9)\n(refused 8 10)\n(refused 8 11)\n(refused 8 12)\n(refused 8 13)\n(refused 8 14)\n(refused 1 15)\n"
     ∷ row "\n(card 65537)\n(card 04)\n(card 1 2)\n(forget 1)\n(end)\n(forget)" "(refused 1 9)\n(refused 1 10)\n(refused 1 11)\n(refused 1 12)\n(refused 1 13)\n(refused 1 14)\n(refused 1 15)\n"
     ∷ row "(write)\n(write 101)\n(write 100)\n"
     "(book 1)\n(flags 1 2)\n(exists 3)\n(forall 4)\n(rule (no 1) 3 4)\n(rule 2 (no 3) (no 4))\n(rule 1 2)\n(end)\n(book 1)\n(flags 1 2)\n(exists 3)\n(forall 4)\n(rule (no 1) 3 4)\n(rule 2 (no 3) (no 4))\n(rule 1 2)\n(end)\n(refused 31 11)\n"
@@ -113,12 +120,14 @@ pages =
     (ascii "(refused 36 9)\n" ++ (ascii cardA ++ (pageA ++ ascii "(refused 36 12)\n(refused 36 13)\n(refused 36 14)\n")))
     -- calls that change no rule leave it
     ∷ paged "(card)\n(rule 5)\n(query 3)\n(query 2)\n(forget)\n(write 0)\n(card 65537)\n(page 1)\n(page 1)\n"
-    (ascii cardA ++ (ascii "(refused 5 10)\n(refused 8 11)\n(swap (visits 1))\n(forgotten)\n(refused 31 14)\n(refused 1 15)\n" ++ (pageA ++ pageA)))
+    (ascii cardA ++ (ascii "(refused 5 10)\n(refused 8 11)\n(swap (visits 7))\n(forgotten)\n(refused 31 14)\n(refused 1 15)\n" ++ (pageA ++ pageA)))
     -- a keep card has its pages too
     ∷ paged "(card)\n(keep-card)\n(page 1)\n" (ascii cardA ++ (ascii "(keep-card 1)\n(line (no 1) (no 2))\n(line 1 (no 2))\n(visits 9)\n(end)\n" ++ pageKeepA))
     -- an accepted rule does not
     ∷ paged "(card)\n(rule 1)\n(page 1)\n(card)\n(page 1)\n"
     (ascii cardA ++ (ascii "(accepted)\n(refused 36 11)\n(card 1)\n(line 1 2)\n(visits 7)\n(end)\n" ++ pageA1))
+    -- nor does an accepted exactly-one form; a refused one leaves it
+    ∷ paged "(card)\n(one 1)\n(page 1)\n(one 1 2)\n(page 1)\n" (ascii cardA ++ (ascii "(refused 7 10)\n" ++ (pageA ++ ascii "(accepted)\n(refused 36 13)\n")))
     -- nor does a withdrawal
     ∷ paged "(card)\n(withdraw)\n(page 1)\n" (ascii cardA ++ ascii "(withdrawn)\n(refused 36 11)\n")
     -- nor does a refused card

@@ -7,7 +7,7 @@ use lib.ListN.{length, take}
 use lib.Dec.{ltb}
 use Rattle.qbf.specs.Formula.{Limits, Prefix, Literal, numberOf}
 use Rattle.qbf.specs.Truth.{freeVariables}
-use Rattle.qbf.specs.Calls.{Call, rule, query, card, forget, withdraw, Reply, done, refused, swap, keep, lines, cardRefused, State, step, keepCard}
+use Rattle.qbf.specs.Calls.{Call, rule, query, card, forget, withdraw, one, closest, Reply, done, refused, swap, keep, unsettled, lines, cardRefused, found, State, step, keepCard}
 use Rattle.qbf.specs.Runs.{fresh}
 use Rattle.layout.specs.Words.{Bytes, ascii, newline, space, split, same, inside, joined}
 use Rattle.layout.specs.Forms.{then, items}
@@ -20,7 +20,7 @@ use Rattle.booktext.specs.Books.{Written, written, writeRefused, writeCall, tex
 
 -- ---- the request of a line
 -- a call; or writing the book into a table of so many bytes, or of as many as every text under the book's limits needs; or a page of the
--- card or keep card answered last
+-- card, keep card or closest call answered last
 pub data Request : Type 0 where
   call : Call → Request
   write : Option ℕ → Request
@@ -73,7 +73,7 @@ pub record Card : Type 0 where
   pub lines : ℕ
   pub free : ℕ
 
--- the card of a reply; the other replies are no card's
+-- the card of a reply, or that from which a closest reading was found; the other replies have none
 abbrev pub cardOf : Prefix → Reply → Option Card
 cardOf D (lines ls tb) = some (record { table = tb; lines = length ls; free = freeVariables D })
 cardOf D (cardRefused n tb) = none
@@ -81,8 +81,10 @@ cardOf D done = none
 cardOf D (refused n) = none
 cardOf D swap = none
 cardOf D keep = none
+cardOf D unsettled = none
+cardOf D (found ls tb r) = some (record { table = tb; lines = length ls; free = freeVariables D })
 
--- "a page never shows lines that no longer hold": a rule that is accepted or withdrawn leaves no card, a call that is refused leaves what there was
+-- "a page never shows lines that no longer hold": a rule or exactly-one form that is accepted and a rule that is withdrawn leave no card, a call that is refused leaves what there was
 abbrev pub cardAfterRule : Reply → Option Card → Option Card
 cardAfterRule done z = none
 cardAfterRule (refused n) z = z
@@ -90,15 +92,19 @@ cardAfterRule (cardRefused n tb) z = z
 cardAfterRule (lines ls tb) z = z
 cardAfterRule swap z = z
 cardAfterRule keep z = z
+cardAfterRule unsettled z = z
+cardAfterRule (found ls tb r) z = z
 
 -- the card answered last, after a call: "36 also where no card has been answered yet, the last one was refused, or a rule .. was accepted or a rule withdrawn since"
 abbrev pub cardAfter : Prefix → Call → Reply → Option Card → Option Card
 cardAfter D (rule ls) r z = cardAfterRule r z
-cardAfter D (query n ls) r z = z
+cardAfter D (query n on off) r z = z
 cardAfter D (card n size) r z = cardOf D r
 cardAfter D (keepCard n size) r z = cardOf D r
 cardAfter D forget r z = z
 cardAfter D withdraw r z = cardAfterRule r z
+cardAfter D (one ls) r z = cardAfterRule r z
+cardAfter D (closest n size on off) r z = cardOf D r
 
 -- its page, 24 rows, or 36
 abbrev pub pageAnswer : Option Card → ℕ → ℕ → Bytes

@@ -9,11 +9,15 @@ use mathlib.Core.List.{List, _∷_}
 use lib.ListN.{length, getD, set, drop, length-set, length-map, List·getD-eq-default, drop-of-length-le}
 use lib.Seq.{drop-cons, getD-set-same, getD-set-other}
 use lib.IntN.{pos}
+use mathlib.Core.Bool.{true}
 use borrow.Author.Count.{below-more}
-use Rattle.qbf.specs.Formula.{Quantifier, free, exists, forall, Prefix, quantifiers, quantifierAt, placeOf}
+use borrow.Author.Tests.{le-leb}
+use Rattle.qbf.specs.Formula.{mostFree, Quantifier, free, exists, forall, Prefix, quantifiers, quantifierAt, placeOf}
 use Rattle.qbf.specs.Truth.{freeCount, freeVariables}
+use Rattle.qbf.specs.Calls.{freeOk}
 use Rattle.theory.proofs.Basics.{le-or-lt}
 use Rattle.theory.proofs.WellFormed.{inside}
+use Rattle.theory.proofs.Starting.{free-fit}
 use Rattle.tables.specs.Views.{quantifierCode, Numbers, Places, Kinds}
 use Rattle.state.specs.Derived.{Quantified, codeFor}
 
@@ -108,3 +112,7 @@ module _ {ns ls ks : List ℕ} {count i : ℕ} (w : Freed ns ls ks count i) wher
               ap freeCount (next D shown) ∙ free-counts (quantifierAt D (suc i)) (drop (suc i) (quantifiers D)) (sym (code D shown kinds) ∙ z) in
               omega (arith, w .judged D shown kinds, e);
         })
+
+-- no more free variables than variables
+pub few-free : (D : Prefix) (ns : List ℕ) → Numbers D ns → {c : ℕ} → c ≡ getD ns 0 0 → c ≤ mostFree → true ≡ freeOk D
+few-free D ns h {c} e k = sym (le-leb (freeVariables D) mostFree (omega (arith, k, e, h .count, kinds-long D, free-fit (quantifiers D))))

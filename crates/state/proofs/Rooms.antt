@@ -10,10 +10,11 @@ use lib.ListN.{length}
 use lib.Dec.{leb}
 use lib.IntN.{ℤ}
 use borrow.Author.Tests.{le-leb, lt-leb, leb-true}
-use Rattle.qbf.specs.Formula.{Limits, paper}
+use Rattle.qbf.specs.Formula.{Limits, paper, highest}
+use Rattle.qbf.specs.Calls.{limitsOk}
 use Rattle.theory.proofs.Basics.{and-left, and-right, and-both, le-or-lt}
 use Rattle.state.specs.declared.State.{State}
-use Rattle.state.specs.Reading.{prefixRoomy, rowsRoomy, roomy}
+use Rattle.state.specs.Reading.{prefixRoomy, rowsRoomy, own, roomy}
 use Rattle.state.specs.Derived.{Sized, Roomy}
 
 -- ---- as it is tested: without the product, which may be too large for a number
@@ -129,3 +130,11 @@ sized-room s =
       learned-cubes-room = omega (arith, s .learned-cubes-room);
       learned-cube-sizes-room = omega (arith, s .learned-cube-sizes-room);
     }
+
+-- ---- limits: as they are tested
+module _ (n m : ℕ) where
+  pub high-numbers : highest .numbers < n → limitsOk (own n m) ≡ false
+  high-numbers h = ap (λ (q : Bool). q && leb m (highest .clauses)) (lt-leb n (highest .numbers) h)
+
+  pub low-numbers : n ≤ highest .numbers → limitsOk (own n m) ≡ leb m (highest .clauses)
+  low-numbers h = ap (λ (q : Bool). q && leb m (highest .clauses)) (le-leb n (highest .numbers) h)

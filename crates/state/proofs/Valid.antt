@@ -9,12 +9,11 @@ use lib.ListN.{length, getD}
 use lib.Dec.{leb, eqb}
 use lib.IntN.{ℤ}
 use borrow.Author.Tests.{le-leb, leb-true}
-use Rattle.qbf.specs.Formula.{Limits, paper, highest, mostFree, free, Prefix, Clause, quantifiers, quantifierAt, all}
+use Rattle.qbf.specs.Formula.{Limits, paper, free, Prefix, Clause, quantifiers, quantifierAt, all}
 use Rattle.qbf.specs.Learning.{Constraint}
-use Rattle.qbf.specs.Calls.{wellFormed, formulaOk, prefixOk, numbersOk, freeFirst, clauseOk, clausesOk, constraintOk, storeOk, recordsOk}
+use Rattle.qbf.specs.Calls.{wellFormed, formulaOk, limitsOk, freeOk, prefixOk, numbersOk, freeFirst, clauseOk, clausesOk, constraintOk, storeOk, recordsOk}
 use Rattle.theory.proofs.Basics.{and-left, and-right, and-both, true-eqb}
 use Rattle.theory.proofs.WellFormed.{facts-formula, formula-facts}
-use Rattle.theory.proofs.Widths.{free-fits}
 use Rattle.tables.specs.Views.{quantifierCode, Numbers, Places, Kinds, Table, rowsOf}
 use Rattle.tables.proofs.Laws.{rows-length}
 use Rattle.state.specs.declared.State.{State}
@@ -201,6 +200,8 @@ module _ (n m : ℕ) (x : State) where
           ∙ sym (rows-length n (x .«learned_clauses») (x .«learned_clause_sizes») (getD (x .«learned_clause_sizes») 0 0))
 
   pub record Parts : Type 0 where
+    pub limits-ok : limitsOk L ≡ true
+    pub free-ok : freeOk D ≡ true
     pub numbers-ok : numbersPart ≡ true
     pub levels-ok : levelsPart ≡ true
     pub clauses-ok : clausesPart ≡ true
@@ -211,9 +212,8 @@ module _ (n m : ℕ) (x : State) where
   counted : (w most : ℕ) (flat : List ℤ) (sizes : List ℕ) → rowsFit w most sizes ≡ true → leb (length (rowsOf w flat sizes)) most ≡ true
   counted w most flat sizes e = ap (λ (i : ℕ). leb i most) (rows-length w flat sizes (getD sizes 0 0)) ∙ and-left (leb (getD sizes 0 0) most) (atMost w (entries sizes)) e
 
-  -- so few numbers that there can be no more free variables than there may be
-  pub parts-valid : n ≤ mostFree → m ≤ highest .clauses → Parts → validUnder L x ≡ true
-  parts-valid few-numbers few-clauses q = under-facts h i j k (and-both (formulaOk (stateUnder L x .formula)) (storeOk L D (storeUnder L x) && recordsOk (length R) (storeUnder L x)) formula
+  pub parts-valid : Parts → validUnder L x ≡ true
+  parts-valid q = under-facts h i j k (and-both (formulaOk (stateUnder L x .formula)) (storeOk L D (storeUnder L x) && recordsOk (length R) (storeUnder L x)) formula
       (and-both (storeOk L D (storeUnder L x)) (recordsOk (length R) (storeUnder L x)) store (recorded ∙ q .records-ok)))
     where
       h : p ≡ true
@@ -239,12 +239,7 @@ module _ (n m : ℕ) (x : State) where
       formula : formulaOk (stateUnder L x .formula) ≡ true
       formula =
           facts-formula (stateUnder L x .formula)
-          (record {
-            limits-ok = and-both (leb n (highest .numbers)) (leb m (highest .clauses)) (le-leb n (highest .numbers) (omega (arith, few-numbers))) (le-leb m (highest .clauses) few-clauses);
-            free-ok = free-fits L few-numbers D (and-left (numbersOk L [] D) (freeFirst (quantifiers D)) prefix);
-            prefix-ok = prefix;
-            clauses-ok = clauses;
-          })
+          (record { limits-ok = q .limits-ok; free-ok = q .free-ok; prefix-ok = prefix; clauses-ok = clauses })
 
       store : storeOk L D (stateUnder L x .store) ≡ true
       store =
@@ -261,6 +256,8 @@ module _ (n m : ℕ) (x : State) where
   pub valid-parts : validUnder L x ≡ true → Parts
   valid-parts e =
       record {
+        limits-ok = formula-facts (stateUnder L x .formula) formula .limits-ok;
+        free-ok = formula-facts (stateUnder L x .formula) formula .free-ok;
         numbers-ok = and-both (leb (length D) n) (numbersOk L [] D) few (and-left (numbersOk L [] D) (freeFirst (quantifiers D)) prefix);
         levels-ok = and-both p (freeFirst (quantifiers D)) (f .prefix-fits) (and-right (numbersOk L [] D) (freeFirst (quantifiers D)) prefix);
         clauses-ok = and-both a (all (clauseOk paper D) R) (f .clauses-fit) (and-right (leb (length R) m) (all (clauseOk paper D) R) (formula-facts (stateUnder L x .formula) formula .clauses-ok));
@@ -298,9 +295,9 @@ module _ (n m : ℕ) (x : State) where
   abbrev rowsPart : Bool
   rowsPart = rowsFine n m D x
 
-  -- the answer is the rows' where the prefix is well formed
-  rows-valid : n ≤ mostFree → m ≤ highest .clauses → (numbersPart && levelsPart) ≡ true → {r : Bool} → r ≡ rowsPart → r ≡ validUnder L x
-  rows-valid few-numbers few-clauses h {r} s =
+  -- the answer is the rows' where limits and prefix are well formed
+  rows-valid : limitsOk L ≡ true → freeOk D ≡ true → (numbersPart && levelsPart) ≡ true → {r : Bool} → r ≡ rowsPart → r ≡ validUnder L x
+  rows-valid low few h {r} s =
       alike r (validUnder L x)
       (λ v.
       s
@@ -310,8 +307,10 @@ module _ (n m : ℕ) (x : State) where
       (λ e.
       let w : (clausesPart && learnedClausesPart && learnedCubesPart) ≡ true = and-left (clausesPart && learnedClausesPart && learnedCubesPart) recordsPart (sym s ∙ e) in
       let g : (clausesPart && learnedClausesPart) ≡ true = and-left (clausesPart && learnedClausesPart) learnedCubesPart w in
-      parts-valid few-numbers few-clauses
+      parts-valid
       (record {
+        limits-ok = low;
+        free-ok = few;
         numbers-ok = and-left numbersPart levelsPart h;
         levels-ok = and-right numbersPart levelsPart h;
         clauses-ok = and-left clausesPart learnedClausesPart g;
@@ -319,6 +318,19 @@ module _ (n m : ℕ) (x : State) where
         learned-cubes-ok = and-right (clausesPart && learnedClausesPart) learnedCubesPart w;
         records-ok = and-right (clausesPart && learnedClausesPart && learnedCubesPart) recordsPart (sym s ∙ e);
       }))
+
+  -- where the limits are too high
+  pub checked-high : limitsOk L ≡ false → (places kinds : List ℕ) → CheckedUnder L x false places kinds
+  checked-high e places kinds =
+      record {
+        said = both (roomy L x) (validUnder L x) (alike false (validUnder L x) (λ v. sym e ∙ valid-parts v .limits-ok) (λ t. absurd (false≢true t)));
+        placed = λ q. absurd (false≢true q);
+        kinded = λ q. absurd (false≢true q);
+      }
+    where
+      both : (q v : Bool) → false ≡ v → false ≡ (q && v)
+      both true v h = h
+      both false v h = refl
 
   -- where a table is too short
   pub checked-short : roomy L x ≡ false → (places kinds : List ℕ) → CheckedUnder L x false places kinds
@@ -341,8 +353,16 @@ module _ (n m : ℕ) (x : State) where
     pub checked-bad : ok ≡ false → CheckedUnder L x false places kinds
     checked-bad e = checked (sym e ∙ alike ok (validUnder L x) valid-read (λ t. absurd (false≢true (sym e ∙ t))))
 
-    pub checked-rows : n ≤ mostFree → m ≤ highest .clauses → ok ≡ true → {r : Bool} → ((D : Prefix) → Places D places → Kinds D kinds → r ≡ rowsFine n m D x) → CheckedUnder L x r places kinds
-    checked-rows few-numbers few-clauses e f = checked (rows-valid few-numbers few-clauses (sym (shown .said) ∙ e) (f D (shown .places-shown e) (shown .kinds-shown e)))
+    -- what is said of the free variables is said of the prefix that was read
+    free-said : ok ≡ true → {r : Bool} → ((D : Prefix) → Numbers D (x .numbers) → Quantified D (x .levels) (x .kinds) → r ≡ freeOk D) → r ≡ freeOk D
+    free-said e f = f D (prefix-numbers (x .numbers) (x .levels) (x .kinds)) (prefix-quantified (x .numbers) (x .levels) (x .kinds) L (and-left p (freeFirst (quantifiers D)) (and-right numbersPart levelsPart (sym (shown .said) ∙ e))))
+
+    -- more free variables than there may be
+    pub checked-crowded : ok ≡ true → ((D : Prefix) → Numbers D (x .numbers) → Quantified D (x .levels) (x .kinds) → false ≡ freeOk D) → CheckedUnder L x false places kinds
+    checked-crowded e f = checked (alike false (validUnder L x) (λ v. free-said e f ∙ valid-parts v .free-ok) (λ t. absurd (false≢true t)))
+
+    pub checked-rows : limitsOk L ≡ true → ok ≡ true → ((D : Prefix) → Numbers D (x .numbers) → Quantified D (x .levels) (x .kinds) → true ≡ freeOk D) → {r : Bool} → ((D : Prefix) → Places D places → Kinds D kinds → r ≡ rowsFine n m D x) → CheckedUnder L x r places kinds
+    checked-rows low e few f = checked (rows-valid low (sym (free-said e few)) (sym (shown .said) ∙ e) (f D (shown .places-shown e) (shown .kinds-shown e)))
 
 -- ---- a state by value, under the paper's limits
 pub record ValidFacts (x : State) : Type 0 where

@@ -13,6 +13,9 @@ pub const NOT_A_NUMBER: u16 = 3;
 
 pub const DECLARED_TWICE: u16 = 4;
 
+// "Declaring a 41st flag is 33, checked after 4"
+pub const TOO_MANY_FREE: u16 = 33;
+
 // 0 where there is no place.
 fn level_at<'a>(levels: &'a [u16], place: Place) -> u16
     ensures { λ r. ⌜ r ≡ levelFor (now (levels .entry)) (place .0) ⌝ }
@@ -25,7 +28,7 @@ fn level_at<'a>(levels: &'a [u16], place: Place) -> u16
 }
 
 // The level that a quantifier gives after the places that are declared.
-fn next_level<'a>(levels: &'a [u16], kinds: &'a [u16], last: Place, kind: u16) -> Level
+pub fn next_level<'a>(levels: &'a [u16], kinds: &'a [u16], last: Place, kind: u16) -> Level
     requires { ⌜ Growing (now levels) (now kinds) (last .0) kind ⌝ }
     ensures { λ r. ⌜ r .0 ≡ nextLevel (now (levels .entry)) (now (kinds .entry)) (last .0) kind ⌝ }
 {

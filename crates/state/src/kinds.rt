@@ -3,6 +3,7 @@ ghost use mathlib.Core.Path.{_≡_};
 ghost use lib.ListN.{length};
 ghost use Rattle.qbf.specs.Formula.{Prefix};
 ghost use Rattle.qbf.specs.Truth.{freeVariables};
+ghost use Rattle.qbf.specs.Calls.{freeOk};
 ghost use Rattle.tables.specs.Views.{Numbers, Places, Kinds};
 ghost use Rattle.state.specs.Derived.{Quantified, codeFor};
 use literal::Place;
@@ -56,4 +57,19 @@ pub fn free_count<'a>(numbers: &'a [u16], levels: &'a [u16], kinds: &'a [u16]) -
         i += 1;
     }
     i
+}
+
+// "flags stay at most 40": so there are where there are no more variables.
+pub fn few_free<'a>(numbers: &'a [u16], levels: &'a [u16], kinds: &'a [u16]) -> bool
+    ensures { λ r. ⌜
+        ((D : Prefix) →
+        Numbers D (now (numbers .entry)) →
+        Quantified D (now (levels .entry)) (now (kinds .entry)) →
+        r ≡ freeOk D)
+        ⌝ }
+{
+    if crate::cells::count(numbers) <= tables::MOST_FREE {
+        return true;
+    }
+    free_count(numbers, levels, kinds) <= tables::MOST_FREE
 }

@@ -1,13 +1,23 @@
 // The check of a state whose tables are lent as slices, under its own limits for numbers and clauses.
 ghost use mathlib.Core.Path.{_≡_};
-ghost use Prim.Native.Nat.{suc, _≤_};
+ghost use Prim.Native.Nat.{suc};
 ghost use lib.ListN.{length};
-ghost use Rattle.qbf.specs.Formula.{highest, mostFree};
+ghost use Rattle.qbf.specs.Calls.{limitsOk};
 ghost use Rattle.state.specs.Reading.{own, stateOf};
 ghost use Rattle.state.specs.Derived.{CheckedUnder};
 
-// "22 the state is malformed": first a table that is too short. The prefix that is read on the way is left in the tables by number, which have a cell
-// for each number up to the limit, and one more; their content before is free.
+// "a state with higher ones is 22"
+fn limits_ok(most_numbers: usize, most_clauses: usize) -> bool
+    ensures { λ r. ⌜ r ≡ limitsOk (own «most_numbers» «most_clauses») ⌝ }
+{
+    if most_numbers > tables::HIGHEST_NUMBERS {
+        return false;
+    }
+    most_clauses <= tables::HIGHEST_CLAUSES
+}
+
+// "22 the state is malformed": first limits that are too high, then a table that is too short. The prefix that is read on the way is left in the tables by
+// number, which have a cell for each number up to the limit, and one more; their content before is free.
 pub fn check<'a>(
     numbers: &'a [u16],
     levels: &'a [u16],
@@ -23,7 +33,7 @@ pub fn check<'a>(
     places: &mut [u16],
     by_number: &mut [u16],
 ) -> bool
-    requires { ⌜ (length (now places) ≡ suc «most_numbers») × (length (now «by_number») ≡ suc «most_numbers») × («most_numbers» ≤ mostFree) × («most_clauses» ≤ highest .clauses) ⌝ }
+    requires { ⌜ (length (now places) ≡ suc «most_numbers») × (length (now «by_number») ≡ suc «most_numbers») ⌝ }
     ensures { λ r. ⌜
         CheckedUnder
         (own «most_numbers» «most_clauses»)
@@ -42,6 +52,9 @@ pub fn check<'a>(
         (now («by_number» .exit))
         ⌝ }
 {
+    if !limits_ok(most_numbers, most_clauses) {
+        return false;
+    }
     if !crate::room::has_room(
         numbers,
         levels,
@@ -58,6 +71,9 @@ pub fn check<'a>(
         return false;
     }
     if !crate::prefix::read_prefix(numbers, levels, kinds, most_numbers, places, by_number) {
+        return false;
+    }
+    if !crate::kinds::few_free(numbers, levels, kinds) {
         return false;
     }
     crate::rows::all_ok(

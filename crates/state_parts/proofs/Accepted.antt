@@ -1,22 +1,24 @@
 -- What the check of two lent tables that passes says of their state.
-use Prim.Native.Nat.{ℕ, suc, _≤_}
+use Prim.Native.Nat.{ℕ, suc, _≤_, _<_}
 use native.Mathlib.Omega.{arith}
-use mathlib.Core.Path.{_≡_, sym}
-use mathlib.Core.Bool.{Bool, true, not, _&&_}
-use mathlib.Core.List.{List, [], _∷_}
+use mathlib.Core.Path.{_≡_, refl, sym, ap, subst, _∙_}
+use mathlib.Core.Bool.{Bool, true, false, cond, not, _&&_}
+use mathlib.Core.List.{List, [], _∷_, _++_}
+use mathlib.Core.Option.{none, some}
 use lib.Dec.{leb, eqb}
 use lib.IntN.{ℤ}
-use lib.ListN.{length}
-use borrow.Author.Tests.{le-leb, leb-true}
-use Rattle.qbf.specs.Formula.{Limits, paper, Prefix, any}
-use Rattle.qbf.specs.Calls.{numbersOk}
+use lib.ListN.{length, getD}
+use lib.Seq.{take-at}
+use borrow.Author.Tests.{le-leb, lt-leb, leb-true}
+use Rattle.qbf.specs.Formula.{Limits, highest, Prefix, any}
+use Rattle.qbf.specs.Calls.{numbersOk, limitsOk}
 use Rattle.theory.proofs.Basics.{and-left, and-right, and-both}
 use Rattle.tables.specs.Views.{Numbers, Table}
 use Rattle.state.specs.declared.State.{State}
-use Rattle.state.specs.Reading.{own, prefixIn, roomy, validUnder, accepted}
-use Rattle.state.specs.Derived.{Quantified}
-use Rattle.state.proofs.Valid.{FactsUnder, facts-under, valid-parts, rows-table, prefix-numbers, prefix-quantified}
-use Rattle.state_parts.specs.Parts.{stateAt, Whole, Exact}
+use Rattle.state.specs.Reading.{own, prefixIn, stateUnder, readUnder, wellFormedRead, roomy, validUnder, accepted}
+use Rattle.state.specs.Derived.{Quantified, CheckedUnder}
+use Rattle.state.proofs.Valid.{FactsUnder, checked-high, facts-under, valid-parts, rows-table, prefix-numbers, prefix-quantified}
+use Rattle.state_parts.specs.Parts.{part, limitsOf, byNumber, partsUnder, stateAt, readAt, validAt, CheckedAt, Whole, Exact}
 use Rattle.state_parts.proofs.Written.{roomy-whole, whole-exact}
 
 -- numbers within a limit are within a larger one
@@ -51,12 +53,12 @@ pub record AcceptedState (L : Limits) (x : State) : Type 0 where
   pub learned-clauses : Table (L .numbers) (L .constraints) (x .«learned_clauses») (x .«learned_clause_sizes»)
   pub learned-cubes : Table (L .numbers) (L .constraints) (x .«learned_cubes») (x .«learned_cube_sizes»)
 
-module _ (n m : ℕ) (cells : List ℕ) (literals : List ℤ) (e : accepted (own n m) (stateAt (own n m) cells literals) ≡ true) where
+module _ (n m : ℕ) (cells : List ℕ) (literals : List ℤ) (e : accepted (own n m) (partsUnder (own n m) cells literals) ≡ true) where
   abbrev L : Limits
   L = own n m
 
   abbrev x : State
-  x = stateAt (own n m) cells literals
+  x = partsUnder (own n m) cells literals
 
   valid : validUnder L x ≡ true
   valid = and-right (roomy L x) (validUnder L x) e
@@ -82,3 +84,59 @@ module _ (n m : ℕ) (cells : List ℕ) (literals : List ℤ) (e : accepted (own
         learned-cubes =
             rows-table n (L .constraints) (x .«learned_cubes») (x .«learned_cube_sizes») (f .learned-cubes-fit) (s .learned-cubes-room) (omega (arith, s .learned-cube-sizes-room));
       }
+
+-- ---- under its own limits
+module _ (cells : List ℕ) (literals : List ℤ) where
+  abbrev own-limits : Limits
+  own-limits = limitsOf cells
+
+  abbrev state : State
+  state = stateAt cells literals
+
+  pub read-roomy : roomy own-limits state ≡ true → readAt cells literals ≡ readUnder own-limits state
+  unfolding readAt
+  read-roomy e = ap (λ (q : Bool). cond q (readUnder own-limits state) none) e
+
+  pub valid-at : validAt cells literals ≡ accepted own-limits state
+  unfolding validAt readAt validUnder
+  valid-at = by (roomy own-limits state)
+    where
+      by : (q : Bool) → wellFormedRead (cond q (readUnder own-limits state) none) ≡ (q && wellFormedRead (readUnder own-limits state))
+      by true = refl
+      by false = refl
+
+  module _ (v : validAt cells literals ≡ true) where
+    pub valid-accepted : accepted own-limits state ≡ true
+    valid-accepted = sym valid-at ∙ v
+
+    pub valid-whole : Whole own-limits cells literals
+    valid-whole = accepted-whole (getD cells 0 0) (getD cells 1 0) cells literals valid-accepted
+
+    pub valid-state : AcceptedState own-limits state
+    valid-state = accepted-state (getD cells 0 0) (getD cells 1 0) cells literals valid-accepted
+
+    pub valid-read : readAt cells literals ≡ some (stateUnder own-limits state)
+    valid-read = read-roomy (and-left (roomy own-limits state) (validUnder own-limits state) valid-accepted) ∙ valid-state .facts .read
+
+  -- ---- its check
+  pub checked-at : {n m : ℕ} → n ≡ getD cells 0 0 → m ≡ getD cells 1 0 → {ok : Bool} {places kinds : List ℕ}
+      → CheckedUnder (own n m) (partsUnder (own n m) cells literals) ok (part 0 (suc n) places) (part 0 (suc n) kinds) → CheckedAt cells literals ok places kinds
+  checked-at {n} {m} e f {ok} {places} {kinds} k =
+      let c : CheckedUnder own-limits state ok (part 0 (byNumber own-limits) places) (part 0 (byNumber own-limits) kinds) =
+      subst (λ (i : ℕ). CheckedUnder (own i (getD cells 1 0)) (partsUnder (own i (getD cells 1 0)) cells literals) ok (part 0 (suc i) places) (part 0 (suc i) kinds)) e
+      (subst (λ (j : ℕ). CheckedUnder (own n j) (partsUnder (own n j) cells literals) ok (part 0 (suc n) places) (part 0 (suc n) kinds)) f k) in
+      record { said = c .said ∙ sym valid-at; placed = c .placed; kinded = c .kinded }
+
+  -- the tables by number were the first cells of longer ones
+  pub checked-cut : {n m : ℕ} → n ≡ getD cells 0 0 → m ≡ getD cells 1 0 → {ok : Bool} {ys zs : List ℕ} → CheckedUnder (own n m) (partsUnder (own n m) cells literals) ok ys zs
+      → length ys ≡ suc n → length zs ≡ suc n → (after rest : List ℕ) → CheckedAt cells literals ok (ys ++ after) (zs ++ rest)
+  checked-cut {n} {m} e f {ok} {ys} {zs} k g h after rest =
+      checked-at e f
+      (subst (λ (ps : List ℕ). CheckedUnder (own n m) (partsUnder (own n m) cells literals) ok ps (part 0 (suc n) (zs ++ rest))) (sym (take-at ys after (suc n) g))
+      (subst (λ (qs : List ℕ). CheckedUnder (own n m) (partsUnder (own n m) cells literals) ok ys qs) (sym (take-at zs rest (suc n) h)) k))
+
+  -- "a state with higher ones is 22"
+  pub checked-at-high : limitsOk own-limits ≡ false → (places kinds : List ℕ) → CheckedAt cells literals false places kinds
+  checked-at-high e places kinds =
+      let c = checked-high (getD cells 0 0) (getD cells 1 0) state e (part 0 (byNumber own-limits) places) (part 0 (byNumber own-limits) kinds) in
+      record { said = c .said ∙ sym valid-at; placed = c .placed; kinded = c .kinded }

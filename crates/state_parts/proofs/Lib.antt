@@ -1,3 +1,4 @@
 pub mod Cutting
 pub mod Written
 pub mod Accepted
+pub mod Beginning

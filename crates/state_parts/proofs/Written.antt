@@ -1,18 +1,19 @@
 -- The parts of the two tables: their lengths, and what is left when one of them is written.
-use Prim.Native.Nat.{ℕ, suc, _≤_}
+use Prim.Native.Nat.{ℕ, suc, _≤_, _<_}
 use native.Mathlib.Omega.{arith}
-use mathlib.Core.Path.{_≡_, refl, subst}
+use mathlib.Core.Path.{_≡_, refl, sym, ap, _∙_, subst}
 use mathlib.Core.Bool.{Bool, true}
 use mathlib.Core.List.{List}
-use borrow.Rule.Slice.PartMut.{putMid}
+use borrow.Rule.Slice.PartMut.{putMid, take-put}
 use lib.IntN.{ℤ}
-use lib.ListN.{length}
+use lib.ListN.{length, getD}
+use lib.Seq.{getD-take}
 use Rattle.qbf.specs.Formula.{Limits, paper}
 use Rattle.state.specs.declared.State.{State}
-use Rattle.state.specs.Reading.{stateOf, roomy}
+use Rattle.state.specs.Reading.{own, stateOf, roomy}
 use Rattle.state.specs.Derived.{Sized, Roomy, CheckedUnder}
 use Rattle.state.proofs.Rooms.{room-facts}
-use Rattle.state_parts.specs.Parts.{part, byNumber, clauseCount, cubeSizes, recorded, kindsAt, clauseSizesAt, learnedClauseSizesAt, learnedCubeSizesAt, cellCount, clauseCells, learnedCells, learnedCubesAt, literalCount, stateAt, Whole, Exact}
+use Rattle.state_parts.specs.Parts.{part, limitsOf, byNumber, clauseCount, cubeSizes, recorded, numbersAt, levelsAt, kindsAt, clauseSizesAt, learnedClauseSizesAt, learnedCubeSizesAt, cellCount, clauseCells, learnedCells, learnedCubesAt, literalCount, partsUnder, stateAt, Whole, Exact}
 use Rattle.state_parts.proofs.Cutting.{part-length, part-most, put-here, put-before, put-after}
 
 -- equal parts are equal states
@@ -26,11 +27,11 @@ checked-same {L} {x} {y} {ok} {places} {kinds} e k = subst (λ (z : State). Chec
 
 module _ (L : Limits) (cells : List ℕ) (literals : List ℤ) where
   -- ---- lengths
-  pub whole-exact : Whole L cells literals → Exact L (stateAt L cells literals)
+  pub whole-exact : Whole L cells literals → Exact L (partsUnder L cells literals)
   whole-exact w =
       record {
-        numbers-room = part-length 0 (byNumber L) cells (omega (arith, w .cells-room));
-        levels-room = part-length (byNumber L) (byNumber L) cells (omega (arith, w .cells-room));
+        numbers-room = part-length numbersAt (byNumber L) cells (omega (arith, w .cells-room));
+        levels-room = part-length (levelsAt L) (byNumber L) cells (omega (arith, w .cells-room));
         kinds-room = part-length (kindsAt L) (byNumber L) cells (omega (arith, w .cells-room));
         clauses-room = part-length 0 (clauseCells L) literals (omega (arith, w .literals-room));
         clause-sizes-room = part-length (clauseSizesAt L) (clauseCount L) cells (omega (arith, w .cells-room));
@@ -41,9 +42,9 @@ module _ (L : Limits) (cells : List ℕ) (literals : List ℤ) where
       }
 
   -- a state whose parts have room is whole: what is short would be its last part
-  pub roomy-whole : roomy L (stateAt L cells literals) ≡ true → Whole L cells literals
+  pub roomy-whole : roomy L (partsUnder L cells literals) ≡ true → Whole L cells literals
   roomy-whole e =
-      let r : Roomy L (stateAt L cells literals) = room-facts L (stateAt L cells literals) e in
+      let r : Roomy L (partsUnder L cells literals) = room-facts L (partsUnder L cells literals) e in
       record {
         cells-room = omega (arith, r .learned-cube-sizes-room, part-most (learnedCubeSizesAt L) (cubeSizes L) cells);
         literals-room =
@@ -58,40 +59,40 @@ module _ (L : Limits) (cells : List ℕ) (literals : List ℤ) where
 
 -- ---- one part is lent, from where it begins to where it ends, and is then ys; the others stay
 module _ (L : Limits) (cells : List ℕ) (literals : List ℤ) (w : Whole L cells literals) where
-  pub numbers-put : (ys : List ℕ) → length ys ≡ byNumber L
-      → stateAt L (putMid 0 (byNumber L) cells ys) literals ≡ stateOf ys (part (byNumber L) (byNumber L) cells) (part (kindsAt L) (byNumber L) cells) (part 0 (clauseCells L) literals) (part (clauseSizesAt L) (clauseCount L) cells) (part (clauseCells L) (learnedCells L) literals) (part (learnedClauseSizesAt L) (recorded L) cells) (part (learnedCubesAt L) (learnedCells L) literals) (part (learnedCubeSizesAt L) (cubeSizes L) cells)
+  abbrev x : State
+  x = partsUnder L cells literals
+
+  pub numbers-put : (ys : List ℕ) → length ys ≡ byNumber L → partsUnder L (putMid numbersAt (byNumber L) cells ys) literals ≡ stateOf ys (x .levels) (x .kinds) (x .clauses) (x .«clause_sizes») (x .«learned_clauses») (x .«learned_clause_sizes») (x .«learned_cubes») (x .«learned_cube_sizes»)
   numbers-put ys long =
       same-state
-      (put-here 0 (byNumber L) cells ys (omega (arith, w .cells-room)) long)
-      (put-after (byNumber L) (byNumber L) 0 (byNumber L) cells ys (omega (arith, w .cells-room)) (omega (arith, w .cells-room)) long)
-      (put-after (kindsAt L) (byNumber L) 0 (byNumber L) cells ys (omega (arith, w .cells-room)) (omega (arith, w .cells-room)) long)
+      (put-here numbersAt (byNumber L) cells ys (omega (arith, w .cells-room)) long)
+      (put-after (levelsAt L) (byNumber L) numbersAt (byNumber L) cells ys (omega (arith, w .cells-room)) (omega (arith, w .cells-room)) long)
+      (put-after (kindsAt L) (byNumber L) numbersAt (byNumber L) cells ys (omega (arith, w .cells-room)) (omega (arith, w .cells-room)) long)
       refl
-      (put-after (clauseSizesAt L) (clauseCount L) 0 (byNumber L) cells ys (omega (arith, w .cells-room)) (omega (arith, w .cells-room)) long)
+      (put-after (clauseSizesAt L) (clauseCount L) numbersAt (byNumber L) cells ys (omega (arith, w .cells-room)) (omega (arith, w .cells-room)) long)
       refl
-      (put-after (learnedClauseSizesAt L) (recorded L) 0 (byNumber L) cells ys (omega (arith, w .cells-room)) (omega (arith, w .cells-room)) long)
+      (put-after (learnedClauseSizesAt L) (recorded L) numbersAt (byNumber L) cells ys (omega (arith, w .cells-room)) (omega (arith, w .cells-room)) long)
       refl
-      (put-after (learnedCubeSizesAt L) (cubeSizes L) 0 (byNumber L) cells ys (omega (arith, w .cells-room)) (omega (arith, w .cells-room)) long)
+      (put-after (learnedCubeSizesAt L) (cubeSizes L) numbersAt (byNumber L) cells ys (omega (arith, w .cells-room)) (omega (arith, w .cells-room)) long)
 
-  pub levels-put : (ys : List ℕ) → length ys ≡ byNumber L
-      → stateAt L (putMid (byNumber L) (byNumber L) cells ys) literals ≡ stateOf (part 0 (byNumber L) cells) ys (part (kindsAt L) (byNumber L) cells) (part 0 (clauseCells L) literals) (part (clauseSizesAt L) (clauseCount L) cells) (part (clauseCells L) (learnedCells L) literals) (part (learnedClauseSizesAt L) (recorded L) cells) (part (learnedCubesAt L) (learnedCells L) literals) (part (learnedCubeSizesAt L) (cubeSizes L) cells)
+  pub levels-put : (ys : List ℕ) → length ys ≡ byNumber L → partsUnder L (putMid (levelsAt L) (byNumber L) cells ys) literals ≡ stateOf (x .numbers) ys (x .kinds) (x .clauses) (x .«clause_sizes») (x .«learned_clauses») (x .«learned_clause_sizes») (x .«learned_cubes») (x .«learned_cube_sizes»)
   levels-put ys long =
       same-state
-      (put-before 0 (byNumber L) (byNumber L) (byNumber L) cells ys (omega (arith, w .cells-room)) (omega (arith, w .cells-room)))
-      (put-here (byNumber L) (byNumber L) cells ys (omega (arith, w .cells-room)) long)
-      (put-after (kindsAt L) (byNumber L) (byNumber L) (byNumber L) cells ys (omega (arith, w .cells-room)) (omega (arith, w .cells-room)) long)
+      (put-before numbersAt (byNumber L) (levelsAt L) (byNumber L) cells ys (omega (arith, w .cells-room)) (omega (arith, w .cells-room)))
+      (put-here (levelsAt L) (byNumber L) cells ys (omega (arith, w .cells-room)) long)
+      (put-after (kindsAt L) (byNumber L) (levelsAt L) (byNumber L) cells ys (omega (arith, w .cells-room)) (omega (arith, w .cells-room)) long)
       refl
-      (put-after (clauseSizesAt L) (clauseCount L) (byNumber L) (byNumber L) cells ys (omega (arith, w .cells-room)) (omega (arith, w .cells-room)) long)
+      (put-after (clauseSizesAt L) (clauseCount L) (levelsAt L) (byNumber L) cells ys (omega (arith, w .cells-room)) (omega (arith, w .cells-room)) long)
       refl
-      (put-after (learnedClauseSizesAt L) (recorded L) (byNumber L) (byNumber L) cells ys (omega (arith, w .cells-room)) (omega (arith, w .cells-room)) long)
+      (put-after (learnedClauseSizesAt L) (recorded L) (levelsAt L) (byNumber L) cells ys (omega (arith, w .cells-room)) (omega (arith, w .cells-room)) long)
       refl
-      (put-after (learnedCubeSizesAt L) (cubeSizes L) (byNumber L) (byNumber L) cells ys (omega (arith, w .cells-room)) (omega (arith, w .cells-room)) long)
+      (put-after (learnedCubeSizesAt L) (cubeSizes L) (levelsAt L) (byNumber L) cells ys (omega (arith, w .cells-room)) (omega (arith, w .cells-room)) long)
 
-  pub kinds-put : (ys : List ℕ) → length ys ≡ byNumber L
-      → stateAt L (putMid (kindsAt L) (byNumber L) cells ys) literals ≡ stateOf (part 0 (byNumber L) cells) (part (byNumber L) (byNumber L) cells) ys (part 0 (clauseCells L) literals) (part (clauseSizesAt L) (clauseCount L) cells) (part (clauseCells L) (learnedCells L) literals) (part (learnedClauseSizesAt L) (recorded L) cells) (part (learnedCubesAt L) (learnedCells L) literals) (part (learnedCubeSizesAt L) (cubeSizes L) cells)
+  pub kinds-put : (ys : List ℕ) → length ys ≡ byNumber L → partsUnder L (putMid (kindsAt L) (byNumber L) cells ys) literals ≡ stateOf (x .numbers) (x .levels) ys (x .clauses) (x .«clause_sizes») (x .«learned_clauses») (x .«learned_clause_sizes») (x .«learned_cubes») (x .«learned_cube_sizes»)
   kinds-put ys long =
       same-state
-      (put-before 0 (byNumber L) (kindsAt L) (byNumber L) cells ys (omega (arith, w .cells-room)) (omega (arith, w .cells-room)))
-      (put-before (byNumber L) (byNumber L) (kindsAt L) (byNumber L) cells ys (omega (arith, w .cells-room)) (omega (arith, w .cells-room)))
+      (put-before numbersAt (byNumber L) (kindsAt L) (byNumber L) cells ys (omega (arith, w .cells-room)) (omega (arith, w .cells-room)))
+      (put-before (levelsAt L) (byNumber L) (kindsAt L) (byNumber L) cells ys (omega (arith, w .cells-room)) (omega (arith, w .cells-room)))
       (put-here (kindsAt L) (byNumber L) cells ys (omega (arith, w .cells-room)) long)
       refl
       (put-after (clauseSizesAt L) (clauseCount L) (kindsAt L) (byNumber L) cells ys (omega (arith, w .cells-room)) (omega (arith, w .cells-room)) long)
@@ -100,50 +101,7 @@ module _ (L : Limits) (cells : List ℕ) (literals : List ℤ) (w : Whole L cell
       refl
       (put-after (learnedCubeSizesAt L) (cubeSizes L) (kindsAt L) (byNumber L) cells ys (omega (arith, w .cells-room)) (omega (arith, w .cells-room)) long)
 
-  pub clause-sizes-put : (ys : List ℕ) → length ys ≡ clauseCount L
-      → stateAt L (putMid (clauseSizesAt L) (clauseCount L) cells ys) literals ≡ stateOf (part 0 (byNumber L) cells) (part (byNumber L) (byNumber L) cells) (part (kindsAt L) (byNumber L) cells) (part 0 (clauseCells L) literals) ys (part (clauseCells L) (learnedCells L) literals) (part (learnedClauseSizesAt L) (recorded L) cells) (part (learnedCubesAt L) (learnedCells L) literals) (part (learnedCubeSizesAt L) (cubeSizes L) cells)
-  clause-sizes-put ys long =
-      same-state
-      (put-before 0 (byNumber L) (clauseSizesAt L) (clauseCount L) cells ys (omega (arith, w .cells-room)) (omega (arith, w .cells-room)))
-      (put-before (byNumber L) (byNumber L) (clauseSizesAt L) (clauseCount L) cells ys (omega (arith, w .cells-room)) (omega (arith, w .cells-room)))
-      (put-before (kindsAt L) (byNumber L) (clauseSizesAt L) (clauseCount L) cells ys (omega (arith, w .cells-room)) (omega (arith, w .cells-room)))
-      refl
-      (put-here (clauseSizesAt L) (clauseCount L) cells ys (omega (arith, w .cells-room)) long)
-      refl
-      (put-after (learnedClauseSizesAt L) (recorded L) (clauseSizesAt L) (clauseCount L) cells ys (omega (arith, w .cells-room)) (omega (arith, w .cells-room)) long)
-      refl
-      (put-after (learnedCubeSizesAt L) (cubeSizes L) (clauseSizesAt L) (clauseCount L) cells ys (omega (arith, w .cells-room)) (omega (arith, w .cells-room)) long)
-
-  pub learned-clause-sizes-put : (ys : List ℕ) → length ys ≡ recorded L
-      → stateAt L (putMid (learnedClauseSizesAt L) (recorded L) cells ys) literals ≡ stateOf (part 0 (byNumber L) cells) (part (byNumber L) (byNumber L) cells) (part (kindsAt L) (byNumber L) cells) (part 0 (clauseCells L) literals) (part (clauseSizesAt L) (clauseCount L) cells) (part (clauseCells L) (learnedCells L) literals) ys (part (learnedCubesAt L) (learnedCells L) literals) (part (learnedCubeSizesAt L) (cubeSizes L) cells)
-  learned-clause-sizes-put ys long =
-      same-state
-      (put-before 0 (byNumber L) (learnedClauseSizesAt L) (recorded L) cells ys (omega (arith, w .cells-room)) (omega (arith, w .cells-room)))
-      (put-before (byNumber L) (byNumber L) (learnedClauseSizesAt L) (recorded L) cells ys (omega (arith, w .cells-room)) (omega (arith, w .cells-room)))
-      (put-before (kindsAt L) (byNumber L) (learnedClauseSizesAt L) (recorded L) cells ys (omega (arith, w .cells-room)) (omega (arith, w .cells-room)))
-      refl
-      (put-before (clauseSizesAt L) (clauseCount L) (learnedClauseSizesAt L) (recorded L) cells ys (omega (arith, w .cells-room)) (omega (arith, w .cells-room)))
-      refl
-      (put-here (learnedClauseSizesAt L) (recorded L) cells ys (omega (arith, w .cells-room)) long)
-      refl
-      (put-after (learnedCubeSizesAt L) (cubeSizes L) (learnedClauseSizesAt L) (recorded L) cells ys (omega (arith, w .cells-room)) (omega (arith, w .cells-room)) long)
-
-  pub learned-cube-sizes-put : (ys : List ℕ) → length ys ≡ cubeSizes L
-      → stateAt L (putMid (learnedCubeSizesAt L) (cubeSizes L) cells ys) literals ≡ stateOf (part 0 (byNumber L) cells) (part (byNumber L) (byNumber L) cells) (part (kindsAt L) (byNumber L) cells) (part 0 (clauseCells L) literals) (part (clauseSizesAt L) (clauseCount L) cells) (part (clauseCells L) (learnedCells L) literals) (part (learnedClauseSizesAt L) (recorded L) cells) (part (learnedCubesAt L) (learnedCells L) literals) ys
-  learned-cube-sizes-put ys long =
-      same-state
-      (put-before 0 (byNumber L) (learnedCubeSizesAt L) (cubeSizes L) cells ys (omega (arith, w .cells-room)) (omega (arith, w .cells-room)))
-      (put-before (byNumber L) (byNumber L) (learnedCubeSizesAt L) (cubeSizes L) cells ys (omega (arith, w .cells-room)) (omega (arith, w .cells-room)))
-      (put-before (kindsAt L) (byNumber L) (learnedCubeSizesAt L) (cubeSizes L) cells ys (omega (arith, w .cells-room)) (omega (arith, w .cells-room)))
-      refl
-      (put-before (clauseSizesAt L) (clauseCount L) (learnedCubeSizesAt L) (cubeSizes L) cells ys (omega (arith, w .cells-room)) (omega (arith, w .cells-room)))
-      refl
-      (put-before (learnedClauseSizesAt L) (recorded L) (learnedCubeSizesAt L) (cubeSizes L) cells ys (omega (arith, w .cells-room)) (omega (arith, w .cells-room)))
-      refl
-      (put-here (learnedCubeSizesAt L) (cubeSizes L) cells ys (omega (arith, w .cells-room)) long)
-
-  pub clauses-put : (ys : List ℤ) → length ys ≡ clauseCells L
-      → stateAt L cells (putMid 0 (clauseCells L) literals ys) ≡ stateOf (part 0 (byNumber L) cells) (part (byNumber L) (byNumber L) cells) (part (kindsAt L) (byNumber L) cells) ys (part (clauseSizesAt L) (clauseCount L) cells) (part (clauseCells L) (learnedCells L) literals) (part (learnedClauseSizesAt L) (recorded L) cells) (part (learnedCubesAt L) (learnedCells L) literals) (part (learnedCubeSizesAt L) (cubeSizes L) cells)
+  pub clauses-put : (ys : List ℤ) → length ys ≡ clauseCells L → partsUnder L cells (putMid 0 (clauseCells L) literals ys) ≡ stateOf (x .numbers) (x .levels) (x .kinds) ys (x .«clause_sizes») (x .«learned_clauses») (x .«learned_clause_sizes») (x .«learned_cubes») (x .«learned_cube_sizes»)
   clauses-put ys long =
       same-state
       refl
@@ -156,8 +114,20 @@ module _ (L : Limits) (cells : List ℕ) (literals : List ℤ) (w : Whole L cell
       (put-after (learnedCubesAt L) (learnedCells L) 0 (clauseCells L) literals ys (omega (arith, w .literals-room)) (omega (arith, w .literals-room)) long)
       refl
 
-  pub learned-clauses-put : (ys : List ℤ) → length ys ≡ learnedCells L
-      → stateAt L cells (putMid (clauseCells L) (learnedCells L) literals ys) ≡ stateOf (part 0 (byNumber L) cells) (part (byNumber L) (byNumber L) cells) (part (kindsAt L) (byNumber L) cells) (part 0 (clauseCells L) literals) (part (clauseSizesAt L) (clauseCount L) cells) ys (part (learnedClauseSizesAt L) (recorded L) cells) (part (learnedCubesAt L) (learnedCells L) literals) (part (learnedCubeSizesAt L) (cubeSizes L) cells)
+  pub clause-sizes-put : (ys : List ℕ) → length ys ≡ clauseCount L → partsUnder L (putMid (clauseSizesAt L) (clauseCount L) cells ys) literals ≡ stateOf (x .numbers) (x .levels) (x .kinds) (x .clauses) ys (x .«learned_clauses») (x .«learned_clause_sizes») (x .«learned_cubes») (x .«learned_cube_sizes»)
+  clause-sizes-put ys long =
+      same-state
+      (put-before numbersAt (byNumber L) (clauseSizesAt L) (clauseCount L) cells ys (omega (arith, w .cells-room)) (omega (arith, w .cells-room)))
+      (put-before (levelsAt L) (byNumber L) (clauseSizesAt L) (clauseCount L) cells ys (omega (arith, w .cells-room)) (omega (arith, w .cells-room)))
+      (put-before (kindsAt L) (byNumber L) (clauseSizesAt L) (clauseCount L) cells ys (omega (arith, w .cells-room)) (omega (arith, w .cells-room)))
+      refl
+      (put-here (clauseSizesAt L) (clauseCount L) cells ys (omega (arith, w .cells-room)) long)
+      refl
+      (put-after (learnedClauseSizesAt L) (recorded L) (clauseSizesAt L) (clauseCount L) cells ys (omega (arith, w .cells-room)) (omega (arith, w .cells-room)) long)
+      refl
+      (put-after (learnedCubeSizesAt L) (cubeSizes L) (clauseSizesAt L) (clauseCount L) cells ys (omega (arith, w .cells-room)) (omega (arith, w .cells-room)) long)
+
+  pub learned-clauses-put : (ys : List ℤ) → length ys ≡ learnedCells L → partsUnder L cells (putMid (clauseCells L) (learnedCells L) literals ys) ≡ stateOf (x .numbers) (x .levels) (x .kinds) (x .clauses) (x .«clause_sizes») ys (x .«learned_clause_sizes») (x .«learned_cubes») (x .«learned_cube_sizes»)
   learned-clauses-put ys long =
       same-state
       refl
@@ -170,8 +140,20 @@ module _ (L : Limits) (cells : List ℕ) (literals : List ℤ) (w : Whole L cell
       (put-after (learnedCubesAt L) (learnedCells L) (clauseCells L) (learnedCells L) literals ys (omega (arith, w .literals-room)) (omega (arith, w .literals-room)) long)
       refl
 
-  pub learned-cubes-put : (ys : List ℤ) → length ys ≡ learnedCells L
-      → stateAt L cells (putMid (learnedCubesAt L) (learnedCells L) literals ys) ≡ stateOf (part 0 (byNumber L) cells) (part (byNumber L) (byNumber L) cells) (part (kindsAt L) (byNumber L) cells) (part 0 (clauseCells L) literals) (part (clauseSizesAt L) (clauseCount L) cells) (part (clauseCells L) (learnedCells L) literals) (part (learnedClauseSizesAt L) (recorded L) cells) ys (part (learnedCubeSizesAt L) (cubeSizes L) cells)
+  pub learned-clause-sizes-put : (ys : List ℕ) → length ys ≡ recorded L → partsUnder L (putMid (learnedClauseSizesAt L) (recorded L) cells ys) literals ≡ stateOf (x .numbers) (x .levels) (x .kinds) (x .clauses) (x .«clause_sizes») (x .«learned_clauses») ys (x .«learned_cubes») (x .«learned_cube_sizes»)
+  learned-clause-sizes-put ys long =
+      same-state
+      (put-before numbersAt (byNumber L) (learnedClauseSizesAt L) (recorded L) cells ys (omega (arith, w .cells-room)) (omega (arith, w .cells-room)))
+      (put-before (levelsAt L) (byNumber L) (learnedClauseSizesAt L) (recorded L) cells ys (omega (arith, w .cells-room)) (omega (arith, w .cells-room)))
+      (put-before (kindsAt L) (byNumber L) (learnedClauseSizesAt L) (recorded L) cells ys (omega (arith, w .cells-room)) (omega (arith, w .cells-room)))
+      refl
+      (put-before (clauseSizesAt L) (clauseCount L) (learnedClauseSizesAt L) (recorded L) cells ys (omega (arith, w .cells-room)) (omega (arith, w .cells-room)))
+      refl
+      (put-here (learnedClauseSizesAt L) (recorded L) cells ys (omega (arith, w .cells-room)) long)
+      refl
+      (put-after (learnedCubeSizesAt L) (cubeSizes L) (learnedClauseSizesAt L) (recorded L) cells ys (omega (arith, w .cells-room)) (omega (arith, w .cells-room)) long)
+
+  pub learned-cubes-put : (ys : List ℤ) → length ys ≡ learnedCells L → partsUnder L cells (putMid (learnedCubesAt L) (learnedCells L) literals ys) ≡ stateOf (x .numbers) (x .levels) (x .kinds) (x .clauses) (x .«clause_sizes») (x .«learned_clauses») (x .«learned_clause_sizes») ys (x .«learned_cube_sizes»)
   learned-cubes-put ys long =
       same-state
       refl
@@ -183,6 +165,45 @@ module _ (L : Limits) (cells : List ℕ) (literals : List ℤ) (w : Whole L cell
       refl
       (put-here (learnedCubesAt L) (learnedCells L) literals ys (omega (arith, w .literals-room)) long)
       refl
+
+  pub learned-cube-sizes-put : (ys : List ℕ) → length ys ≡ cubeSizes L → partsUnder L (putMid (learnedCubeSizesAt L) (cubeSizes L) cells ys) literals ≡ stateOf (x .numbers) (x .levels) (x .kinds) (x .clauses) (x .«clause_sizes») (x .«learned_clauses») (x .«learned_clause_sizes») (x .«learned_cubes») ys
+  learned-cube-sizes-put ys long =
+      same-state
+      (put-before numbersAt (byNumber L) (learnedCubeSizesAt L) (cubeSizes L) cells ys (omega (arith, w .cells-room)) (omega (arith, w .cells-room)))
+      (put-before (levelsAt L) (byNumber L) (learnedCubeSizesAt L) (cubeSizes L) cells ys (omega (arith, w .cells-room)) (omega (arith, w .cells-room)))
+      (put-before (kindsAt L) (byNumber L) (learnedCubeSizesAt L) (cubeSizes L) cells ys (omega (arith, w .cells-room)) (omega (arith, w .cells-room)))
+      refl
+      (put-before (clauseSizesAt L) (clauseCount L) (learnedCubeSizesAt L) (cubeSizes L) cells ys (omega (arith, w .cells-room)) (omega (arith, w .cells-room)))
+      refl
+      (put-before (learnedClauseSizesAt L) (recorded L) (learnedCubeSizesAt L) (cubeSizes L) cells ys (omega (arith, w .cells-room)) (omega (arith, w .cells-room)))
+      refl
+      (put-here (learnedCubeSizesAt L) (cubeSizes L) cells ys (omega (arith, w .cells-room)) long)
+
+-- ---- a part that begins behind the limits leaves them
+module _ (cells : List ℕ) (a k : ℕ) (ys : List ℕ) (h : numbersAt ≤ a) (g : a ≤ length cells) where
+  cell-put : (i : ℕ) → i < a → getD (putMid a k cells ys) i 0 ≡ getD cells i 0
+  cell-put i lt = sym (getD-take a (putMid a k cells ys) i 0 lt) ∙ ap (λ (t : List ℕ). getD t i 0) (take-put a k cells ys g) ∙ getD-take a cells i 0 lt
+
+  pub limits-put : limitsOf (putMid a k cells ys) ≡ limitsOf cells
+  limits-put = ap (λ (n : ℕ). own n (getD (putMid a k cells ys) 1 0)) (cell-put 0 (omega (arith, h))) ∙ ap (own (getD cells 0 0)) (cell-put 1 (omega (arith, h)))
+
+  pub state-put : (literals : List ℤ) {y : State} → partsUnder (limitsOf cells) (putMid a k cells ys) literals ≡ y → stateAt (putMid a k cells ys) literals ≡ y
+  state-put literals e = ap (λ (L : Limits). partsUnder L (putMid a k cells ys) literals) limits-put ∙ e
+
+-- parts of these lengths have room for what the limits allow
+pub exact-roomy : (L : Limits) (x : State) → Exact L x → Roomy L x
+exact-roomy L x e =
+    record {
+      numbers-room = omega (arith, e .numbers-room);
+      levels-room = omega (arith, e .levels-room);
+      kinds-room = omega (arith, e .kinds-room);
+      clauses-room = omega (arith, e .clauses-room);
+      clause-sizes-room = omega (arith, e .clause-sizes-room);
+      learned-clauses-room = omega (arith, e .learned-clauses-room);
+      learned-clause-sizes-room = omega (arith, e .learned-clause-sizes-room);
+      learned-cubes-room = omega (arith, e .learned-cubes-room);
+      learned-cube-sizes-room = omega (arith, e .learned-cube-sizes-room);
+    }
 
 -- under the paper's limits the parts are as long as the arrays of a state by value
 pub exact-sized : {x : State} → Exact paper x → Sized x

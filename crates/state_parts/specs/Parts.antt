@@ -1,14 +1,19 @@
--- A state in two lent tables, part behind part: the cells of the prefix and the sizes in one, the literals of the clauses and of the learned constraints
--- in the other. What lies behind the last part is not read.
+-- A state in two lent tables, part behind part: its own limits, the cells of the prefix and the sizes in one, the literals of the clauses and of the
+-- learned constraints in the other. What lies behind the last part is not read. Paper 02, wish 8: "A book is opened with its own limits for numbers and
+-- rules, capped at these (a state with higher ones is 22)".
 use Prim.Native.Nat.{ℕ, suc, _+_, _*_, _≤_, _<_}
 use mathlib.Core.Path.{_≡_}
 use mathlib.Core.Logic.{_⊎_}
+use mathlib.Core.Bool.{Bool, true, cond}
 use mathlib.Core.List.{List}
+use mathlib.Core.Option.{Option, none}
 use lib.IntN.{ℤ}
-use lib.ListN.{length, take, drop}
+use lib.ListN.{length, getD, take, drop}
 use Rattle.qbf.specs.Formula.{Limits}
+use Rattle.qbf.specs.Calls.{State as Read}
+use Rattle.tables.specs.Views.{Places, Kinds}
 use Rattle.state.specs.declared.State.{State}
-use Rattle.state.specs.Reading.{stateOf}
+use Rattle.state.specs.Reading.{own, stateOf, prefixIn, roomy, readUnder, wellFormedRead}
 
 -- r is the lesser of the two
 pub record Lesser (a b r : ℕ) : Type 0 where
@@ -17,6 +22,10 @@ pub record Lesser (a b r : ℕ) : Type 0 where
 
 abbrev pub part : {A : Type 0} → ℕ → ℕ → List A → List A
 part from len t = take len (drop from t)
+
+-- ---- the limits, in the first two cells: for numbers, and for clauses
+abbrev pub limitsOf : List ℕ → Limits
+limitsOf cells = own (getD cells 0 0) (getD cells 1 0)
 
 -- ---- the cells: how many a part has, the sizes of the learned clauses with their records; where it begins
 abbrev pub byNumber : Limits → ℕ
@@ -31,8 +40,14 @@ cubeSizes L = suc (L .constraints)
 abbrev pub recorded : Limits → ℕ
 recorded L = cubeSizes L + L .constraints
 
+abbrev pub numbersAt : ℕ
+numbersAt = 2
+
+abbrev pub levelsAt : Limits → ℕ
+levelsAt L = numbersAt + byNumber L
+
 abbrev pub kindsAt : Limits → ℕ
-kindsAt L = byNumber L + byNumber L
+kindsAt L = levelsAt L + byNumber L
 
 abbrev pub clauseSizesAt : Limits → ℕ
 clauseSizesAt L = kindsAt L + byNumber L
@@ -60,11 +75,12 @@ abbrev pub literalCount : Limits → ℕ
 literalCount L = learnedCubesAt L + learnedCells L
 
 -- ---- the state
-abbrev pub stateAt : Limits → List ℕ → List ℤ → State
-stateAt L cells literals =
+-- the parts that limits give
+abbrev pub partsUnder : Limits → List ℕ → List ℤ → State
+partsUnder L cells literals =
     stateOf
-    (part 0 (byNumber L) cells)
-    (part (byNumber L) (byNumber L) cells)
+    (part numbersAt (byNumber L) cells)
+    (part (levelsAt L) (byNumber L) cells)
     (part (kindsAt L) (byNumber L) cells)
     (part 0 (clauseCells L) literals)
     (part (clauseSizesAt L) (clauseCount L) cells)
@@ -72,6 +88,25 @@ stateAt L cells literals =
     (part (learnedClauseSizesAt L) (recorded L) cells)
     (part (learnedCubesAt L) (learnedCells L) literals)
     (part (learnedCubeSizesAt L) (cubeSizes L) cells)
+
+-- the state under its own limits
+abbrev pub stateAt : List ℕ → List ℤ → State
+stateAt cells literals = partsUnder (limitsOf cells) cells literals
+
+-- as the definitions read it: none where a table is shorter than its limits ask
+unfoldable pub readAt : List ℕ → List ℤ → Option Read
+readAt cells literals = cond (roomy (limitsOf cells) (stateAt cells literals)) (readUnder (limitsOf cells) (stateAt cells literals)) none
+
+-- "22 the state is malformed": this is not so
+unfoldable pub validAt : List ℕ → List ℤ → Bool
+validAt cells literals = wellFormedRead (readAt cells literals)
+
+-- what the check says: whether the state is valid; and where it is, the tables by number that show its prefix stand in the first cells of those that
+-- were lent
+pub record CheckedAt (cells : List ℕ) (literals : List ℤ) (ok : Bool) (places kinds : List ℕ) : Type 0 where
+  pub said : ok ≡ validAt cells literals
+  pub placed : ok ≡ true → Places (prefixIn (stateAt cells literals)) (part 0 (byNumber (limitsOf cells)) places)
+  pub kinded : ok ≡ true → Kinds (prefixIn (stateAt cells literals)) (part 0 (byNumber (limitsOf cells)) kinds)
 
 -- both tables hold every part
 pub record Whole (L : Limits) (cells : List ℕ) (literals : List ℤ) : Type 0 where

@@ -34,6 +34,10 @@ pub record Kinds (D : Prefix) (t : List ℕ) : Type 0 where
 pub record Values (D : Prefix) (s : Node) (t : List ℕ) : Type 0 where
   pub at : (n : ℕ) → getD t n 0 ≡ valueCode (valueAt s (placeOf D n))
 
+-- what a reading records of each number: the free variables in place order, each with its value, or none where it is open
+pub record Recorded (D : Prefix) (os : List (Option Bool)) (t : List ℕ) : Type 0 where
+  pub at : (n : ℕ) → getD t n 0 ≡ valueCode (getD (none ∷ os) (placeOf D n) none)
+
 -- ---- a table by place: in cell 0 the count of the variables, then the number of each place's variable
 pub record Numbers (D : Prefix) (t : List ℕ) : Type 0 where
   pub count : getD t 0 0 ≡ length D

@@ -15,6 +15,15 @@ pub const CLAUSE_CELLS: usize = CLAUSES * LITERALS;
 
 pub const CLAUSE_SIZES: usize = CLAUSES + 1;
 
+// "Variable numbers run to 1,000, rules to 4,000": a state's own limits are no higher. "flags stay at most 40"
+pub const HIGHEST_NUMBERS: usize = 1000;
+
+pub const HIGHEST_BY_NUMBER: usize = HIGHEST_NUMBERS + 1;
+
+pub const HIGHEST_CLAUSES: usize = 4000;
+
+pub const MOST_FREE: usize = 40;
+
 // Learned constraints of each polarity; a constraint has at most one literal of a variable.
 pub const CONSTRAINTS: usize = 64;
 

@@ -13,12 +13,11 @@ use borrow.Author.Tests.{le-leb}
 use Rattle.qbf.specs.Formula.{Clause, Formula, Limits, Literal, Prefix, all, any, numberOf, place}
 use Rattle.qbf.specs.Learning.{Constraint, insert, union}
 use Rattle.qbf.specs.Card.{Mem}
-use Rattle.qbf.specs.Calls.{Call, _orElse_, card, clauseOf, clauseOk, forget, given, inOrder, keepCard, literalFault, nextFormula, query, rule, ruleFault, withRule, withdraw, withdrawFault}
+use Rattle.qbf.specs.Calls.{_orElse_, clauseOf, clauseOk, given, inOrder, literalFault, ruleFault, withRule}
 use Rattle.theory.proofs.Basics.{≡→T, false-eqb, and-both, or-false-right, all→, →all}
 use Rattle.theory.proofs.Sets.{union-rising}
 use Rattle.theory.proofs.Stores.{mem-append}
 use Rattle.theory.proofs.WellFormed.{FormulaFacts, each-clause, →rising}
-use Rattle.theory.proofs.Withdrawn.{withdraw-formula}
 
 -- ---- a rule without a fault
 pub some-none : {n : ℕ} → _≡_ {A = Option ℕ} (some n) none → ⊥
@@ -118,12 +117,3 @@ rule-formula b ls h none e =
     each r (inl m) = all→ (clauseOk L D) (b .clauses) (each-clause b h) r m
     each r (inr (inl p)) = ap (clauseOk L D) p ∙ new
     each r (inr (inr z)) = absurd z
-
--- the next formula of a call is well formed
-pub next-formula : (b : Formula) → FormulaFacts b → (c : Call) → FormulaFacts (nextFormula b c)
-next-formula b h (rule ls) = rule-formula b ls h (ruleFault b ls) refl
-next-formula b h (query ceiling ls) = h
-next-formula b h (card ceiling size) = h
-next-formula b h forget = h
-next-formula b h (keepCard ceiling size) = h
-next-formula b h withdraw = withdraw-formula b h (withdrawFault b)

@@ -7,9 +7,10 @@ use mathlib.Core.List.{List, [], _∷_}
 use mathlib.Core.Option.{Option, none, some}
 use lib.ListN.{length}
 use lib.Dec.{eqb, leb}
-use Rattle.qbf.specs.Formula.{Clause, Limits, Node, Prefix, Quantifier, _▹_, all, any, dead, satisfied}
+use Rattle.qbf.specs.Formula.{Clause, Limits, Node, Prefix, Quantifier, _▹_, all, any, dead, exists, forall, free, satisfied}
 use Rattle.qbf.specs.Truth.{Outcome, decided, mixed}
 use Rattle.qbf.specs.Plain.{PlainResult, plainAfterOff, plainBranch, plainSearch, plainSettle, plainVisit, stops}
+use Rattle.qbf.specs.Open.{Reading, enter, openSearch}
 use Rattle.qbf.specs.Learning.{Constraint, LearningResult, Next, Store, afterOff, below, goesUp, leaf, learningSearch, onward, proceed, raise, settle, up, upOrOnward, visit}
 use Rattle.theory.proofs.Visits.{on-visits}
 
@@ -74,3 +75,23 @@ module _ (D : Prefix) (R : List Clause) where
       by : (x : Bool) (o : Outcome (Unit {0})) (m : ℕ) → m < 2 ^ suc (length ks) → f (s ▹ true) .visits < 2 ^ suc (length ks) → plainAfterOff x κ f s o m .visits < 2 ^ suc (suc (length ks))
       by true o m h k = omega (arith, h)
       by false o m h k = omega (arith, h, k)
+
+  -- a reading with open flags
+  pub open-bound : (os : Reading) (ks : List Quantifier) (s : Node) → openSearch D R os ks s .visits < 2 ^ suc (length ks)
+  open-bound [] ks s = plain-bound ks s
+  open-bound (o ∷ os) [] s = plain-bound [] s
+  open-bound (o ∷ os) (exists ∷ ks) s = plain-bound (exists ∷ ks) s
+  open-bound (o ∷ os) (forall ∷ ks) s = plain-bound (forall ∷ ks) s
+  open-bound (o ∷ os) (free ∷ ks) s = plain-visit-bound (enter o f) (suc (length ks)) s (by o (open-bound os ks (s ▹ false)) (open-bound os ks (s ▹ true)))
+    where
+      f : Node → PlainResult
+      f = openSearch D R os ks
+
+      turn : (x : Bool) (a : Outcome (Unit {0})) (m : ℕ) → m < 2 ^ suc (length ks) → f (s ▹ true) .visits < 2 ^ suc (length ks) → plainAfterOff x free f s a m .visits < 2 ^ suc (suc (length ks))
+      turn true a m h k = omega (arith, h)
+      turn false a m h k = omega (arith, h, k)
+
+      by : (o : Option Bool) → f (s ▹ false) .visits < 2 ^ suc (length ks) → f (s ▹ true) .visits < 2 ^ suc (length ks) → enter o f s .visits < 2 ^ suc (suc (length ks))
+      by none h k = turn (stops free (f (s ▹ false) .outcome)) (f (s ▹ false) .outcome) (f (s ▹ false) .visits) h k
+      by (some false) h k = omega (arith, h)
+      by (some true) h k = omega (arith, k)

@@ -21,6 +21,7 @@ pub mod Verdict
 pub mod Branch
 pub mod Search
 pub mod Unmixed
+pub mod ShortLines
 pub mod Start
 pub mod PlainSearch
 pub mod Visits
@@ -36,6 +37,8 @@ pub mod OneTruth
 pub mod OneHeld
 pub mod OneAdded
 pub mod OneAdds
+pub mod OneCall
+pub mod NextFormula
 pub mod Starting
 pub mod Preserved
 pub mod Refusals
@@ -43,7 +46,11 @@ pub mod Runs
 pub mod Topmost
 pub mod Cards
 pub mod Partition
+pub mod Open
 pub mod Queries
+pub mod Distance
+pub mod Closest
+pub mod ClosestCall
 pub mod Widths
 pub mod Levels
 pub mod Demands

@@ -12,7 +12,7 @@ use lib.Dec.{leb}
 use Rattle.qbf.specs.Formula.{Clause, Formula, Node, Prefix, Quantifier, _▹_, all, free, quantifiers}
 use Rattle.qbf.specs.Truth.{DecidedNode, freeCount, freeVariables, select, truth}
 use Rattle.qbf.specs.Card.{Mem, liesOn, tableOf, zeroTable}
-use Rattle.qbf.specs.Calls.{Call, Reply, State, card, cardOf, cardRefused, cardReply, forget, formulaOk, keepCard, lines, nextFormula, query, rule, ruleFault, step, withRule, withdraw, withdrawFault, withoutLast}
+use Rattle.qbf.specs.Calls.{Call, Reply, State, card, cardOf, closest, cardRefused, cardReply, forget, formulaOk, keepCard, lines, nextFormula, one, oneFault, query, rule, ruleFault, step, withOne, withRule, withdraw, withdrawFault, withoutLast}
 use Rattle.qbf.specs.Runs.{after, fresh}
 use Rattle.qbf.specs.Demands.{CardRight}
 use Rattle.qbf.specs.Partition.{Partition, countOn, covered, isRefused, keepsClauses, readings}
@@ -181,7 +181,7 @@ same-clauses b (rule ls) e = by (ruleFault b ls) e
     by : (o : Option ℕ) → isRefused o ≡ true → withRule o b ls ≡ b
     by none q = absurd (false≢true q)
     by (some n) q = refl
-same-clauses b (query n ls) e = refl
+same-clauses b (query n on off) e = refl
 same-clauses b (card n size) e = refl
 same-clauses b forget e = refl
 same-clauses b withdraw e = by (withdrawFault b) e
@@ -190,6 +190,12 @@ same-clauses b withdraw e = by (withdrawFault b) e
     by none q = absurd (false≢true q)
     by (some n) q = refl
 same-clauses b (keepCard n size) e = refl
+same-clauses b (closest n size on off) e = refl
+same-clauses b (one ls) e = by (oneFault b ls) e
+  where
+    by : (o : Option ℕ) → isRefused o ≡ true → withOne o b ls ≡ b
+    by none q = absurd (false≢true q)
+    by (some n) q = refl
 
 pub same-formula : (x : State) → Reached x → (cs : List Call) → all (keepsClauses (x .formula)) cs ≡ true → after x cs .formula ≡ x .formula
 same-formula x h [] e = refl
@@ -210,8 +216,10 @@ not-refused n tb tc ks q = subst is-refused q tt
     is-refused (Reply.refused k) = ⊥
     is-refused Reply.swap = ⊥
     is-refused Reply.keep = ⊥
+    is-refused Reply.unsettled = ⊥
     is-refused (lines xs t) = ⊥
     is-refused (cardRefused k t) = Unit {0}
+    is-refused (Reply.found xs t r) = ⊥
 
 shown : (f size : ℕ) (ls ks : List Node) (tb : List ℕ) → cardReply f size ls ≡ lines ks tb → ls ≡ ks
 shown f size ls ks tb e = by (leb (length ls * f) size) e

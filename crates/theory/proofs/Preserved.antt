@@ -11,9 +11,11 @@ use lib.Dec.{eqb, leb}
 use Rattle.qbf.specs.Formula.{Clause, Formula, Limits, Literal, Node, Prefix, Quantifier, _▹_, quantifiers}
 use Rattle.qbf.specs.Truth.{Outcome, bound}
 use Rattle.qbf.specs.Learning.{Store, below, emptyStore, learningSearch, visit}
+use Rattle.qbf.specs.Plain.{PlainResult}
+use Rattle.qbf.specs.Open.{Reading, isFull, openSearch, readingOf}
 use Rattle.qbf.specs.Ceiling.{searchWithin}
 use Rattle.qbf.specs.Card.{Mem, zeroTable}
-use Rattle.qbf.specs.Calls.{Call, Reply, State, attemptAnswer, card, cardRefused, cardReplyOf, clauseOf, forget, guarded, keepCard, learningCard, learningQuery, nextFormula, query, queryFault, queryReply, refused, rule, ruleFault, startNode, step, storeAfterRule, storeAfterWithdraw, wellFormed, withRule, withdraw, withdrawFault, withoutLast}
+use Rattle.qbf.specs.Calls.{Call, Reply, State, attemptAnswer, card, cardRefused, closest, closestFault, learningClosest, cardReplyOf, clauseOf, forget, guarded, keepCard, learningCard, learningQuery, learningReading, nextFormula, one, oneFault, oneRules, openAnswer, query, queryFault, queryReply, refused, rule, ruleFault, startNode, step, storeAfterRule, storeAfterWithdraw, wellFormed, withOne, withRule, withdraw, withdrawFault, withoutLast}
 use Rattle.theory.proofs.Rest.{Rest, rest-up}
 use Rattle.theory.proofs.Game.{Rising}
 use Rattle.theory.proofs.Shape.{Formed}
@@ -21,7 +23,7 @@ use Rattle.theory.proofs.Stores.{ShapedStore, recorded-empty, recorded-
 use Rattle.theory.proofs.Induction.{BranchCases, SearchCases, below-by, visit-by}
 use Rattle.theory.proofs.Leaves.{shaped-leaves}
 use Rattle.theory.proofs.ShapedSearch.{ShapedOutcome, shaped-branches, shaped-search}
-use Rattle.theory.proofs.AcceptedRule.{next-formula}
+use Rattle.theory.proofs.NextFormula.{next-formula}
 use Rattle.theory.proofs.Withdrawn.{take-short}
 use Rattle.theory.proofs.WellFormed.{FitStore, Fits, FormulaFacts, StateFacts, capacity, clauses-rising, facts-state, state-facts}
 use Rattle.theory.proofs.Ceiling.{attempt-store, search-within}
@@ -65,16 +67,21 @@ module _ (L : Limits) (one : 1 ≤ L .constraints) (D : Prefix) (R : List Clause
 
 -- ---- the calls
 module _ (b : Formula) (f : FormulaFacts b) (st : Store) (h : ShapedFor b st) where
-  rule-store : (o : Option ℕ) (ls : List Literal) → ShapedFor (withRule o b ls) (storeAfterRule o st)
-  rule-store none ls =
+  -- clauses more, at the end
+  added-store : (Q : List Clause) → ShapedFor (record { limits = b .limits; prefix = b .prefix; clauses = b .clauses ++ Q }) (storeAfterRule none st)
+  added-store Q =
       record {
         shaped = stored-rule (Formed (b .prefix)) (b .limits) (Formed (b .prefix)) (λ E w. w) st (h .shaped);
-        fit = recorded-weaker (Fits (length (b .clauses))) (Fits (length R′)) (λ k E w. omega (arith, w, length-append (b .clauses) (clauseOf (b .prefix) ls ∷ []))) (st .records) (st .clauses) (h .fit);
+        fit = recorded-weaker (Fits (length (b .clauses))) (Fits (length (b .clauses ++ Q))) (λ k E w. omega (arith, w, length-append (b .clauses) Q)) (st .records) (st .clauses) (h .fit);
       }
-    where
-      R′ : List Clause
-      R′ = b .clauses ++ (clauseOf (b .prefix) ls ∷ [])
+
+  rule-store : (o : Option ℕ) (ls : List Literal) → ShapedFor (withRule o b ls) (storeAfterRule o st)
+  rule-store none ls = added-store (clauseOf (b .prefix) ls ∷ [])
   rule-store (some n) ls = h
+
+  one-store : (o : Option ℕ) (ls : List Literal) → ShapedFor (withOne o b ls) (storeAfterRule o st)
+  one-store none ls = added-store (oneRules (b .prefix) ls)
+  one-store (some n) ls = h
 
   withdraw-store : (o : Option ℕ) → ShapedFor (withoutLast o b) (storeAfterWithdraw o (length (b .clauses) - 1) st)
   withdraw-store none =
@@ -93,12 +100,27 @@ module _ (b : Formula) (f : FormulaFacts b) (st : Store) (h : ShapedFor b st) wh
       let w = fit-attempt (b .limits) (capacity b f) (b .prefix) (b .clauses) (clauses-rising b f) n over tell ks s st rest (h .shaped, h .fit) in
       record { shaped = w .0; fit = w .1 }
 
-  query-store : (n : ℕ) (o : Option ℕ) (ls : List Literal) → ShapedFor b (learningQuery o b st n ls .store)
-  query-store n none ls = search-store n (refused 34) queryReply (bound (quantifiers (b .prefix))) (startNode ls (b .prefix)) (start-rest ls (b .prefix))
-  query-store n (some k) ls = h
+  reading-store : (x : Bool) (n : ℕ) (on : List Literal) (os : Reading) → ShapedFor b (learningReading x b st n on os .store)
+  reading-store true n on os = search-store n (refused 34) queryReply (bound (quantifiers (b .prefix))) (startNode on (b .prefix)) (start-rest on (b .prefix))
+  reading-store false n on os = by (leb (w .visits) n)
+    where
+      w : PlainResult
+      w = openSearch (b .prefix) (b .clauses) os (quantifiers (b .prefix)) []
+
+      by : (y : Bool) → ShapedFor b (openAnswer y st n w .store)
+      by true = h
+      by false = h
+
+  query-store : (n : ℕ) (o : Option ℕ) (on off : List Literal) → ShapedFor b (learningQuery o b st n on off .store)
+  query-store n none on off = reading-store (isFull (readingOf on off (b .prefix))) n on (readingOf on off (b .prefix))
+  query-store n (some k) on off = h
 
   card-store : (p : Bool) (n size : ℕ) → ShapedFor b (learningCard p b st n size .store)
   card-store p n size = search-store n (cardRefused 34 (zeroTable size)) (cardReplyOf p (b .prefix) size) (quantifiers (b .prefix)) [] refl
+
+  closest-store : (o : Option ℕ) (n size : ℕ) (on : List Literal) → ShapedFor b (learningClosest o b st n size on .store)
+  closest-store none n size on = card-store true n size
+  closest-store (some k) n size on = h
 
 empty-store : (b : Formula) → ShapedFor b emptyStore
 empty-store b = record { shaped = stored-empty (Formed (b .prefix)) (b .limits); fit = recorded-empty (Fits (length (b .clauses))) }
@@ -117,11 +139,13 @@ call-facts x h c = let w = by c in record { formula-ok = next-formula b f c; sto
 
     by : (c : Call) → ShapedFor (nextFormula b c) (guarded true x c .state .store)
     by (rule ls) = rule-store b f (x .store) g (ruleFault b ls) ls
-    by (query n ls) = query-store b f (x .store) g n (queryFault b [] ls) ls
+    by (query n on off) = query-store b f (x .store) g n (queryFault b [] (on ++ off)) on off
     by (card n size) = card-store b f (x .store) g true n size
     by (keepCard n size) = card-store b f (x .store) g false n size
     by forget = empty-store b
     by withdraw = withdraw-store b f (x .store) g (withdrawFault b)
+    by (one ls) = one-store b f (x .store) g (oneFault b ls) ls
+    by (closest n size on off) = closest-store b f (x .store) g (closestFault b on off) n size on
 
 -- THE THEOREM: a well-formed state stays well formed
 pub step-formed : (x : State) → wellFormed x ≡ true → (c : Call) → wellFormed (step x c .state) ≡ true

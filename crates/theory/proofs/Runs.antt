@@ -4,21 +4,25 @@ use native.Mathlib.Nat.{le-refl}
 use native.Mathlib.Omega.{arith}
 use mathlib.Core.Path.{_≡_, refl, sym, ap, _∙_, subst}
 use mathlib.Core.Logic.{inl, inr}
-use mathlib.Core.Bool.{Bool, true, false}
-use mathlib.Core.List.{List, [], _∷_}
+use mathlib.Core.Bool.{Bool, true, false, not}
+use mathlib.Core.List.{List, [], _∷_, _++_}
 use mathlib.Core.Option.{Option, none, some}
 use lib.ListN.{length}
+use lib.Dec.{leb, nleb→lt}
 use Rattle.qbf.specs.Formula.{Clause, Formula, Limits, Literal, Node, Prefix, Quantifier, quantifiers}
 use Rattle.qbf.specs.Truth.{Outcome, bound}
 use Rattle.qbf.specs.Learning.{LearningResult, Store, emptyStore}
+use Rattle.qbf.specs.Plain.{PlainResult}
+use Rattle.qbf.specs.Open.{Reading, isFull, openSearch, readingOf}
 use Rattle.qbf.specs.Ceiling.{Attempt, finished, searchWithin, stopped}
 use Rattle.qbf.specs.Card.{zeroTable}
-use Rattle.qbf.specs.Calls.{Answer, Call, Reply, State, Stepped, attemptAnswer, card, cardOf, cardRefused, cardReplyOf, ceilingOf, refusal, refused, clauseOf, forget, formulaOk, guarded, keepCard, learningAnswer, learningCard, learningQuery, nextFormula, query, queryFault, queryReply, rule, ruleFault, startNode, step, storeAfterRule, storeAfterWithdraw, wellFormed, withRule, withdraw, withdrawFault, withoutLast}
-use Rattle.qbf.specs.Runs.{fresh, learningRun, plainAnswer, plainCall, plainCard, plainQuery, plainRun}
+use Rattle.qbf.specs.Calls.{Answer, Call, Reply, State, Stepped, attemptAnswer, card, cardOf, cardRefused, closest, closestAnswer, closestFault, fromCard, learningClosest, cardReplyOf, ceilingOf, refusal, refused, clauseOf, forget, formulaOk, guarded, keepCard, learningAnswer, learningCard, learningQuery, learningReading, nextFormula, one, oneFault, oneRules, openAnswer, query, queryFault, queryReply, rule, ruleFault, startNode, step, storeAfterRule, storeAfterWithdraw, wellFormed, withOne, withRule, withdraw, withdrawFault, withoutLast}
+use Rattle.qbf.specs.Runs.{fresh, learningRun, plainAnswer, plainCall, plainCard, plainClosest, plainQuery, plainReading, plainRun}
 use Rattle.qbf.specs.Demands.{Agree, Agrees, AllAgree}
+use Rattle.theory.proofs.Basics.{≡→T}
 use Rattle.theory.proofs.Shape.{Formed}
 use Rattle.theory.proofs.Stores.{recorded-weaker, stored-weaker}
-use Rattle.theory.proofs.AcceptedRule.{next-formula}
+use Rattle.theory.proofs.NextFormula.{next-formula}
 use Rattle.theory.proofs.WellFormed.{Fits, FormulaFacts, formula-facts, facts-state}
 use Rattle.theory.proofs.Leaves.{ByFirst, Valid, SoundStore, sound-empty}
 use Rattle.theory.proofs.Validity.{sound-rule, sound-withdraw}
@@ -51,6 +55,10 @@ rule-keeps-sound : (b : Formula) (ls : List Literal) (st : Store) → SoundFor b
 rule-keeps-sound b ls st h (some n) = h
 rule-keeps-sound b ls st h none = sound-rule (b .limits) (b .prefix) (b .clauses) (clauseOf (b .prefix) ls ∷ []) st h
 
+one-keeps-sound : (b : Formula) (ls : List Literal) (st : Store) → SoundFor b st → (o : Option ℕ) → SoundFor (withOne o b ls) (storeAfterRule o st)
+one-keeps-sound b ls st h (some n) = h
+one-keeps-sound b ls st h none = sound-rule (b .limits) (b .prefix) (b .clauses) (oneRules (b .prefix) ls) st h
+
 withdraw-keeps-sound : (b : Formula) (st : Store) → SoundFor b st → (o : Option ℕ) → SoundFor (withoutLast o b) (storeAfterWithdraw o (length (b .clauses) - 1) st)
 withdraw-keeps-sound b st h (some n) = h
 withdraw-keeps-sound b st h none = sound-withdraw (b .limits) (b .prefix) (b .clauses) (length (b .clauses) - 1) (omega arith) st h
@@ -72,13 +80,35 @@ module _ (b : Formula) (f : FormulaFacts b) (st : Store) (h : SoundFor b st) whe
           (w .stays-sound, inl (record { reply = ap tell (w .agree); visits = w .fewer }))
       by (stopped z) v = (v .1, inr (record { reply = is; ceiling = top; needed = omega (arith, v .0, w .fewer) }))
 
-  query-ok : (n : ℕ) (o : Option ℕ) (ls : List Literal) → SoundFor b (learningQuery o b st n ls .store) × Agrees (query n ls) (learningQuery o b st n ls .out) (plainQuery o b ls)
-  query-ok n (some k) ls = (h, inl (record { reply = refl; visits = le-refl 0 }))
-  query-ok n none ls = search-agrees (query n ls) n refl (refused 34) refl (bound (quantifiers (b .prefix))) (startNode ls (b .prefix)) (starts-full b f (startNode ls (b .prefix)) (start-length ls (b .prefix))) queryReply
+  -- an open reading's search stands for both
+  open-ok : (n : ℕ) (on off : List Literal) (w : PlainResult) (x : Bool) → leb (w .visits) n ≡ x → SoundFor b (openAnswer x st n w .store) × Agrees (query n on off) (openAnswer x st n w .out) (plainAnswer queryReply w)
+  open-ok n on off w true e = (h, inl (record { reply = refl; visits = le-refl (w .visits) }))
+  open-ok n on off w false e = (h, inr (record { reply = refl; ceiling = refl; needed = nleb→lt (w .visits) n (≡→T (not (leb (w .visits) n)) (ap not e)) }))
+
+  reading-ok : (n : ℕ) (on off : List Literal) (os : Reading) (x : Bool) → SoundFor b (learningReading x b st n on os .store) × Agrees (query n on off) (learningReading x b st n on os .out) (plainReading x b on os)
+  reading-ok n on off os true =
+      search-agrees (query n on off) n refl (refused 34) refl (bound (quantifiers (b .prefix))) (startNode on (b .prefix)) (starts-full b f (startNode on (b .prefix)) (start-length on (b .prefix))) queryReply
+  reading-ok n on off os false = let w = openSearch (b .prefix) (b .clauses) os (quantifiers (b .prefix)) [] in open-ok n on off w (leb (w .visits) n) refl
+
+  query-ok : (n : ℕ) (o : Option ℕ) (on off : List Literal) → SoundFor b (learningQuery o b st n on off .store) × Agrees (query n on off) (learningQuery o b st n on off .out) (plainQuery o b on off)
+  query-ok n (some k) on off = (h, inl (record { reply = refl; visits = le-refl 0 }))
+  query-ok n none on off = reading-ok n on off (readingOf on off (b .prefix)) (isFull (readingOf on off (b .prefix)))
 
   card-ok : (p : Bool) (n size : ℕ) → SoundFor b (learningCard p b st n size .store) × Agrees (cardOf p n size) (learningCard p b st n size .out) (plainCard p b size)
   card-ok true n size = search-agrees (card n size) n refl (cardRefused 34 (zeroTable size)) refl (quantifiers (b .prefix)) [] (starts-empty b f) (cardReplyOf true (b .prefix) size)
   card-ok false n size = search-agrees (keepCard n size) n refl (cardRefused 34 (zeroTable size)) refl (quantifiers (b .prefix)) [] (starts-empty b f) (cardReplyOf false (b .prefix) size)
+
+  -- the closest reading from the card of either run
+  closest-ok : (n size : ℕ) (on off : List Literal) (o : Option ℕ) → SoundFor b (learningClosest o b st n size on .store) × Agrees (closest n size on off) (learningClosest o b st n size on .out) (plainClosest o b size on)
+  closest-ok n size on off (some k) = (h, inl (record { reply = refl; visits = le-refl 0 }))
+  closest-ok n size on off none = let w = card-ok true n size in (w .0, from (learningCard true b st n size .out) (plainCard true b size) (w .1))
+    where
+      t : Node
+      t = startNode on (b .prefix)
+
+      from : (l p : Answer) → Agrees (card n size) l p → Agrees (closest n size on off) (closestAnswer size t l) (closestAnswer size t p)
+      from l p (inl a) = inl (record { reply = ap (fromCard size t) (a .reply); visits = a .visits })
+      from l p (inr w) = inr (record { reply = ap (fromCard size t) (w .reply); ceiling = w .ceiling; needed = w .needed })
 
 none-stored : (b : Formula) → SoundFor b emptyStore
 none-stored b = sound-empty (b .limits) (b .prefix) (b .clauses)
@@ -96,8 +126,8 @@ call-ok x h (rule ls) =
       same-formula = refl;
       agree = inl (record { reply = refl; visits = le-refl 0 });
     }
-call-ok x h (query n ls) =
-    let w = query-ok (x .formula) (h .formula-ok) (x .store) (h .sound) n (queryFault (x .formula) [] ls) ls in
+call-ok x h (query n on off) =
+    let w = query-ok (x .formula) (h .formula-ok) (x .store) (h .sound) n (queryFault (x .formula) [] (on ++ off)) on off in
     record { next = record { formula-ok = h .formula-ok; sound = w .0 }; same-formula = refl; agree = w .1 }
 call-ok x h (card n size) =
     let w = card-ok (x .formula) (h .formula-ok) (x .store) (h .sound) true n size in
@@ -105,9 +135,18 @@ call-ok x h (card n size) =
 call-ok x h (keepCard n size) =
     let w = card-ok (x .formula) (h .formula-ok) (x .store) (h .sound) false n size in
     record { next = record { formula-ok = h .formula-ok; sound = w .0 }; same-formula = refl; agree = w .1 }
+call-ok x h (closest n size on off) =
+    let w = closest-ok (x .formula) (h .formula-ok) (x .store) (h .sound) n size on off (closestFault (x .formula) on off) in
+    record { next = record { formula-ok = h .formula-ok; sound = w .0 }; same-formula = refl; agree = w .1 }
 call-ok x h withdraw =
     record {
       next = record { formula-ok = next-formula (x .formula) (h .formula-ok) withdraw; sound = withdraw-keeps-sound (x .formula) (x .store) (h .sound) (withdrawFault (x .formula)) };
+      same-formula = refl;
+      agree = inl (record { reply = refl; visits = le-refl 0 });
+    }
+call-ok x h (one ls) =
+    record {
+      next = record { formula-ok = next-formula (x .formula) (h .formula-ok) (one ls); sound = one-keeps-sound (x .formula) ls (x .store) (h .sound) (oneFault (x .formula) ls) };
       same-formula = refl;
       agree = inl (record { reply = refl; visits = le-refl 0 });
     }

@@ -36,7 +36,7 @@ below-free free ks n = absurd n
 below-free exists ks n = n
 below-free forall ks n = n
 
-not-mixing : (κ : Quantifier) (ks : List Quantifier) (o q : Outcome Constraint) → Mixes κ o q → Unmixed ks o → Unmixed ks q → NoFree (κ ∷ ks) → ⊥
+pub not-mixing : (κ : Quantifier) (ks : List Quantifier) (o q : Outcome Constraint) → Mixes κ o q → Unmixed ks o → Unmixed ks q → NoFree (κ ∷ ks) → ⊥
 not-mixing κ ks (decided b E) (decided c F) w p r n = one-verdict κ ks b c (w .0) (w .1) (w .2) n
 not-mixing κ ks (decided b E) (mixed ls) w p r n = r (below-free κ ks n)
 not-mixing κ ks (mixed ls) q w p r n = p (below-free κ ks n)

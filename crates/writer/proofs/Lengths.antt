@@ -5,8 +5,8 @@ use mathlib.Core.Bool.{Bool, true, false}
 use mathlib.Core.List.{List, _++_}
 use native.Mathlib.Omega.{arith}
 use lib.ListN.{length, length-append}
-use Rattle.layout.specs.Words.{ascii}
-use Rattle.layout.specs.Output.{decimal, visitsText, cardHead, refusalText, overflowText, replyText, queryText}
+use Rattle.layout.specs.Words.{Bytes, ascii}
+use Rattle.layout.specs.Output.{decimal, visitsText, cardHead, refusalText, overflowText, queryText}
 use Rattle.writer.specs.Rows.{rowsText, cardRows}
 
 -- ---- numbers in words
@@ -22,14 +22,9 @@ pub overflow-length : (n line visits : ℕ) → length (overflowText n line visi
 unfolding overflowText
 overflow-length n line visits = simp length-append (omega arith)
 
-pub reply-length : (swap : Bool) → length (replyText swap) ≡ 14
-reply-length true = refl
-reply-length false = refl
-
-pub query-length : (swap : Bool) (n : ℕ) → length (queryText swap n) ≡ length (decimal n) + 17
+pub query-length : (w : Bytes) (n : ℕ) → length (queryText w n) ≡ length w + length (decimal n) + 13
 unfolding queryText
-query-length true n = simp length-append (omega arith)
-query-length false n = simp length-append (omega arith)
+query-length w n = simp length-append (omega arith)
 
 pub off-length : (n : ℕ) → length (ascii " (no " ++ decimal n ++ ascii ")") ≡ length (decimal n) + 6
 off-length n = simp length-append (omega arith)

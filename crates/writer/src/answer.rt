@@ -3,7 +3,7 @@ use crate::bytes::put_word;
 use crate::number::put_number;
 ghost use Prim.Native.Nat.{_+_, _≤_};
 ghost use lib.ListN.{length};
-ghost use Rattle.layout.specs.Output.{refusalText, overflowText, replyText, queryText};
+ghost use Rattle.layout.specs.Output.{refusalText, overflowText, queryText};
 ghost use Rattle.writer.specs.Wrote.{Wrote};
 
 // "number and text line from 1 (0 for 9)"
@@ -32,22 +32,14 @@ pub fn put_overflow(d: &mut [u8], at: usize, n: u64, line: u64, visits: u64) -> 
     put_word(d, v, b"))\n")
 }
 
-// "swap or keep, and the visits"
-pub fn put_query(d: &mut [u8], at: usize, swap: bool, visits: u64) -> usize
-    requires { ⌜ at + length (queryText swap visits) ≤ length (now d) ⌝ }
-    ensures { λ r. ⌜ Wrote (now (d .entry)) at (queryText swap visits) (now (d .exit)) r ⌝ }
+// The word of a verdict, and the visits.
+pub fn put_query(d: &mut [u8], at: usize, word: &[u8], visits: u64) -> usize
+    requires { ⌜ at + length (queryText (now word) visits) ≤ length (now d) ⌝ }
+    ensures { λ r. ⌜ Wrote (now (d .entry)) at (queryText (now (word .entry)) visits) (now (d .exit)) r ⌝ }
 {
-    let p = put_reply(d, at, swap);
-    let q = put_number(d, p, visits);
-    put_word(d, q, b"))\n")
-}
-
-fn put_reply(d: &mut [u8], at: usize, swap: bool) -> usize
-    requires { ⌜ at + length (replyText swap) ≤ length (now d) ⌝ }
-    ensures { λ r. ⌜ Wrote (now (d .entry)) at (replyText swap) (now (d .exit)) r ⌝ }
-{
-    if swap {
-        return put_word(d, at, b"(swap (visits ");
-    }
-    put_word(d, at, b"(keep (visits ")
+    let p = put_word(d, at, b"(");
+    let q = put_word(d, p, word);
+    let s = put_word(d, q, b" (visits ");
+    let t = put_number(d, s, visits);
+    put_word(d, t, b"))\n")
 }

@@ -1,3 +1,3 @@
 # 100 calls of 1,000 bytes after a small book
 awk 'function repeat(text, times,  i) { for (i = 0; i < times; i++) printf "%s", text }
-BEGIN { printf "(book 1)\n(flags 1 2)\n(exists 3)\n(forall 4)\n(rule 3 4 (no 1))\n(rule (no 3) (no 4) 2)\n(rule 1 2)\n(end)\n"; for (n = 0; n < 100; n++) { printf "(query"; repeat(" 1", 496); printf ")\n" } printf "(query 2)\n" }'
+BEGIN { printf "(book 1)\n(flags 1 2)\n(exists 3)\n(forall 4)\n(rule 3 4 (no 1))\n(rule (no 3) (no 4) 2)\n(rule 1 2)\n(end)\n"; for (n = 0; n < 100; n++) { printf "(query"; repeat(" 1", 496); printf ")\n" } printf "(query 2 (no 1))\n" }'

@@ -1,28 +1,64 @@
 //! Calls and answers, in a form that every implementation under comparison can fill in.
 
+use crate::closest::Closest;
 use crate::formula::Literal;
+use crate::reading::Reading;
 use std::fmt;
 
 #[derive(Clone, Debug, PartialEq, Eq)]
 pub enum Call {
     Rule(Vec<Literal>),
+    /// Exactly one of these literals is true.
+    One(Vec<Literal>),
     /// The rule added last goes.
     Withdraw,
-    /// The numbers of the free variables that are on.
-    Query(Vec<i16>),
+    /// The free variables that are on, and those that are off; the others are open.
+    Query(Reading),
     /// The length of the lent card table.
     Card(usize),
     /// The same, for the card of the readings that are kept.
     KeepCard(usize),
+    /// A full reading, and the length of the table that the card is written to.
+    Closest(Reading, usize),
     Forget,
     /// The length of the table that the book's text is written to.
     Write(usize),
 }
 
 impl Call {
-    /// Whether it takes a ceiling: "query and either card".
+    /// Whether it takes a ceiling: "query and either card", and the closest reading's card is "made under a
+    /// ceiling".
     pub fn searches(&self) -> bool {
-        matches!(self, Call::Query(_) | Call::Card(_) | Call::KeepCard(_))
+        matches!(self, Call::Query(_) | Call::Card(_) | Call::KeepCard(_) | Call::Closest(..))
+    }
+
+    /// The lists of numbers that it has.
+    pub fn lists_mut(&mut self) -> Vec<&mut Vec<i16>> {
+        match self {
+            Call::Rule(list) | Call::One(list) => vec![list],
+            Call::Query(Reading { on, off }) | Call::Closest(Reading { on, off }, _) => {
+                vec![on, off]
+            }
+            _ => vec![],
+        }
+    }
+
+    /// All of its numbers.
+    pub fn numbers(&self) -> Vec<i16> {
+        match self {
+            Call::Rule(list) | Call::One(list) => list.clone(),
+            Call::Query(reading) | Call::Closest(reading, _) => reading.numbers(),
+            _ => vec![],
+        }
+    }
+
+    /// The bytes of the table that it lends.
+    pub fn table(&self) -> usize {
+        match self {
+            Call::Card(length) | Call::KeepCard(length) => *length,
+            Call::Closest(_, length) | Call::Write(length) => *length,
+            _ => 0,
+        }
     }
 }
 
@@ -33,8 +69,11 @@ pub enum Said {
     Withdrawn,
     Swap,
     Keep,
+    /// Some completions of a reading are swaps, and some are not.
+    Unsettled,
     /// The count of lines.
     Lines(usize),
+    Closest(Closest),
     Forgotten,
     /// The length of the text.
     Written(usize),
@@ -85,10 +124,14 @@ impl fmt::Display for Call {
     fn fmt(&self, f: &mut fmt::Formatter) -> fmt::Result {
         match self {
             Call::Rule(literals) => write!(f, "rule {literals:?}"),
+            Call::One(literals) => write!(f, "one {literals:?}"),
             Call::Withdraw => write!(f, "withdraw"),
-            Call::Query(on) => write!(f, "query {on:?}"),
+            Call::Query(reading) => write!(f, "query {reading}"),
             Call::Card(length) => write!(f, "card into {length} bytes"),
             Call::KeepCard(length) => write!(f, "keep card into {length} bytes"),
+            Call::Closest(reading, length) => {
+                write!(f, "closest to {reading}, card into {length} bytes")
+            }
             Call::Forget => write!(f, "forget"),
             Call::Write(length) => write!(f, "write into {length} bytes"),
         }
@@ -103,7 +146,11 @@ impl fmt::Display for Answer {
             Said::Withdrawn => write!(f, "withdrawn")?,
             Said::Swap => write!(f, "swap")?,
             Said::Keep => write!(f, "keep")?,
+            Said::Unsettled => write!(f, "unsettled")?,
             Said::Lines(count) => write!(f, "{count} line(s)")?,
+            Said::Closest(Closest { reading, differs, lines }) => {
+                write!(f, "{reading:?} differs in {differs}, {lines} line(s)")?
+            }
             Said::Forgotten => write!(f, "forgotten")?,
             Said::Written(length) => write!(f, "{length} byte(s)")?,
         }

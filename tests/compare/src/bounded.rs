@@ -14,6 +14,7 @@ use crate::text::{self, TextRefusal};
 #[derive(Clone, Copy, Debug, PartialEq, Eq)]
 pub enum CeilingSlip {
     NoCeiling,
+    OpenQueryUnlimited,
     OneVisitMore,
     OneVisitLess,
     StopsThoughFinished,
@@ -29,6 +30,7 @@ pub enum CeilingSlip {
 
 pub const ALL: &[(CeilingSlip, &str)] = &[
     (CeilingSlip::NoCeiling, "the ceiling is ignored"),
+    (CeilingSlip::OpenQueryUnlimited, "the ceiling of a query with an open flag is ignored"),
     (CeilingSlip::OneVisitMore, "a search makes one visit more than the ceiling"),
     (CeilingSlip::OneVisitLess, "a search makes one visit less than the ceiling"),
     (CeilingSlip::StopsThoughFinished, "34 for a search that needs exactly the ceiling"),
@@ -75,6 +77,10 @@ impl Bounded {
         Ok(Bounded { solver: Solver::opened(formula, options), slip: None })
     }
 
+    fn asks_open(&self, call: &Call) -> bool {
+        matches!(call, Call::Query(reading) if !reading.is_full(&self.solver.state.formula))
+    }
+
     /// What a slip makes of a stopped call.
     fn spoil_stopped(&mut self, call: &Call, given: u32, mut before: Solver, answer: &mut Answer) {
         let store = &mut self.solver.state.store;
@@ -102,6 +108,7 @@ impl Subject for Bounded {
         let lowered = match self.slip {
             None => return self.solver.call_within(call, ceiling),
             Some(NoCeiling) => HIGHEST_CEILING,
+            Some(OpenQueryUnlimited) if self.asks_open(call) => HIGHEST_CEILING,
             Some(OneVisitMore) => ceiling.saturating_add(1),
             Some(OneVisitLess) => ceiling.saturating_sub(1),
             Some(_) => ceiling,

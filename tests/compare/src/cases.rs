@@ -3,7 +3,7 @@
 
 use crate::options::Options;
 use crate::page::pages_program;
-use crate::{editions, qdimacs, session, text};
+use crate::{day, editions, qdimacs, session, text};
 use std::path::{Path, PathBuf};
 use std::process::Command;
 use std::{fs, io};
@@ -16,6 +16,33 @@ pub enum Program {
     Qdimacs,
     Tag,
     Untag,
+    /// Only this implementation runs its cases for now.
+    Day,
+}
+
+impl Program {
+    pub const ALL: [Program; 7] = [
+        Program::Card,
+        Program::Session,
+        Program::Pages,
+        Program::Qdimacs,
+        Program::Tag,
+        Program::Untag,
+        Program::Day,
+    ];
+
+    /// Its name, and that of the folder of its cases.
+    pub fn name(self) -> &'static str {
+        match self {
+            Program::Card => "card",
+            Program::Session => "session",
+            Program::Pages => "pages",
+            Program::Qdimacs => "qdimacs",
+            Program::Tag => "tag",
+            Program::Untag => "untag",
+            Program::Day => "day",
+        }
+    }
 }
 
 #[derive(Clone, Debug)]
@@ -33,14 +60,7 @@ fn folder(path: &str) -> PathBuf {
 
 /// Every case of a program, by name.
 pub fn stored(program: Program) -> io::Result<Vec<StoredCase>> {
-    let folder = folder(match program {
-        Program::Card => "tests/cases/card",
-        Program::Session => "tests/cases/session",
-        Program::Pages => "tests/cases/pages",
-        Program::Qdimacs => "tests/cases/qdimacs",
-        Program::Tag => "tests/cases/tag",
-        Program::Untag => "tests/cases/untag",
-    });
+    let folder = folder("tests/cases").join(program.name());
     read_all(&folder, program, "in", "out")
 }
 
@@ -95,6 +115,11 @@ impl StoredCase {
             Program::Qdimacs => qdimacs::program(&self.input, options, None).into_bytes(),
             Program::Tag => editions::tag_program(&self.input, options, None),
             Program::Untag => editions::untag_program(&self.input, options, None),
+            Program::Day => {
+                let mut output = vec![];
+                day::program::run(&self.input[..], &mut output, None).expect("bytes in, bytes out");
+                output
+            }
             Program::Session => {
                 let mut output = vec![];
                 session::run(&self.input[..], &mut output, options).expect("bytes in, bytes out");

@@ -13,6 +13,11 @@ pub enum LastCardSlip {
     KeptAfterKeepCard,
     KeptAfterRefusedKeepCard,
     KeptAfterStoppedCard,
+    KeptAfterClosest,
+    KeptAfterRefusedClosest,
+    LostAfterClosest,
+    KeptAfterOne,
+    LostAfterRefusedOne,
     RefusedCardShown,
     LostAfterRefusedRule,
     LostAfterRefusedWithdrawal,
@@ -30,6 +35,14 @@ pub const ALL: &[(LastCardSlip, &str)] = &[
     (LastCardSlip::KeptAfterKeepCard, "a page of the card before the keep card"),
     (LastCardSlip::KeptAfterRefusedKeepCard, "a page of the card before the refused keep card"),
     (LastCardSlip::KeptAfterStoppedCard, "a page of the card before the stopped one"),
+    (LastCardSlip::KeptAfterClosest, "a page of the card before the closest reading's"),
+    (
+        LastCardSlip::KeptAfterRefusedClosest,
+        "a page of the card before the refused closest reading",
+    ),
+    (LastCardSlip::LostAfterClosest, "the card of a closest reading has no page"),
+    (LastCardSlip::KeptAfterOne, "a page of a card that an exactly-one form has made untrue"),
+    (LastCardSlip::LostAfterRefusedOne, "a refused exactly-one form takes the card away"),
     (LastCardSlip::LostAfterStoppedQuery, "a stopped query takes the card away"),
     (LastCardSlip::LostAfterRefusedWithdrawal, "a refused withdrawal takes the card away"),
     (LastCardSlip::KeptAfterRefusedCard, "a page of the card before the refused one"),
@@ -79,6 +92,15 @@ impl LastCard {
                 true
             }
             (Call::Query(_), Said::Refused(34)) if slips(LostAfterStoppedQuery) => false,
+            (Call::Closest(..), Said::Closest(_)) if slips(KeptAfterClosest) => true,
+            (Call::Closest(..), Said::Closest(_)) if slips(LostAfterClosest) => false,
+            (Call::Closest(..), Said::Closest(found)) => {
+                self.held = Some(Held { table: answer.table.clone(), lines: found.lines });
+                return;
+            }
+            (Call::Closest(..), _) => slips(KeptAfterRefusedClosest),
+            (Call::One(_), Said::Added) => slips(KeptAfterOne),
+            (Call::One(_), _) => !slips(LostAfterRefusedOne),
             (Call::Card(_) | Call::KeepCard(_), Said::Lines(lines)) => {
                 self.held = Some(Held { table: answer.table.clone(), lines });
                 return;

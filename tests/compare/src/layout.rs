@@ -27,14 +27,16 @@ pub fn read(line: &[u8]) -> Option<Form> {
 
 /// A line as its keyword and its items, whatever the keyword.
 pub(crate) fn items(line: &[u8]) -> Option<(&[u8], Vec<Item>)> {
-    let CallLine { keyword, items, ceiling } = call_line(line)?;
-    ceiling.is_none().then_some((keyword, items))
+    let CallLine { keyword, items, bytes, ceiling } = call_line(line)?;
+    (bytes.is_none() && ceiling.is_none()).then_some((keyword, items))
 }
 
-/// A line of a session: its keyword, its items, and behind them the ceiling, where one is given.
+/// A line of a session: its keyword, its items, and behind them the bytes of a table and the ceiling, where they
+/// are given.
 pub(crate) struct CallLine<'a> {
     pub keyword: &'a [u8],
     pub items: Vec<Item>,
+    pub bytes: Option<i32>,
     pub ceiling: Option<u32>,
 }
 
@@ -42,15 +44,21 @@ pub(crate) fn call_line(line: &[u8]) -> Option<CallLine<'_>> {
     let mut cursor = Cursor { rest: line };
     cursor.expect(b"(")?;
     let keyword = cursor.keyword();
-    let (mut items, mut ceiling) = (vec![], None);
+    let (mut items, mut bytes, mut ceiling) = (vec![], None, None);
     while ceiling.is_none() && cursor.expect(b" ").is_some() {
-        match cursor.expect(b"(ceiling ") {
-            Some(()) => ceiling = Some(cursor.ceiling()?),
-            None => items.push(cursor.item()?),
+        if cursor.expect(b"(ceiling ").is_some() {
+            ceiling = Some(cursor.ceiling()?);
+        } else if bytes.is_some() {
+            return None;
+        } else if cursor.expect(b"(bytes ").is_some() {
+            bytes = Some(cursor.number()?);
+            cursor.expect(b")")?;
+        } else {
+            items.push(cursor.item()?);
         }
     }
     cursor.expect(b")")?;
-    cursor.rest.is_empty().then_some(CallLine { keyword, items, ceiling })
+    cursor.rest.is_empty().then_some(CallLine { keyword, items, bytes, ceiling })
 }
 
 fn form(keyword: &[u8], items: &[Item]) -> Option<Form> {
@@ -117,11 +125,19 @@ impl<'a> Cursor<'a> {
 
     /// What stands behind `(ceiling `: "N from 0 to 4294967295, 1 to 10 digits, no leading zero".
     fn ceiling(&mut self) -> Option<u32> {
-        let digits = std::str::from_utf8(self.digits()).ok()?;
+        let digits = self.digits();
         self.expect(b")")?;
-        let leading_zero = digits.len() > 1 && digits.starts_with('0');
-        (!leading_zero).then(|| digits.parse().ok())?
+        long_number(digits)
     }
+}
+
+/// A number of 32 bits, with no leading zero.
+pub(crate) fn long_number(digits: &[u8]) -> Option<u32> {
+    let leading_zero = digits.len() > 1 && digits[0] == b'0';
+    if leading_zero || !digits.iter().all(u8::is_ascii_digit) {
+        return None;
+    }
+    std::str::from_utf8(digits).ok()?.parse().ok()
 }
 
 /// "Numbers have 1 to 5 digits and no leading zero (0 alone is allowed)."

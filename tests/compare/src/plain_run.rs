@@ -1,11 +1,16 @@
 //! The plain run: the calls' arguments, the declarations and the clauses; no store.
 
 use crate::answer::{Answer, Call, Said, Subject};
+use crate::closest;
 use crate::formula::{Formula, Literal};
+use crate::one;
+use crate::open_query;
 use crate::options::{Limits, Options};
 use crate::plain;
+use crate::reading::Reading;
 use crate::refusal;
-use crate::solver::{start_node, Solver};
+use crate::solver::{settled, start_node, Solver};
+use crate::store::Store;
 use crate::table;
 use crate::truth::Verdict;
 
@@ -20,10 +25,12 @@ impl Subject for PlainRun {
     fn call_within(&mut self, call: &Call, _: u32) -> Answer {
         match call {
             Call::Rule(literals) => self.rule(literals),
-            Call::Query(on) => self.query(on),
+            Call::One(literals) => self.one(literals),
+            Call::Query(reading) => self.query(reading),
             Call::Withdraw => self.withdraw(),
             Call::Card(length) => self.card(*length, Verdict::Yes),
             Call::KeepCard(length) => self.card(*length, Verdict::No),
+            Call::Closest(reading, length) => self.closest(reading, *length),
             Call::Forget => Answer::new(Said::Forgotten),
             Call::Write(length) => self.write(*length),
         }
@@ -44,6 +51,28 @@ impl PlainRun {
         Answer::new(Said::Added)
     }
 
+    fn one(&mut self, literals: &[Literal]) -> Answer {
+        let wide: Vec<i32> = literals.iter().map(|&literal| i32::from(literal)).collect();
+        if let Some(number) = refusal::of_one(&self.formula, &wide, &self.options) {
+            return Answer::new(Said::Refused(number));
+        }
+        one::rules(literals, &self.options).iter().for_each(|rule| self.formula.add(rule));
+        Answer::new(Said::Added)
+    }
+
+    /// From the plain walk's card.
+    fn closest(&self, reading: &Reading, length: usize) -> Answer {
+        if let Some(number) = closest::refusal(&self.formula, reading, &self.options) {
+            return Answer { said: Said::Refused(number), table: vec![0; length], visits: 0 };
+        }
+        let mut answer = self.card(length, Verdict::Yes);
+        if let Said::Lines(lines) = answer.said {
+            let found = closest::find(&self.formula, reading, lines, &answer.table, &self.options);
+            answer.said = found.map_or(Said::Refused(35), Said::Closest);
+        }
+        answer
+    }
+
     /// "the plain run, too, takes away the last of the rules that it carries, one of the opened book's
     /// included".
     fn withdraw(&mut self) -> Answer {
@@ -53,13 +82,20 @@ impl PlainRun {
         }
     }
 
-    fn query(&self, on: &[i16]) -> Answer {
-        if let Some(number) = refusal::of_query(&self.formula, on, &self.options) {
+    /// With an open flag it is the walk of the learning run, "which in demand 3's lists stands for both walks".
+    fn query(&self, reading: &Reading) -> Answer {
+        let (formula, options) = (&self.formula, &self.options);
+        if let Some(number) = refusal::of_query(formula, reading, options) {
             return Answer::new(Said::Refused(number));
         }
-        let found = plain::search(&self.formula, &start_node(&self.formula, on));
-        let said = if found.verdict == Verdict::Yes { Said::Swap } else { Said::Keep };
-        Answer { said, table: vec![], visits: found.visits }
+        let (verdict, visits) = if reading.is_full(formula) {
+            let found = plain::search(formula, &start_node(formula, reading));
+            (found.verdict, found.visits)
+        } else {
+            let found = open_query::walk(formula, reading, u64::MAX, &Store::default(), options);
+            (found.verdict.expect("no ceiling stops it"), found.visits)
+        };
+        Answer { said: settled(verdict), table: vec![], visits }
     }
 
     /// A book is written from the declarations and the rules alone.

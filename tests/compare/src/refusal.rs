@@ -1,7 +1,9 @@
 //! Refusals of rules, declarations and queries, in the paper's order.
 
 use crate::formula::{Formula, Quantifier};
+use crate::one;
 use crate::options::{Options, MOST_FLAGS};
+use crate::reading::Reading;
 use crate::slip::Slip;
 
 /// "20, 7, then each number from the left 3, 5, 6". Literals come wider than 16 bits, so that a
@@ -18,6 +20,24 @@ pub fn of_rule(formula: &Formula, literals: &[i32], options: &Options) -> Option
         return full.or(exchanged).or_else(|| of_literals(formula, literals, options));
     }
     full.or(length).or_else(|| of_literals(formula, literals, options))
+}
+
+/// "Fewer than two literals or more than 16 is 7, in this form before 20", and "20 counts them together"; then as
+/// a rule's numbers.
+pub fn of_one(formula: &Formula, literals: &[i32], options: &Options) -> Option<u8> {
+    let least = if options.slips(Slip::OneAlone) { 1 } else { 2 };
+    let length = !(least..=options.literal_limit()).contains(&literals.len());
+    let rules = match options.slips(Slip::OneCountsOne) {
+        true => 1,
+        false => one::count(literals.len()),
+    };
+    let full = formula.clauses.len() + rules > options.clause_limit();
+    let (length, full) = (length.then_some(7), full.then_some(20));
+    let first = match options.slips(Slip::OneFullBeforeLength) {
+        true => full.or(length),
+        false => length.or(full),
+    };
+    first.or_else(|| of_literals(formula, literals, options))
 }
 
 fn of_literals(formula: &Formula, literals: &[i32], options: &Options) -> Option<u8> {
@@ -74,14 +94,23 @@ pub fn of_declaration(
     range.or_else(|| (!undeclared(formula, number)).then_some(4)).or(full.then_some(33))
 }
 
-/// "8 a query names a non-flag, or a flag twice": every bad number is an 8.
-pub fn of_query(formula: &Formula, on: &[i16], options: &Options) -> Option<u8> {
+/// "8 a query names a non-flag, or a flag twice": every bad number is an 8. "A number given both as on and as
+/// off is 8."
+pub fn of_query(formula: &Formula, reading: &Reading, options: &Options) -> Option<u8> {
+    if options.slips(Slip::BothListsTaken) {
+        let of = |numbers: &[i16]| of_numbers(formula, numbers, options);
+        return of(&reading.on).or(of(&reading.off));
+    }
+    of_numbers(formula, &reading.numbers(), options)
+}
+
+fn of_numbers(formula: &Formula, numbers: &[i16], options: &Options) -> Option<u8> {
     let is_free = |number: i16| {
         let mut free = formula.prefix.iter().filter(|v| v.quantifier == Quantifier::Free);
         free.any(|v| v.number == number)
     };
-    let non_free = !on.iter().all(|&number| is_free(number));
-    let twice = (0..on.len()).any(|index| on[..index].contains(&on[index]));
+    let non_free = !numbers.iter().all(|&number| is_free(number));
+    let twice = (0..numbers.len()).any(|index| numbers[..index].contains(&numbers[index]));
     let refused = non_free && !options.slips(Slip::QueryTakesNonFree)
         || twice && !options.slips(Slip::QueryTakesRepeat);
     refused.then_some(8)

@@ -2,8 +2,10 @@
 //! theorem, and here they are read from the same files, to be answered by this implementation.
 
 use crate::answer::{Answer, Call, Said, Subject, HIGHEST_CEILING};
+use crate::closest::Closest;
 use crate::formula::{Formula, Literal, Quantifier, Variable};
-use crate::options::Limits;
+use crate::options::{Limits, MOST_FLAGS};
+use crate::reading::Reading;
 use crate::solver::State;
 use crate::store::Store;
 use std::collections::BTreeMap;
@@ -76,10 +78,18 @@ enum Term {
     Record(BTreeMap<String, Term>),
 }
 
-/// What the rows are written with. A name without arguments may stand for what the file says it is.
+/// What the rows are written with. A name may stand for what the file says it is.
 struct Source {
-    definitions: BTreeMap<String, String>,
+    definitions: BTreeMap<String, Definition>,
 }
+
+struct Definition {
+    parameters: Vec<String>,
+    text: String,
+}
+
+/// Names with arguments that are known here, whatever the files say.
+const KNOWN: [&str; 7] = ["many", "wide", "all-on", "store", "recorded", "from", "at"];
 
 impl Source {
     fn add(&mut self, text: &str) {
@@ -87,32 +97,45 @@ impl Source {
         let mut name = None;
         for line in text.lines().map(|line| line.split("--").next().unwrap_or_default()) {
             if !line.starts_with(' ') {
-                let named = line.split_once(" =").filter(|(name, _)| !name.contains(' '));
-                name = named.map(|(name, _)| name.to_owned());
-                if let Some((name, rest)) = named {
-                    definitions.insert(name.to_owned(), rest.to_owned());
-                }
-            } else if let Some(text) = name.as_ref().and_then(|name| definitions.get_mut(name)) {
-                text.push_str(line);
+                let named = line.split_once(" =").filter(|(names, _)| !names.contains(':'));
+                name = named.and_then(|(names, text)| {
+                    let mut names = names.split_whitespace().map(str::to_owned);
+                    let (name, parameters) = (names.next()?, names.collect());
+                    let text = text.to_owned();
+                    definitions.insert(name.clone(), Definition { parameters, text });
+                    Some(name)
+                });
+            } else if let Some(defined) = name.as_ref().and_then(|name| definitions.get_mut(name)) {
+                defined.text.push_str(line);
             }
         }
     }
 
     fn named(&self, name: &str) -> Term {
-        let text = self.definitions.get(name).unwrap_or_else(|| panic!("{name} is not defined"));
-        let mut parser = Parser { words: words(text), at: 0 };
+        let defined = self.definitions.get(name).unwrap_or_else(|| panic!("{name} is not defined"));
+        let mut parser = Parser { words: words(&defined.text), at: 0 };
         let term = parser.term();
         assert!(parser.at == parser.words.len(), "{name} does not end with its term");
         term
     }
 
+    /// What a name stands for, its parameters replaced; any other term is itself.
+    fn resolved(&self, term: &Term) -> Term {
+        let Term::Name(name, args) = term else { return term.clone() };
+        match self.definitions.get(name) {
+            Some(Definition { parameters, .. })
+                if parameters.len() == args.len() && !KNOWN.contains(&&**name) =>
+            {
+                self.resolved(&self.named(name).with(parameters, args))
+            }
+            _ => term.clone(),
+        }
+    }
+
     /// A term by its head and arguments.
     fn open(&self, term: &Term) -> (String, Vec<Term>) {
-        match term {
-            Term::Name(name, args) if args.is_empty() && self.definitions.contains_key(name) => {
-                self.open(&self.named(name))
-            }
-            Term::Name(name, args) => (name.clone(), args.clone()),
+        match self.resolved(term) {
+            Term::Name(name, args) => (name, args),
             other => panic!("{other:?} is no application"),
         }
     }
@@ -152,8 +175,16 @@ impl Source {
     fn literals(&self, term: &Term) -> Vec<Literal> {
         match self.open(term) {
             (name, args) if name == "all-on" => (1..=number(&args[0]) as i16).collect(),
+            (name, args) if name == "map" => self.literals_of(&args[0], &args[1]),
             _ => self.list(term).iter().map(|literal| self.literal(literal)).collect(),
         }
+    }
+
+    /// `map y (from 40 1)`: a literal for each of the numbers.
+    fn literals_of(&self, sign: &Term, numbers: &Term) -> Vec<Literal> {
+        let Term::Name(sign, _) = sign else { panic!("{sign:?} makes no literal") };
+        let literal = |number| self.literal(&Term::Name(sign.clone(), vec![Term::Number(number)]));
+        self.numbers(numbers).into_iter().map(literal).collect()
     }
 
     fn clauses(&self, term: &Term) -> Vec<Vec<Literal>> {
@@ -246,6 +277,12 @@ impl Source {
     }
 
     fn store(&self, term: &Term) -> Store {
+        if let Term::Record(fields) = &self.resolved(term) {
+            let records = self.numbers(&fields["records"]);
+            let records = records.into_iter().map(|record| record as usize).collect();
+            let [clauses, cubes] = ["clauses", "cubes"].map(|name| self.clauses(&fields[name]));
+            return Store { clauses, records, cubes };
+        }
         let (name, args) = self.open(term);
         match (&*name, &args[..]) {
             ("emptyStore", []) => Store::default(),
@@ -263,6 +300,21 @@ impl Source {
         }
     }
 
+    fn reading(&self, on: &Term, off: &Term) -> Reading {
+        Reading { on: self.literals(on), off: self.literals(off) }
+    }
+
+    /// `at` a reading and its number of differing flags.
+    fn closest(&self, found: &Term, lines: usize) -> Closest {
+        let (name, args) = self.open(found);
+        let ("at", [values, differs]) = (&*name, &args[..]) else { panic!("{name} is no reading") };
+        let mut reading = [0; MOST_FLAGS];
+        for (byte, value) in reading.iter_mut().zip(self.list(values)) {
+            *byte = 1 + u8::from(self.is_true(&value));
+        }
+        Closest { reading, differs: number(differs) as usize, lines }
+    }
+
     /// A call and its ceiling: the highest where a row's own words for a call are used.
     fn call(&self, term: &Term) -> (Call, u32) {
         let (name, mut args) = self.open(term);
@@ -273,8 +325,12 @@ impl Source {
         let name = name.trim_start_matches("Call.");
         let call = match (name, &args[..]) {
             ("rule", [literals]) => Call::Rule(self.literals(literals)),
+            ("one", [literals]) => Call::One(self.literals(literals)),
             ("withdraw", []) => Call::Withdraw,
-            ("query", [on]) => Call::Query(self.literals(on)),
+            ("query", [on, off]) => Call::Query(self.reading(on, off)),
+            ("closest", [size, on, off]) => {
+                Call::Closest(self.reading(on, off), number(size) as usize)
+            }
             ("card", [size]) => Call::Card(number(size) as usize),
             ("keepCard", [size]) => Call::KeepCard(number(size) as usize),
             ("forget", []) => Call::Forget,
@@ -288,18 +344,25 @@ impl Source {
         let refused = |number: &Term| Said::Refused(self::number(number) as u8);
         let bytes = |table| self.numbers(table).into_iter().map(|byte| byte as u8).collect();
         let (said, table) = match (&*name, &args[..], call) {
-            ("done", [], Call::Rule(_)) => (Said::Added, vec![]),
+            ("done", [], Call::Rule(_) | Call::One(_)) => (Said::Added, vec![]),
             ("done", [], Call::Withdraw) => (Said::Withdrawn, vec![]),
             ("done", [], Call::Forget) => (Said::Forgotten, vec![]),
             ("swap", [], Call::Query(_)) => (Said::Swap, vec![]),
             ("keep", [], Call::Query(_)) => (Said::Keep, vec![]),
+            ("unsettled", [], Call::Query(_)) => (Said::Unsettled, vec![]),
             ("refused", [number], _) => (refused(number), vec![]),
             ("lines", [lines, table], Call::Card(_) | Call::KeepCard(_)) => {
                 (Said::Lines(self.list(lines).len()), bytes(table))
             }
-            ("cardRefused", [number, table], Call::Card(_) | Call::KeepCard(_)) => {
-                (refused(number), bytes(table))
+            ("found", [lines, table, found], Call::Closest(..)) => {
+                let found = self.closest(found, self.list(lines).len());
+                (Said::Closest(found), bytes(table))
             }
+            (
+                "cardRefused",
+                [number, table],
+                Call::Card(_) | Call::KeepCard(_) | Call::Closest(..),
+            ) => (refused(number), bytes(table)),
             _ => panic!("{name} is no reply to {call}"),
         };
         Answer { said, table, visits }
@@ -332,17 +395,25 @@ impl Source {
                 let answers = self.answers(&calls, replies, visits);
                 Row { limits, state, calls, ceilings, answers, plain: None }
             }
-            // The calls of `broken` in Cases.antt, each refused with 22.
-            ("broken", [store]) => {
-                let calls =
-                    vec![Call::Forget, Call::Card(2), Call::Rule(vec![]), Call::Query(vec![0])];
-                let mut answers = vec![Answer::new(Said::Refused(22)); calls.len()];
-                answers[1].table = vec![0, 0];
-                let state = State { formula, store: self.store(store) };
-                let ceilings = vec![HIGHEST_CEILING; calls.len()];
-                Row { limits, state, calls, ceilings, answers, plain: None }
-            }
             _ => panic!("{name} is no row"),
+        }
+    }
+}
+
+impl Term {
+    /// The term with other terms for its parameters.
+    fn with(&self, parameters: &[String], others: &[Term]) -> Term {
+        let with = |term: &Term| term.with(parameters, others);
+        match self {
+            Term::Number(number) => Term::Number(*number),
+            Term::Name(name, args) => match parameters.iter().position(|p| p == name) {
+                Some(at) if args.is_empty() => others[at].clone(),
+                _ => Term::Name(name.clone(), args.iter().map(with).collect()),
+            },
+            Term::Record(fields) => {
+                let field = |(name, term): (&String, &Term)| (name.clone(), with(term));
+                Term::Record(fields.iter().map(field).collect())
+            }
         }
     }
 }

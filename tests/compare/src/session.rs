@@ -1,10 +1,12 @@
 //! The program `session`: a book, then one call to a line, each answered when its line is read.
 
 use crate::answer::{Answer, Call, Said, Subject, HIGHEST_CEILING};
-use crate::formula::Formula;
+use crate::closest::Closest;
+use crate::formula::{Formula, Variable};
 use crate::last_card::{LastCard, LastCardSlip};
 use crate::layout::{self, CallLine, Item};
 use crate::options::Options;
+use crate::reading::Reading;
 use crate::solver::Solver;
 use crate::text::{self, LARGEST_TEXT, PROGRAM_TABLE};
 use crate::write;
@@ -94,7 +96,15 @@ fn read_request(input: &mut impl BufRead) -> io::Result<Option<Option<Request>>>
 
 /// The request on a line, without its byte 10. None: no request stands there.
 pub fn request(line: &[u8]) -> Option<Request> {
-    let CallLine { keyword, items, ceiling } = layout::call_line(line)?;
+    let CallLine { keyword, items, bytes, ceiling } = layout::call_line(line)?;
+    if keyword == b"closest" {
+        let bytes = bytes.map_or(Some(PROGRAM_TABLE), table)?;
+        let ceiling = ceiling.unwrap_or(HIGHEST_CEILING);
+        return Some(Request::Call(Call::Closest(reading(&items), bytes), ceiling));
+    }
+    if bytes.is_some() {
+        return None;
+    }
     if keyword == b"page" {
         return match (&items[..], ceiling) {
             ([number], None) if !number.negated => Some(Request::Page(number.number as usize)),
@@ -111,22 +121,32 @@ fn call(keyword: &[u8], items: &[Item]) -> Option<Call> {
     let plain = !items.iter().any(|item| item.negated);
     match (keyword, items) {
         (b"rule", _) => Some(Call::Rule(literals())),
+        (b"one", _) => Some(Call::One(literals())),
         (b"withdraw", []) => Some(Call::Withdraw),
-        (b"query", _) if plain => Some(Call::Query(literals())),
+        (b"query", _) => Some(Call::Query(reading(items))),
         (b"card", []) => Some(Call::Card(PROGRAM_TABLE)),
-        (b"card", [length]) if plain => table(length).map(Call::Card),
+        (b"card", [length]) if plain => table(length.number).map(Call::Card),
         (b"keep-card", []) => Some(Call::KeepCard(PROGRAM_TABLE)),
-        (b"keep-card", [length]) if plain => table(length).map(Call::KeepCard),
+        (b"keep-card", [length]) if plain => table(length.number).map(Call::KeepCard),
         (b"forget", []) => Some(Call::Forget),
         (b"write", []) => Some(Call::Write(write::WHOLE)),
-        (b"write", [length]) if plain => table(length).map(Call::Write),
+        (b"write", [length]) if plain => table(length.number).map(Call::Write),
         _ => None,
     }
 }
 
+/// "on flags as numbers, off flags as `(no ..)`, in any order, flags not named are open".
+fn reading(items: &[Item]) -> Reading {
+    let numbers = |negated: bool| {
+        let named = items.iter().filter(|item| item.negated == negated);
+        named.map(|item| narrow(item.number)).collect()
+    };
+    Reading { on: numbers(false), off: numbers(true) }
+}
+
 /// The bytes of a table, 0 to 65,536.
-fn table(length: &Item) -> Option<usize> {
-    usize::try_from(length.number).ok().filter(|&length| length <= PROGRAM_TABLE)
+fn table(length: i32) -> Option<usize> {
+    usize::try_from(length).ok().filter(|&length| length <= PROGRAM_TABLE)
 }
 
 /// A number of up to five digits as a literal: one that 16 bits do not hold stays a number that
@@ -157,13 +177,27 @@ pub fn print(call: &Call, formula: &Formula, answer: &Answer, line: usize) -> St
         Said::Forgotten => "(forgotten)\n".into(),
         Said::Swap => format!("(swap (visits {visits}))\n"),
         Said::Keep => format!("(keep (visits {visits}))\n"),
-        Said::Refused(number @ (21 | 34)) => {
+        Said::Unsettled => format!("(unsettled (visits {visits}))\n"),
+        Said::Refused(number @ (21 | 34 | 35 | 37)) => {
             format!("(refused {number} {line} (visits {visits}))\n")
         }
         Said::Refused(number) => refusal(number, line),
+        Said::Closest(found) => print_closest(formula, &found, visits),
         Said::Lines(count) => text::print_card(word, formula, count, &answer.table, visits),
         Said::Written(length) => String::from_utf8_lossy(&answer.table[..length]).into(),
     }
+}
+
+/// "the reading has every flag in place order, off as `(no ..)`".
+fn print_closest(formula: &Formula, found: &Closest, visits: u64) -> String {
+    let flags = formula.prefix[..formula.free_count()].iter().zip(&found.reading);
+    let flag = |(flag, value): (&Variable, &u8)| match value {
+        1 => format!(" (no {})", flag.number),
+        _ => format!(" {}", flag.number),
+    };
+    let reading: String = flags.map(flag).collect();
+    let Closest { differs, lines, .. } = found;
+    format!("(closest (reading{reading}) (differs {differs}) (lines {lines}) (visits {visits}))\n")
 }
 
 #[cfg(test)]
@@ -188,8 +222,14 @@ mod tests {
     #[test]
     fn every_call_has_its_answer() {
         assert_eq!(on_a(""), "");
-        assert_eq!(on_a("(query 1)\n(query 1)\n"), "(keep (visits 3))\n(keep (visits 1))\n");
-        assert_eq!(on_a("(query 2)\n"), "(swap (visits 1))\n");
+        assert_eq!(
+            on_a("(query 1 (no 2))\n(query (no 2) 1)\n"),
+            "(keep (visits 3))\n(keep (visits 1))\n"
+        );
+        assert_eq!(on_a("(query (no 1) 2)\n"), "(swap (visits 1))\n");
+        assert_eq!(on_a("(query 2)\n"), "(swap (visits 7))\n");
+        assert_eq!(on_a("(query (no 2))\n"), "(keep (visits 7))\n");
+        assert_eq!(on_a("(query)\n"), "(unsettled (visits 11))\n");
         assert_eq!(on_a("(rule 3 (no 4))\n"), "(accepted)\n");
         assert_eq!(on_a("(forget)\n"), "(forgotten)\n");
         assert_eq!(on_a("(card)\n"), format!("{A_CARD}(visits 11)\n(end)\n"));
@@ -243,9 +283,11 @@ mod tests {
         assert_eq!(on_a("(card 3 (ceiling 11))\n"), "(refused 21 9 (visits 11))\n");
         assert_eq!(on_a("(keep-card (ceiling 10))\n"), stopped(10));
         assert_eq!(on_a("(keep-card 4 (ceiling 4294967295))\n"), on_a("(keep-card)\n"));
-        assert_eq!(on_a("(query 1 (ceiling 2))\n"), stopped(2));
-        assert_eq!(on_a("(query 1 (ceiling 3))\n"), "(keep (visits 3))\n");
+        assert_eq!(on_a("(query 1 (no 2) (ceiling 2))\n"), stopped(2));
+        assert_eq!(on_a("(query 1 (no 2) (ceiling 3))\n"), "(keep (visits 3))\n");
         assert_eq!(on_a("(query (ceiling 0))\n"), stopped(0));
+        assert_eq!(on_a("(query (no 2) (ceiling 6))\n"), stopped(6));
+        assert_eq!(on_a("(query (no 2) (ceiling 7))\n"), "(keep (visits 7))\n");
         assert_eq!(on_a("(query 3 (ceiling 0))\n"), "(refused 8 9)\n");
         let lost = stopped(0) + "(refused 36 10)\n";
         assert_eq!(on_a("(card (ceiling 0))\n(page 1)\n"), lost);
@@ -302,7 +344,11 @@ mod tests {
         let refused = |number| format!("(refused {number} 9)\n");
         let other = [
             "",
-            "(query (no 1))",
+            "(query (no 01))",
+            "(query (no 1 2))",
+            "(query (no))",
+            "(query (off 1))",
+            "(query 1(no 2))",
             "(query 01)",
             "(query 100000)",
             "(query )",
@@ -328,8 +374,9 @@ mod tests {
         for line in other {
             assert_eq!(on_a(&format!("{line}\n")), refused(1), "{line}");
         }
-        for line in ["(query 0)", "(query 3)", "(query 41)", "(query 99999)", "(query 1 1)"] {
-            assert_eq!(on_a(&format!("{line}\n")), refused(8), "{line}");
+        let bad = ["0", "3", "41", "99999", "(no 0)", "(no 3)", "(no 41)", "(no 99999)"];
+        for items in bad.iter().chain(&["1 1", "(no 2) (no 2)", "1 (no 1)", "(no 1) 2 1"]) {
+            assert_eq!(on_a(&format!("(query {items})\n")), refused(8), "{items}");
         }
         let rules = [
             ("(rule)", 7),

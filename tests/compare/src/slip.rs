@@ -81,6 +81,35 @@ pub enum Slip {
     KeepCardStartsEmpty,
     KeepCardLearnsNothing,
     FlaglessKeepCardHasNoLine,
+    // Queries with open flags.
+    OpenIsOff,
+    OpenQueryStartsBelow,
+    RecordedNodeNotVisited,
+    RecordedSidesBoth,
+    OpenQueryReadsStore,
+    OpenQueryLearns,
+    UnsettledIsKeep,
+    UnsettledIsSwap,
+    BothListsTaken,
+    FullReadingWalksPlain,
+    // Exactly-one forms.
+    OnePairsBySecond,
+    OneCountsOne,
+    OneHalfAdded,
+    OneFullBeforeLength,
+    OneAlone,
+    OneSideNegated,
+    OneWithoutWhole,
+    OneKeepsCubes,
+    WithdrawalTakesForm,
+    // The closest reading.
+    ClosestCountsOpen,
+    ClosestLastOfEquals,
+    ClosestOpenOfLineIsOff,
+    ClosestOpenIsOff,
+    StoreLostAfter35,
+    NoVisitsAt35,
+    NoLineBefore21,
     // Refusals and accepted rules.
     LengthBeforeFull,
     UndeclaredBeforeRange,
@@ -188,6 +217,35 @@ pub const ALL: &[(Slip, &str)] = &[
     (Slip::KeepCardStartsEmpty, "a keep card searches without the store"),
     (Slip::KeepCardLearnsNothing, "what a keep card learns is thrown away"),
     (Slip::FlaglessKeepCardHasNoLine, "with no free variable a keep card has no line"),
+    (Slip::OpenIsOff, "a flag that a query does not name is off"),
+    (Slip::OpenQueryStartsBelow, "an open query starts at the node of its first flags"),
+    (Slip::RecordedNodeNotVisited, "a node of a recorded flag is passed without a visit"),
+    (Slip::RecordedSidesBoth, "both sides of a recorded flag are visited"),
+    (Slip::OpenQueryReadsStore, "an open query uses what is stored"),
+    (Slip::OpenQueryLearns, "an open query adds to the store"),
+    (Slip::UnsettledIsKeep, "keep where some completion is a swap"),
+    (Slip::UnsettledIsSwap, "swap where some completion is one"),
+    (Slip::BothListsTaken, "a number given as on and as off is taken as on"),
+    (Slip::FullReadingWalksPlain, "a full reading goes as the plain walk from the empty node"),
+    (Slip::OnePairsBySecond, "the pairs of an exactly-one form by their second literal"),
+    (
+        Slip::OneCountsOne,
+        "20 judged on one rule of an exactly-one form, and those that fit are added",
+    ),
+    (Slip::OneHalfAdded, "20 for an exactly-one form, and those of its rules that fit are added"),
+    (Slip::OneFullBeforeLength, "7 after 20 for an exactly-one form"),
+    (Slip::OneAlone, "exactly one of one literal accepted"),
+    (Slip::OneSideNegated, "the first literal of a pair negated only"),
+    (Slip::OneWithoutWhole, "an exactly-one form without the rule of all its literals"),
+    (Slip::OneKeepsCubes, "an accepted exactly-one form keeps the cubes"),
+    (Slip::WithdrawalTakesForm, "a withdrawal takes a whole exactly-one form back"),
+    (Slip::ClosestCountsOpen, "the closest reading's number counts the open flags of its line"),
+    (Slip::ClosestLastOfEquals, "the last of equally close readings"),
+    (Slip::ClosestOpenOfLineIsOff, "the closest reading is off where its line is open"),
+    (Slip::ClosestOpenIsOff, "a flag left open is taken as off by the closest reading"),
+    (Slip::StoreLostAfter35, "what the search of 35 stored is thrown away"),
+    (Slip::NoVisitsAt35, "35 reports no visits"),
+    (Slip::NoLineBefore21, "35 for a table that holds no line, before 21"),
     (Slip::LengthBeforeFull, "7 judged before 20"),
     (Slip::UndeclaredBeforeRange, "5 judged before 3"),
     (Slip::RepeatBeforeUndeclared, "6 judged on the whole rule before 5"),
@@ -256,6 +314,23 @@ impl Slip {
         )
     }
 
+    /// Whether no text and no session can show the slip: calls on an opened formula meet neither a malformed state nor
+    /// an entry that a sound search does not store, print no table, and meet dead clauses that end at different places
+    /// only where nobody learns from them.
+    pub fn is_unprinted(self) -> bool {
+        use Slip::*;
+        let table = [
+            TableTailKept,
+            TableKeptAfter21,
+            TextTailKept,
+            TableKeptAfter31,
+            YesLineBytesLeft,
+            NoLineBytesLeft,
+        ];
+        let of_state = self.is_of_check() || self.needs_given_store();
+        of_state || table.contains(&self) || self.is_hidden()
+    }
+
     /// Whether the slip is one of the finder of dead clauses, which can be asked alone.
     pub fn is_of_finder(self) -> bool {
         use Slip::{FirstDeadClause, LaterOfEqualDead, UnreducedPlacesCompared};
@@ -292,6 +367,7 @@ impl Slip {
                 | Slip::NothingWithdrawn
                 | Slip::RefusedWithdrawalEmptiesStore
                 | Slip::EqualRecordRefused
+                | Slip::WithdrawalTakesForm
                 | Slip::CheckOmits(Check::RecordTooHigh)
         )
     }
@@ -308,6 +384,52 @@ impl Slip {
                 | Slip::KeepCardStartsEmpty
                 | Slip::KeepCardLearnsNothing
                 | Slip::FlaglessKeepCardHasNoLine
+        )
+    }
+
+    /// Whether only a query with an open flag, or one whose flags stand in both lists, can show the slip.
+    pub fn is_of_open_query(self) -> bool {
+        matches!(
+            self,
+            Slip::OpenIsOff
+                | Slip::OpenQueryStartsBelow
+                | Slip::RecordedNodeNotVisited
+                | Slip::RecordedSidesBoth
+                | Slip::OpenQueryReadsStore
+                | Slip::OpenQueryLearns
+                | Slip::UnsettledIsKeep
+                | Slip::UnsettledIsSwap
+                | Slip::BothListsTaken
+        )
+    }
+
+    /// Whether only an exactly-one form can show the slip.
+    pub fn is_of_one(self) -> bool {
+        matches!(
+            self,
+            Slip::OnePairsBySecond
+                | Slip::OneCountsOne
+                | Slip::OneHalfAdded
+                | Slip::OneFullBeforeLength
+                | Slip::OneAlone
+                | Slip::OneSideNegated
+                | Slip::OneWithoutWhole
+                | Slip::OneKeepsCubes
+                | Slip::WithdrawalTakesForm
+        )
+    }
+
+    /// Whether only a closest reading can show the slip.
+    pub fn is_of_closest(self) -> bool {
+        matches!(
+            self,
+            Slip::ClosestCountsOpen
+                | Slip::ClosestLastOfEquals
+                | Slip::ClosestOpenOfLineIsOff
+                | Slip::ClosestOpenIsOff
+                | Slip::StoreLostAfter35
+                | Slip::NoVisitsAt35
+                | Slip::NoLineBefore21
         )
     }
 

@@ -2,14 +2,19 @@
 
 use crate::answer::{Answer, Call, Said, Subject, HIGHEST_CEILING, LENT_BYTE};
 use crate::check;
+use crate::closest;
 use crate::constraint::Polarity;
 use crate::formula::{Formula, Literal};
 use crate::learning::{LearningSearch, Outcome};
+use crate::one;
+use crate::open_query;
 use crate::options::Options;
+use crate::reading::Reading;
 use crate::refusal;
 use crate::slip::Slip;
 use crate::store::Store;
 use crate::table::{self, Lines};
+use crate::truth::Verdict;
 use crate::write;
 
 #[derive(Clone, Debug, Default, PartialEq, Eq)]
@@ -26,14 +31,17 @@ pub struct Solver {
     pub options: Options,
     /// How many rules stood at first. Only a slip reads this.
     opened: usize,
+    /// The rules of the exactly-one form accepted last: from the first to behind the last. Only a slip reads this.
+    form: (usize, usize),
 }
 
 impl Subject for Solver {
     fn call_within(&mut self, call: &Call, ceiling: u32) -> Answer {
         match call {
             Call::Rule(literals) => self.rule(literals),
+            Call::One(literals) => self.one(literals),
             Call::Withdraw => self.withdraw(),
-            Call::Query(on) => self.query(on, ceiling),
+            Call::Query(reading) => self.query(reading, ceiling),
             Call::Card(length) => {
                 let mut table = vec![LENT_BYTE; *length];
                 self.lines(Polarity::Cube, &mut table, ceiling)
@@ -41,6 +49,10 @@ impl Subject for Solver {
             Call::KeepCard(length) => {
                 let mut table = vec![LENT_BYTE; *length];
                 self.keep_card(&mut table, ceiling)
+            }
+            Call::Closest(reading, length) => {
+                let mut table = vec![LENT_BYTE; *length];
+                self.closest(reading, &mut table, ceiling)
             }
             Call::Forget => self.forget(),
             Call::Write(length) => {
@@ -54,7 +66,7 @@ impl Subject for Solver {
 impl Solver {
     pub fn new(state: State, options: Options) -> Solver {
         let opened = state.formula.clauses.len();
-        Solver { state, options, opened }
+        Solver { state, options, opened, form: (0, 0) }
     }
 
     /// A freshly opened formula: its store is empty.
@@ -83,6 +95,28 @@ impl Solver {
         Answer::new(Said::Added)
     }
 
+    /// "All of its rules are added, or none".
+    pub fn one(&mut self, literals: &[Literal]) -> Answer {
+        let wide: Vec<i32> = literals.iter().map(|&literal| i32::from(literal)).collect();
+        let refused = refusal::of_one(&self.state.formula, &wide, &self.options);
+        let refused = self.first_refusal(refused);
+        let half = refused == Some(20) && self.options.slips(Slip::OneHalfAdded);
+        let of_literals = refusal::of_rule(&self.state.formula, &wide, &self.options);
+        if refused.is_none() || half && of_literals.is_none() {
+            let first = self.state.formula.clauses.len();
+            let room = self.options.clause_limit() - first;
+            for rule in one::rules(literals, &self.options).iter().take(room) {
+                self.state.formula.add(rule);
+            }
+            let standing = self.state.formula.clauses.len();
+            self.form = (first, standing);
+            if !self.options.slips(Slip::OneKeepsCubes) {
+                self.state.store.rule_added(standing, &self.options);
+            }
+        }
+        Answer::new(refused.map_or(Said::Added, Said::Refused))
+    }
+
     /// "Add a call that withdraws the rule added last."
     pub fn withdraw(&mut self) -> Answer {
         let spared = if self.options.slips(Slip::OpenedRulesStay) { self.opened } else { 0 };
@@ -96,6 +130,8 @@ impl Solver {
         let clauses = &mut self.state.formula.clauses;
         if self.options.slips(Slip::OldestRuleWithdrawn) {
             clauses.remove(0);
+        } else if self.options.slips(Slip::WithdrawalTakesForm) && clauses.len() == self.form.1 {
+            clauses.truncate(self.form.0);
         } else {
             clauses.pop();
         }
@@ -103,13 +139,43 @@ impl Solver {
         Answer::new(Said::Withdrawn)
     }
 
-    /// "A query starts at the node of all its flags", where "a flag not named is off".
-    fn query(&mut self, on: &[i16], ceiling: u32) -> Answer {
-        let refused = refusal::of_query(&self.state.formula, on, &self.options);
+    fn query(&mut self, reading: &Reading, ceiling: u32) -> Answer {
+        let refused = refusal::of_query(&self.state.formula, reading, &self.options);
         if let Some(number) = self.first_refusal(refused) {
             return Answer::new(Said::Refused(number));
         }
-        let start = start_node(&self.state.formula, on);
+        let learns = match self.options.slip {
+            Some(Slip::OpenIsOff) => true,
+            Some(Slip::FullReadingWalksPlain) => false,
+            _ => reading.is_full(&self.state.formula),
+        };
+        match learns {
+            true => self.full_query(reading, ceiling),
+            false => self.open_query(reading, ceiling),
+        }
+    }
+
+    /// "The result is swap if every completion is a swap, keep if none is, otherwise unsettled."
+    fn open_query(&mut self, reading: &Reading, ceiling: u32) -> Answer {
+        let State { formula, store } = &self.state;
+        let found = open_query::walk(formula, reading, ceiling.into(), store, &self.options);
+        if self.options.slips(Slip::OpenQueryLearns) {
+            let State { formula, store } = &mut self.state;
+            let wanted = Polarity::Cube;
+            LearningSearch::run(formula, store, &[], wanted, ceiling, &self.options);
+        }
+        let Some(verdict) = found.verdict else { return stopped(&mut [], found.visits) };
+        let said = match (self.options.slip, settled(verdict)) {
+            (Some(Slip::UnsettledIsKeep), Said::Unsettled) => Said::Keep,
+            (Some(Slip::UnsettledIsSwap), Said::Unsettled) => Said::Swap,
+            (_, said) => said,
+        };
+        Answer { said, table: vec![], visits: found.visits }
+    }
+
+    /// "A query starts at the node of all its flags".
+    fn full_query(&mut self, reading: &Reading, ceiling: u32) -> Answer {
+        let start = start_node(&self.state.formula, reading);
         let State { formula, store } = &mut self.state;
         let wanted = Polarity::Cube;
         let (outcome, search) =
@@ -126,6 +192,36 @@ impl Solver {
     /// table's bytes as well.
     pub fn card(&mut self, table: &mut [u8]) -> Answer {
         self.lines(Polarity::Cube, table, HIGHEST_CEILING)
+    }
+
+    /// "It works from a card made under a ceiling, whose count and visits it also returns and whose lines the table
+    /// then holds." Refusals 22, 8, "then come 34 and 21 from the card, and a card with no line gives 35, which
+    /// leaves what 21 leaves".
+    fn closest(&mut self, reading: &Reading, table: &mut [u8], ceiling: u32) -> Answer {
+        let refused = closest::refusal(&self.state.formula, reading, &self.options);
+        if let Some(number) = self.first_refusal(refused) {
+            table.fill(0);
+            return Answer { said: Said::Refused(number), table: table.to_vec(), visits: 0 };
+        }
+        let before = self.state.store.clone();
+        let mut answer = self.lines(Polarity::Cube, table, ceiling);
+        let (formula, options) = (&self.state.formula, &self.options);
+        answer.said = match answer.said {
+            Said::Lines(lines) => closest::find(formula, reading, lines, &answer.table, options)
+                .map_or(Said::Refused(35), Said::Closest),
+            Said::Refused(21) if self.options.slips(Slip::NoLineBefore21) => {
+                let none = table::lines_held(formula, table.len(), options) == 0;
+                Said::Refused(if none { 35 } else { 21 })
+            }
+            said => said,
+        };
+        if answer.said == Said::Refused(35) {
+            if self.options.slips(Slip::StoreLostAfter35) {
+                self.state.store = before;
+            }
+            answer.visits *= u64::from(!self.options.slips(Slip::NoVisitsAt35));
+        }
+        answer
     }
 
     /// "Make the keep card in the same way, with topmost No nodes."
@@ -229,10 +325,18 @@ fn stopped(table: &mut [u8], visits: u64) -> Answer {
     Answer { said: Said::Refused(34), table: table.to_vec(), visits }
 }
 
-/// The node that gives every free variable its value.
-pub fn start_node(formula: &Formula, on: &[i16]) -> Vec<bool> {
-    let free = &formula.prefix[..formula.free_count()];
-    free.iter().map(|variable| on.contains(&variable.number)).collect()
+/// The node that gives every free variable its value. (One that a full reading cannot have left open is off.)
+pub fn start_node(formula: &Formula, reading: &Reading) -> Vec<bool> {
+    reading.values(formula).into_iter().map(|value| value == Some(true)).collect()
+}
+
+/// What a query says to a verdict.
+pub fn settled(verdict: Verdict) -> Said {
+    match verdict {
+        Verdict::Yes => Said::Swap,
+        Verdict::No => Said::Keep,
+        Verdict::Mixed => Said::Unsettled,
+    }
 }
 
 fn same_set(clause: &[Literal], literals: &[Literal]) -> bool {

@@ -2,6 +2,7 @@
 //! nothing with the two searches but the prefix and the clauses.
 
 use crate::formula::{Formula, Quantifier};
+use crate::reading::Reading;
 
 #[derive(Clone, Copy, Debug, PartialEq, Eq)]
 pub enum Verdict {
@@ -51,6 +52,38 @@ pub fn verdict(formula: &Formula, node: &[bool]) -> Verdict {
         all if all == 1 << open => Verdict::Yes,
         _ => Verdict::Mixed,
     }
+}
+
+/// "swap if every completion is a swap, keep if none is, otherwise unsettled": the verdict of all readings that
+/// agree with one that may leave flags open.
+pub fn of_reading(formula: &Formula, reading: &Reading) -> Verdict {
+    let given = reading.values(formula);
+    let mut truths = (0..1usize << given.len()).filter_map(|bits| {
+        let mut values: Vec<bool> = (0..given.len()).map(|flag| bits >> flag & 1 == 1).collect();
+        let agrees =
+            given.iter().zip(&values).all(|(given, value)| given.is_none_or(|g| g == *value));
+        agrees.then(|| holds(formula, &mut values))
+    });
+    let first = truths.next().expect("a reading has a completion");
+    match (truths.all(|truth| truth == first), first) {
+        (false, _) => Verdict::Mixed,
+        (_, true) => Verdict::Yes,
+        (_, false) => Verdict::No,
+    }
+}
+
+/// The first reading, off before on in place order, of those for which the rules are true that differs from a given
+/// one in the fewest flags, and that number; by evaluation of all readings. None: they are true for none.
+pub fn closest(formula: &Formula, given: &[bool]) -> Option<(Vec<bool>, usize)> {
+    let flags = given.len();
+    // The first flag is the highest bit, so that readings come in order.
+    let reading = |bits: usize| -> Vec<bool> {
+        (0..flags).map(|place| bits >> (flags - 1 - place) & 1 == 1).collect()
+    };
+    let differs = |reading: &[bool]| reading.iter().zip(given).filter(|(a, b)| a != b).count();
+    let all = (0..1usize << flags).map(reading);
+    let on_card = all.filter(|reading| holds(formula, &mut reading.clone()));
+    on_card.map(|reading| (differs(&reading), reading)).min_by_key(|(n, _)| *n).map(|(n, r)| (r, n))
 }
 
 /// The lines below a node: "a Yes node within the flags with no shorter Yes node above it", off

@@ -1,7 +1,7 @@
 //! Paper 01's bench table and the figures of the team's readings; visits as learning/plain.
 
 use compare::text::{card_program, open};
-use compare::{Answer, Call, Formula, Limits, Options, PlainRun, Said, Solver, Subject};
+use compare::{Answer, Call, Formula, Limits, Options, PlainRun, Reading, Said, Solver, Subject};
 
 const A: &str =
     "(flags 1 2)\n(exists 3)\n(forall 4)\n(rule 3 4 (no 1))\n(rule (no 3) (no 4) 2)\n(rule 1 2)\n";
@@ -31,8 +31,8 @@ fn expect(body: &str, rows: &[Row]) {
     }
 }
 
-fn query(on: &[i16]) -> Call {
-    Call::Query(on.to_vec())
+fn query(on: &[i16], off: &[i16]) -> Call {
+    Call::Query(Reading::new(on, off))
 }
 
 #[test]
@@ -41,8 +41,8 @@ fn table_of_bench_cases() {
     use Said::{Added, Keep, Lines, Swap};
     expect(A, &[(Card(4), Lines(2), &[1, 2, 2, 2], 11, 11)]);
     expect(A_EXCHANGED, &[(Card(4), Lines(1), &[2, 0, 0, 0], 11, 11)]);
-    expect(A, &[(query(&[1]), Keep, &[], 3, 3), (query(&[1]), Keep, &[], 1, 3)]);
-    expect(A, &[(query(&[2]), Swap, &[], 1, 1)]);
+    expect(A, &[(query(&[1], &[2]), Keep, &[], 3, 3), (query(&[1], &[2]), Keep, &[], 1, 3)]);
+    expect(A, &[(query(&[2], &[1]), Swap, &[], 1, 1)]);
     expect(B, &[(Card(1), Lines(0), &[0], 4, 7), (Card(1), Lines(0), &[0], 1, 7)]);
     expect(C, &[(Card(4), Lines(2), &[1, 2, 2, 0], 11, 12)]);
     expect("(flags 1 2)\n", &[(Card(2), Lines(1), &[0, 0], 1, 1)]);
@@ -63,7 +63,7 @@ fn figures_of_the_readings() {
     expect(A, &[a_card, forgotten, refused, (Card(4), Lines(2), &[1, 2, 2, 2], 9, 11)]);
     let exchanged: Row = (Card(2), Lines(1), &[2, 0], 11, 11);
     expect(A_EXCHANGED, &[exchanged, (Card(1), Refused(21), &[0], 7, 11)]);
-    expect(B, &[(Card(1), Lines(0), &[0], 4, 7), (query(&[]), Keep, &[], 1, 3)]);
+    expect(B, &[(Card(1), Lines(0), &[0], 4, 7), (query(&[], &[1]), Keep, &[], 1, 3)]);
 }
 
 #[test]

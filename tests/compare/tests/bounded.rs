@@ -2,6 +2,7 @@
 //! brute force. Visits as learning/plain.
 
 use compare::bounded::{limits, Bounded, CeilingSlip, ALL};
+use compare::closest;
 use compare::constraint::Polarity;
 use compare::finder::{Case, Shape, Source};
 use compare::learning::LearningSearch;
@@ -9,7 +10,7 @@ use compare::random::Random;
 use compare::solver::start_node;
 use compare::text::TextRefusal;
 use compare::{
-    refusal, Answer, Call, Limits, Options, PlainRun, Said, Solver, State, Store, Subject,
+    refusal, Answer, Call, Limits, Options, PlainRun, Reading, Said, Solver, State, Store, Subject,
     HIGHEST_CEILING,
 };
 
@@ -50,13 +51,15 @@ fn figures_of_the_readings() {
 #[test]
 fn order_of_refusals() {
     let mut a = opened(A);
-    assert_eq!(a.call_within(&Call::Query(vec![3]), 0).said, Said::Refused(8));
-    assert_eq!(a.call_within(&Call::Query(vec![1]), 0), stopped(0, 0));
+    let query = |on: &[i16], off: &[i16]| Call::Query(Reading::new(on, off));
+    assert_eq!(a.call_within(&query(&[3], &[]), 0).said, Said::Refused(8));
+    assert_eq!(a.call_within(&query(&[1], &[2]), 0), stopped(0, 0));
+    assert_eq!(a.call_within(&query(&[1], &[]), 0), stopped(0, 0));
     assert_eq!(a.call_within(&Call::Card(3), 10), stopped(10, 3));
     assert_eq!(opened(A).call_within(&Call::Card(3), 11).said, Said::Refused(21));
     let mut spoiled = opened(A);
     spoiled.solver.state.store.cubes.push(vec![1, 3]);
-    for call in [Call::Query(vec![1]), Call::Card(4), Call::KeepCard(4)] {
+    for call in [query(&[1], &[2]), query(&[], &[]), Call::Card(4), Call::KeepCard(4)] {
         assert_eq!(spoiled.call_within(&call, 0).said, Said::Refused(22));
     }
     for call in [Call::Forget, Call::Withdraw, Call::Rule(vec![1]), Call::Write(200)] {
@@ -148,13 +151,20 @@ fn flags_of_qdimacs() {
     assert!(Bounded::open_qdimacs(b"p cnf 41 1\ne 3 0\n1 41 0\n", wide).is_ok());
 }
 
-/// A search's start node and the verdict of its lines; none where it is refused first.
+/// The start node of a learning search and the verdict of its lines; none where it is refused first, or is a
+/// query with an open flag.
 fn search_of(state: &State, call: &Call, options: &Options) -> Option<(Vec<bool>, Polarity)> {
     match call {
-        Call::Query(on) => refusal::of_query(&state.formula, on, options)
-            .is_none()
-            .then(|| (start_node(&state.formula, on), Polarity::Cube)),
+        Call::Query(reading) => {
+            let refused = refusal::of_query(&state.formula, reading, options).is_some();
+            let learns = !refused && reading.is_full(&state.formula);
+            learns.then(|| (start_node(&state.formula, reading), Polarity::Cube))
+        }
         Call::Card(_) => Some((vec![], Polarity::Cube)),
+        Call::Closest(reading, _) => {
+            let refused = closest::refusal(&state.formula, reading, options).is_some();
+            (!refused).then_some((vec![], Polarity::Cube))
+        }
         Call::KeepCard(_) => Some((vec![], Polarity::Clause)),
         _ => None,
     }
@@ -162,7 +172,8 @@ fn search_of(state: &State, call: &Call, options: &Options) -> Option<(Vec<bool>
 
 /// The store after the joins of the full search that were made before visit `ceiling + 1`.
 fn kept(state: &State, call: &Call, ceiling: u32, visits: u32, options: &Options) -> Store {
-    let (start, wanted) = search_of(state, call, options).expect("a search");
+    // What learns nothing keeps the store.
+    let Some((start, wanted)) = search_of(state, call, options) else { return state.store.clone() };
     let mut other = state.clone();
     let State { formula, store } = &mut other;
     // With as many visits as it needs the search is the full one.
@@ -180,7 +191,7 @@ fn kept(state: &State, call: &Call, ceiling: u32, visits: u32, options: &Options
 fn check_ceilings(solver: &Solver, call: &Call, plain_visits: u64, words: &str) {
     let mut full = solver.clone();
     let answer = full.call(call);
-    let searches = search_of(&solver.state, call, &solver.options).is_some();
+    let searches = answer.visits > 0;
     let visits = answer.visits as u32;
     for ceiling in 0..=visits + 1 {
         let mut within = solver.clone();

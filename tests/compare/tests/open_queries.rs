@@ -1,12 +1,13 @@
-//! Paper 02, wish 5: the figures of the team's readings, completions by evaluation, and the store left as
-//! it is.
+//! Paper 02, wish 5: the figures of the team's readings, refusals and ceilings, and the store left as it is.
 
-use compare::finder::{Shape, Source};
-use compare::open_query::{query, Reading, Settled, ALL};
+use compare::finder::{some_reading, Shape, Source};
 use compare::random::Random;
+use compare::solver::settled;
 use compare::text::open;
 use compare::truth;
-use compare::{plain, Formula, Options, Solver, Subject, HIGHEST_CEILING};
+use compare::{
+    plain, Answer, Call, Limits, Options, PlainRun, Reading, Said, Solver, Subject, HIGHEST_CEILING,
+};
 
 const A: &str = "(book 1)\n(flags 1 2)\n(exists 3)\n(forall 4)\n(rule 3 4 (no 1))\n\
                  (rule (no 3) (no 4) 2)\n(rule 1 2)\n(end)\n";
@@ -16,72 +17,74 @@ fn a() -> Solver {
     Solver::opened(open(A.as_bytes(), &options).expect("a book"), options)
 }
 
-fn reading(on: &[i16], off: &[i16]) -> Reading {
-    Reading { on: on.to_vec(), off: off.to_vec() }
+fn query(on: &[i16], off: &[i16]) -> Call {
+    Call::Query(Reading::new(on, off))
 }
 
+fn answer(said: Said, visits: u64) -> Answer {
+    Answer { said, table: vec![], visits }
+}
+
+/// Visits are those of both walks where a flag is open.
 #[test]
 fn figures_of_the_readings() {
-    use Settled::{Keep, Swap, Unsettled};
-    let ask = |on: &[i16], off: &[i16]| query(&mut a(), &reading(on, off), HIGHEST_CEILING, None);
-    assert_eq!(ask(&[2], &[]), (Swap, 7));
-    assert_eq!(ask(&[], &[2]), (Keep, 7));
-    assert_eq!(ask(&[], &[]), (Unsettled, 11));
-    assert_eq!(ask(&[1], &[]), (Unsettled, 8));
-    assert_eq!(ask(&[], &[1]), (Unsettled, 4));
-    let mut solver = a();
-    let mut full = || query(&mut solver, &reading(&[1], &[2]), HIGHEST_CEILING, None);
-    assert_eq!([full(), full()], [(Keep, 3), (Keep, 1)]);
+    use Said::{Keep, Swap, Unsettled};
+    let figures = [
+        (query(&[2], &[]), Swap, 7),
+        (query(&[], &[2]), Keep, 7),
+        (query(&[], &[]), Unsettled, 11),
+        (query(&[1], &[]), Unsettled, 8),
+        (query(&[], &[1]), Unsettled, 4),
+    ];
+    let mut one = a();
+    let mut plain = PlainRun::new(a().state.formula, Limits::PAPER);
+    for (call, said, visits) in figures {
+        assert_eq!(a().call(&call), answer(said, visits), "{call}");
+        assert_eq!(one.call(&call), answer(said, visits), "{call}");
+        assert_eq!(plain.call(&call), answer(said, visits), "{call}");
+    }
+    let full = query(&[1], &[2]);
+    assert_eq!([one.call(&full), one.call(&full)], [answer(Keep, 3), answer(Keep, 1)]);
+    assert_eq!(plain.call(&full), answer(Keep, 3));
+}
+
+/// "An open query between two full ones must not change the second's visits", nor does the store change an
+/// open one's.
+#[test]
+fn between_full_readings() {
+    let (full, open) = (query(&[1], &[2]), query(&[], &[2]));
+    let mut one = a();
+    let said: Vec<_> = [&full, &open, &full, &open].map(|call| one.call(call)).into();
+    assert_eq!(said.iter().map(|answer| answer.visits).collect::<Vec<_>>(), [3, 7, 1, 7]);
+    assert!(said.iter().all(|answer| answer.said == Said::Keep));
 }
 
 #[test]
 fn refusals() {
-    let ask = |on: &[i16], off: &[i16]| query(&mut a(), &reading(on, off), 0, None);
+    let ask = |on: &[i16], off: &[i16]| a().call_within(&query(on, off), 0);
     for (on, off) in
         [(&[1][..], &[1][..]), (&[1, 1], &[]), (&[], &[2, 2]), (&[3], &[]), (&[], &[0])]
     {
-        assert_eq!(ask(on, off), (Settled::Refused(8), 0), "{on:?} {off:?}");
+        assert_eq!(ask(on, off), answer(Said::Refused(8), 0), "{on:?} {off:?}");
     }
-    assert_eq!(ask(&[], &[i16::MIN]), (Settled::Refused(8), 0));
-    assert_eq!(ask(&[1], &[]), (Settled::Refused(34), 0));
-    assert_eq!(query(&mut a(), &reading(&[1], &[]), 7, None), (Settled::Refused(34), 7));
-    assert_eq!(query(&mut a(), &reading(&[1], &[]), 8, None), (Settled::Unsettled, 8));
+    assert_eq!(ask(&[], &[i16::MIN]), answer(Said::Refused(8), 0));
+    assert_eq!(ask(&[1], &[]), answer(Said::Refused(34), 0));
+    let one_on = query(&[1], &[]);
+    assert_eq!(a().call_within(&one_on, 7), answer(Said::Refused(34), 7));
+    assert_eq!(a().call_within(&one_on, 8), answer(Said::Unsettled, 8));
     let mut spoiled = a();
     spoiled.state.store.cubes.push(vec![1, 3]);
-    assert_eq!(query(&mut spoiled, &reading(&[3], &[]), 0, None), (Settled::Refused(22), 0));
+    assert_eq!(spoiled.call_within(&query(&[3], &[]), 0), answer(Said::Refused(22), 0));
 }
 
-fn some_reading(formula: &Formula, random: &mut Random) -> Reading {
-    let mut reading = Reading::default();
-    for flag in &formula.prefix[..formula.free_count()] {
-        match random.below(3) {
-            0 => reading.on.push(flag.number),
-            1 => reading.off.push(flag.number),
-            _ => {}
-        }
-    }
-    random.shuffle(&mut reading.on);
-    reading
-}
-
-/// "swap if every completion is a swap, keep if none is, otherwise unsettled".
-fn by_completions(formula: &Formula, reading: &Reading) -> Settled {
-    let flags = &formula.prefix[..formula.free_count()];
-    let agrees = |values: &[bool]| {
-        flags.iter().zip(values).all(|(flag, on)| {
-            !(if *on { &reading.off } else { &reading.on }).contains(&flag.number)
-        })
-    };
-    let all = (0..1usize << flags.len())
-        .map(|bits| -> Vec<bool> { (0..flags.len()).map(|flag| bits >> flag & 1 == 1).collect() });
-    let completions = all.filter(|values| agrees(values));
-    let truths: Vec<bool> =
-        completions.map(|mut values| truth::holds(formula, &mut values)).collect();
-    match (truths.iter().all(|yes| *yes), truths.iter().any(|yes| *yes)) {
-        (true, _) => Settled::Swap,
-        (_, false) => Settled::Keep,
-        _ => Settled::Unsettled,
-    }
+/// With no flag the empty query is a full reading: it learns.
+#[test]
+fn without_flags() {
+    let text = "(book 1)\n(flags)\n(exists 1)\n(rule 1)\n(rule (no 1))\n(end)\n";
+    let options = Options::paper();
+    let mut solver = Solver::opened(open(text.as_bytes(), &options).expect("a book"), options);
+    let visits = [(); 2].map(|_| solver.call(&query(&[], &[])).visits);
+    assert_eq!(visits, [3, 1]);
 }
 
 #[test]
@@ -94,41 +97,23 @@ fn completions_and_the_store() {
         solver.run(&case.calls);
         let reading = some_reading(&solver.state.formula, &mut random);
         let before = solver.state.clone();
-        let (settled, visits) = query(&mut solver, &reading, HIGHEST_CEILING, None);
-        assert_eq!(settled, by_completions(&before.formula, &reading), "{reading:?}\n{case:?}");
-        let named = reading.on.len() + reading.off.len();
-        if named < before.formula.free_count() {
-            assert_eq!(solver.state, before, "{reading:?}\n{case:?}");
+        let ceiling = random.pick(&[HIGHEST_CEILING, HIGHEST_CEILING, 0, 2, 5, 9]);
+        let Answer { said, visits, .. } =
+            solver.call_within(&Call::Query(reading.clone()), ceiling);
+        let words = format!("{reading:?}\n{case:?}");
+        if !reading.is_full(&before.formula) {
+            assert_eq!(solver.state, before, "{words}");
             let whole = plain::search(&before.formula, &[]).visits;
-            assert!(visits <= whole && (named > 0 || visits == whole), "{reading:?}\n{case:?}");
+            let empty = reading.numbers().is_empty() && said != Said::Refused(34);
+            assert!(visits <= whole && (!empty || visits == whole), "{words}");
         }
-        let kinds = [Settled::Swap, Settled::Keep, Settled::Unsettled];
-        let kind = kinds.iter().position(|kind| *kind == settled).expect("no refusal");
-        seen[kind] += 1;
+        if said == Said::Refused(34) {
+            assert_eq!(visits, u64::from(ceiling), "{words}");
+            continue;
+        }
+        assert_eq!(said, settled(truth::of_reading(&before.formula, &reading)), "{words}");
+        let kinds = [Said::Swap, Said::Keep, Said::Unsettled];
+        seen[kinds.iter().position(|kind| *kind == said).expect("no refusal")] += 1;
     }
-    assert!(seen.iter().all(|count| *count > 1_000), "{seen:?}");
-}
-
-/// Every slip changes an answer, its visits or the answer to the same query asked again.
-#[test]
-fn every_slip_shows() {
-    for (slip, words) in ALL {
-        let mut random = Random::new(1);
-        let shown = (0..20_000).any(|attempt| {
-            let case = Shape::of_attempt(attempt).case(Source::Opened, &mut random);
-            let mut right = Solver::new(case.state.clone(), Options::with(case.limits));
-            right.run(&case.calls);
-            let mut slipped = right.clone();
-            let mut reading = some_reading(&right.state.formula, &mut random);
-            if random.one_in(4) {
-                reading.off.extend(reading.on.first().copied());
-            }
-            let ceiling = random.pick(&[HIGHEST_CEILING, HIGHEST_CEILING, 1, 4]);
-            (0..2).any(|_| {
-                let answer = query(&mut right, &reading, ceiling, None);
-                answer != query(&mut slipped, &reading, ceiling, Some(*slip))
-            }) || right.state != slipped.state
-        });
-        assert!(shown, "{slip:?}: {words}");
-    }
+    assert!(seen.iter().all(|count| *count > 500), "{seen:?}");
 }

@@ -2,7 +2,7 @@
 
 use compare::finder::{Case, Shape, Source};
 use compare::random::Random;
-use compare::solver::start_node;
+use compare::solver::settled;
 use compare::truth::{self, Verdict};
 use compare::{check, table, Answer, Call, Formula, Options, PlainRun, Said, Solver, Subject};
 
@@ -57,9 +57,23 @@ fn verdict_of(call: &Call) -> Verdict {
 
 fn check_truth(formula: &Formula, call: &Call, answer: &Answer, options: &Options) {
     match (call, answer.said) {
-        (Call::Query(on), Said::Swap | Said::Keep) => {
-            let yes = truth::verdict(formula, &start_node(formula, on)) == Verdict::Yes;
-            assert_eq!(answer.said == Said::Swap, yes, "{call}\n{formula:?}");
+        (Call::Query(reading), Said::Swap | Said::Keep | Said::Unsettled) => {
+            let verdict = truth::of_reading(formula, reading);
+            assert_eq!(answer.said, settled(verdict), "{call}\n{formula:?}");
+        }
+        (Call::Closest(reading, length), Said::Closest(found)) => {
+            let values = reading.values(formula).into_iter().map(|value| value == Some(true));
+            let expected = truth::closest(formula, &values.collect::<Vec<_>>());
+            let (expected, differs) = expected.expect("a true reading");
+            let bytes: Vec<u8> = expected.iter().map(|on| 1 + u8::from(*on)).collect();
+            assert_eq!((&found.reading[..bytes.len()], found.differs), (&bytes[..], differs));
+            let lines = truth::lines(formula, &mut vec![], Verdict::Yes);
+            let mut table = vec![0; *length];
+            table::write(&lines, formula.free_count(), &mut table, options);
+            assert_eq!((found.lines, &answer.table), (lines.len(), &table), "{call}\n{formula:?}");
+        }
+        (Call::Closest(..), Said::Refused(35)) => {
+            assert_eq!(truth::verdict(formula, &[]), Verdict::No, "{call}\n{formula:?}");
         }
         (Call::Card(length) | Call::KeepCard(length), Said::Lines(count)) => {
             let lines = truth::lines(formula, &mut vec![], verdict_of(call));

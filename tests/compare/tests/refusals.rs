@@ -1,6 +1,6 @@
 //! Refusals of calls at the paper's limits, and their order.
 
-use compare::{Call, Formula, Options, Quantifier, Said, Solver, Subject, Variable};
+use compare::{Call, Formula, Options, Quantifier, Reading, Said, Solver, Subject, Variable};
 
 /// Free variables 1 to 20 and the existential 40.
 fn solver() -> Solver {
@@ -14,8 +14,8 @@ fn rule(solver: &mut Solver, literals: &[i16]) -> Said {
     solver.call(&Call::Rule(literals.to_vec())).said
 }
 
-fn query(on: &[i16]) -> Said {
-    solver().call(&Call::Query(on.to_vec())).said
+fn query(on: &[i16], off: &[i16]) -> Said {
+    solver().call(&Call::Query(Reading::new(on, off))).said
 }
 
 #[test]
@@ -55,13 +55,46 @@ fn rule_255_and_256() {
     assert_eq!(solver.state.formula.clauses.len(), 255);
 }
 
+/// 7 before 20, and 20 counts the rules of a form together.
+#[test]
+fn exactly_one_forms() {
+    let one =
+        |solver: &mut Solver, literals: &[i16]| solver.call(&Call::One(literals.to_vec())).said;
+    let mut standing = solver();
+    for _ in 0..251 {
+        assert_eq!(rule(&mut standing, &[1]), Said::Added);
+    }
+    let mut more = standing.clone();
+    assert_eq!(one(&mut standing, &[1, 2, 3]), Said::Added);
+    assert_eq!(standing.state.formula.clauses.len(), 255);
+    assert_eq!(rule(&mut more, &[1]), Said::Added);
+    for (literals, number) in
+        [(&[1, 2, 3][..], 20), (&[0, 0, 0], 20), (&[0, 0], 3), (&[1], 7), (&[0; 17], 7), (&[], 7)]
+    {
+        let before = more.state.clone();
+        assert_eq!(one(&mut more, literals), Said::Refused(number), "{literals:?}");
+        assert_eq!(more.state, before);
+    }
+    assert_eq!(one(&mut more, &[1, 2]), Said::Added);
+    let count = |last: i16| (1..=last).collect::<Vec<i16>>();
+    assert_eq!(one(&mut solver(), &count(16)), Said::Added);
+    assert_eq!(one(&mut solver(), &count(17)), Said::Refused(7));
+    assert_eq!(one(&mut solver(), &[1, -1, 41]), Said::Refused(6));
+    assert_eq!(one(&mut solver(), &[39, 1, 1]), Said::Refused(5));
+    assert_eq!(one(&mut solver(), &[1, i16::MIN]), Said::Refused(3));
+}
+
 #[test]
 fn queries() {
-    assert_eq!(query(&[]), Said::Swap);
-    assert_eq!(query(&[2, 1]), Said::Swap);
-    for on in [&[0][..], &[41], &[-1], &[i16::MIN], &[40], &[39], &[1, 1], &[1, 2, 1]] {
-        assert_eq!(query(on), Said::Refused(8), "{on:?}");
+    assert_eq!(query(&[], &[]), Said::Swap);
+    assert_eq!(query(&[2, 1], &[]), Said::Swap);
+    assert_eq!(query(&[2, 1], &[4, 3]), Said::Swap);
+    for bad in [&[0][..], &[41], &[-1], &[i16::MIN], &[40], &[39], &[1, 1], &[1, 2, 1]] {
+        assert_eq!(query(bad, &[]), Said::Refused(8), "{bad:?}");
+        assert_eq!(query(&[], bad), Said::Refused(8), "{bad:?}");
+        assert_eq!(query(&[3], bad), Said::Refused(8), "{bad:?}");
     }
+    assert_eq!(query(&[1, 2], &[3, 2]), Said::Refused(8));
 }
 
 #[test]
@@ -70,8 +103,10 @@ fn malformed_state_comes_first() {
     solver.state.store.cubes.push(vec![1, 40]);
     let calls = [
         Call::Rule(vec![]),
+        Call::One(vec![]),
+        Call::Closest(Reading::default(), 3),
         Call::Withdraw,
-        Call::Query(vec![0]),
+        Call::Query(Reading::new(&[0], &[])),
         Call::Card(3),
         Call::KeepCard(3),
         Call::Forget,

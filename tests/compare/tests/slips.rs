@@ -18,10 +18,13 @@ fn source(slip: Slip) -> Source {
 
 #[test]
 fn every_slip_is_shown() {
-    for (slip, words) in ALL.iter().filter(|(slip, _)| !slip.is_hidden()) {
-        let found = find(*slip, Difference::Answer, source(*slip), 1, effort(300_000));
-        assert!(found.is_some(), "{slip:?}: {words}");
-    }
+    let unseen = |slip: Slip| {
+        let found = find(slip, Difference::Answer, source(slip), 1, effort(300_000));
+        found.is_none()
+    };
+    let shown = ALL.iter().filter(|(slip, _)| !slip.is_hidden());
+    let unseen: Vec<_> = shown.filter(|(slip, _)| unseen(*slip)).collect();
+    assert!(unseen.is_empty(), "{unseen:#?}");
 }
 
 /// No call shows which dead clause the finder takes where they end at different places.

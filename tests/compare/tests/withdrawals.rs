@@ -124,7 +124,7 @@ fn records_above_the_rules_standing() {
     let calls = [
         Call::Withdraw,
         Call::Forget,
-        Call::Query(vec![]),
+        Call::Query(Default::default()),
         Call::Card(4),
         Call::KeepCard(4),
         Call::Rule(vec![1]),

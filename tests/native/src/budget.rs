@@ -1,7 +1,7 @@
 //! How many nodes a search can visit, counted up to a limit: inputs are kept affordable by it.
 
 use compare::solver::start_node;
-use compare::{refusal, Call, Formula, Options, Quantifier};
+use compare::{refusal, Call, Formula, Options, Quantifier, Reading};
 
 /// Which nodes are counted.
 #[derive(Clone, Copy, Debug, PartialEq, Eq)]
@@ -16,11 +16,14 @@ pub enum Walk {
 /// Whether a call's search visits at most `limit` nodes.
 pub fn affords(formula: &Formula, call: &Call, walk: Walk, limit: u64) -> bool {
     match call {
-        Call::Rule(_) | Call::Withdraw | Call::Forget | Call::Write(_) => true,
-        Call::Card(_) | Call::KeepCard(_) => within(formula, &[], walk, limit),
-        Call::Query(on) => {
-            refusal::of_query(formula, on, &Options::paper()).is_some()
-                || within(formula, &start_node(formula, on), walk, limit)
+        Call::Rule(_) | Call::One(_) | Call::Withdraw | Call::Forget | Call::Write(_) => true,
+        Call::Card(_) | Call::KeepCard(_) | Call::Closest(..) => within(formula, &[], walk, limit),
+        Call::Query(reading) => {
+            refusal::of_query(formula, reading, &Options::paper()).is_some()
+                || match reading.is_full(formula) {
+                    true => within(formula, &start_node(formula, reading), walk, limit),
+                    false => open_within(formula, reading, limit),
+                }
         }
     }
 }
@@ -38,12 +41,23 @@ pub fn visits(formula: &Formula, start: &[bool], walk: Walk, limit: u64) -> Opti
     (count.visits <= limit).then_some(count.visits)
 }
 
+/// Whether a query with an open flag visits at most `limit` nodes: on any state those of the plain search from the
+/// empty node, one side only at a recorded flag.
+fn open_within(formula: &Formula, reading: &Reading, limit: u64) -> bool {
+    let mut count = Count::new(formula, Walk::Plain, limit);
+    count.recorded = reading.values(formula);
+    count.visit(0, 0);
+    count.visits <= limit
+}
+
 /// Clauses as sets of places, a bit for each.
 struct Count<'a> {
     formula: &'a Formula,
     walk: Walk,
     clauses: Vec<(u64, u64)>,
     hope: u64,
+    /// By place: the flags of which one side only is entered.
+    recorded: Vec<Option<bool>>,
     limit: u64,
     visits: u64,
 }
@@ -68,7 +82,7 @@ impl<'a> Count<'a> {
             some.map(|literal| bit[usize::from(literal.unsigned_abs())]).sum()
         };
         let clauses = formula.clauses.iter().map(|c| (set(c, true), set(c, false))).collect();
-        Count { formula, walk, clauses, hope, limit, visits: 0 }
+        Count { formula, walk, clauses, hope, recorded: vec![], limit, visits: 0 }
     }
 
     fn visit(&mut self, length: usize, on: u64) -> Found {
@@ -90,6 +104,9 @@ impl<'a> Count<'a> {
         }
         if all {
             return Found::Yes;
+        }
+        if let Some(Some(value)) = self.recorded.get(length) {
+            return self.visit(length + 1, on | u64::from(*value) << length);
         }
         let quantifier = self.formula.prefix[length].quantifier;
         let first = self.visit(length + 1, on);

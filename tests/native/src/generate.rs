@@ -3,7 +3,7 @@
 use crate::budget::{self, Walk};
 use compare::constraint::{Constraint, Polarity};
 use compare::random::Random;
-use compare::{refusal, Call, Formula, Literal, Options, Quantifier, Store, Variable};
+use compare::{refusal, Call, Formula, Literal, Options, Quantifier, Reading, Store, Variable};
 
 /// How large a formula and its searches may be.
 #[derive(Clone, Copy, Debug)]
@@ -121,6 +121,8 @@ impl Shape {
                 _ if random.one_in(16) => Call::Forget,
                 _ if random.one_in(8) => Call::Withdraw,
                 _ if random.one_in(12) => write(&formula, random),
+                _ if random.one_in(10) => self.one(&formula, random),
+                0 if random.one_in(4) => closest(&formula, random),
                 0 => card(&formula, random),
                 1 => Call::Query(query(&formula, random)),
                 _ => self.rule(&formula, style, random),
@@ -132,6 +134,18 @@ impl Shape {
             calls.push(call);
         }
         calls
+    }
+
+    /// An exactly-one form, mostly of few literals; at times with a fault.
+    fn one(&self, formula: &Formula, random: &mut Random) -> Call {
+        let mut literals: Vec<Literal> = formula.prefix.iter().map(|v| v.number).collect();
+        random.shuffle(&mut literals);
+        literals.truncate(random.pick(&[1, 2, 2, 3, 3, 4, 5, 8, 15, 16, 17]));
+        literals.iter_mut().for_each(|literal| *literal *= random.pick(&[1, 1, -1]));
+        if random.one_in(4) {
+            spoil_rule(&mut literals, formula, random);
+        }
+        Call::One(literals)
     }
 
     fn rule(&self, formula: &Formula, style: Style, random: &mut Random) -> Call {
@@ -153,6 +167,13 @@ pub fn follow(formula: &mut Formula, call: &Call) {
             let wide: Vec<i32> = literals.iter().map(|&literal| literal.into()).collect();
             if refusal::of_rule(formula, &wide, &Options::paper()).is_none() {
                 formula.add(literals);
+            }
+        }
+        Call::One(literals) => {
+            let wide: Vec<i32> = literals.iter().map(|&literal| literal.into()).collect();
+            if refusal::of_one(formula, &wide, &Options::paper()).is_none() {
+                let rules = compare::one::rules(literals, &Options::paper());
+                rules.iter().for_each(|rule| formula.add(rule));
             }
         }
         Call::Withdraw => drop(formula.clauses.pop()),
@@ -300,49 +321,82 @@ fn insert(numbers: &mut Vec<i16>, number: i16, random: &mut Random) {
     numbers.insert(random.below(numbers.len() + 1), number);
 }
 
-/// The numbers of flags in any order; at times with a fault.
-fn query(formula: &Formula, random: &mut Random) -> Vec<i16> {
+/// The flags that are on and those that are off, in any order; a few of them open in a third of the queries, many
+/// in some; at times with a fault.
+fn query(formula: &Formula, random: &mut Random) -> Reading {
+    let open = random.pick(&[0, 0, 0, 0, 10, 30]);
+    reading(formula, open, random)
+}
+
+/// A reading to which the closest one is asked: full, but for faults.
+fn closest(formula: &Formula, random: &mut Random) -> Call {
+    let open = random.pick(&[0, 0, 0, 0, 0, 0, 0, 10]);
+    Call::Closest(reading(formula, open, random), table(formula, random))
+}
+
+/// With so many flags of 100 open.
+fn reading(formula: &Formula, open: usize, random: &mut Random) -> Reading {
     let free = &formula.prefix[..formula.free_count()];
     let rate = random.pick(&[0, 20, 50, 50, 80, 100]);
-    let mut on: Vec<i16> =
-        free.iter().map(|v| v.number).filter(|_| random.below(100) < rate).collect();
-    random.shuffle(&mut on);
-    if !random.one_in(4) {
-        return on;
+    let mut reading = Reading::default();
+    for flag in free.iter().map(|flag| flag.number) {
+        let on = random.below(100) < rate;
+        let list = if on { &mut reading.on } else { &mut reading.off };
+        list.extend((random.below(100) >= open).then_some(flag));
     }
-    match random.below(5) {
-        0 if !on.is_empty() => {
-            let repeated = random.pick(&on);
-            insert(&mut on, repeated, random);
+    random.shuffle(&mut reading.on);
+    random.shuffle(&mut reading.off);
+    if random.one_in(4) {
+        spoil_reading(&mut reading, formula, random);
+    }
+    reading
+}
+
+/// A fault in either list, or a number in both.
+fn spoil_reading(reading: &mut Reading, formula: &Formula, random: &mut Random) {
+    let Reading { on, off } = reading;
+    let (list, other) = if random.one_in(2) { (on, off) } else { (off, on) };
+    match random.below(6) {
+        0 if !list.is_empty() => {
+            let repeated = random.pick(list);
+            insert(list, repeated, random);
         }
-        1 if !on.is_empty() => {
-            let index = random.below(on.len());
-            on[index] = -on[index];
+        1 if !list.is_empty() => {
+            let index = random.below(list.len());
+            list[index] = -list[index];
         }
-        2 => insert(&mut on, any_declared(formula, random), random),
+        2 => insert(list, any_declared(formula, random), random),
         3 => {
             let number = random.pick(&OTHER_NUMBERS);
             let length = random.pick(&[1, 1, 41, 200]);
-            on.extend(vec![number; length]);
+            list.extend(vec![number; length]);
         }
-        _ => insert(&mut on, random.pick(&OTHER_NUMBERS), random),
+        4 if !list.is_empty() => {
+            let both = random.pick(list);
+            insert(other, both, random);
+        }
+        _ => insert(list, random.pick(&OTHER_NUMBERS), random),
     }
-    on
 }
 
-/// A card or keep card: tables that hold few lines or many, and lengths that are no multiple of a line's.
+/// A card or keep card.
 fn card(formula: &Formula, random: &mut Random) -> Call {
+    let length = table(formula, random);
+    match random.one_in(3) {
+        true => Call::KeepCard(length),
+        false => Call::Card(length),
+    }
+}
+
+/// Tables that hold few lines or many, and lengths that are no multiple of a line's.
+fn table(formula: &Formula, random: &mut Random) -> usize {
     let free = formula.free_count();
-    let length = match random.below(5) {
+    match random.below(5) {
         0 => random.below(3 * free + 3),
         1 => (free * random.below(12)).saturating_add_signed(random.between(0, 2) as isize - 1),
         2 => random.below(40 * free + 2),
         3 => free * random.between(60, 600) + random.below(free + 1),
         _ => 65_536,
-    };
-    match random.one_in(3) {
-        true => Call::KeepCard(length),
-        false => Call::Card(length),
     }
 }
 

@@ -3,9 +3,9 @@
 use crate::library::Native;
 use crate::raw::Raw;
 use crate::reading;
-use crate::tally::Tally;
+use crate::tally::{asks_open, Tally};
 use compare::bounded::{Bounded, CeilingSlip};
-use compare::solver::start_node;
+use compare::solver::settled;
 use compare::truth::{self, Verdict};
 use compare::{
     table, Answer, Call, Formula, Limits, Options, PlainRun, Said, Solver, State, Subject,
@@ -101,7 +101,7 @@ impl Sides {
                 let given = bounded.solver.state.store.clone();
                 let expected = bounded.call_within(call, *ceiling);
                 let State { formula, store } = &bounded.solver.state;
-                tally.searched(call, formula, &given, store);
+                tally.searched(call, expected.said, formula, &given, store);
                 expected
             }
             None => refused_by_state(call),
@@ -172,6 +172,10 @@ impl Sides {
             return Err(format!("{answer}, and the state is not the one that was given"));
         }
         let Some(Bounded { solver, .. }) = &self.bounded else { return Ok(()) };
+        // "It neither reads nor adds to the store".
+        if asks_open(&solver.state.formula, call) && *self.native.state != *before {
+            return Err(format!("{answer}, and a query with an open flag writes to the state"));
+        }
         let next = reading::read(&self.native.state);
         if next.as_ref() != Some(&solver.state) {
             return Err(format!("next state {next:?}; expected {:?}", solver.state));
@@ -188,11 +192,7 @@ impl Sides {
 
 /// "22 the state is malformed": no lines, no visits, and the table zeroed.
 fn refused_by_state(call: &Call) -> Answer {
-    let length = match call {
-        Call::Card(length) | Call::KeepCard(length) | Call::Write(length) => *length,
-        _ => 0,
-    };
-    Answer { said: Said::Refused(22), table: vec![0; length], visits: 0 }
+    Answer { said: Said::Refused(22), table: vec![0; call.table()], visits: 0 }
 }
 
 /// The verdict of a card's lines.
@@ -208,10 +208,27 @@ fn wanted(call: &Call) -> Verdict {
 fn true_answer(formula: &Formula, call: &Call, answer: &Answer) -> Result<bool, String> {
     let options = Options::paper();
     match (call, answer.said) {
-        (Call::Query(on), Said::Swap | Said::Keep) => {
-            let yes = truth::verdict(formula, &start_node(formula, on)) == Verdict::Yes;
-            if yes != (answer.said == Said::Swap) {
-                return Err(format!("{answer}; by evaluation {yes}"));
+        (Call::Query(reading), Said::Swap | Said::Keep | Said::Unsettled) => {
+            let said = settled(truth::of_reading(formula, reading));
+            if said != answer.said {
+                return Err(format!("{answer}; by evaluation {said:?}"));
+            }
+        }
+        (Call::Closest(reading, _), Said::Closest(found)) => {
+            let values = reading.values(formula).into_iter().map(|value| value == Some(true));
+            let nearest = truth::closest(formula, &values.collect::<Vec<_>>());
+            let bytes = |values: Vec<bool>| -> Vec<u8> {
+                values.iter().map(|on| 1 + u8::from(*on)).collect()
+            };
+            let nearest = nearest.map(|(reading, differs)| (bytes(reading), differs));
+            let told = (found.reading[..formula.free_count()].to_vec(), found.differs);
+            if nearest.as_ref() != Some(&told) {
+                return Err(format!("{answer}; by evaluation {nearest:?}"));
+            }
+        }
+        (Call::Closest(..), Said::Refused(35)) => {
+            if truth::verdict(formula, &[]) != Verdict::No {
+                return Err(format!("{answer}, and a reading is true"));
             }
         }
         (Call::Card(length) | Call::KeepCard(length), Said::Lines(count)) => {

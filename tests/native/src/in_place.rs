@@ -1,9 +1,22 @@
 //! The calls in place. The tables of a state are lent one by one, each between guard cells.
 
-use crate::raw::{Raw, Reply, Returned, Written, CELLS, LENGTHS};
+use crate::raw::{Nearest, Raw, Reply, Returned, Written, CELLS, LENGTHS};
 
 extern "C" {
     fn bullacetop_rule_in_place(
+        numbers: *const u16,
+        levels: *const u16,
+        kinds: *const u16,
+        clauses: *mut i16,
+        clause_sizes: *mut u16,
+        learned_clauses: *const i16,
+        learned_clause_sizes: *const u16,
+        learned_cubes: *const i16,
+        learned_cube_sizes: *mut u16,
+        literals: *const i16,
+        count: usize,
+    ) -> Reply;
+    fn bullacetop_one_in_place(
         numbers: *const u16,
         levels: *const u16,
         kinds: *const u16,
@@ -49,7 +62,9 @@ extern "C" {
         learned_cubes: *mut i16,
         learned_cube_sizes: *mut u16,
         on: *const i16,
-        count: usize,
+        on_count: usize,
+        off: *const i16,
+        off_count: usize,
         ceiling: u32,
     ) -> Reply;
     fn bullacetop_card_in_place(
@@ -80,6 +95,25 @@ extern "C" {
         length: usize,
         ceiling: u32,
     ) -> Reply;
+    fn bullacetop_closest_in_place(
+        numbers: *const u16,
+        levels: *const u16,
+        kinds: *const u16,
+        clauses: *const i16,
+        clause_sizes: *const u16,
+        learned_clauses: *mut i16,
+        learned_clause_sizes: *mut u16,
+        learned_cubes: *mut i16,
+        learned_cube_sizes: *mut u16,
+        on: *const i16,
+        on_count: usize,
+        off: *const i16,
+        off_count: usize,
+        table: *mut u8,
+        length: usize,
+        reading: *mut u8,
+        ceiling: u32,
+    ) -> Nearest;
     fn bullacetop_write_in_place(
         numbers: *const u16,
         levels: *const u16,
@@ -97,6 +131,9 @@ extern "C" {
 
 /// Where the tables of a state stand, in the order of the state.
 pub type Tables = [*mut u16; LENGTHS.len()];
+
+/// A list of numbers and how many there are.
+pub type List = (*const i16, usize);
 
 /// Which tables a call may write, by their indices; the others are only read.
 pub type Writes = &'static [usize];
@@ -152,6 +189,25 @@ pub unsafe fn rule(at: Tables, literals: *const i16, count: usize) -> Reply {
 }
 
 /// # Safety
+/// As for a rule.
+pub unsafe fn one(at: Tables, literals: *const i16, count: usize) -> Reply {
+    let [numbers, levels, kinds, clauses, sizes, learned, learned_sizes, cubes, cube_sizes] = at;
+    bullacetop_one_in_place(
+        numbers,
+        levels,
+        kinds,
+        clauses.cast(),
+        sizes,
+        learned.cast(),
+        learned_sizes,
+        cubes.cast(),
+        cube_sizes,
+        literals,
+        count,
+    )
+}
+
+/// # Safety
 /// As for a rule, with the tables that a withdrawal may write.
 pub unsafe fn withdraw(at: Tables) -> Reply {
     let [numbers, levels, kinds, clauses, sizes, learned, learned_sizes, cubes, cube_sizes] = at;
@@ -187,7 +243,7 @@ pub unsafe fn forget(at: Tables) -> Reply {
 
 /// # Safety
 /// As for a rule, with the tables that a search may write.
-pub unsafe fn query(at: Tables, on: *const i16, count: usize, ceiling: u32) -> Reply {
+pub unsafe fn query(at: Tables, on: List, off: List, ceiling: u32) -> Reply {
     let [numbers, levels, kinds, clauses, sizes, learned, learned_sizes, cubes, cube_sizes] = at;
     bullacetop_query_in_place(
         numbers,
@@ -199,8 +255,10 @@ pub unsafe fn query(at: Tables, on: *const i16, count: usize, ceiling: u32) -> R
         learned_sizes,
         cubes.cast(),
         cube_sizes,
-        on,
-        count,
+        on.0,
+        on.1,
+        off.0,
+        off.1,
         ceiling,
     )
 }
@@ -241,6 +299,38 @@ pub unsafe fn keep_card(at: Tables, table: *mut u8, length: usize, ceiling: u32)
         cube_sizes,
         table,
         length,
+        ceiling,
+    )
+}
+
+/// # Safety
+/// As for a query; the card table and the 40 bytes of the reading can be written.
+pub unsafe fn closest(
+    at: Tables,
+    on: List,
+    off: List,
+    table: (*mut u8, usize),
+    reading: *mut u8,
+    ceiling: u32,
+) -> Nearest {
+    let [numbers, levels, kinds, clauses, sizes, learned, learned_sizes, cubes, cube_sizes] = at;
+    bullacetop_closest_in_place(
+        numbers,
+        levels,
+        kinds,
+        clauses.cast(),
+        sizes,
+        learned.cast(),
+        learned_sizes,
+        cubes.cast(),
+        cube_sizes,
+        on.0,
+        on.1,
+        off.0,
+        off.1,
+        table.0,
+        table.1,
+        reading,
         ceiling,
     )
 }

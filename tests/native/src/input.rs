@@ -142,7 +142,8 @@ fn filling(random: &mut Random) -> Case {
     let mut calls = vec![Call::Card(1 << 16)];
     calls.extend(shape.calls(&formula, Walk::Plain, random));
     // A rule takes the cubes away, a withdrawal learned clauses, and forget all.
-    let empties = |call: &Call| matches!(call, Call::Rule(_) | Call::Withdraw | Call::Forget);
+    let empties =
+        |call: &Call| matches!(call, Call::Rule(_) | Call::One(_) | Call::Withdraw | Call::Forget);
     calls.retain(|call| !empties(call) || random.one_in(6));
     if random.one_in(3) {
         // A rule stands while the store fills on; then it goes, and with it what was learned meanwhile.
@@ -244,8 +245,10 @@ fn malformed(shape: Shape, fault: Fault, random: &mut Random) -> Case {
     let mut calls = shape.calls(&formula, Walk::Whole, random);
     calls.truncate(4);
     calls.extend([Call::Forget, Call::Withdraw]);
-    calls.extend([Call::Card(random.below(200)), Call::Query(vec![])]);
+    calls.extend([Call::Card(random.below(200)), Call::Query(Default::default())]);
     calls.push(Call::Rule(some_literal(&formula)));
+    calls.push(Call::One(some_literal(&formula)));
+    calls.push(Call::Closest(Default::default(), random.below(200)));
     random.shuffle(&mut calls);
     let mut raw = reading::write_among_others(&State { formula, store }, random);
     spoil::spoil(&mut raw, fault, random);

@@ -20,6 +20,7 @@ pub const FORALL: u16 = 2;
 
 pub const KEEP: u16 = 1;
 pub const SWAP: u16 = 2;
+pub const UNSETTLED: u16 = 3;
 
 /// It has no padding, so that equal means equal byte for byte.
 #[repr(C)]
@@ -83,6 +84,17 @@ pub struct Written {
     /// 0 is none.
     pub refusal: u16,
     pub length: usize,
+}
+
+/// The closest reading, which stands in a lent table.
+#[repr(C)]
+#[derive(Clone, Copy, Debug, PartialEq, Eq)]
+pub struct Nearest {
+    /// 0 is none.
+    pub refusal: u16,
+    pub differs: usize,
+    pub lines: usize,
+    pub visits: u64,
 }
 
 /// How many cells each table of a state has, in the order of the state.

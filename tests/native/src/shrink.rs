@@ -5,7 +5,7 @@ use crate::generate;
 use crate::hold::{hold, Asked, Case};
 use crate::reading;
 use crate::tally::Tally;
-use compare::{Call, Formula, State};
+use compare::{Formula, State};
 
 /// Takes the first smaller case that still shows a disagreement, until there is none. A state
 /// that cannot be read as lists keeps its tables and loses calls only.
@@ -47,13 +47,14 @@ fn smaller(case: &Case) -> Vec<Case> {
                 found.push(other);
             }
         }
-        let (Call::Rule(list) | Call::Query(list)) = call else { continue };
-        for at in 0..list.len() {
-            let mut other = case.clone();
-            if let Call::Rule(list) | Call::Query(list) = &mut other.calls[index].call {
-                list.remove(at);
+        let mut lists = call.clone();
+        let lengths: Vec<usize> = lists.lists_mut().iter().map(|list| list.len()).collect();
+        for (which, length) in lengths.into_iter().enumerate() {
+            for at in 0..length {
+                let mut other = case.clone();
+                other.calls[index].call.lists_mut()[which].remove(at);
+                found.push(other);
             }
-            found.push(other);
         }
     }
     let Some(state) = reading::read(&case.raw) else { return found };
@@ -100,9 +101,6 @@ fn unnamed(state: &State, calls: &[Asked], index: usize) -> bool {
     let Formula { prefix, clauses } = &state.formula;
     let number = prefix[index].number.unsigned_abs();
     let rows = clauses.iter().chain(&state.store.clauses).chain(&state.store.cubes);
-    let called = calls.iter().filter_map(|Asked { call, .. }| match call {
-        Call::Rule(list) | Call::Query(list) => Some(list),
-        _ => None,
-    });
-    !rows.chain(called).flatten().any(|literal| literal.unsigned_abs() == number)
+    let called: Vec<Vec<i16>> = calls.iter().map(|asked| asked.call.numbers()).collect();
+    !rows.chain(&called).flatten().any(|literal| literal.unsigned_abs() == number)
 }

@@ -12,6 +12,12 @@ pub struct Tally {
     pub forgets: u64,
     pub swaps: u64,
     pub keeps: u64,
+    pub unsettled: u64,
+    /// Queries with an open flag that were settled.
+    pub open: u64,
+    /// Closest readings, and those that differ.
+    pub closest: u64,
+    pub differing: u64,
     pub cards: u64,
     pub lines: u64,
     /// Books written back.
@@ -39,6 +45,11 @@ pub struct Tally {
     pub faults: BTreeMap<String, [u64; 2]>,
 }
 
+/// Whether a call is a query with an open flag.
+pub fn asks_open(formula: &Formula, call: &Call) -> bool {
+    matches!(call, Call::Query(reading) if !reading.is_full(formula))
+}
+
 impl Tally {
     pub fn given(&mut self, formula: &Formula) {
         self.most_variables = self.most_variables.max(formula.prefix.len());
@@ -59,9 +70,14 @@ impl Tally {
             Said::Forgotten => self.forgets += 1,
             Said::Swap => self.swaps += 1,
             Said::Keep => self.keeps += 1,
+            Said::Unsettled => self.unsettled += 1,
             Said::Lines(count) => {
                 self.cards += 1;
                 self.lines += count as u64;
+            }
+            Said::Closest(found) => {
+                self.closest += 1;
+                self.differing += u64::from(found.differs > 0);
             }
             Said::Written(_) => self.written += 1,
         }
@@ -70,8 +86,17 @@ impl Tally {
         self.most_visits = self.most_visits.max(answer.visits);
     }
 
-    pub fn searched(&mut self, call: &Call, formula: &Formula, before: &Store, after: &Store) {
+    pub fn searched(
+        &mut self,
+        call: &Call,
+        said: Said,
+        formula: &Formula,
+        before: &Store,
+        after: &Store,
+    ) {
         let free = formula.free_count().max(1);
+        let settled = matches!(said, Said::Swap | Said::Keep);
+        self.open += u64::from(settled && asks_open(formula, call));
         let tail =
             matches!(call, Call::Card(length) | Call::KeepCard(length) if length % free != 0);
         self.tables_with_a_tail += u64::from(tail);
@@ -95,6 +120,10 @@ impl Tally {
             (&mut self.forgets, other.forgets),
             (&mut self.swaps, other.swaps),
             (&mut self.keeps, other.keeps),
+            (&mut self.unsettled, other.unsettled),
+            (&mut self.open, other.open),
+            (&mut self.closest, other.closest),
+            (&mut self.differing, other.differing),
             (&mut self.cards, other.cards),
             (&mut self.lines, other.lines),
             (&mut self.written, other.written),
@@ -125,7 +154,8 @@ impl Tally {
 
     pub fn calls(&self) -> u64 {
         let refused: u64 = self.refusals.values().sum();
-        let answered = self.swaps + self.keeps + self.cards + self.written;
+        let queries = self.swaps + self.keeps + self.unsettled;
+        let answered = queries + self.cards + self.closest + self.written;
         self.rules + self.withdrawals + self.forgets + answered + refused
     }
 }
@@ -135,7 +165,9 @@ impl fmt::Display for Tally {
         let Tally { lists, rules, forgets, swaps, keeps, cards, lines, written, .. } = self;
         writeln!(f, "{lists} lists, {} calls:", self.calls())?;
         write!(f, "  {rules} rules accepted, {} withdrawn, {forgets} forgets, ", self.withdrawals)?;
-        write!(f, "{swaps} swap, {keeps} keep, ")?;
+        write!(f, "{swaps} swap, {keeps} keep, {} unsettled, ", self.unsettled)?;
+        write!(f, "{} settled with open flags, ", self.open)?;
+        write!(f, "{} closest readings, {} of them others, ", self.closest, self.differing)?;
         writeln!(f, "{cards} cards of {lines} lines, {written} books written")?;
         writeln!(f, "  refusals by number: {:?}", self.refusals)?;
         let [clauses, cubes] = self.filled;

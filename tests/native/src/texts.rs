@@ -2,7 +2,7 @@
 
 use compare::qdimacs::{by_place, lines};
 use compare::random::Random;
-use compare::{Call, Formula, Quantifier};
+use compare::{Call, Formula, Quantifier, Reading};
 
 /// A book of a formula: its literals in any order, a group at times in two parts.
 pub fn book(formula: &Formula, random: &mut Random) -> Vec<u8> {
@@ -51,17 +51,21 @@ pub fn qdimacs(formula: &Formula, random: &mut Random) -> Vec<u8> {
     text.into_bytes()
 }
 
-/// A call's line without its byte 10, with its ceiling where one is given. A negative number of a query is no
-/// layout of a query, nor is a ceiling one of a call that takes none.
+/// A call's line without its byte 10, with its ceiling where one is given: no layout of a call that takes none.
 pub fn line(call: &Call, ceiling: Option<u32>) -> Vec<u8> {
     let mut text: String = match call {
         Call::Rule(literals) => format!("(rule{})", items(literals)),
+        Call::One(literals) => format!("(one{})", items(literals)),
         Call::Withdraw => "(withdraw)".into(),
-        Call::Query(on) => format!("(query{})", items(on)),
+        Call::Query(reading) => format!("(query{})", items(&literals(reading))),
         Call::Card(65_536) => "(card)".into(),
         Call::Card(length) => format!("(card {length})"),
         Call::KeepCard(65_536) => "(keep-card)".into(),
         Call::KeepCard(length) => format!("(keep-card {length})"),
+        Call::Closest(reading, 65_536) => format!("(closest{})", items(&literals(reading))),
+        Call::Closest(reading, length) => {
+            format!("(closest{} (bytes {length}))", items(&literals(reading)))
+        }
         Call::Forget => "(forget)".into(),
         Call::Write(compare::write::WHOLE) => "(write)".into(),
         Call::Write(length) => format!("(write {length})"),
@@ -71,6 +75,17 @@ pub fn line(call: &Call, ceiling: Option<u32>) -> Vec<u8> {
         text.push_str(&format!(" (ceiling {ceiling}))"));
     }
     text.into_bytes()
+}
+
+/// The flags of a reading, on and off by turns: their order is free. A negative number has no form in a line: it
+/// stands in the other list there.
+fn literals(Reading { on, off }: &Reading) -> Vec<i16> {
+    let mut found = vec![];
+    for index in 0..on.len().max(off.len()) {
+        found.extend(on.get(index).copied());
+        found.extend(off.get(index).map(|number| number.saturating_neg()));
+    }
+    found
 }
 
 fn items(literals: &[i16]) -> String {
@@ -117,6 +132,11 @@ const OWN: Faults = Faults {
         "page",
         "withdraw",
         "one",
+        "closest",
+        "(bytes 4)",
+        "(bytes 65536)",
+        "(bytes 65537)",
+        "(bytes",
         "(tag 1)",
         "(tag 0)",
         "(tag 65536)",

@@ -16,12 +16,14 @@ fn covered(source: Source, inputs: u64) -> Option<Tally> {
 #[test]
 fn opened_formulas() {
     let Some(tally) = covered(Source::Opened, 10_000) else { return };
-    let numbers = [3, 5, 6, 7, 8, 20, 21, 31, 32];
+    let numbers = [3, 5, 6, 7, 8, 20, 21, 31, 32, 35];
     assert!(numbers.iter().all(|number| tally.refusals.get(number) > Some(&50)), "{tally}");
     let largest = (tally.most_variables, tally.most_clauses, tally.longest_clause);
     assert_eq!(largest, (40, 255, 16), "{tally}");
     assert!(tally.truths > 1_000 && tally.swaps > 100 && tally.keeps > 100, "{tally}");
     assert!(tally.written > 1_000 && tally.withdrawals > 1_000, "{tally}");
+    assert!(tally.unsettled > 300 && tally.open > 300, "{tally}");
+    assert!(tally.closest > 300 && tally.differing > 100, "{tally}");
 }
 
 #[test]

@@ -6,7 +6,7 @@
 
 use compare::qdimacs::{by_place, lines};
 use compare::random::Random;
-use compare::{Call, Formula, Said, Subject};
+use compare::{Call, Formula, Reading, Said, Subject};
 use native::budget::Walk;
 use native::generate::Shape;
 use native::library::Native;
@@ -61,7 +61,7 @@ fn single_readings() {
         for _ in 0..4 {
             let flags = 1..=book.free_count() as i16;
             let on: Vec<i16> = flags.filter(|_| random.one_in(2)).collect();
-            let swap = match native.call(&Call::Query(on.clone())).said {
+            let swap = match native.call(&Call::Query(Reading::full(&book, &on))).said {
                 Said::Swap => true,
                 Said::Keep => false,
                 said => panic!("{said:?}"),

@@ -1,7 +1,7 @@
 //! The calls run on a stack of 128 KiB and the functions on texts on one of 512 KiB, as the C header
 //! says.
 
-use compare::{Formula, Quantifier, State, Store, Variable};
+use compare::{Formula, Quantifier, Reading, State, Store, Variable};
 use native::library::bare;
 use native::raw::{Reply, SWAP};
 use native::reading;
@@ -26,7 +26,7 @@ fn a_call_needs_less_than_128_kib() {
     on_a_stack_of(128 << 10, move || {
         let card = bare::card(&mut state, &mut table);
         assert_eq!(card, Reply { refusal: 0, verdict: 0, lines: 1, visits: 42 });
-        let query = bare::query(&mut state, &[]);
+        let query = bare::query(&mut state, &Reading::default());
         assert_eq!(query, Reply { refusal: 0, verdict: SWAP, lines: 0, visits: 42 });
         let changed = Reply { refusal: 0, verdict: 0, lines: 0, visits: 0 };
         assert_eq!(bare::rule(&mut state, &[1, -2, 3]), changed);

@@ -75,7 +75,8 @@ fn hold_text(input: &[u8], page: &mut Page) -> Option<Formula> {
 /// "22 the state is malformed", for every call.
 fn no_book(state: &Raw) {
     let cards = [Call::Card(3), Call::KeepCard(3)];
-    let calls = [Call::Rule(vec![1]), Call::Withdraw, Call::Query(vec![]), Call::Forget];
+    let calls =
+        [Call::Rule(vec![1]), Call::Withdraw, Call::Query(Default::default()), Call::Forget];
     for call in calls.iter().chain(&cards) {
         let mut native = Native::new(Box::new(*state));
         let answer = native.answer(call, HIGHEST_CEILING).unwrap();
@@ -295,7 +296,7 @@ fn random_lines() {
 
 /// Calls that take a ceiling, calls that take none, and lines that are no call, each without its end.
 const HEADS: &str = "(card|(card 4|(card 3|(card 65537|(card (no 4)|(keep-card|(keep-card 4|(query|(query 1|\
-    (query 1 2|(query 3|(query 01|(rule|(rule 1|(withdraw|(forget|(write|(write 200|(page 1|(page|(end|(cards|(|";
+    (query 1 2|(query 1 (no 2)|(query (no 2)|(query 3|(query 01|(closest 1 (no 2)|(closest 1 2 (bytes 3)|(closest 1|(one 1 2|(one|(rule|(rule 1|(withdraw|(forget|(write|(write 200|(page 1|(page|(end|(cards|(|";
 
 /// What stands where the number of a ceiling belongs.
 const NUMBERS: &str =
@@ -348,6 +349,7 @@ fn narrowed(call: Call) -> Call {
     match call {
         Call::Card(length) => Call::Card(length.min(65_536)),
         Call::KeepCard(length) => Call::KeepCard(length.min(65_536)),
+        Call::Closest(reading, length) => Call::Closest(reading, length.min(65_536)),
         // Now and then without a size: then the whole text is written.
         Call::Write(length) if length % 3 == 0 => Call::Write(compare::write::WHOLE),
         Call::Write(length) => Call::Write(length.min(65_536)),
@@ -359,6 +361,7 @@ fn kind(said: Said) -> String {
     match said {
         Said::Refused(number) => number.to_string(),
         Said::Lines(_) => "lines".into(),
+        Said::Closest(_) => "closest".into(),
         Said::Written(_) => "written".into(),
         said => format!("{said:?}"),
     }

@@ -2,7 +2,7 @@
 use Rattle.qdimacs_printer.proofs.put_refusal.Statement.{statement}
 use Rattle.qdimacs_printer.proofs.put_refusal.Tie as tie
 use native.Mathlib.Omega.{arith}
-use Rattle.serve.proofs.Room.{refusal-room}
+use Rattle.answer_text.proofs.Room.{refusal-room}
 use Rattle.qdimacs_printer.proofs.Printing.{wrote-printed}
 
 put-refusal-requires : tie.Need-put-refusal-requires

@@ -4,8 +4,8 @@ use Rattle.session_turn.proofs.turn.Tie as tie
 use Rattle.session_turn.proofs.turn.Reads as reads
 use Rattle.session_turn.proofs.turn.Lts as lts
 use Rattle.session_turn.proofs.book.book_turn.Reads as book-turn-reads
-use Rattle.session_turn.proofs.has_ended.Reads as has-ended-reads
-use Rattle.session_turn.proofs.is_last.Reads as is-last-reads
+use Rattle.line_buffer.proofs.has_ended.Reads as has-ended-reads
+use Rattle.line_buffer.proofs.is_last.Reads as is-last-reads
 use Rattle.session_turn.proofs.lines.line_turn.Reads as line-turn-reads
 use Rattle.session_turn.proofs.over.Reads as over-reads
 use Rattle.session_turn.proofs.Turns.{turned-over, turned-not, turned-lines, turned-book}

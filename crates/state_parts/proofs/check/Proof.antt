@@ -1,66 +1,66 @@
 use borrow.Author.Needs.{needs}
 use Rattle.state_parts.proofs.check.Statement.{statement}
 use Rattle.state_parts.proofs.check.Tie as tie
-use mathlib.Core.Path.{_≡_}
+use Prim.Native.Nat.{ℕ, _+_, _≤_}
+use native.Mathlib.Omega.{arith}
+use native.Mathlib.Numerals.{add-one}
+use mathlib.Core.Path.{_≡_, sym, _∙_}
+use mathlib.Core.List.{List}
+use lib.ListN.{length, getD, take}
+use lib.Seq.{length-take-le}
+use borrow.Author.Tests.{lt-leb}
 use denote.Ref.{now}
-use Rattle.state.specs.Reading.{own, stateOf}
-use Rattle.state_parts.specs.Parts.{stateAt}
-use Rattle.state_parts.proofs.Written.{same-state, checked-same}
+use Rattle.qbf.specs.Formula.{highest}
+use Rattle.state.proofs.Rooms.{high-numbers, low-numbers}
+use Rattle.state_parts.proofs.Accepted.{checked-cut, checked-at-high}
 
--- the nine parts are the state's
-lent : (p : tie.After-learned-cube-sizes) → let a = p .before .before .before .before .before .before .before .before .before .before .before .before .args in
-    stateOf
-    (now (p .before .before .before .before .before .before .before .before .numbers .result))
-    (now (p .before .before .before .before .before .before .before .levels .result))
-    (now (p .before .before .before .before .before .before .kinds .result))
-    (now (p .before .before .before .before .before .clauses .result))
-    (now (p .before .before .before .before .clause-sizes .result))
-    (now (p .before .before .before .learned-clauses .result))
-    (now (p .before .before .learned-clause-sizes .result))
-    (now (p .before .learned-cubes .result))
-    (now (p .learned-cube-sizes .result))
-    ≡ stateAt (own (a .numbers) (a .clauses)) (now (a .cells)) (now (a .literals))
-lent p =
-    same-state
-    (p .before .before .before .before .before .before .before .before .numbers .ensures)
-    (p .before .before .before .before .before .before .before .levels .ensures)
-    (p .before .before .before .before .before .before .kinds .ensures)
-    (p .before .before .before .before .before .clauses .ensures)
-    (p .before .before .before .before .clause-sizes .ensures)
-    (p .before .before .before .learned-clauses .ensures)
-    (p .before .before .learned-clause-sizes .ensures)
-    (p .before .learned-cubes .ensures)
-    (p .learned-cube-sizes .ensures)
+-- the first cells of a table by number are as many as they are to be
+taken : (k : ℕ) (xs : List ℕ) → k ≤ length xs → k ≡ length (take k xs)
+taken k xs h = sym (length-take-le k xs h)
 
-numbers-requires : tie.Need-numbers-requires
-numbers-requires c κs = search needs
+numbers-limit-requires : tie.Need-numbers-limit-requires
+numbers-limit-requires c κs = search needs
 
-levels-requires : tie.Need-levels-requires
-levels-requires c κs = search needs
+returns : tie.Need-returns
+returns c =
+    let a = c .before .before .before .before .before .args in
+    checked-at-high (now (a .cells)) (now (a .literals)) (high-numbers (getD (now (a .cells)) 0 0) (getD (now (a .cells)) 1 0) (omega (arith, c .if1 .taken, c .before .numbers-limit .ensures))) _ _
 
-kinds-requires : tie.Need-kinds-requires
-kinds-requires c κs = search needs
+clauses-limit-requires : tie.Need-clauses-limit-requires
+clauses-limit-requires c κs = search needs
 
-clauses-requires : tie.Need-clauses-requires
-clauses-requires c κs = search needs
+returns-2 : tie.Need-returns-2
+returns-2 c =
+    let a = c .before .before .before .before .before .before .before .args in
+    checked-at-high (now (a .cells)) (now (a .literals))
+    (low-numbers (getD (now (a .cells)) 0 0) (getD (now (a .cells)) 1 0) (omega (arith, c .before .before .if1 .left, c .before .before .before .numbers-limit .ensures))
+    ∙ lt-leb (getD (now (a .cells)) 1 0) (highest .clauses) (omega (arith, c .if2 .taken, c .before .clauses-limit .ensures)))
+    _ _
 
-clause-sizes-requires : tie.Need-clause-sizes-requires
-clause-sizes-requires c κs = search needs
+add-end : tie.Need-add-end
+add-end c = search needs
 
-learned-clauses-requires : tie.Need-learned-clauses-requires
-learned-clauses-requires c κs = search needs
+slice-relend-prefix-check-parts : tie.Need-slice-relend-prefix-check-parts
+slice-relend-prefix-check-parts c = search needs
 
-learned-clause-sizes-requires : tie.Need-learned-clause-sizes-requires
-learned-clause-sizes-requires c κs = search needs
+slice-aggregate-check-parts : tie.Need-slice-aggregate-check-parts
+slice-aggregate-check-parts c = taken (c .before .before .before .before .numbers-limit .result + 1) (now (c .before .before .before .before .before .before .before .before .args .places)) (omega (arith, c .before .before .before .if1 .left, c .before .before .before .before .before .before .before .before .pre .0))
 
-learned-cubes-requires : tie.Need-learned-cubes-requires
-learned-cubes-requires c κs = search needs
+slice-relend-prefix-check-parts-2 : tie.Need-slice-relend-prefix-check-parts-2
+slice-relend-prefix-check-parts-2 c = search needs
 
-learned-cube-sizes-requires : tie.Need-learned-cube-sizes-requires
-learned-cube-sizes-requires c κs = search needs
+slice-aggregate-check-parts-2 : tie.Need-slice-aggregate-check-parts-2
+slice-aggregate-check-parts-2 c = taken (c .before .before .before .before .before .numbers-limit .result + 1) (now (c .before .before .before .before .before .before .before .before .before .args .by-number)) (omega (arith, c .before .before .before .before .if1 .left, c .before .before .before .before .before .before .before .before .before .pre .1))
 
-check-requires : tie.Need-check-requires
-check-requires c κs = search needs
+check-parts-requires : tie.Need-check-parts-requires
+check-parts-requires c κs =
+    let s = c .before .before .before .before .before .before .before .before .before in
+    let n = c .before .before .before .before .before .numbers-limit .result in (
+      c .before .before .before .before .if1 .left,
+      c .before .before .if2 .left,
+      sym (taken (n + 1) (now (s .args .places)) (omega (arith, c .before .before .before .before .if1 .left, s .pre .0))) ∙ add-one n,
+      sym (taken (n + 1) (now (s .args .by-number)) (omega (arith, c .before .before .before .before .if1 .left, s .pre .1))) ∙ add-one n,
+    )
 
 same-length : tie.Need-same-length
 same-length c = search needs
@@ -68,23 +68,26 @@ same-length c = search needs
 same-length-2 : tie.Need-same-length-2
 same-length-2 c = search needs
 
-returns : tie.Need-returns
-returns c = checked-same (lent (c .before .before .before .before .before .before .before)) (c .before .before .before .before .check .ensures)
+returns-3 : tie.Need-returns-3
+returns-3 c =
+    let a = c .before .before .before .before .before .before .before .before .before .before .before .before .before .before .args in
+    let k = c .before .before .before .before .check-parts in
+    checked-cut (now (a .cells)) (now (a .literals)) (c .before .before .before .before .before .before .before .before .before .before .numbers-limit .ensures) (c .before .before .before .before .before .before .before .before .clauses-limit .ensures) (k .ensures .2) (k .ensures .0) (k .ensures .1) _ _
 
 pub check-spec : {M : Type 1} → statement M
 check-spec =
     tie.close
     (tie.spec
-    numbers-requires
-    levels-requires
-    kinds-requires
-    clauses-requires
-    clause-sizes-requires
-    learned-clauses-requires
-    learned-clause-sizes-requires
-    learned-cubes-requires
-    learned-cube-sizes-requires
-    check-requires
+    numbers-limit-requires
+    returns
+    clauses-limit-requires
+    returns-2
+    add-end
+    slice-relend-prefix-check-parts
+    slice-aggregate-check-parts
+    slice-relend-prefix-check-parts-2
+    slice-aggregate-check-parts-2
+    check-parts-requires
     same-length
     same-length-2
-    returns)
+    returns-3)

@@ -1,11 +1,18 @@
 //! Prints, for every slip that calls can show, the smallest case found that shows it.
 //!
+//! `slips table` prints the table of all slips, `tests/SLIPS.md`: a witness that the table names already stays where it
+//! still shows its slip.
+//!
 //! `slips [SEED [TRIES [HITS]]]`. A freshly opened formula is searched first, a given well-formed state
 //! only where no list of calls on an opened one shows the slip. Where the smallest case differs
 //! in visits alone, a second search looks for a wrong reply on an opened formula.
 
 use compare::finder::{find, print, Case, Difference, Effort, Source};
 use compare::slip::{Slip, ALL};
+use compare::slips;
+use std::fs;
+
+const TABLE: &str = concat!(env!("CARGO_MANIFEST_DIR"), "/../SLIPS.md");
 
 struct Finder {
     seed: u64,
@@ -13,6 +20,10 @@ struct Finder {
 }
 
 fn main() {
+    if std::env::args().nth(1).as_deref() == Some("table") {
+        print!("{}", slips::renewed(&fs::read_to_string(TABLE).unwrap_or_default()));
+        return;
+    }
     let mut arguments = std::env::args().skip(1).map(|argument| argument.parse());
     let mut next = |usual| arguments.next().and_then(Result::ok).unwrap_or(usual);
     let seed = next(1);

@@ -67,7 +67,7 @@ impl Case {
         let whole = formula.prefix.len()
             + lists.iter().map(|list| list.len()).sum::<usize>()
             + literals().count()
-            + self.calls.iter().map(|call| 1 + arguments(call)).sum::<usize>();
+            + self.calls.iter().map(|call| 1 + call.numbers().len()).sum::<usize>();
         let negative = literals().filter(|literal| **literal < 0).count();
         let quantified = formula.prefix.iter().filter(|v| v.quantifier != Quantifier::Free).count();
         let readable = [
@@ -104,27 +104,13 @@ impl Case {
         let declared = self.state.formula.prefix.iter().enumerate();
         let declared =
             declared.map(|(i, v)| usize::from(v.number.unsigned_abs().abs_diff(i as u16 + 1)));
-        let called = self.calls.iter().flat_map(|call| match call {
-            Call::Rule(list) | Call::Query(list) => list.as_slice(),
-            _ => &[],
-        });
-        let called = called.map(|n| 2 * usize::from(n.unsigned_abs()) + usize::from(*n < 0));
+        let called = self.calls.iter().flat_map(Call::numbers);
+        let called = called.map(|n| 2 * usize::from(n.unsigned_abs()) + usize::from(n < 0));
         let records = &self.state.store.records;
         declared.sum::<usize>() + called.sum::<usize>() + records.iter().sum::<usize>()
     }
 
     fn table_bytes(&self) -> usize {
-        let bytes = |call: &Call| match call {
-            Call::Card(length) | Call::KeepCard(length) | Call::Write(length) => *length,
-            _ => 0,
-        };
-        self.calls.iter().map(bytes).sum()
-    }
-}
-
-fn arguments(call: &Call) -> usize {
-    match call {
-        Call::Rule(list) | Call::Query(list) => list.len(),
-        _ => 0,
+        self.calls.iter().map(Call::table).sum()
     }
 }

@@ -7,6 +7,7 @@ use crate::constraint::{Constraint, Polarity};
 use crate::formula::{Formula, Literal, Quantifier, Variable};
 use crate::options::{Limits, Options};
 use crate::random::Random;
+use crate::reading::Reading;
 use crate::solver::State;
 use crate::store::Store;
 use crate::write;
@@ -90,17 +91,23 @@ impl Shape {
 
     /// One call of any kind, at times with a fault.
     fn any_call(self, formula: &Formula, random: &mut Random) -> Call {
-        match random.below(13) {
-            0..=2 => {
-                let free = formula.free_count();
-                let lengths = [0, free / 2, free, free + 1, 2 * free, 2 * free + 1, 3 * free];
-                let length = if random.one_in(2) { free << free } else { random.pick(&lengths) };
-                any_card(length, random)
+        match random.below(16) {
+            0..=2 => any_card(table(formula, random), random),
+            13 => {
+                let mut reading = any_reading(formula, !random.one_in(6), random);
+                spoil::reading(&mut reading, formula, random);
+                Call::Closest(reading, table(formula, random))
+            }
+            14..=15 => {
+                let length = random.below(6).min(formula.prefix.len());
+                let mut literals = some_literals(formula, length, random);
+                spoil::numbers(&mut literals, formula, random);
+                Call::One(literals)
             }
             3..=5 => {
-                let mut on = some_free(formula, random);
-                spoil::numbers(&mut on, formula, random);
-                Call::Query(on)
+                let mut reading = some_reading(formula, random);
+                spoil::reading(&mut reading, formula, random);
+                Call::Query(reading)
             }
             6..=7 => {
                 let mut literals = self.literals(formula, random);
@@ -113,21 +120,33 @@ impl Shape {
         }
     }
 
+    /// A rule, now and then an exactly-one form.
+    fn addition(self, formula: &Formula, random: &mut Random) -> Call {
+        if formula.prefix.len() > 1 && random.one_in(5) {
+            let length = random.between(2, formula.prefix.len());
+            return Call::One(some_literals(formula, length, random));
+        }
+        Call::Rule(self.literals(formula, random))
+    }
+
     /// A list without faults that lets the store fill: searches, perhaps a rule or withdrawals, searches.
     fn plan(self, formula: &Formula, random: &mut Random) -> Vec<Call> {
         let mut calls = vec![];
         for part in 0..random.pick(&[2, 2, 3]) {
             match random.below(4) {
-                0 | 1 if part > 0 => calls.push(Call::Rule(self.literals(formula, random))),
+                0 | 1 if part > 0 => calls.push(self.addition(formula, random)),
                 2 if part > 0 => calls.extend(vec![Call::Withdraw; random.pick(&[1, 1, 2])]),
                 _ => {}
             }
             for _ in 0..random.between(1, self.calls / 2) {
                 let query = random.one_in(2);
-                calls.push(if query {
-                    Call::Query(some_free(formula, random))
-                } else {
-                    any_card(formula.free_count() << formula.free_count(), random)
+                let length = formula.free_count() << formula.free_count();
+                calls.push(match query {
+                    true => Call::Query(some_reading(formula, random)),
+                    false if random.one_in(6) => {
+                        Call::Closest(any_reading(formula, true, random), length)
+                    }
+                    false => any_card(length, random),
                 });
             }
         }
@@ -150,9 +169,33 @@ fn any_card(length: usize, random: &mut Random) -> Call {
     }
 }
 
-fn some_free(formula: &Formula, random: &mut Random) -> Vec<i16> {
-    let free = formula.prefix.iter().filter(|v| v.quantifier == Quantifier::Free);
-    free.map(|v| v.number).filter(|_| random.one_in(2)).collect()
+/// The bytes of a card table: for all lines that there can be, or for few.
+fn table(formula: &Formula, random: &mut Random) -> usize {
+    let free = formula.free_count();
+    let lengths = [0, free / 2, free, free + 1, 2 * free, 2 * free + 1, 3 * free];
+    if random.one_in(2) {
+        free << free
+    } else {
+        random.pick(&lengths)
+    }
+}
+
+/// Most readings are full; in the others a third of the flags is open.
+pub fn some_reading(formula: &Formula, random: &mut Random) -> Reading {
+    let full = !random.one_in(3);
+    any_reading(formula, full, random)
+}
+
+fn any_reading(formula: &Formula, full: bool, random: &mut Random) -> Reading {
+    let mut reading = Reading::default();
+    for flag in formula.prefix.iter().filter(|v| v.quantifier == Quantifier::Free) {
+        match random.below(if full { 2 } else { 3 }) {
+            0 => reading.on.push(flag.number),
+            1 => reading.off.push(flag.number),
+            _ => {}
+        }
+    }
+    reading
 }
 
 fn some_literals(formula: &Formula, length: usize, random: &mut Random) -> Vec<Literal> {

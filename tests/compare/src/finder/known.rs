@@ -5,6 +5,7 @@ use super::generate::Source;
 use crate::answer::Call;
 use crate::formula::{Formula, Quantifier, Variable};
 use crate::options::Limits;
+use crate::reading::Reading;
 use crate::slip::Slip;
 use crate::solver::State;
 use crate::store::Store;
@@ -18,6 +19,7 @@ pub fn cases(slip: Slip, source: Source) -> Vec<Case> {
         (Slip::EqualNotStoredAgain, Source::GivenStore) => vec![equal_clauses_learned()],
         (Slip::NewestFillsGap, Source::GivenStore) => vec![gap_before_two_clauses()],
         (Slip::WrittenOrderKept, Source::Opened) => vec![universal_written_last()],
+        (Slip::OnePairsBySecond, Source::Opened) => vec![pairs_of_four_withdrawn()],
         _ => vec![],
     }
 }
@@ -35,7 +37,7 @@ fn opened(quantifiers: &[Quantifier], clauses: &[&[i16]], calls: Vec<Call>) -> C
 /// it at 1 off, 2 off is either 1 or 2.
 fn two_clauses_at_one_node() -> Case {
     let clauses: &[&[i16]] = &[&[1, 3, 4], &[1, 3, -4], &[2, 3, 4], &[2, 3, -4]];
-    let queries = [vec![], vec![1]].map(Call::Query);
+    let queries = [Reading::new(&[], &[1, 2]), Reading::new(&[1], &[2])].map(Call::Query);
     let calls = queries.into_iter().chain([Call::Rule(vec![-3]), Call::Card(8)]).collect();
     opened(&[Free, Free, Exists, Exists], clauses, calls)
 }
@@ -76,6 +78,15 @@ fn universal_written_last() -> Case {
     opened(&[Forall, Exists, Exists], &[&[-1, -2]], calls)
 }
 
+/// Of the six pairs of four literals the last three go: those of 1 with the others stay, and not those among 1, 2
+/// and 3.
+fn pairs_of_four_withdrawn() -> Case {
+    let mut calls = vec![Call::One(vec![1, 2, 3, 4])];
+    calls.extend(vec![Call::Withdraw; 3]);
+    calls.push(Call::Card(64));
+    opened(&[Free, Free, Free, Free], &[], calls)
+}
+
 #[cfg(test)]
 mod tests {
     use super::*;
@@ -93,6 +104,6 @@ mod tests {
                 }
             }
         }
-        assert_eq!(count, 5);
+        assert_eq!(count, 6);
     }
 }

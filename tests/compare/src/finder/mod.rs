@@ -8,7 +8,7 @@ mod shrink;
 mod spoil;
 
 pub use case::{Case, Difference};
-pub use generate::{Shape, Source};
+pub use generate::{some_reading, Shape, Source};
 pub use print::print;
 pub use shrink::smallest;
 

@@ -4,6 +4,7 @@ use super::case::Case;
 use crate::answer::Call;
 use crate::formula::{Formula, Literal, Place, Quantifier};
 use crate::options::{Limits, Options};
+use crate::reading::Reading;
 use crate::solver::State;
 use crate::write;
 
@@ -55,9 +56,7 @@ fn without_variables(case: &Case, found: &mut Vec<Case>) {
             lists(&mut other.state).into_iter().flatten().for_each(|list| list.retain(keep));
             other.state.formula.clauses.retain(|clause| !clause.is_empty());
             for call in &mut other.calls {
-                if let Call::Rule(list) | Call::Query(list) = call {
-                    list.retain(keep);
-                }
+                call.lists_mut().into_iter().for_each(|list| list.retain(keep));
             }
         }));
     }
@@ -107,19 +106,19 @@ fn with_simpler_calls(case: &Case, found: &mut Vec<Case>) {
     for (index, call) in case.calls.iter().enumerate() {
         let mut simpler = vec![];
         match call {
-            Call::Card(length) => {
-                // A longer table too: a card that is not refused shows more.
-                let free = case.state.formula.free_count();
-                let lengths = [0, length / 2, length.saturating_sub(1), length + 1, free << free];
-                simpler.extend(lengths.map(Call::Card));
+            Call::Card(length) => simpler.extend(lengths(case, *length).map(Call::Card)),
+            Call::KeepCard(length) => simpler.extend(lengths(case, *length).map(Call::KeepCard)),
+            Call::Closest(reading, length) => {
+                let with = |length| Call::Closest(reading.clone(), length);
+                simpler.extend(lengths(case, *length).map(with));
+                let readings = shorter_readings(reading).into_iter();
+                simpler.extend(readings.map(|reading| Call::Closest(reading, *length)));
             }
-            Call::KeepCard(length) => {
-                let free = case.state.formula.free_count();
-                let lengths = [0, length / 2, length.saturating_sub(1), length + 1, free << free];
-                simpler.extend(lengths.map(Call::KeepCard));
+            Call::Query(reading) => {
+                simpler.extend(shorter_readings(reading).into_iter().map(Call::Query))
             }
-            Call::Query(list) => simpler.extend(shorter_lists(list).into_iter().map(Call::Query)),
             Call::Rule(list) => simpler.extend(shorter_lists(list).into_iter().map(Call::Rule)),
+            Call::One(list) => simpler.extend(shorter_lists(list).into_iter().map(Call::One)),
             Call::Write(length) => {
                 let text = write::text(&case.state.formula, &Options::with(case.limits)).len();
                 let lengths = [0, length / 2, length.saturating_sub(1), length + 1, text];
@@ -132,6 +131,18 @@ fn with_simpler_calls(case: &Case, found: &mut Vec<Case>) {
             found.push(changed(case, |other| other.calls[index] = call));
         }
     }
+}
+
+fn shorter_readings(Reading { on, off }: &Reading) -> Vec<Reading> {
+    let with_on = shorter_lists(on).into_iter().map(|on| Reading { on, off: off.clone() });
+    let with_off = shorter_lists(off).into_iter().map(|off| Reading { on: on.clone(), off });
+    with_on.chain(with_off).collect()
+}
+
+/// A longer table too: a card that is not refused shows more.
+fn lengths(case: &Case, length: usize) -> [usize; 5] {
+    let free = case.state.formula.free_count();
+    [0, length / 2, length.saturating_sub(1), length + 1, free << free]
 }
 
 /// Without one number; with one number replaced by a smaller one.
@@ -180,10 +191,7 @@ fn renumbered(case: &Case, numbers: &[i16]) -> Case {
             variable.number = *number;
         }
         let in_state = lists(&mut other.state).into_iter().flatten();
-        let in_calls = other.calls.iter_mut().filter_map(|call| match call {
-            Call::Rule(list) | Call::Query(list) => Some(list),
-            _ => None,
-        });
+        let in_calls = other.calls.iter_mut().flat_map(Call::lists_mut);
         in_state.chain(in_calls).for_each(|list| renumber(list, old, numbers));
     })
 }

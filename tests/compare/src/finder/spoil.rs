@@ -3,6 +3,7 @@
 use super::case::Case;
 use crate::formula::{Formula, Literal, Quantifier, Variable};
 use crate::random::Random;
+use crate::reading::Reading;
 use crate::solver::State;
 
 /// Now and then a call with a fault: another number, a number twice, no number.
@@ -15,6 +16,15 @@ pub fn numbers(numbers: &mut Vec<i16>, formula: &Formula, random: &mut Random) {
             _ => numbers.insert(random.below(numbers.len() + 1), random.pick(&others)),
         }
     }
+}
+
+/// The same in either list of a query, or a number in both.
+pub fn reading(reading: &mut Reading, formula: &Formula, random: &mut Random) {
+    if random.one_in(8) {
+        reading.off.extend(reading.on.first().copied());
+    }
+    let list = if random.one_in(2) { &mut reading.on } else { &mut reading.off };
+    numbers(list, formula, random);
 }
 
 /// Puts a fault into the state.

@@ -23,8 +23,8 @@ clear-requires c κs = search needs
 check-tables-requires : tie.Need-check-tables-requires
 check-tables-requires c κs = search needs
 
-not-listed-requires : tie.Need-not-listed-requires
-not-listed-requires c κs = search needs
+malformed-card-requires : tie.Need-malformed-card-requires
+malformed-card-requires c κs = search needs
 
 same-length : tie.Need-same-length
 same-length c = search needs
@@ -32,11 +32,11 @@ same-length c = search needs
 returns : tie.Need-returns
 returns c =
     let entry = c .before .before .before .before .before .before .before .before .before .before .before .before in
-    let not-listed = c .not-listed in
+    let refused = c .malformed-card in
     let clear = c .before .before .before .before .before .before .before .before .before .clear in
     let check-tables = c .before .before .check-tables in
     let if1 = c .before .if1 in
-    served-as _ (cardOf (entry .args .yes) (entry .args .ceiling) _) (not-listed .ensures _) (malformed-card _ (entry .args .yes) (entry .args .ceiling) _ _ (clear .ensures) (sym (check-tables .ensures .said) ∙ not-true _ (if1 .taken)))
+    served-as _ (cardOf (entry .args .yes) (entry .args .ceiling) _) (refused .ensures _) (malformed-card _ (entry .args .yes) (entry .args .ceiling) _ _ (clear .ensures) (sym (check-tables .ensures .said) ∙ not-true _ (if1 .taken)))
 
 free-count-requires : tie.Need-free-count-requires
 free-count-requires c κs = search needs
@@ -56,8 +56,8 @@ run-requires c κs =
 clear-requires-2 : tie.Need-clear-requires-2
 clear-requires-2 c κs = search needs
 
-not-listed-requires-2 : tie.Need-not-listed-requires-2
-not-listed-requires-2 c κs = search needs
+stopped-card-requires : tie.Need-stopped-card-requires
+stopped-card-requires c κs = search needs
 
 same-length-2 : tie.Need-same-length-2
 same-length-2 c =
@@ -75,14 +75,14 @@ returns-2 c =
     let run = c .before .before .before .before .before .before .before .before .before .run in
     let entry = c .before .before .before .before .before .before .before .before .before .before .before .before .before .before .before .before .before .before .before .before .before .before .before .before .before .before .before .before .before .before .before .before .before .before .before in
     let clear = c .before .before .before .before .before .before .before .before .before .before .before .before .before .before .before .before .before .before .before .before .before .before .before .before .before .before .before .before .before .before .before .before .clear in
-    let not-listed2 = c .not-listed2 in
+    let stopped-card = c .stopped-card in
     let clear2 = c .before .before .before .clear2 in
     let budget-of = c .before .before .before .before .before .before .before .before .before .before .budget-of in
     let if2 = c .before .before .before .before .before .if2 in
     let v = sym (check-tables .ensures .said) ∙ not-false _ (if1 .left) in
     let frees = free-count .ensures _ (valid-numbers _ v) (valid-quantified _ v) in
     let sized = run .ensures .0 .0 ∙ cleared-length (length (now (entry .args .table))) (clear .ensures) in
-    served-as _ (cardOf (entry .args .yes) (entry .args .ceiling) _) (not-listed2 .ensures (clear2 .last .0))
+    served-as _ (cardOf (entry .args .yes) (entry .args .ceiling) _) (stopped-card .ensures (clear2 .last .0))
     (halted-card _ v (entry .args .yes) (entry .args .ceiling) _ (free-count .result) (budget-of .result) (run .result) _ _ frees sized (budget-of .ensures .0) (run .ensures .1 _ _ v .found [] (check-tables .ensures .placed v) (check-tables .ensures .kinded v) (open-values _) refl frees (covers-none (free-count .result) (length (now (entry .args .table))) _ (clear .ensures))) (if2 .taken) _ (clear2 .ensures ∙ ap zeroTable sized))
 
 total-lines-requires : tie.Need-total-lines-requires
@@ -132,8 +132,8 @@ returns-3 c =
 clear-requires-3 : tie.Need-clear-requires-3
 clear-requires-3 c κs = search needs
 
-not-listed-requires-3 : tie.Need-not-listed-requires-3
-not-listed-requires-3 c κs = search needs
+too-many-lines-requires : tie.Need-too-many-lines-requires
+too-many-lines-requires c κs = search needs
 
 same-length-4 : tie.Need-same-length-4
 same-length-4 c =
@@ -151,7 +151,7 @@ returns-4 c =
     let run = c .before .before .before .before .before .before .before .before .before .before .before .before .before .run in
     let entry = c .before .before .before .before .before .before .before .before .before .before .before .before .before .before .before .before .before .before .before .before .before .before .before .before .before .before .before .before .before .before .before .before .before .before .before .before .before .before .before in
     let clear = c .before .before .before .before .before .before .before .before .before .before .before .before .before .before .before .before .before .before .before .before .before .before .before .before .before .before .before .before .before .before .before .before .before .before .before .before .clear in
-    let not-listed3 = c .not-listed3 in
+    let too-many-lines = c .too-many-lines in
     let clear3 = c .before .before .before .clear3 in
     let budget-of = c .before .before .before .before .before .before .before .before .before .before .before .before .before .before .budget-of in
     let if2 = c .before .before .before .before .before .before .before .before .before .if2 in
@@ -162,7 +162,7 @@ returns-4 c =
     let v = sym (check-tables .ensures .said) ∙ not-false _ (if1 .left) in
     let frees = free-count .ensures _ (valid-numbers _ v) (valid-quantified _ v) in
     let sized = run .ensures .0 .0 ∙ cleared-length (length (now (entry .args .table))) (clear .ensures) in
-    served-as _ (cardOf (entry .args .yes) (entry .args .ceiling) _) (not-listed3 .ensures (clear3 .last .0))
+    served-as _ (cardOf (entry .args .yes) (entry .args .ceiling) _) (too-many-lines .ensures (clear3 .last .0))
     (full-card _ v (entry .args .yes) (entry .args .ceiling) _ (free-count .result) (budget-of .result) (run .result) _ _ frees sized (budget-of .ensures .0) (run .ensures .1 _ _ v .found [] (check-tables .ensures .placed v) (check-tables .ensures .kinded v) (open-values _) refl frees (covers-none (free-count .result) (length (now (entry .args .table))) _ (clear .ensures))) (if2 .left) (visits-of .result) (visits-of .ensures)
     (total-lines .result) (total-lines .ensures) _ (clear3 .ensures ∙ ap zeroTable sized) (ap (λ k. leb (total-lines .result * free-count .result) k) (sym sized) ∙ sym (fits2 .ensures) ∙ if3 .left))
 
@@ -172,14 +172,14 @@ card-of-spec =
     (tie.spec
     clear-requires
     check-tables-requires
-    not-listed-requires
+    malformed-card-requires
     same-length
     returns
     free-count-requires
     budget-of-requires
     run-requires
     clear-requires-2
-    not-listed-requires-2
+    stopped-card-requires
     same-length-2
     returns-2
     total-lines-requires
@@ -189,6 +189,6 @@ card-of-spec =
     same-length-3
     returns-3
     clear-requires-3
-    not-listed-requires-3
+    too-many-lines-requires
     same-length-4
     returns-4)

@@ -8,8 +8,8 @@ use mathlib.Core.Path.{_∙_, sym, refl}
 use Rattle.qbf.specs.Calls.{query}
 use Rattle.state.proofs.Valid.{valid-numbers, valid-quantified}
 use Rattle.serving.proofs.Calls.{malformed}
-use Rattle.answers.proofs.Running.{ready, free-within, free-small}
-use Rattle.answers.proofs.Asking.{served-as, asked-by, halted-by, refused-query}
+use Rattle.answers.proofs.Running.{ready, open-ready, free-within, free-small}
+use Rattle.answers.proofs.Asking.{served-as, read-ready, asked-by, halted-by, refused-query, open-shown, open-by}
 
 check-tables-requires : tie.Need-check-tables-requires
 check-tables-requires c κs = search needs
@@ -19,14 +19,13 @@ not-ruled-requires c κs = search needs
 
 returns : tie.Need-returns
 returns c =
-    let entry = c .before .before .before .before .before .before .before in
-    let not-ruled = c .not-ruled in
-    let check-tables = c .before .before .check-tables in
-    let if1 = c .before .if1 in
-    served-as _ (query (entry .args .ceiling) _) (not-ruled .ensures) (malformed _ (query (entry .args .ceiling) _) (sym (check-tables .ensures .said) ∙ not-true _ (if1 .taken)))
+    served-as _ (query (c .before .before .before .before .before .before .before .args .ceiling) _ _) (c .not-ruled .ensures) (malformed _ (query (c .before .before .before .before .before .before .before .args .ceiling) _ _) (sym (c .before .before .check-tables .ensures .said) ∙ not-true _ (c .before .if1 .taken)))
 
 free-count-requires : tie.Need-free-count-requires
 free-count-requires c κs = search needs
+
+slice-aggregate-read : tie.Need-slice-aggregate-read
+slice-aggregate-read c = search needs
 
 read-requires : tie.Need-read-requires
 read-requires c κs = search needs
@@ -36,16 +35,25 @@ not-ruled-requires-2 c κs = search needs
 
 returns-2 : tie.Need-returns-2
 returns-2 c =
-    let check-tables = c .before .before .before .before .before .before .before .before .before .before .before .before .check-tables in
-    let if1 = c .before .before .before .before .before .before .before .before .before .before .before .if1 in
-    let entry = c .before .before .before .before .before .before .before .before .before .before .before .before .before .before .before .before .before in
-    let not-ruled2 = c .not-ruled2 in
-    let free-count = c .before .before .before .before .before .before .before .free-count in
-    let read = c .before .before .read in
-    let if2 = c .before .if2 in
-    let v = sym (check-tables .ensures .said) ∙ not-false _ (if1 .left) in
-    served-as _ (query (entry .args .ceiling) _) (not-ruled2 .ensures)
-    (refused-query _ v (free-count .ensures _ (valid-numbers _ v) (valid-quantified _ v)) (read .ensures _ (valid-numbers _ v) (check-tables .ensures .placed v)) (entry .args .ceiling) (not-true _ (if2 .taken)))
+    let v = sym (c .before .before .before .before .before .before .before .before .before .before .before .before .before .before .before .check-tables .ensures .said) ∙ not-false _ (c .before .before .before .before .before .before .before .before .before .before .before .before .before .before .if1 .left) in
+    let frees = c .before .before .before .before .before .before .before .before .before .before .free-count .ensures _ (valid-numbers _ v) (valid-quantified _ v) in
+    served-as _ (query (c .before .before .before .before .before .before .before .before .before .before .before .before .before .before .before .before .before .before .before .before .args .ceiling) _ _) (c .not-ruled2 .ensures)
+    (refused-query _ v frees (c .before .before .before .before .read .ensures _ _ (read-ready _ v frees (c .before .before .before .before .before .before .before .before .before .before .before .before .before .before .before .check-tables .ensures .placed v))) (c .before .before .before .before .before .before .before .before .before .before .before .before .before .before .before .before .before .before .before .before .args .ceiling) (not-true _ (c .before .if2 .taken)))
+
+query-requires : tie.Need-query-requires
+query-requires c κs =
+    let v = sym (c .before .before .before .before .before .before .before .before .before .before .before .before .before .before .before .before .before .before .before .before .check-tables .ensures .said) ∙ not-false _ (c .before .before .before .before .before .before .before .before .before .before .before .before .before .before .before .before .before .before .before .if1 .left) in
+    let frees = c .before .before .before .before .before .before .before .before .before .before .before .before .before .before .before .free-count .ensures _ (valid-numbers _ v) (valid-quantified _ v) in
+    open-ready _ v (c .before .before .before .before .before .before .before .before .before .before .before .before .before .before .before .before .before .before .before .before .check-tables .ensures .sized) _ (free-small _ v _ frees)
+
+returns-3 : tie.Need-returns-3
+returns-3 c =
+    let v = sym (c .before .before .before .before .before .before .before .before .before .before .before .before .before .before .before .before .before .before .before .before .before .check-tables .ensures .said) ∙ not-false _ (c .before .before .before .before .before .before .before .before .before .before .before .before .before .before .before .before .before .before .before .before .if1 .left) in
+    let frees = c .before .before .before .before .before .before .before .before .before .before .before .before .before .before .before .before .free-count .ensures _ (valid-numbers _ v) (valid-quantified _ v) in
+    let read = c .before .before .before .before .before .before .before .before .before .before .read .ensures _ _ (read-ready _ v frees (c .before .before .before .before .before .before .before .before .before .before .before .before .before .before .before .before .before .before .before .before .before .check-tables .ensures .placed v)) in
+    let fine = not-false _ (c .before .before .before .before .before .before .before .if2 .left) in
+    let partly = not-true _ (c .before .before .before .before .before .if3 .taken) in
+    open-by _ v frees read fine partly (c .before .before .before .before .before .before .before .before .before .before .before .before .before .before .before .before .before .before .before .before .before .before .before .before .before .before .args .ceiling) (c .query .ensures .ruled _ _ (open-shown _ v frees read fine partly (c .before .before .before .before .before .before .before .before .before .before .before .before .before .before .before .before .before .before .before .before .before .check-tables .ensures .placed v) (c .before .before .before .before .before .before .before .before .before .before .before .before .before .before .before .before .before .before .before .before .before .check-tables .ensures .kinded v)))
 
 slice-aggregate-run : tie.Need-slice-aggregate-run
 slice-aggregate-run c = search needs
@@ -55,61 +63,34 @@ budget-of-requires c κs = search needs
 
 run-requires : tie.Need-run-requires
 run-requires c κs =
-    let check-tables = c .before .before .before .before .before .before .before .before .before .before .before .before .before .before .before .before .before .before .before .before .before .before .check-tables in
-    let if1 = c .before .before .before .before .before .before .before .before .before .before .before .before .before .before .before .before .before .before .before .before .before .if1 in
-    let free-count = c .before .before .before .before .before .before .before .before .before .before .before .before .before .before .before .before .before .free-count in
-    let budget-of = c .budget-of in
-    let v = sym (check-tables .ensures .said) ∙ not-false _ (if1 .left) in
-    let frees = free-count .ensures _ (valid-numbers _ v) (valid-quantified _ v) in
-    ready _ v (check-tables .ensures .sized) _ _ _ (omega (arith, free-within _ v _ frees)) (free-small _ v _ frees) (budget-of .ensures .1)
+    let v = sym (c .before .before .before .before .before .before .before .before .before .before .before .before .before .before .before .before .before .before .before .before .before .before .before .before .before .before .check-tables .ensures .said) ∙ not-false _ (c .before .before .before .before .before .before .before .before .before .before .before .before .before .before .before .before .before .before .before .before .before .before .before .before .before .if1 .left) in
+    let frees = c .before .before .before .before .before .before .before .before .before .before .before .before .before .before .before .before .before .before .before .before .before .free-count .ensures _ (valid-numbers _ v) (valid-quantified _ v) in
+    ready _ v (c .before .before .before .before .before .before .before .before .before .before .before .before .before .before .before .before .before .before .before .before .before .before .before .before .before .before .check-tables .ensures .sized) _ _ _ (omega (arith, free-within _ v _ frees)) (free-small _ v _ frees) (c .budget-of .ensures .1)
 
-not-ruled-requires-3 : tie.Need-not-ruled-requires-3
-not-ruled-requires-3 c κs = search needs
+stopped-query-requires : tie.Need-stopped-query-requires
+stopped-query-requires c κs = search needs
 
-returns-3 : tie.Need-returns-3
-returns-3 c =
-    let check-tables = c .before .before .before .before .before .before .before .before .before .before .before .before .before .before .before .before .before .before .before .before .before .before .before .before .before .before .before .check-tables in
-    let if1 = c .before .before .before .before .before .before .before .before .before .before .before .before .before .before .before .before .before .before .before .before .before .before .before .before .before .before .if1 in
-    let free-count = c .before .before .before .before .before .before .before .before .before .before .before .before .before .before .before .before .before .before .before .before .before .before .free-count in
-    let entry = c .before .before .before .before .before .before .before .before .before .before .before .before .before .before .before .before .before .before .before .before .before .before .before .before .before .before .before .before .before .before .before .before in
-    let not-ruled3 = c .not-ruled3 in
-    let read = c .before .before .before .before .before .before .before .before .before .before .before .before .before .before .before .before .before .read in
-    let run = c .before .before .before .before .run in
-    let if2 = c .before .before .before .before .before .before .before .before .before .before .before .before .before .before .before .before .if2 in
-    let budget-of = c .before .before .before .before .before .budget-of in
-    let if3 = c .before .if3 in
-    let v = sym (check-tables .ensures .said) ∙ not-false _ (if1 .left) in
-    let frees = free-count .ensures _ (valid-numbers _ v) (valid-quantified _ v) in
-    served-as _ (query (entry .args .ceiling) _) (not-ruled3 .ensures)
-    (halted-by _ v frees (read .ensures _ (valid-numbers _ v) (check-tables .ensures .placed v)) (entry .args .ceiling) (run .result) _ _ (check-tables .ensures .placed v) (check-tables .ensures .kinded v)
-    (not-false _ (if2 .left)) (run .ensures .1 _ _ v) refl (budget-of .ensures .0) (if3 .taken))
+returns-4 : tie.Need-returns-4
+returns-4 c =
+    let v = sym (c .before .before .before .before .before .before .before .before .before .before .before .before .before .before .before .before .before .before .before .before .before .before .before .before .before .before .before .before .before .before .before .check-tables .ensures .said) ∙ not-false _ (c .before .before .before .before .before .before .before .before .before .before .before .before .before .before .before .before .before .before .before .before .before .before .before .before .before .before .before .before .before .before .if1 .left) in
+    let frees = c .before .before .before .before .before .before .before .before .before .before .before .before .before .before .before .before .before .before .before .before .before .before .before .before .before .before .free-count .ensures _ (valid-numbers _ v) (valid-quantified _ v) in
+    served-as _ (query (c .before .before .before .before .before .before .before .before .before .before .before .before .before .before .before .before .before .before .before .before .before .before .before .before .before .before .before .before .before .before .before .before .before .before .before .before .args .ceiling) _ _) (c .stopped-query .ensures)
+    (halted-by _ v frees (c .before .before .before .before .before .before .before .before .before .before .before .before .before .before .before .before .before .before .before .before .read .ensures _ _ (read-ready _ v frees (c .before .before .before .before .before .before .before .before .before .before .before .before .before .before .before .before .before .before .before .before .before .before .before .before .before .before .before .before .before .before .before .check-tables .ensures .placed v))) (c .before .before .before .before .before .before .before .before .before .before .before .before .before .before .before .before .before .before .before .before .before .before .before .before .before .before .before .before .before .before .before .before .before .before .before .before .args .ceiling) (c .before .before .before .before .run .result) _ _ (c .before .before .before .before .before .before .before .before .before .before .before .before .before .before .before .before .before .before .before .before .before .before .before .before .before .before .before .before .before .before .before .check-tables .ensures .placed v) (c .before .before .before .before .before .before .before .before .before .before .before .before .before .before .before .before .before .before .before .before .before .before .before .before .before .before .before .before .before .before .before .check-tables .ensures .kinded v)
+    (not-false _ (c .before .before .before .before .before .before .before .before .before .before .before .before .before .before .before .before .before .if2 .left)) (not-false _ (c .before .before .before .before .before .before .before .before .before .before .before .before .before .before .before .if3 .left)) (c .before .before .before .before .run .ensures .1 _ _ v) refl (c .before .before .before .before .before .budget-of .ensures .0) (c .before .if4 .taken))
 
 ruling-for-requires : tie.Need-ruling-for-requires
 ruling-for-requires c κs = search needs
 
 visits-of-requires : tie.Need-visits-of-requires
 visits-of-requires c κs =
-    let run = c .before .before .before .before .run in
-    let budget-of = c .before .before .before .before .before .budget-of in
-    omega (arith, run .ensures .0 .2, budget-of .ensures .0)
+    omega (arith, c .before .before .before .before .run .ensures .0 .2, c .before .before .before .before .before .budget-of .ensures .0)
 
-returns-4 : tie.Need-returns-4
-returns-4 c =
-    let check-tables = c .before .before .before .before .before .before .before .before .before .before .before .before .before .before .before .before .before .before .before .before .before .before .before .before .before .before .before .before .check-tables in
-    let if1 = c .before .before .before .before .before .before .before .before .before .before .before .before .before .before .before .before .before .before .before .before .before .before .before .before .before .before .before .if1 in
-    let free-count = c .before .before .before .before .before .before .before .before .before .before .before .before .before .before .before .before .before .before .before .before .before .before .before .free-count in
-    let read = c .before .before .before .before .before .before .before .before .before .before .before .before .before .before .before .before .before .before .read in
-    let entry = c .before .before .before .before .before .before .before .before .before .before .before .before .before .before .before .before .before .before .before .before .before .before .before .before .before .before .before .before .before .before .before .before .before in
-    let run = c .before .before .before .before .before .run in
-    let if2 = c .before .before .before .before .before .before .before .before .before .before .before .before .before .before .before .before .before .if2 in
-    let budget-of = c .before .before .before .before .before .before .budget-of in
-    let visits-of = c .visits-of in
-    let if3 = c .before .before .if3 in
-    let ruling-for = c .before .ruling-for in
-    let v = sym (check-tables .ensures .said) ∙ not-false _ (if1 .left) in
-    let frees = free-count .ensures _ (valid-numbers _ v) (valid-quantified _ v) in
-    asked-by _ v frees (read .ensures _ (valid-numbers _ v) (check-tables .ensures .placed v)) (entry .args .ceiling) (run .result) _ _ (check-tables .ensures .placed v) (check-tables .ensures .kinded v)
-    (not-false _ (if2 .left)) (run .ensures .1 _ _ v) refl (budget-of .ensures .0) (visits-of .result) (visits-of .ensures) (if3 .left) (ruling-for .ensures)
+returns-5 : tie.Need-returns-5
+returns-5 c =
+    let v = sym (c .before .before .before .before .before .before .before .before .before .before .before .before .before .before .before .before .before .before .before .before .before .before .before .before .before .before .before .before .before .before .before .before .check-tables .ensures .said) ∙ not-false _ (c .before .before .before .before .before .before .before .before .before .before .before .before .before .before .before .before .before .before .before .before .before .before .before .before .before .before .before .before .before .before .before .if1 .left) in
+    let frees = c .before .before .before .before .before .before .before .before .before .before .before .before .before .before .before .before .before .before .before .before .before .before .before .before .before .before .before .free-count .ensures _ (valid-numbers _ v) (valid-quantified _ v) in
+    asked-by _ v frees (c .before .before .before .before .before .before .before .before .before .before .before .before .before .before .before .before .before .before .before .before .before .read .ensures _ _ (read-ready _ v frees (c .before .before .before .before .before .before .before .before .before .before .before .before .before .before .before .before .before .before .before .before .before .before .before .before .before .before .before .before .before .before .before .before .check-tables .ensures .placed v))) (c .before .before .before .before .before .before .before .before .before .before .before .before .before .before .before .before .before .before .before .before .before .before .before .before .before .before .before .before .before .before .before .before .before .before .before .before .before .args .ceiling) (c .before .before .before .before .before .run .result) _ _ (c .before .before .before .before .before .before .before .before .before .before .before .before .before .before .before .before .before .before .before .before .before .before .before .before .before .before .before .before .before .before .before .before .check-tables .ensures .placed v) (c .before .before .before .before .before .before .before .before .before .before .before .before .before .before .before .before .before .before .before .before .before .before .before .before .before .before .before .before .before .before .before .before .check-tables .ensures .kinded v)
+    (not-false _ (c .before .before .before .before .before .before .before .before .before .before .before .before .before .before .before .before .before .before .if2 .left)) (not-false _ (c .before .before .before .before .before .before .before .before .before .before .before .before .before .before .before .before .if3 .left)) (c .before .before .before .before .before .run .ensures .1 _ _ v) refl (c .before .before .before .before .before .before .budget-of .ensures .0) (c .visits-of .result) (c .visits-of .ensures) (c .before .before .if4 .left) (c .before .ruling-for .ensures)
 
 pub query-spec : {M : Type 1} → statement M
 query-spec =
@@ -119,14 +100,17 @@ query-spec =
     not-ruled-requires
     returns
     free-count-requires
+    slice-aggregate-read
     read-requires
     not-ruled-requires-2
     returns-2
+    query-requires
+    returns-3
     slice-aggregate-run
     budget-of-requires
     run-requires
-    not-ruled-requires-3
-    returns-3
+    stopped-query-requires
+    returns-4
     ruling-for-requires
     visits-of-requires
-    returns-4)
+    returns-5)

@@ -21,6 +21,9 @@ enum-told c = search needs
 enum-told-2 : tie.Need-enum-told-2
 enum-told-2 c = search needs
 
+enum-known-line-5 : tie.Need-enum-known-line-5
+enum-known-line-5 c = search needs
+
 enum-told-3 : tie.Need-enum-told-3
 enum-told-3 c = search needs
 
@@ -43,7 +46,10 @@ returns-6 : tie.Need-returns-6
 returns-6 c = rw (c .enum-told2 .given .1)
 
 returns-7 : tie.Need-returns-7
-returns-7 c = rw (c .enum-told3 .given .1)
+returns-7 c = rw (c .before .line5 .given .1)
+
+returns-8 : tie.Need-returns-8
+returns-8 c = rw (c .enum-told3 .given .1)
 
 pub limited-spec : {M : Type 1} → statement M
 limited-spec =
@@ -55,6 +61,7 @@ limited-spec =
     enum-known-line-4
     enum-told
     enum-told-2
+    enum-known-line-5
     enum-told-3
     returns
     returns-2
@@ -62,4 +69,5 @@ limited-spec =
     returns-4
     returns-5
     returns-6
-    returns-7)
+    returns-7
+    returns-8)

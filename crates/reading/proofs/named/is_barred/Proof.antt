@@ -4,6 +4,7 @@ use Rattle.reading.proofs.named.is_barred.Statement.{statement}
 use Rattle.reading.proofs.named.is_barred.Tie as tie
 use mathlib.Core.Path.{ap, _∙_}
 use Prim.Native.Nat.{ℕ}
+use mathlib.Core.Bool.{not}
 use lib.Dec.{eqb}
 use lib.ListN.{getD}
 use lib.IntN.{ℤ}
@@ -33,16 +34,15 @@ returns-3 c =
 number-of-requires : tie.Need-number-of-requires
 number-of-requires c κs = search needs
 
-is-on-requires : tie.Need-is-on-requires
-is-on-requires c κs = search needs
+is-open-requires : tie.Need-is-open-requires
+is-open-requires c κs = search needs
 
 returns-4 : tie.Need-returns-4
 returns-4 c =
     let e = c .before .before .before .before .before .before .before .before in
     let p = c .before .before .before .before .literal-place .ensures .0 ∙ ap (λ (z : ℤ). getD (now (e .args .places)) (numberOf z) 0) (back (e .fits .lit)) in
     let n = c .before .number-of .ensures ∙ ap numberOf (back (e .fits .lit)) in
-    c .is-on .ensures
-    ∙ ap (λ (k : ℕ). eqb (getD (now (e .args .values)) k 0) 2) n
+    ap not (c .is-open .ensures ∙ ap (λ (k : ℕ). eqb (getD (now (e .args .values)) k 0) 0) n)
     ∙ barred-again (now (e .args .places)) (e .args .free) (now (e .args .values)) (e .fits .lit) (c .before .before .before .before .before .if1 .left) p (c .before .before .before .if2 .left) (c .before .before .if3 .left)
 
 pub is-barred-spec : {M : Type 1} → statement M
@@ -54,5 +54,5 @@ is-barred-spec =
     returns-2
     returns-3
     number-of-requires
-    is-on-requires
+    is-open-requires
     returns-4)

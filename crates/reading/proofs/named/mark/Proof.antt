@@ -1,4 +1,4 @@
--- `reading::named::mark`: a literal that is not barred is set on.
+-- `reading::named::mark`: a literal that is not barred is recorded.
 use borrow.Author.Needs.{needs}
 use Rattle.reading.proofs.named.mark.Statement.{statement}
 use Rattle.reading.proofs.named.mark.Tie as tie
@@ -19,7 +19,7 @@ same-length c = search needs
 returns : tie.Need-returns
 returns c =
     let e = c .before .before .before .before .before in
-    marked-not (now (e .args .places)) (e .args .free) (now (e .args .values)) (e .args .lit) (cc (back (e .fits .lit))) (c .if1 .taken)
+    marked-not (now (e .args .places)) (e .args .free) (e .args .value) (now (e .args .values)) (e .args .lit) (cc (back (e .fits .lit))) (c .if1 .taken)
 
 number-of-requires : tie.Need-number-of-requires
 number-of-requires c κs = search needs
@@ -34,7 +34,7 @@ returns-2 : tie.Need-returns-2
 returns-2 c =
     let e = c .before .before .before .before .before .before .before .before .before .before in
     let n = c .before .before .before .number-of .ensures ∙ ap numberOf (back (e .fits .lit)) in
-    marked-so (now (e .args .places)) (e .args .free) (now (e .args .values)) (e .args .lit) (cc (back (e .fits .lit))) (c .before .before .before .before .before .if1 .left) (c .before .before .put .ensures ∙ ap (λ (k : ℕ). set (now (e .args .values)) k 2) n)
+    marked-so (now (e .args .places)) (e .args .free) (e .args .value) (now (e .args .values)) (e .args .lit) (cc (back (e .fits .lit))) (c .before .before .before .before .before .if1 .left) (c .before .before .put .ensures ∙ ap (λ (k : ℕ). set (now (e .args .values)) k (e .args .value)) n)
 
 pub mark-spec : {M : Type 1} → statement M
 mark-spec =

@@ -6,6 +6,7 @@ use Prim.Native.Nat.{ℕ}
 use native.Mathlib.Omega.{arith}
 use mathlib.Core.Path.{_≡_, _∙_}
 use mathlib.Core.Bool.{true}
+use mathlib.Core.Option.{Option}
 use borrow.Author.Tests.{not-true, not-false}
 use denote.Ref.{now}
 use lib.ListN.{getD}
@@ -19,10 +20,13 @@ use Rattle.rules.proofs.Refusing.{fault-full, fault-empty, fault-long, 
 abbrev standing : tie.Start → ℕ
 standing s = getD (now (s .args .sizes)) 0 0
 
+abbrev fault : tie.Start → Prefix → Option ℕ
+fault s D = faultAfter (standing s) D (now (s .args .lits))
+
 returns : tie.Need-returns
 returns c =
     let s = c .before in
-    judged-malformed (s .args .ok) (standing s) (now (s .args .lits)) (now (s .args .places)) (not-true (s .args .ok) (c .if1 .taken))
+    judged-malformed (s .args .ok) (now (s .args .places)) (fault s) (not-true (s .args .ok) (c .if1 .taken))
 
 cell-at-requires : tie.Need-cell-at-requires
 cell-at-requires c κs = search needs
@@ -32,9 +36,9 @@ cast-count c = search needs
 
 -- a valid state: the fault is that of the tests that follow
 found : (s : tie.Start) → s .args .ok ≡ true → (r : ℕ)
-    → ((D : Prefix) → Places D (now (s .args .places)) → faultOf r ≡ faultAfter (standing s) D (now (s .args .lits)))
-    → Judged (s .args .ok) (standing s) (now (s .args .lits)) (now (s .args .places)) r
-found s = judged-valid (s .args .ok) (standing s) (now (s .args .lits)) (now (s .args .places))
+    → ((D : Prefix) → Places D (now (s .args .places)) → faultOf r ≡ fault s D)
+    → Judged (s .args .ok) (now (s .args .places)) (fault s) r
+found s = judged-valid (s .args .ok) (now (s .args .places)) (fault s)
 
 returns-2 : tie.Need-returns-2
 returns-2 c =

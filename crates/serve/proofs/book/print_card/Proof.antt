@@ -7,7 +7,7 @@ use denote.Ref.{now}
 use Rattle.qbf.specs.Formula.{paper}
 use Rattle.layout.specs.Program.{tableBytes}
 use Rattle.editions.specs.Program.{cardProgram}
-use Rattle.serve.proofs.Room.{prints, prints-short}
+use Rattle.answer_text.proofs.Room.{prints, prints-short}
 
 short-requires : tie.Need-short-requires
 short-requires c κs = search needs

@@ -12,7 +12,7 @@ use Rattle.qbf.specs.Ceiling.{highestCeiling}
 use Rattle.qbf.specs.Calls.{card}
 use Rattle.state.specs.Reading.{readState}
 use Rattle.serve.specs.Line.{lineAnswer}
-use Rattle.serve.proofs.Room.{wrote-as}
+use Rattle.answer_text.proofs.Room.{wrote-as}
 use Rattle.serve.proofs.CardTexts.{shown-said}
 use Rattle.serve.proofs.Books.{refused-printed, shown-printed}
 
@@ -22,8 +22,8 @@ card-requires c κs = search needs
 refusal-of-requires : tie.Need-refusal-of-requires
 refusal-of-requires c κs = search needs
 
-refuse-requires : tie.Need-refuse-requires
-refuse-requires c κs = search needs
+refuse-card-requires : tie.Need-refuse-card-requires
+refuse-card-requires c κs = search needs
 
 same-length : tie.Need-same-length
 same-length c = search needs
@@ -36,7 +36,7 @@ returns c = λ b e ok.
     let told = c .before .before .before .before .before .refusal-of in
     let made = c .before .before .before .before .before .before .before .before .card in
     let args = c .before .before .before .before .before .before .before .before .before .before .before .before .before .before .before .before .before .before .before .before .before .before .before .before .before .before .args in
-    wrote-as {d = c .before .before .refuse .last .0} {r = c .before .before .refuse .result} (refused-printed (args .t1) (length (now (c .before .before .before .before .before .before .before .before .before .before .before .before .before .before .before .before .before .before .before .before .before .before .before .before .before .before .args .table))) (made .result .printed) (made .result .visits) (made .last .1 .1 .1 .1 .1 .1 .1 .1 .1 .0) _ (made .ensures) (told .result) (told .ensures) b e ok (c .before .before .before .before .if1 .taken)) (c .before .before .refuse .ensures)
+    wrote-as {d = c .before .before .refuse-card .last .0} {r = c .before .before .refuse-card .result} (refused-printed (args .t1) (length (now (c .before .before .before .before .before .before .before .before .before .before .before .before .before .before .before .before .before .before .before .before .before .before .before .before .before .before .args .table))) (made .result .printed) (made .result .visits) (made .last .1 .1 .1 .1 .1 .1 .1 .1 .1 .0) _ (made .ensures) (told .result) (told .ensures) b e ok (c .before .before .before .before .if1 .taken)) (c .before .before .refuse-card .ensures)
 
 lines-of-requires : tie.Need-lines-of-requires
 lines-of-requires c κs = search needs
@@ -74,7 +74,7 @@ print-in-spec =
     (tie.spec
     card-requires
     refusal-of-requires
-    refuse-requires
+    refuse-card-requires
     same-length
     same-length-2
     returns

@@ -4,7 +4,7 @@ use Rattle.serve.proofs.call.no_call.Statement.{statement}
 use Rattle.serve.proofs.call.no_call.Tie as tie
 use mathlib.Core.Path.{refl}
 use mathlib.Core.Option.{none}
-use Rattle.serve.proofs.Room.{turned}
+use Rattle.serve.proofs.Turns.{turned}
 use Rattle.serve.proofs.Called.{none-served}
 
 refuse-requires : tie.Need-refuse-requires

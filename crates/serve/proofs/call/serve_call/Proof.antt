@@ -6,7 +6,7 @@ use native.Mathlib.Omega.{arith}
 use mathlib.Core.Path.{subst}
 use denote.Ref.{now}
 use Rattle.serve.specs.Calls.{Small}
-use Rattle.serve.proofs.Called.{called-rule, called-query, called-card, called-keep-card, called-forget, called-withdraw, called-none}
+use Rattle.serve.proofs.Called.{called-rule, called-query, called-card, called-keep-card, called-forget, called-withdraw, called-one, called-none}
 
 enum-known-call : tie.Need-enum-known-call
 enum-known-call c = search needs
@@ -43,6 +43,12 @@ enum-told-2 c = search needs
 
 serve-withdraw-requires : tie.Need-serve-withdraw-requires
 serve-withdraw-requires c κs = search needs
+
+enum-known-call-5 : tie.Need-enum-known-call-5
+enum-known-call-5 c = search needs
+
+one-of-requires : tie.Need-one-of-requires
+one-of-requires c κs = search needs
 
 enum-told-3 : tie.Need-enum-told-3
 enum-told-3 c = search needs
@@ -103,6 +109,14 @@ same-length-7 c = search needs
 
 returns-7 : tie.Need-returns-7
 returns-7 c = λ o h.
+    let args = c .before .before .before .before .before .before .before .before .args in
+    called-one (now (args .lits)) (args .ceiling) (args .call) o h (c .before .before .before .before .before .call5 .given .0 .0) (c .before .before .before .before .before .call5 .given .1) (λ ls k. c .before .before .one-of .ensures ls k (now (args .cards)))
+
+same-length-8 : tie.Need-same-length-8
+same-length-8 c = search needs
+
+returns-8 : tie.Need-returns-8
+returns-8 c = λ o h.
     let args = c .before .before .before .before .before .before .before .args in
     called-none (now (args .lits)) (args .ceiling) (args .call) o h (c .before .before .before .before .enum-told3 .given .1) (c .before .before .no-call .ensures (now (args .cards)))
 
@@ -122,6 +136,8 @@ serve-call-spec =
     serve-forget-requires
     enum-told-2
     serve-withdraw-requires
+    enum-known-call-5
+    one-of-requires
     enum-told-3
     no-call-requires
     same-length
@@ -137,4 +153,6 @@ serve-call-spec =
     same-length-6
     returns-6
     same-length-7
-    returns-7)
+    returns-7
+    same-length-8
+    returns-8)

@@ -8,7 +8,7 @@ use Prim.Native.Nat.{suc}
 use mathlib.Core.Path.{_≡_}
 use lib.ListN.{length}
 use Rattle.qbf.specs.Formula.{paper}
-use Rattle.serve.proofs.Room.{wrote-as}
+use Rattle.answer_text.proofs.Room.{wrote-as}
 use Rattle.serve.proofs.CardTexts.{card-written}
 
 slice-aggregate-free-count : tie.Need-slice-aggregate-free-count

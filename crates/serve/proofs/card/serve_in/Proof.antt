@@ -10,10 +10,10 @@ use denote.Ref.{now}
 use lib.ListN.{length}
 use Rattle.qbf.specs.Calls.{cardOf}
 use Rattle.state.specs.Reading.{readState}
-use Rattle.answers.specs.Answers.{cardSaid}
-use Rattle.serve.specs.Shown.{cardIn}
+use Rattle.replies.specs.Replies.{cardSaid}
+use Rattle.answer_text.specs.Shown.{cardIn}
 use Rattle.serve.specs.Line.{lineAnswer}
-use Rattle.serve.proofs.Room.{turned}
+use Rattle.serve.proofs.Turns.{turned}
 use Rattle.serve.proofs.CardTexts.{refused-served, shown-served, shown-said}
 use Rattle.serve.proofs.LastCard.{card-left}
 

@@ -5,7 +5,7 @@ use Rattle.serve.proofs.card.serve_part.Tie as tie
 use native.Mathlib.Omega.{arith}
 use denote.Ref.{now}
 use lib.ListN.{length, take, drop, length-take}
-use Rattle.serve.proofs.Room.{card-sized}
+use Rattle.serve.proofs.Turns.{card-sized}
 
 slice-relend-prefix-serve-in : tie.Need-slice-relend-prefix-serve-in
 slice-relend-prefix-serve-in c = search needs

@@ -6,9 +6,9 @@ use mathlib.Core.Path.{refl, _∙_, ap}
 use mathlib.Core.Option.{some}
 use Rattle.qbf.specs.Calls.{forget}
 use Rattle.layout.specs.Output.{forgottenText}
-use Rattle.serve.specs.Texts.{changeText}
+use Rattle.answer_text.specs.Texts.{changeText}
 use Rattle.serve.proofs.Answered.{forget-changing, change-served}
-use Rattle.serve.proofs.Room.{turned}
+use Rattle.serve.proofs.Turns.{turned}
 
 forget-requires : tie.Need-forget-requires
 forget-requires c κs = search needs

@@ -8,10 +8,10 @@ use denote.Ref.{now}
 use Rattle.qbf.specs.Calls.{rule}
 use Rattle.layout.specs.Output.{acceptedText}
 use Rattle.state.specs.Reading.{readState}
-use Rattle.serve.specs.Texts.{changeText}
+use Rattle.answer_text.specs.Texts.{changeText}
 use Rattle.serve.proofs.Answered.{rule-changing, change-served}
 use Rattle.serve.proofs.LastCard.{rule-leaves}
-use Rattle.serve.proofs.Room.{turned}
+use Rattle.serve.proofs.Turns.{turned}
 
 rule-requires : tie.Need-rule-requires
 rule-requires c κs = search needs

@@ -7,10 +7,10 @@ use mathlib.Core.Option.{some}
 use Rattle.qbf.specs.Calls.{withdraw}
 use Rattle.layout.specs.Output.{withdrawnText}
 use Rattle.state.specs.Reading.{readState}
-use Rattle.serve.specs.Texts.{changeText}
+use Rattle.answer_text.specs.Texts.{changeText}
 use Rattle.serve.proofs.Answered.{withdraw-changing, change-served}
 use Rattle.serve.proofs.LastCard.{rule-leaves}
-use Rattle.serve.proofs.Room.{turned}
+use Rattle.serve.proofs.Turns.{turned}
 
 withdraw-requires : tie.Need-withdraw-requires
 withdraw-requires c κs = search needs

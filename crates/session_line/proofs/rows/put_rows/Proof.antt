@@ -7,7 +7,7 @@ use native.Mathlib.Omega.{arith}
 use denote.Ref.{now}
 use lib.ListN.{length}
 use Rattle.page.proofs.Lines.{printed-length}
-use Rattle.serve.proofs.Room.{wrote-as}
+use Rattle.answer_text.proofs.Room.{wrote-as}
 use Rattle.session_line.proofs.Turns.{rows-refused, rows-shown}
 
 refusal-requires : tie.Need-refusal-requires

@@ -5,7 +5,7 @@ use Rattle.session_line.proofs.rows.put_shown.Tie as tie
 use native.Mathlib.Omega.{arith}
 use denote.Ref.{now}
 use lib.ListN.{length, length-take}
-use Rattle.serve.proofs.Room.{wrote-as}
+use Rattle.answer_text.proofs.Room.{wrote-as}
 use Rattle.session_line.proofs.Turns.{page-none, page-some}
 
 refuse-requires : tie.Need-refuse-requires

@@ -4,9 +4,9 @@ use Rattle.session_turn.proofs.book.open_book.Tie as tie
 use Rattle.session_turn.proofs.book.open_book.Reads as reads
 use Rattle.session_turn.proofs.book.open_book.Lts as lts
 use Rattle.reader.proofs.text.line_count.Reads as line-count-reads
-use Rattle.serve.proofs.shown.no_card.Reads as no-card-reads
+use Rattle.answer_text.proofs.shown.no_card.Reads as no-card-reads
 use Rattle.session_turn.proofs.book.refused.Reads as refused-reads
-use Rattle.session_turn.proofs.input.next_number.Reads as next-number-reads
+use Rattle.line_buffer.proofs.next_number.Reads as next-number-reads
 use Rattle.session_turn.proofs.Ends.{book-refused, book-opened}
 use lib.ListN.{length, take, drop, length-take}
 use native.Mathlib.Omega.{arith}

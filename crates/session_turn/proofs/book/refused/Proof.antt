@@ -3,7 +3,7 @@ use Rattle.session_turn.proofs.book.refused.Statement.{statement}
 use Rattle.session_turn.proofs.book.refused.Tie as tie
 use Rattle.session_turn.proofs.book.refused.Reads as reads
 use Rattle.session_turn.proofs.book.refused.Lts as lts
-use Rattle.serve.proofs.book.print_refusal.Reads as print-refusal-reads
+use Rattle.answer_text.proofs.book.print_refusal.Reads as print-refusal-reads
 use Rattle.session_turn.proofs.over.Reads as over-reads
 use Rattle.session_turn.proofs.Ends.{refused-ends}
 use denote.Ref.{now}

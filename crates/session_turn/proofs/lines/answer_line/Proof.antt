@@ -4,8 +4,8 @@ use Rattle.session_turn.proofs.lines.answer_line.Tie as tie
 use Rattle.session_turn.proofs.lines.answer_line.Reads as reads
 use Rattle.session_turn.proofs.lines.answer_line.Lts as lts
 use Rattle.session_line.proofs.serve_line.Reads as serve-line-reads
-use Rattle.session_turn.proofs.input.next_number.Reads as next-number-reads
-use Rattle.session_turn.proofs.lines.line_start.Reads as line-start-reads
+use Rattle.line_buffer.proofs.next_number.Reads as next-number-reads
+use Rattle.line_buffer.proofs.line_start.Reads as line-start-reads
 use Rattle.session_turn.proofs.Answered.{start-low, line-answered}
 use denote.Ref.{now}
 use mathlib.Core.Path.{_≡_, refl, sym, ap, subst, _∙_}

@@ -4,7 +4,7 @@ use Rattle.session_turn.proofs.lines.last_line.Tie as tie
 use Rattle.session_turn.proofs.lines.last_line.Reads as reads
 use Rattle.session_turn.proofs.lines.last_line.Lts as lts
 use Rattle.session_line.proofs.serve_line.Reads as serve-line-reads
-use Rattle.session_turn.proofs.lines.is_unended.Reads as is-unended-reads
+use Rattle.line_buffer.proofs.is_unended.Reads as is-unended-reads
 use Rattle.session_turn.proofs.over.Reads as over-reads
 use Rattle.session_turn.proofs.Answered.{nothing-ended, line-ended}
 use denote.Ref.{now}

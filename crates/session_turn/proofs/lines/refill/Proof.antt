@@ -3,9 +3,9 @@ use Rattle.session_turn.proofs.lines.refill.Statement.{statement}
 use Rattle.session_turn.proofs.lines.refill.Tie as tie
 use Rattle.session_turn.proofs.lines.refill.Reads as reads
 use Rattle.session_turn.proofs.lines.refill.Lts as lts
-use Rattle.session_turn.proofs.input.to_front.Reads as to-front-reads
-use Rattle.session_turn.proofs.lines.is_skipped.Reads as is-skipped-reads
-use Rattle.session_turn.proofs.lines.kept_bytes.Reads as kept-bytes-reads
+use Rattle.line_buffer.proofs.to_front.Reads as to-front-reads
+use Rattle.line_buffer.proofs.is_skipped.Reads as is-skipped-reads
+use Rattle.line_buffer.proofs.kept_bytes.Reads as kept-bytes-reads
 use Rattle.session_turn.proofs.Answered.{refilled-as}
 use denote.Ref.{now}
 use mathlib.Core.Path.{_≡_, refl, sym, ap, subst, _∙_}

@@ -12,6 +12,7 @@ use native.Mathlib.Omega.{arith}
 use native.Mathlib.Numerals.{add-one}
 use lib.ListN.{getD}
 use denote.Ref.{now}
+use Rattle.qbf.specs.Formula.{paper}
 use Rattle.state.specs.Declare.{nextLevel, Growing}
 use Rattle.state.specs.Reading.{prefixOf}
 use Rattle.state.proofs.Valid.{prefix-numbers}
@@ -24,14 +25,14 @@ abbrev within : tie.After-next-level → tie.After-next-level-arg4
 within c = c .before
 
 -- what is known where the variable is new
-new : (c : tie.After-next-level-arg4) → let a = start c .args in New (now (a .numbers)) (now (a .levels)) (now (a .kinds)) (a .number .0) (a .kind)
+new : (c : tie.After-next-level-arg4) → let a = start c .args in New paper (now (a .numbers)) (now (a .levels)) (now (a .kinds)) (a .number .0) (a .kind)
 new c =
     let a = start c .args in
     let D = prefixOf (now (a .numbers)) (now (a .levels)) (now (a .kinds)) in
     record {
-      numbers-room = c .before .before .before .before .before .count-arg2 .given .0;
-      levels-room = c .before .before .next-level-arg2 .given .0;
-      kinds-room = c .next-level-arg4 .given .0;
+      numbers-room = omega (arith, c .before .before .before .before .before .count-arg2 .given .0);
+      levels-room = omega (arith, c .before .before .next-level-arg2 .given .0);
+      kinds-room = omega (arith, c .next-level-arg4 .given .0);
       may = start c .pre;
       low = c .before .before .before .before .before .before .before .before .before .before .before .before .if1 .left;
       high = c .before .before .before .before .before .before .before .before .before .before .before .if2 .left;

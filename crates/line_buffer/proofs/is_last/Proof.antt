@@ -1,0 +1,17 @@
+use borrow.Author.Needs.{needs}
+use Rattle.line_buffer.proofs.is_last.Statement.{statement}
+use Rattle.line_buffer.proofs.is_last.Tie as tie
+use Rattle.line_buffer.proofs.is_last.Reads as reads
+use Rattle.line_buffer.proofs.is_last.Lts as lts
+use lib.Dec.{eqb, ltb}
+use mathlib.Core.Path.{_≡_, refl, sym, ap, subst, _∙_}
+use mathlib.Core.Bool.{Bool, true, false, cond, _&&_, _||_}
+
+returns : tie.Need-returns
+returns c = sym (ap (λ (t : Bool). t || eqb (c .before .args .held) (c .before .args .room)) (c .if1 .taken))
+
+returns-2 : tie.Need-returns-2
+returns-2 c = sym (ap (λ (t : Bool). t || eqb (c .before .args .held) (c .before .args .room)) (c .if1 .left))
+
+pub is-last-spec : {M : Type 1} → statement M
+is-last-spec = tie.close (tie.spec returns returns-2)

@@ -1,0 +1,4 @@
+pub mod Signs
+pub mod Gathering
+pub mod Judged
+pub mod Standing

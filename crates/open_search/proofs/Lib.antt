@@ -1,0 +1,4 @@
+pub mod Plain
+pub mod Budgets
+pub mod Rows
+pub mod Visiting
