@@ -9,7 +9,7 @@ ghost use Rattle.writer.specs.Wrote.{Wrote};
 ghost use Rattle.answer_text.specs.Room.{answerBytes};
 
 // "a card too large prints only `(refused 21 0)`"
-const NO_LINE: u64 = 0;
+const CARD_LINE: u64 = 0;
 
 pub fn refuse(out: &mut [u8], n: u16, line: u64) -> usize
     requires { ⌜ answerBytes ≤ length (now out) ⌝ }
@@ -23,13 +23,10 @@ pub fn refuse_card(out: &mut [u8], n: u16) -> usize
     requires { ⌜ answerBytes ≤ length (now out) ⌝ }
     ensures { λ r. ⌜ Wrote (now (out .entry)) 0 (refusalText n 0) (now (out .exit)) r ⌝ }
 {
-    refuse(out, n, NO_LINE)
+    refuse(out, n, CARD_LINE)
 }
 
-// "a card with no line gives 35"
-const NO_LINE: u16 = 35;
-
-// A card too large and a stopped call tell their visits.
+// A card too large, a stopped call and a card without a line tell their visits.
 pub fn put_search_refusal(out: &mut [u8], refusal: u16, visits: u64, line: u64) -> usize
     requires { ⌜ answerBytes ≤ length (now out) ⌝ }
     ensures { λ r. ⌜ Wrote (now (out .entry)) 0 (searchRefusalText refusal line visits) (now (out .exit)) r ⌝ }
@@ -40,7 +37,7 @@ pub fn put_search_refusal(out: &mut [u8], refusal: u16, visits: u64, line: u64) 
     if refusal == replies::STOPPED {
         return put_overflow(out, 0, refusal as u64, line, visits);
     }
-    if refusal == NO_LINE {
+    if refusal == replies::NO_LINE {
         return put_overflow(out, 0, refusal as u64, line, visits);
     }
     refuse(out, refusal, line)

@@ -19,6 +19,9 @@ pub const TOO_MANY_LINES: u16 = 21;
 
 pub const STOPPED: u16 = 34;
 
+// "a card with no line gives 35"
+pub const NO_LINE: u16 = 35;
+
 pub enum Ruling {
     Swap,
     Keep,

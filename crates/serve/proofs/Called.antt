@@ -124,10 +124,10 @@ module _ {x : State} {number : ℕ} {s : Shown} {r : Turn} {d : Bytes} (n : ℕ)
       → ((t : Bytes) (x′ : State) → CallServed x (some (make (take (min n (suc (paper .numbers))) lits))) number t x′ → CallServed x (some (make ls)) number t x′)
       → ((z : Option Card) → lineCard (readState x) (some (make (take (min n (suc (paper .numbers))) lits))) z ≡ lineCard (readState x) (some (make ls)) z)
       → (k : ℕ) → k ≡ min n (suc (paper .numbers)) → TurnedBeside x (some (make (take k lits))) number s r d → TurnedBeside x (some (make ls)) number s r d
-  adding-turned make ls served card k e h = λ t. by (subst (λ (m : ℕ). Turned x (some (make (take m lits))) number s t r t d) e (h t))
+  adding-turned make ls told shows k e h = λ t. by (subst (λ (m : ℕ). Turned x (some (make (take m lits))) number s t r t d) e (h t))
     where
       by : {t : Bytes} → Turned x (some (make (take (min n (suc (paper .numbers))) lits))) number s t r t d → Turned x (some (make ls)) number s t r t d
-      by {t} u = record { within = u .within; served = served (take (r .length) d) (r .state) (u .served); shown = u .shown ∙ card (cardIn s t) }
+      by {t} u = record { within = u .within; served = told (take (r .length) d) (r .state) (u .served); shown = u .shown ∙ shows (cardIn s t) }
 
   pub rule-turned : (k : ℕ) → k ≡ min n (suc (paper .numbers)) → TurnedBeside x (some (rule (take k lits))) number s r d → (ls : List Literal) → Kept n lits ls → TurnedBeside x (some (rule ls)) number s r d
   rule-turned k e h ls q = adding-turned rule ls (λ t x′ w. rule-served x n lits wide number t x′ ls q w) (rule-card x n lits wide ls q) k e h

@@ -8,10 +8,10 @@ use denote.Ref.{now}
 use Rattle.qbf.specs.Calls.{one}
 use Rattle.layout.specs.Output.{acceptedText}
 use Rattle.state.specs.Reading.{readState}
-use Rattle.serve.specs.Texts.{changeText}
+use Rattle.answer_text.specs.Texts.{changeText}
 use Rattle.serve.proofs.Answered.{one-changing, change-served}
 use Rattle.serve.proofs.LastCard.{rule-leaves}
-use Rattle.serve.proofs.Room.{turned}
+use Rattle.serve.proofs.Turns.{turned}
 
 one-requires : tie.Need-one-requires
 one-requires c κs = search needs
