@@ -7,11 +7,11 @@ use mathlib.Core.Option.{none}
 use Rattle.qbf.specs.Formula.{paper, placeOf}
 use Rattle.layout.specs.Words.{Bytes, ascii, split, same, digits, number, closed, inside}
 use Rattle.layout.specs.Forms.{items, consed, formFrom, formOf}
-use Rattle.layout.specs.Ceilings.{ceiled}
+use Rattle.layout.specs.Endings.{ended}
 use Rattle.editions.specs.Lines.{ruleFrom, lineFrom, lineOf as lineSaid}
 use Rattle.editions.specs.Opening.{readLines, readEditions, openEditions}
 use Rattle.layout.specs.Output.{lastDigits, decimal, refusalText, queryText}
-use Rattle.layout.specs.Session.{callFrom, ceiledCall, answerText}
+use Rattle.layout.specs.Session.{callFrom, sizedCall, ceiledCall, answerText}
 use Rattle.sessions.specs.Session.{requestFrom, requestOf}
 use Rattle.feeding.specs.Lines.{fed, grown}
 use Rattle.feeding.specs.Sessions.{Held, start, onByte, atEnd}
@@ -56,5 +56,5 @@ rows =
     ∷ []
 
 step-rows : allPrinted rows ≡ allExpected rows
-unfolding split same digits number items consed closed inside formFrom formOf ruleFrom lineFrom lineSaid readLines readEditions openEditions placeOf lastDigits decimal refusalText queryText callFrom ceiled ceiledCall answerText requestFrom requestOf fed grown
+unfolding split same digits number items consed closed inside formFrom formOf ruleFrom lineFrom lineSaid readLines readEditions openEditions placeOf lastDigits decimal refusalText queryText callFrom ended sizedCall ceiledCall answerText requestFrom requestOf fed grown
 step-rows = refl

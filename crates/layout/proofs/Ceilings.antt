@@ -8,8 +8,8 @@ use lib.IntN.{pos}
 use Rattle.qbf.specs.Calls.{Call, query, card, keepCard, forget}
 use Rattle.layout.specs.Words.{ascii, split, same, digits, number, closed, inside}
 use Rattle.layout.specs.Forms.{items, consed}
-use Rattle.layout.specs.Ceilings.{ceilingNumber, ceiled}
-use Rattle.layout.specs.Session.{callFrom, ceiledCall, callOf}
+use Rattle.layout.specs.Endings.{numberUpTo, ended}
+use Rattle.layout.specs.Session.{callFrom, sizedCall, ceiledCall, callOf}
 
 record Row : Type 0 where
   line : String
@@ -54,5 +54,5 @@ rows =
     ∷ []
 
 ceiling-rows : read rows ≡ expected rows
-unfolding split same digits number items consed closed inside ceilingNumber ceiled callFrom ceiledCall callOf
+unfolding split same digits number items consed closed inside numberUpTo ended callFrom sizedCall ceiledCall callOf
 ceiling-rows = refl

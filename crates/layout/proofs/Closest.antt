@@ -1,4 +1,4 @@
--- The line of an exactly-one form, and the answers of one and closest, by computation. Paper 02, wishes 10 and 9.
+-- The lines of an exactly-one form and of a closest reading, and the answers of both, by computation. Paper 02, wishes 10 and 9.
 use Prim.Native.String.{String}
 use mathlib.Core.Path.{_≡_, refl}
 use mathlib.Core.List.{List, [], _∷_}
@@ -9,12 +9,12 @@ use Rattle.qbf.specs.Calls.{Call, one, closest, step}
 use Rattle.qbf.specs.Runs.{fresh}
 use Rattle.layout.specs.Words.{Bytes, ascii, split, same, digits, number, closed, inside}
 use Rattle.layout.specs.Forms.{items, consed, formFrom, formOf}
-use Rattle.layout.specs.Ceilings.{ceilingNumber, ceiled}
+use Rattle.layout.specs.Endings.{numberUpTo, ended}
 use Rattle.layout.specs.Opening.{Opened, refused, opened, readLines, openText}
 use Rattle.layout.specs.Output.{lastDigits, decimal, literalText, itemsText, refusalText, overflowText, closestText}
-use Rattle.layout.specs.Session.{callFrom, ceiledCall, callOf, answerText}
+use Rattle.layout.specs.Session.{callFrom, sizedCall, ceiledCall, callOf, answerText}
 
--- ---- the line of an exactly-one form
+-- ---- lines
 record Row : Type 0 where
   line : String
   call : Option Call
@@ -42,8 +42,43 @@ lines =
     ∷ []
 
 one-lines : read lines ≡ expected lines
-unfolding split same digits number items consed closed inside ceilingNumber ceiled callFrom ceiledCall callOf
+unfolding split same digits number items consed closed inside numberUpTo ended callFrom sizedCall ceiledCall callOf
 one-lines = refl
+
+abbrev closestLines : List Row
+closestLines =
+    row "(closest 1 (no 2))" (some (closest 4294967295 65536 (pos 1 ∷ []) (pos 2 ∷ [])))
+    -- flags in any order, as in a query; with none the flags are left open, or there is none
+    ∷ row "(closest (no 3) 2 (no 1))" (some (closest 4294967295 65536 (pos 2 ∷ []) (pos 3 ∷ pos 1 ∷ [])))
+    ∷ row "(closest)" (some (closest 4294967295 65536 [] []))
+    -- "`(bytes B)` optional", 0 to 65536, and then a ceiling
+    ∷ row "(closest 1 (bytes 0))" (some (closest 4294967295 0 (pos 1 ∷ []) []))
+    ∷ row "(closest (bytes 65536))" (some (closest 4294967295 65536 [] []))
+    ∷ row "(closest (no 1) (ceiling 11))" (some (closest 11 65536 [] (pos 1 ∷ [])))
+    ∷ row "(closest 1 2 (bytes 4) (ceiling 11))" (some (closest 11 4 (pos 1 ∷ pos 2 ∷ []) []))
+    ∷ row "(closest 1 (bytes 65537))" none
+    ∷ row "(closest 1 (bytes 99999))" none
+    ∷ row "(closest 1 (bytes 04))" none
+    ∷ row "(closest 1 (bytes))" none
+    ∷ row "(closest 1 (bytes ))" none
+    ∷ row "(closest 1 (bytes (no 4)))" none
+    ∷ row "(closest 1 bytes 4)" none
+    ∷ row "(closest 1 4 (bytes 4) )" none
+    -- it stands once, after the flags and before the ceiling
+    ∷ row "(closest 1 (bytes 4) (bytes 4))" none
+    ∷ row "(closest (bytes 4) 1)" none
+    ∷ row "(closest 1 2 (ceiling 11) (bytes 4))" none
+    -- the other calls have no such item
+    ∷ row "(card (bytes 4))" none
+    ∷ row "(keep-card (bytes 4))" none
+    ∷ row "(query 1 (bytes 4))" none
+    ∷ row "(rule 1 (bytes 4))" none
+    ∷ row "(bytes 4)" none
+    ∷ []
+
+closest-lines : read closestLines ≡ expected closestLines
+unfolding split same digits number items consed closed inside numberUpTo ended callFrom sizedCall ceiledCall callOf
+closest-lines = refl
 
 -- ---- answers at line 9, on a book as opened
 abbrev told : Opened → Call → Bytes
@@ -81,6 +116,8 @@ rows =
     ∷ answered bookA (closest 4294967295 4 (pos 1 ∷ []) (pos 2 ∷ [])) "(closest (reading 1 2) (differs 1) (lines 2) (visits 11))\n"
     -- every flag in place order, off as `(no ..)`; among equals the first
     ∷ answered bookE (closest 4294967295 4 (pos 1 ∷ pos 2 ∷ []) []) "(closest (reading (no 2) 1) (differs 1) (lines 2) (visits 7))\n"
+    -- a book without flags has one reading, which names none
+    ∷ answered "(book 1)\n(flags)\n(forall 1)\n(exists 2)\n(rule 1 2)\n(rule (no 1) (no 2))\n(end)\n" (closest 4294967295 0 [] []) "(closest (reading) (differs 0) (lines 1) (visits 6))\n"
     -- "21, 34, 35 .. answer `(refused N L (visits V))`"
     ∷ answered bookA (closest 4294967295 3 (pos 1 ∷ []) (pos 2 ∷ [])) "(refused 21 9 (visits 11))\n"
     ∷ answered bookA (closest 10 4 (pos 1 ∷ []) (pos 2 ∷ [])) "(refused 34 9 (visits 10))\n"

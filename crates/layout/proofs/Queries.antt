@@ -9,10 +9,10 @@ use Rattle.qbf.specs.Calls.{Call, query, step}
 use Rattle.qbf.specs.Runs.{fresh}
 use Rattle.layout.specs.Words.{Bytes, ascii, split, same, digits, number, closed, inside}
 use Rattle.layout.specs.Forms.{items, consed, formFrom, formOf}
-use Rattle.layout.specs.Ceilings.{ceilingNumber, ceiled}
+use Rattle.layout.specs.Endings.{numberUpTo, ended}
 use Rattle.layout.specs.Opening.{Opened, refused, opened, readLines, openText}
 use Rattle.layout.specs.Output.{lastDigits, decimal, refusalText, overflowText, queryText}
-use Rattle.layout.specs.Session.{callFrom, ceiledCall, callOf, answerText}
+use Rattle.layout.specs.Session.{callFrom, sizedCall, ceiledCall, callOf, answerText}
 
 -- ---- the call of a line
 record Row : Type 0 where
@@ -51,7 +51,7 @@ lines =
     ∷ []
 
 query-lines : read lines ≡ expected lines
-unfolding split same digits number items consed closed inside ceilingNumber ceiled callFrom ceiledCall callOf
+unfolding split same digits number items consed closed inside numberUpTo ended callFrom sizedCall ceiledCall callOf
 query-lines = refl
 
 -- ---- its answer, on book A as opened, at line 9
@@ -101,5 +101,5 @@ rows =
     ∷ []
 
 query-answers : answers rows ≡ texts rows
-unfolding split same digits number items consed closed inside formFrom formOf readLines openText placeOf ceilingNumber ceiled callFrom ceiledCall callOf lastDigits decimal refusalText overflowText queryText answerText
+unfolding split same digits number items consed closed inside formFrom formOf readLines openText placeOf numberUpTo ended callFrom sizedCall ceiledCall callOf lastDigits decimal refusalText overflowText queryText answerText
 query-answers = refl

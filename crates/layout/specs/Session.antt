@@ -11,7 +11,7 @@ use Rattle.qbf.specs.Formula.{Prefix, Literal, numberOf, positive}
 use Rattle.qbf.specs.Calls.{Call, rule, query, card, forget, withdraw, one, closest, Reply, done, refused, swap, keep, unsettled, lines, cardRefused, found, Answer, keepCard, cardOf}
 use Rattle.qbf.specs.Ceiling.{highestCeiling}
 use Rattle.layout.specs.Words.{Bytes, ascii, newline, space, split, same, inside}
-use Rattle.layout.specs.Ceilings.{Ceiled, ceiled}
+use Rattle.layout.specs.Endings.{ended, ceilingWord, ceilingNumber, bytesWord, bytesNumber}
 use Rattle.layout.specs.Forms.{then, items, ruleWord, oneWord}
 use Rattle.layout.specs.Output.{cardText, refusalText, overflowText, swapWord, keepWord, unsettledWord, queryText, closestText, acceptedText, forgottenText, withdrawnText}
 use Rattle.layout.specs.Program.{tableBytes}
@@ -33,6 +33,9 @@ forgetWord = ascii "forget"
 abbrev pub withdrawWord : Bytes
 withdrawWord = ascii "withdraw"
 
+abbrev pub closestWord : Bytes
+closestWord = ascii "closest"
+
 abbrev pub ruleCall : List Literal → Option Call
 ruleCall ls = some (rule ls)
 
@@ -49,6 +52,10 @@ named v (l ∷ ls) = cond (Bool·beq v (positive l)) (pos (numberOf l) ∷ named
 abbrev pub queryCall : List Literal → Option Call
 queryCall ls = some (query highestCeiling (named true ls) (named false ls))
 
+-- a full reading, named as in a query: "without it 65536"
+abbrev pub closestCall : List Literal → Option Call
+closestCall ls = some (closest highestCeiling tableBytes (named true ls) (named false ls))
+
 -- what a line says with no item, or with one that is the size of a table
 abbrev pub sizedBy : {A : Type 0} → A → (ℕ → A) → List Literal → Option A
 sizedBy whole part [] = some whole
@@ -64,7 +71,8 @@ abbrev pub alone : Call → List Literal → Option Call
 alone c [] = some c
 alone c (l ∷ ls) = none
 
--- the call of a line's words before a ceiling, under the highest; a rule, an exactly-one form and a query have signed items
+-- the call of a line's words before the size of its table and its ceiling, with the whole table and under the highest; a rule, an exactly-one
+-- form, a query and a closest reading have signed items
 unfoldable pub callFrom : List Bytes → Option Call
 callFrom [] = none
 callFrom (w ∷ ws) =
@@ -75,9 +83,11 @@ callFrom (w ∷ ws) =
     (cond (same w forgetWord) (then (items false ws) (alone forget))
     (cond (same w withdrawWord) (then (items false ws) (alone withdraw))
     (cond (same w oneWord) (then (items true ws) oneCall)
-    none))))))
+    (cond (same w closestWord) (then (items true ws) closestCall)
+    none)))))))
 
--- "query and either card take a ceiling on visits": those calls under a ceiling; the others have none
+-- "query and either card take a ceiling on visits", and the card of a closest reading is made under one: those calls under a ceiling; the
+-- others have none
 abbrev pub under : ℕ → Call → Option Call
 under n (query m on off) = some (query n on off)
 under n (card m size) = some (card n size)
@@ -88,13 +98,33 @@ under n (one ls) = none
 under n forget = none
 under n withdraw = none
 
--- the call of a line's words: "Without it the ceiling is the highest"
-abbrev pub underGiven : Option ℕ → Option Call → Option Call
-underGiven none o = o
-underGiven (some n) o = then o (under n)
+-- a closest reading has the size of its table in an item of its own; the others have none
+abbrev pub into : ℕ → Call → Option Call
+into n (closest m size on off) = some (closest m n on off)
+into n (query m on off) = none
+into n (card m size) = none
+into n (keepCard m size) = none
+into n (rule ls) = none
+into n (one ls) = none
+into n forget = none
+into n withdraw = none
 
+-- what the number of an item makes of a call, where it is given
+abbrev pub takesGiven : (ℕ → Call → Option Call) → Option ℕ → Option Call → Option Call
+takesGiven takes none o = o
+takesGiven takes (some n) o = then o (takes n)
+
+-- the call of a line's words, by those before an item and its number
+abbrev pub endedCall : Bytes → (Bytes → Option ℕ) → (ℕ → Call → Option Call) → (List Bytes → Option Call) → List Bytes → Option Call
+endedCall word number takes call ws = then (ended word number ws) (λ z. takesGiven takes (z .last) (call (z .words)))
+
+-- .. before a ceiling
+unfoldable pub sizedCall : List Bytes → Option Call
+sizedCall ws = endedCall bytesWord bytesNumber into callFrom ws
+
+-- the call of a line's words: "Without it the ceiling is the highest"
 unfoldable pub ceiledCall : List Bytes → Option Call
-ceiledCall ws = then (ceiled ws) (λ z. underGiven (z .ceiling) (callFrom (z .words)))
+ceiledCall ws = endedCall ceilingWord ceilingNumber under sizedCall ws
 
 -- the call of a line without its byte 10; a line longer than a text may be is none
 unfoldable pub callOf : Bytes → Option Call

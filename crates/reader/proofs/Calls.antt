@@ -17,7 +17,7 @@ use Rattle.layout.specs.Words.{Bytes, same, onFirst, split, space, isDigit, dig
 use Rattle.layout.specs.Forms.{then, consed, items, ruleWord, oneWord}
 use Rattle.layout.specs.Opening.{textBytes}
 use Rattle.layout.specs.Program.{tableBytes}
-use Rattle.layout.specs.Session.{queryWord, cardWord, keepCardWord, forgetWord, withdrawWord, sizedBy, ruleCall, oneCall, queryCall, cardCall, alone, callFrom, ceiledCall, callOf}
+use Rattle.layout.specs.Session.{queryWord, cardWord, keepCardWord, forgetWord, withdrawWord, closestWord, sizedBy, ruleCall, oneCall, queryCall, closestCall, cardCall, alone, callFrom, ceiledCall, callOf}
 use Rattle.reader.specs.Pieces.{piecesFrom, Piece}
 use Rattle.reader.specs.Numbers.{numOf}
 use Rattle.reader.specs.Items.{Filled}
@@ -64,18 +64,22 @@ module _ (w : Bytes) where
   unfolding callWordOf
   call-7 e0 e1 e2 e3 e4 e5 e6 = rw (e0, e1, e2, e3, e4, e5, e6)
 
-  pub call-8 : same w ruleWord ≡ false → same w queryWord ≡ false → same w cardWord ≡ false → same w keepCardWord ≡ false → same w forgetWord ≡ false → same w withdrawWord ≡ false → same w oneWord ≡ false → word.NotWord ≡ callWordOf w
+  pub call-8 : same w ruleWord ≡ false → same w queryWord ≡ false → same w cardWord ≡ false → same w keepCardWord ≡ false → same w forgetWord ≡ false → same w withdrawWord ≡ false → same w oneWord ≡ false → same w closestWord ≡ true → word.Closest ≡ callWordOf w
   unfolding callWordOf
-  call-8 e0 e1 e2 e3 e4 e5 e6 = rw (e0, e1, e2, e3, e4, e5, e6)
+  call-8 e0 e1 e2 e3 e4 e5 e6 e7 = rw (e0, e1, e2, e3, e4, e5, e6, e7)
 
-chosen : Bool → Bool → Bool → Bool → Bool → Bool → Bool → CallWord
-chosen a b c d e f g = cond a word.Rule (cond b word.Query (cond c word.Card (cond d word.KeepCard (cond e word.Forget (cond f word.Withdraw (cond g word.One word.NotWord))))))
+  pub call-9 : same w ruleWord ≡ false → same w queryWord ≡ false → same w cardWord ≡ false → same w keepCardWord ≡ false → same w forgetWord ≡ false → same w withdrawWord ≡ false → same w oneWord ≡ false → same w closestWord ≡ false → word.NotWord ≡ callWordOf w
+  unfolding callWordOf
+  call-9 e0 e1 e2 e3 e4 e5 e6 e7 = rw (e0, e1, e2, e3, e4, e5, e6, e7)
+
+chosen : Bool → Bool → Bool → Bool → Bool → Bool → Bool → Bool → CallWord
+chosen a b c d e f g h = cond a word.Rule (cond b word.Query (cond c word.Card (cond d word.KeepCard (cond e word.Forget (cond f word.Withdraw (cond g word.One (cond h word.Closest word.NotWord)))))))
 
 by-word : (w : Bytes) (ws : List Bytes) → callFrom (w ∷ ws) ≡ then (items (callSigns (callWordOf w)) ws) (callWith (callWordOf w))
 unfolding callFrom callWordOf chosen
-by-word w ws = go (same w ruleWord) (same w queryWord) (same w cardWord) (same w keepCardWord) (same w forgetWord) (same w withdrawWord) (same w oneWord)
+by-word w ws = go (same w ruleWord) (same w queryWord) (same w cardWord) (same w keepCardWord) (same w forgetWord) (same w withdrawWord) (same w oneWord) (same w closestWord)
   where
-    go : (a b c d e f g : Bool) →
+    go : (a b c d e f g h : Bool) →
         cond a (then (items true ws) ruleCall)
         (cond b (then (items true ws) queryCall)
         (cond c (then (items false ws) (cardCall true))
@@ -83,16 +87,18 @@ by-word w ws = go (same w ruleWord) (same w queryWord) (same w cardWord) (same w
         (cond e (then (items false ws) (alone forget))
         (cond f (then (items false ws) (alone withdraw))
         (cond g (then (items true ws) oneCall)
-        none))))))
-        ≡ then (items (callSigns (chosen a b c d e f g)) ws) (callWith (chosen a b c d e f g))
-    go true b c d e f g = refl
-    go false true c d e f g = refl
-    go false false true d e f g = refl
-    go false false false true e f g = refl
-    go false false false false true f g = refl
-    go false false false false false true g = refl
-    go false false false false false false true = refl
-    go false false false false false false false = then-none (items false ws)
+        (cond h (then (items true ws) closestCall)
+        none)))))))
+        ≡ then (items (callSigns (chosen a b c d e f g h)) ws) (callWith (chosen a b c d e f g h))
+    go true b c d e f g h = refl
+    go false true c d e f g h = refl
+    go false false true d e f g h = refl
+    go false false false true e f g h = refl
+    go false false false false true f g h = refl
+    go false false false false false true g h = refl
+    go false false false false false false true h = refl
+    go false false false false false false false true = refl
+    go false false false false false false false false = then-none (items false ws)
 
 -- ---- the size of a card's table
 cond-none : (x : Bool) (o : Option ℕ) → o ≡ none → cond x o none ≡ none
@@ -244,6 +250,9 @@ module _ {s : Bytes} {e : ℕ} (p : Piece space s 0 e) (w : CallWord) (g : Bool)
 
     pub one-read : w ≡ word.One → CallRead (callFrom (split space s)) (line.One n) out
     one-read h = (read .0, with-items word.One h, read .2)
+
+    pub closest-read : w ≡ word.Closest → CallRead (callFrom (split space s)) (line.Closest n tableBytes) out
+    closest-read h = (read .0, with-items word.Closest h, read .2)
 
     pub no-word : w ≡ word.NotWord → callFrom (split space s) ≡ none
     no-word h = with-items word.NotWord h

@@ -7,7 +7,7 @@ use mathlib.Core.Option.{Option, none, some}
 use native.Mathlib.Omega.{arith}
 use native.Mathlib.Numerals.{add-one}
 use native.Mathlib.Nat.{pow-le-pow-right, zero-lt-suc}
-use borrow.Author.Tests.{eq-eqb, ne-eqb, le-leb, lt-leb, leb-true}
+use borrow.Author.Tests.{eq-eqb, ne-eqb, le-leb, lt-leb, leb-true, leb-false}
 use lib.Dec.{leb, eqb}
 use lib.ListN.{length, getD, take, drop, drop-of-length-le, List·getD-eq-default}
 use lib.Seq.{drop-cons}
@@ -15,8 +15,10 @@ use Rattle.qbf.specs.Ceiling.{highestCeiling}
 use Rattle.theory.proofs.Basics.{and-left, and-right}
 use Rattle.layout.specs.Words.{Bytes, isDigit, digits, number, numberWithin, closed}
 use Rattle.layout.specs.Forms.{then}
-use Rattle.layout.specs.Ceilings.{within}
-use Rattle.reader.specs.Numbers.{UnclosedOf}
+use Rattle.layout.specs.Endings.{within, numberUpTo}
+use Rattle.reader.specs.Numbers.{numOf, UnclosedOf}
+use Rattle.reader.specs.declared.number.Num.{Num}
+use Rattle.reader.specs.declared.number.Num.the-variants.{Value, NotNumber}
 use Rattle.reader.specs.declared.number.Unclosed.{Unclosed}
 use Rattle.reader.specs.declared.number.Unclosed.the-variants.{Bytes as first, NotClosed}
 
@@ -58,22 +60,22 @@ module _ {w : Bytes} {i v : ℕ} (p : Valued w i v) where
   unfolding digits
   all-read h = p .is ∙ rw (drop-of-length-le w h)
 
-  pub value-low : i < length w → getD w i 0 < 48 → none ≡ then (digits 0 w) within
-  value-low h a = ap (λ (o : Option ℕ). then o within) (sym (low h a))
+  pub value-low : i < length w → getD w i 0 < 48 → none ≡ then (digits 0 w) (within highestCeiling)
+  value-low h a = ap (λ (o : Option ℕ). then o (within highestCeiling)) (sym (low h a))
 
-  pub value-high : i < length w → 48 ≤ getD w i 0 → 57 < getD w i 0 → none ≡ then (digits 0 w) within
-  value-high h a b = ap (λ (o : Option ℕ). then o within) (sym (high-byte h a b))
+  pub value-high : i < length w → 48 ≤ getD w i 0 → 57 < getD w i 0 → none ≡ then (digits 0 w) (within highestCeiling)
+  value-high h a b = ap (λ (o : Option ℕ). then o (within highestCeiling)) (sym (high-byte h a b))
 
-  pub value-over : length w ≤ i → highestCeiling < v → none ≡ then (digits 0 w) within
+  pub value-over : length w ≤ i → highestCeiling < v → none ≡ then (digits 0 w) (within highestCeiling)
   value-over h k = sym (rw (all-read h, lt-leb v highestCeiling k))
 
-  pub value-end : length w ≤ i → v ≤ highestCeiling → some v ≡ then (digits 0 w) within
+  pub value-end : length w ≤ i → v ≤ highestCeiling → some v ≡ then (digits 0 w) (within highestCeiling)
   value-end h k = sym (rw (all-read h, le-leb v highestCeiling k))
 
 -- ---- numbers of at most m digits: the tests in the order of the code
 module _ (w : Bytes) (m : ℕ) where
   abbrev read : Option ℕ
-  read = then (numberWithin m w) within
+  read = then (numberWithin m w) (within highestCeiling)
 
   pub number-none : length w ≡ 0 → none ≡ read
   number-none h = rw h
@@ -85,13 +87,13 @@ module _ (w : Bytes) (m : ℕ) where
       and-none true = refl
       and-none false = refl
 
-  pub number-one : length w ≤ m → length w ≡ 1 → then (digits 0 w) within ≡ read
+  pub number-one : length w ≤ m → length w ≡ 1 → then (digits 0 w) (within highestCeiling) ≡ read
   number-one a h = rw (le-leb (length w) m a, h)
 
   pub number-zero : length w ≤ m → (length w ≡ 0 → ⊥) → (length w ≡ 1 → ⊥) → getD w 0 0 ≡ 48 → none ≡ read
   number-zero a b c d = rw (le-leb 1 (length w) (omega arith), le-leb (length w) m a, ne-eqb (length w) 1 c, d)
 
-  pub number-more : length w ≤ m → (length w ≡ 0 → ⊥) → (length w ≡ 1 → ⊥) → (getD w 0 0 ≡ 48 → ⊥) → then (digits 0 w) within ≡ read
+  pub number-more : length w ≤ m → (length w ≡ 0 → ⊥) → (length w ≡ 1 → ⊥) → (getD w 0 0 ≡ 48 → ⊥) → then (digits 0 w) (within highestCeiling) ≡ read
   number-more a b c d = rw (le-leb 1 (length w) (omega arith), le-leb (length w) m a, ne-eqb (length w) 1 c, ne-eqb (getD w 0 0) 48 d)
 
 -- ---- a number of few digits is no higher than the highest ceiling
@@ -112,20 +114,42 @@ digits-below (b ∷ w) v n i h e = by (isDigit b) refl e (digits-below w (v * 10
         none-some : none ≡ some n → ⊥
         none-some z = let x : _≡_ {A = ℕ} 0 1 = cc in omega arith
 
-pub number-fits : (w : Bytes) → then (numberWithin 5 w) within ≡ number w
+pub number-fits : (w : Bytes) → then (numberWithin 5 w) (within highestCeiling) ≡ number w
 unfolding number
 number-fits w = by (leb 1 (length w) && leb (length w) 5 && (eqb (length w) 1 || not (eqb (getD w 0 0) 48))) refl (digits 0 w) refl
   where
     short : (leb 1 (length w) && leb (length w) 5 && (eqb (length w) 1 || not (eqb (getD w 0 0) 48))) ≡ true → length w ≤ 5
     short e = leb-true (length w) 5 (and-right (leb 1 (length w)) (leb (length w) 5) (and-left (leb 1 (length w) && leb (length w) 5) (eqb (length w) 1 || not (eqb (getD w 0 0) 48)) e))
 
-    by : (t : Bool) → (leb 1 (length w) && leb (length w) 5 && (eqb (length w) 1 || not (eqb (getD w 0 0) 48))) ≡ t → (o : Option ℕ) → digits 0 w ≡ o → then (cond t o none) within ≡ cond t o none
+    by : (t : Bool) → (leb 1 (length w) && leb (length w) 5 && (eqb (length w) 1 || not (eqb (getD w 0 0) 48))) ≡ t → (o : Option ℕ) → digits 0 w ≡ o → then (cond t o none) (within highestCeiling) ≡ cond t o none
     by false q o e = refl
     by true q none e = refl
     by true q (some n) e =
         let small : n < 10 ^ length w = subst (λ (k : ℕ). n < 10 ^ k) (omega arith) (digits-below w 0 n 0 (omega arith) e) in
         let top : 10 ^ length w ≤ 10 ^ 5 = pow-le-pow-right (zero-lt-suc 9) (short q) in
         rw (le-leb n highestCeiling (omega (arith, small, top)))
+
+-- ---- a number that is no higher than one which the highest ceiling is not below
+module _ (o : Option ℕ) {top : ℕ} (below : top ≤ highestCeiling) (z : Num) (read : numOf z ≡ then o (within highestCeiling)) where
+  narrower : then (numOf z) (within top) ≡ then o (within top)
+  narrower = ap (λ (p : Option ℕ). then p (within top)) read ∙ twice o
+    where
+      twice : (p : Option ℕ) → then (then p (within highestCeiling)) (within top) ≡ then p (within top)
+      twice none = refl
+      twice (some n) = by (leb n highestCeiling) refl
+        where
+          by : (t : Bool) → leb n highestCeiling ≡ t → then (cond t (some n) none) (within top) ≡ within top n
+          by true e = refl
+          by false e = sym (rw (lt-leb n top (omega (arith, leb-false n highestCeiling e, below))))
+
+  pub up-none : z ≡ NotNumber → none ≡ then o (within top)
+  up-none h = sym (ap (λ (y : Num). then (numOf y) (within top)) h) ∙ narrower
+
+  pub up-over : {n : ℕ} → z ≡ Value n → top < n → none ≡ then o (within top)
+  up-over {n} h k = sym (ap (λ (y : Num). then (numOf y) (within top)) h ∙ rw (lt-leb n top k)) ∙ narrower
+
+  pub up-in : {n : ℕ} → z ≡ Value n → n ≤ top → some n ≡ then o (within top)
+  up-in {n} h k = sym (ap (λ (y : Num). then (numOf y) (within top)) h ∙ rw (le-leb n top k)) ∙ narrower
 
 -- ---- a word with a closing bracket
 module _ (w : Bytes) where

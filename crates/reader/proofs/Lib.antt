@@ -9,5 +9,7 @@ pub mod Calls
 pub mod Judged
 pub mod Texts
 pub mod Books
+pub mod Endings
 pub mod Ceilings
 pub mod Requests
+pub mod Sizes

@@ -34,7 +34,7 @@ module _ (w : Bytes) (ws : List Bytes) where
   -- the word `write` makes no call
   write-none : ceiledCall (writeWord ∷ ws) ≡ none
   unfolding callFrom same
-  write-none = word-none writeWord ws refl (λ vs. refl)
+  write-none = word-none writeWord ws refl refl (λ vs. refl)
 
   pub write-word : same w writeWord ≡ true → fromWords (w ∷ ws) ≡ fromItems writeRequest ws
   unfolding requestFrom same
@@ -43,7 +43,7 @@ module _ (w : Bytes) (ws : List Bytes) where
   -- and `page` makes none, and no writing
   page-none-called : ceiledCall (pageWord ∷ ws) ≡ none
   unfolding callFrom same
-  page-none-called = word-none pageWord ws refl (λ vs. refl)
+  page-none-called = word-none pageWord ws refl refl (λ vs. refl)
 
   pub page-word : same w pageWord ≡ true → fromWords (w ∷ ws) ≡ fromItems pageRequest ws
   unfolding requestFrom same

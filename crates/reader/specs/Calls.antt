@@ -13,7 +13,7 @@ use Rattle.qbf.specs.Calls as call
 use Rattle.layout.specs.Words.{Bytes, same, number}
 use Rattle.layout.specs.Forms.{ruleWord, oneWord}
 use Rattle.layout.specs.Program.{tableBytes}
-use Rattle.layout.specs.Session.{queryWord, cardWord, keepCardWord, forgetWord, withdrawWord, ruleCall, oneCall, named, queryCall, cardCall, alone}
+use Rattle.layout.specs.Session.{queryWord, cardWord, keepCardWord, forgetWord, withdrawWord, closestWord, ruleCall, oneCall, named, queryCall, closestCall, cardCall, alone}
 use Rattle.reader.specs.Items.{Kept}
 use Rattle.reader.specs.declared.number.Num.{Num}
 use Rattle.reader.specs.declared.number.Num.the-variants.{Value, NotNumber}
@@ -32,7 +32,8 @@ callWordOf w =
     (cond (same w forgetWord) word.Forget
     (cond (same w withdrawWord) word.Withdraw
     (cond (same w oneWord) word.One
-    word.NotWord))))))
+    (cond (same w closestWord) word.Closest
+    word.NotWord)))))))
 
 abbrev pub callSigns : CallWord → Bool
 callSigns word.Rule = true
@@ -42,6 +43,7 @@ callSigns word.KeepCard = false
 callSigns word.Forget = false
 callSigns word.Withdraw = false
 callSigns word.One = true
+callSigns word.Closest = true
 callSigns word.NotWord = false
 
 -- the call that a word and its items make
@@ -53,6 +55,7 @@ callWith word.KeepCard ls = cardCall false ls
 callWith word.Forget ls = alone call.forget ls
 callWith word.Withdraw ls = alone call.withdraw ls
 callWith word.One ls = oneCall ls
+callWith word.Closest ls = closestCall ls
 callWith word.NotWord ls = none
 
 -- ---- cards
@@ -72,7 +75,8 @@ cardLine p (Value n) = cond (leb n tableBytes) (cardSized p n) line.NotCall
 cardLine p NotNumber = line.NotCall
 
 -- ---- calls
--- What an answer says of a line's call under a ceiling. The literals of a rule or an exactly-one form, and those by which a query names flags, stand in the table.
+-- What an answer says of a line's call under a ceiling. The literals of a rule or an exactly-one form, and those by which a query or a
+-- closest reading names flags, stand in the table.
 abbrev pub CallUnder : ℕ → Option Call → CallLine → List ℤ → Type 0
 CallUnder c o line.NotCall out = o ≡ none
 CallUnder c o (line.Rule n) out = (ls : List Literal) × (o ≡ some (call.rule ls)) × Kept n out ls
@@ -82,6 +86,7 @@ CallUnder c o (line.KeepCard size) out = o ≡ some (call.keepCard c size)
 CallUnder c o line.Forget out = o ≡ some call.forget
 CallUnder c o line.Withdraw out = o ≡ some call.withdraw
 CallUnder c o (line.One n) out = (ls : List Literal) × (o ≡ some (call.one ls)) × Kept n out ls
+CallUnder c o (line.Closest n size) out = (ls : List Literal) × (o ≡ some (call.closest c size (named true ls) (named false ls))) × Kept n out ls
 
 -- .. under the highest
 abbrev pub CallRead : Option Call → CallLine → List ℤ → Type 0

@@ -5,4 +5,6 @@ pub mod Lines
 pub mod Calls
 pub mod Books
 pub mod Requests
+pub mod Endings
+pub mod Sized
 pub mod Ceilings

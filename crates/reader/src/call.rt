@@ -1,5 +1,5 @@
 // A call of a session on one line, without its byte 10: `(rule ..)`, `(query ..)`, `(card)`, `(card 4)`, `(keep-card)`, `(keep-card 4)`,
-// `(forget)`, `(withdraw)` or `(one ..)`.
+// `(forget)`, `(withdraw)`, `(one ..)` or `(closest ..)`.
 use crate::items::Count;
 use crate::items::rest;
 use crate::number::Num;
@@ -19,8 +19,8 @@ ghost use Rattle.reader.specs.Calls.{callWordOf, callSigns, cardSize, ca
 // "The program's card table has 65,536 bytes"
 pub const TABLE: usize = 65536;
 
-// The call of a line. The literals of a rule or an exactly-one form, and those by which a query names flags, are counted here and lie in the lent table, as many as it
-// holds; a card has the size of its table.
+// The call of a line. The literals of a rule or an exactly-one form, and those by which a query or a closest reading names flags, are
+// counted here and lie in the lent table, as many as it holds; a card and a closest reading have the size of their table.
 pub enum CallLine {
     Rule(usize),
     Query(usize),
@@ -29,6 +29,7 @@ pub enum CallLine {
     Forget,
     Withdraw,
     One(usize),
+    Closest(usize, usize),
     NotCall,
 }
 
@@ -40,6 +41,7 @@ enum CallWord {
     Forget,
     Withdraw,
     One,
+    Closest,
     NotWord,
 }
 
@@ -67,10 +69,13 @@ fn call_word(w: &[u8]) -> CallWord
     if same_word(w, b"one") {
         return CallWord::One;
     }
+    if same_word(w, b"closest") {
+        return CallWord::Closest;
+    }
     CallWord::NotWord
 }
 
-// A rule, an exactly-one form and a query have signed items.
+// A rule, an exactly-one form, a query and a closest reading have signed items.
 fn call_signs(w: CallWord) -> bool
     ensures { λ r. ⌜ r ≡ callSigns w ⌝ }
 {
@@ -82,6 +87,7 @@ fn call_signs(w: CallWord) -> bool
         CallWord::Forget => false,
         CallWord::Withdraw => false,
         CallWord::One => true,
+        CallWord::Closest => true,
         CallWord::NotWord => false,
     }
 }
@@ -121,7 +127,7 @@ fn card_of(size: Num, yes: bool) -> CallLine
     }
 }
 
-// The call of the words before a ceiling, under the highest.
+// The call of the words before the size of its table and its ceiling, with the whole table and under the highest.
 pub fn read_words(s: &[u8], out: &mut [i16]) -> CallLine
     ensures { λ r. ⌜ CallRead (callFrom (split space (now (s .entry)))) r (now (out .exit)) ⌝ }
 {
@@ -147,6 +153,7 @@ pub fn read_words(s: &[u8], out: &mut [i16]) -> CallLine
             CallLine::NotCall
         },
         CallWord::One => CallLine::One(n),
+        CallWord::Closest => CallLine::Closest(n, TABLE),
         CallWord::NotWord => CallLine::NotCall,
     }
 }

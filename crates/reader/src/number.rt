@@ -3,9 +3,10 @@ use crate::word::CLOSING;
 ghost use mathlib.Core.Path.{_≡_};
 ghost use Prim.Native.Nat.{_≤_};
 ghost use lib.ListN.{length};
+ghost use Rattle.qbf.specs.Ceiling.{highestCeiling};
 ghost use Rattle.layout.specs.Words.{digits, number, numberWithin, closed};
 ghost use Rattle.layout.specs.Forms.{then};
-ghost use Rattle.layout.specs.Ceilings.{within, ceilingNumber};
+ghost use Rattle.layout.specs.Endings.{within, numberUpTo};
 ghost use Rattle.reader.specs.Numbers.{numOf, UnclosedOf};
 
 // What a word says as a number.
@@ -18,14 +19,14 @@ const ZERO: u8 = b'0';
 
 const NINE: u8 = b'9';
 
-const DIGITS: usize = 5;
+pub const DIGITS: usize = 5;
 
-const CEILING_DIGITS: usize = 10;
+pub const CEILING_DIGITS: usize = 10;
 
 // The value of digits that are not too many, where it is no higher than the highest ceiling.
 fn value(w: &[u8]) -> Num
     requires { ⌜ length (now w) ≤ 10 ⌝ }
-    ensures { λ r. ⌜ numOf r ≡ then (digits 0 (now (w .entry))) within ⌝ }
+    ensures { λ r. ⌜ numOf r ≡ then (digits 0 (now (w .entry))) (within highestCeiling) ⌝ }
 {
     let mut v: u64 = 0;
     let mut i: usize = 0;
@@ -49,7 +50,7 @@ fn value(w: &[u8]) -> Num
 // A number of at most so many digits.
 fn read_within(w: &[u8], most: usize) -> Num
     requires { ⌜ most ≤ 10 ⌝ }
-    ensures { λ r. ⌜ numOf r ≡ then (numberWithin most (now (w .entry))) within ⌝ }
+    ensures { λ r. ⌜ numOf r ≡ then (numberWithin most (now (w .entry))) (within highestCeiling) ⌝ }
 {
     let n = w.len();
     if n == 0 {
@@ -73,11 +74,18 @@ pub fn read_number(w: &[u8]) -> Num
     read_within(w, DIGITS)
 }
 
-// "N from 0 to 4294967295, 1 to 10 digits, no leading zero"
-fn read_ceiling(w: &[u8]) -> Num
-    ensures { λ r. ⌜ numOf r ≡ ceilingNumber (now (w .entry)) ⌝ }
+// .. and no higher than the highest: "N from 0 to 4294967295, 1 to 10 digits, no leading zero"
+fn read_up_to(w: &[u8], most: usize, top: u32) -> Num
+    requires { ⌜ most ≤ 10 ⌝ }
+    ensures { λ r. ⌜ numOf r ≡ numberUpTo most top (now (w .entry)) ⌝ }
 {
-    read_within(w, CEILING_DIGITS)
+    let Num::Value(n) = read_within(w, most) else {
+        return Num::NotNumber;
+    };
+    if top < n {
+        return Num::NotNumber;
+    }
+    Num::Value(n)
 }
 
 // How many bytes of a word stand before a closing bracket that ends it.
@@ -110,12 +118,13 @@ pub fn closed_number(w: &[u8]) -> Num
     read_number(&w[..e])
 }
 
-// .. as a ceiling
-pub fn closed_ceiling(w: &[u8]) -> Num
-    ensures { λ r. ⌜ numOf r ≡ then (closed (now (w .entry))) ceilingNumber ⌝ }
+// .. of at most so many digits, and no higher than the highest
+pub fn closed_within(w: &[u8], most: usize, top: u32) -> Num
+    requires { ⌜ most ≤ 10 ⌝ }
+    ensures { λ r. ⌜ numOf r ≡ then (closed (now (w .entry))) (numberUpTo most top) ⌝ }
 {
     let Unclosed::Bytes(e) = before_bracket(w) else {
         return Num::NotNumber;
     };
-    read_ceiling(&w[..e])
+    read_up_to(&w[..e], most, top)
 }

@@ -1,24 +1,16 @@
 -- What was served, as the call that was read.
-use Prim.Native.Nat.{ℕ, suc, _≤_, min}
-use native.Mathlib.Omega.{arith}
+use Prim.Native.Nat.{ℕ, suc, min}
 use mathlib.Core.Path.{_≡_, refl, sym, ap, subst, _∙_}
-use mathlib.Core.Bool.{Bool, true, false, cond}
-use mathlib.Core.List.{List, [], _∷_}
+use mathlib.Core.Bool.{Bool, true, false}
+use mathlib.Core.List.{List}
 use mathlib.Core.Option.{Option, none, some}
-use borrow.Author.Tests.{leb-true}
 use lib.IntN.{ℤ}
 use lib.ListN.{length, take}
-use lib.Dec.{leb, ltb}
-use Rattle.qbf.specs.Formula.{paper, Literal, numberOf}
-use Rattle.qbf.specs.Ceiling.{highestCeiling}
-use Rattle.qbf.specs.Calls.{Call, rule, query, card, keepCard, cardOf, forget, withdraw, one, closest}
-use Rattle.layout.specs.Words.{Bytes, space, split, same, inside}
-use Rattle.layout.specs.Forms.{then, items, ruleWord, oneWord}
+use Rattle.qbf.specs.Formula.{paper, Literal}
+use Rattle.qbf.specs.Calls.{Call, rule, query, card, keepCard, forget, withdraw, one}
+use Rattle.layout.specs.Words.{Bytes}
 use Rattle.layout.specs.Output.{refusalText}
-use Rattle.layout.specs.Opening as opening
-use Rattle.layout.specs.Program.{tableBytes}
-use Rattle.layout.specs.Ceilings.{ceiled}
-use Rattle.layout.specs.Session.{queryWord, cardWord, keepCardWord, forgetWord, withdrawWord, ruleCall, oneCall, named, queryCall, cardCall, alone, callFrom, under, underGiven, ceiledCall, callOf}
+use Rattle.layout.specs.Session.{named, callOf}
 use Rattle.sessions.specs.Session.{Card}
 use Rattle.state.specs.declared.State.{State}
 use Rattle.state.specs.Reading.{readState}
@@ -26,6 +18,7 @@ use Rattle.reader.specs.Items.{Kept}
 use Rattle.reader.specs.Calls.{CallUnder}
 use Rattle.reader.specs.declared.call.CallLine.{CallLine}
 use Rattle.reader.specs.declared.call.CallLine.the-variants as line
+use Rattle.reader.proofs.Sizes.{Fits, fits-call}
 use Rattle.serve.specs.declared.Turn.{Turn}
 use Rattle.answer_text.specs.declared.shown.Shown.{Shown}
 use Rattle.answer_text.specs.Shown.{cardIn}
@@ -34,79 +27,7 @@ use Rattle.serve.specs.Calls.{Small}
 use Rattle.named.proofs.Standing.{deciding, flags-standing}
 use Rattle.serve.proofs.Cut.{rule-served, rule-card, one-served, one-card, query-served}
 
--- ---- a card asks for no more than the table has
-abbrev Fits : Option Call → Type 0
-Fits none = Unit {0}
-Fits (some (rule ls)) = Unit {0}
-Fits (some (query top on off)) = Unit {0}
-Fits (some (card top size)) = size ≤ tableBytes
-Fits (some (keepCard top size)) = size ≤ tableBytes
-Fits (some forget) = Unit {0}
-Fits (some withdraw) = Unit {0}
-Fits (some (one ls)) = Unit {0}
-Fits (some (closest top size on off)) = Unit {0}
-
-fits-then : {A : Type 0} (o : Option A) (f : A → Option Call) → ((a : A) → Fits (f a)) → Fits (then o f)
-fits-then none f h = tt
-fits-then (some a) f h = h a
-
-fits-cond : (t : Bool) (a c : Option Call) → Fits a → Fits c → Fits (cond t a c)
-fits-cond true a c h k = h
-fits-cond false a c h k = k
-
-fits-size : (top : ℕ) (p : Bool) (size : ℕ) → size ≤ tableBytes → Fits (some (cardOf p top size))
-fits-size top true size h = h
-fits-size top false size h = h
-
-fits-card : (p : Bool) (ls : List Literal) → Fits (cardCall p ls)
-fits-card p [] = fits-size highestCeiling p tableBytes (omega arith)
-fits-card p (l ∷ []) = by (leb (numberOf l) tableBytes) refl
-  where
-    by : (t : Bool) → leb (numberOf l) tableBytes ≡ t → Fits (cond t (some (cardOf p highestCeiling (numberOf l))) none)
-    by true e = fits-size highestCeiling p (numberOf l) (leb-true (numberOf l) tableBytes e)
-    by false e = tt
-fits-card p (l ∷ m ∷ ls) = tt
-
-fits-alone : (c : Call) → Fits (some c) → (ls : List Literal) → Fits (alone c ls)
-fits-alone c h [] = h
-fits-alone c h (l ∷ ls) = tt
-
-fits-from : (ws : List Bytes) → Fits (callFrom ws)
-unfolding callFrom
-fits-from [] = tt
-fits-from (w ∷ ws) =
-    fits-cond (same w ruleWord) _ _ (fits-then (items true ws) ruleCall (λ ls. tt))
-    (fits-cond (same w queryWord) _ _ (fits-then (items true ws) queryCall (λ ls. tt))
-    (fits-cond (same w cardWord) _ _ (fits-then (items false ws) (cardCall true) (fits-card true))
-    (fits-cond (same w keepCardWord) _ _ (fits-then (items false ws) (cardCall false) (fits-card false))
-    (fits-cond (same w forgetWord) _ _ (fits-then (items false ws) (alone forget) (fits-alone forget tt))
-    (fits-cond (same w withdrawWord) _ _ (fits-then (items false ws) (alone withdraw) (fits-alone withdraw tt))
-    (fits-cond (same w oneWord) _ none (fits-then (items true ws) oneCall (λ ls. tt)) tt))))))
-
--- under any ceiling
-fits-under : (n : ℕ) (o : Option Call) → Fits o → Fits (then o (under n))
-fits-under n none h = tt
-fits-under n (some (rule ls)) h = tt
-fits-under n (some (query m on off)) h = tt
-fits-under n (some (card m size)) h = h
-fits-under n (some (keepCard m size)) h = h
-fits-under n (some forget) h = tt
-fits-under n (some withdraw) h = tt
-fits-under n (some (one ls)) h = tt
-fits-under n (some (closest m size on off)) h = tt
-
-fits-given : (g : Option ℕ) (o : Option Call) → Fits o → Fits (underGiven g o)
-fits-given none o h = h
-fits-given (some n) o h = fits-under n o h
-
-fits-ceiled : (ws : List Bytes) → Fits (ceiledCall ws)
-unfolding ceiledCall
-fits-ceiled ws = fits-then (ceiled ws) (λ z. underGiven (z .ceiling) (callFrom (z .words))) (λ z. fits-given (z .ceiling) (callFrom (z .words)) (fits-from (z .words)))
-
-fits-call : (l : Bytes) → Fits (callOf l)
-unfolding callOf
-fits-call l = fits-cond (ltb opening.textBytes (length l)) none _ tt (fits-then (inside l) (λ s. ceiledCall (split space s)) (λ s. fits-ceiled (split space s)))
-
+-- ---- a card, or a closest reading, asks for no more than the table has
 pub small-call : (l : Bytes) (top : ℕ) (q : CallLine) (out : List ℤ) → CallUnder top (callOf l) q out → Small q
 small-call l top (line.Rule n) out h = tt
 small-call l top (line.Query n) out h = tt
@@ -115,6 +36,7 @@ small-call l top (line.KeepCard size) out h = subst Fits h (fits-call l)
 small-call l top line.Forget out h = tt
 small-call l top line.Withdraw out h = tt
 small-call l top (line.One n) out h = tt
+small-call l top (line.Closest n size) out h = subst Fits (h .1) (fits-call l)
 small-call l top line.NotCall out h = tt
 
 -- ---- by the literals that stand in the table

@@ -7,12 +7,12 @@ use lib.ListN.{length, replicate}
 use Rattle.qbf.specs.Formula.{paper, placeOf}
 use Rattle.layout.specs.Words.{Bytes, ascii, newline, space, split, same, digits, number, closed, inside}
 use Rattle.layout.specs.Forms.{items, consed, formFrom, formOf}
-use Rattle.layout.specs.Ceilings.{ceilingNumber, ceiled}
+use Rattle.layout.specs.Endings.{numberUpTo, ended}
 use Rattle.editions.specs.Lines.{ruleFrom, lineFrom, lineOf as lineSaid}
 use Rattle.editions.specs.Opening.{readLines, readEditions, openEditions}
 use Rattle.layout.specs.Output.{lastDigits, decimal, literalText, itemsText, lineText, linesText, visitsText, cardText, refusalText, overflowText, queryText}
 use Rattle.layout.specs.Page.{aligned, signOf, pageOf, noPage}
-use Rattle.layout.specs.Session.{callFrom, ceiledCall, answerText, parted}
+use Rattle.layout.specs.Session.{callFrom, sizedCall, ceiledCall, answerText, parted}
 use Rattle.booktext.specs.Texts.{bodyText, lineOf, formText, formsText}
 use Rattle.booktext.specs.Books.{bookForms, bookText, writeCall, textRoom}
 use Rattle.sessions.specs.Session.{requestFrom, requestOf, serveLines, sessionProgram}
@@ -72,7 +72,7 @@ rows =
     ∷ []
 
 session-rows : printed rows ≡ expected rows
-unfolding split same digits number items consed closed inside formFrom formOf ruleFrom lineFrom lineSaid readLines readEditions openEditions placeOf lastDigits decimal literalText itemsText lineText linesText visitsText cardText refusalText overflowText queryText callFrom ceilingNumber ceiled ceiledCall answerText requestFrom requestOf bodyText lineOf formText formsText bookForms bookText textRoom writeCall serveLines parted sessionProgram
+unfolding split same digits number items consed closed inside formFrom formOf ruleFrom lineFrom lineSaid readLines readEditions openEditions placeOf lastDigits decimal literalText itemsText lineText linesText visitsText cardText refusalText overflowText queryText callFrom numberUpTo ended sizedCall ceiledCall answerText requestFrom requestOf bodyText lineOf formText formsText bookForms bookText textRoom writeCall serveLines parted sessionProgram
 session-rows = refl
 
 -- ---- pages
@@ -138,7 +138,7 @@ pages =
     ∷ []
 
 session-pages : shown pages ≡ outputs pages
-unfolding split same digits number items consed closed inside formFrom formOf ruleFrom lineFrom lineSaid readLines readEditions openEditions placeOf lastDigits decimal literalText itemsText lineText linesText visitsText cardText refusalText overflowText queryText callFrom ceilingNumber ceiled ceiledCall answerText requestFrom requestOf bodyText lineOf formText formsText bookForms bookText textRoom writeCall serveLines parted sessionProgram aligned signOf pageOf noPage
+unfolding split same digits number items consed closed inside formFrom formOf ruleFrom lineFrom lineSaid readLines readEditions openEditions placeOf lastDigits decimal literalText itemsText lineText linesText visitsText cardText refusalText overflowText queryText callFrom numberUpTo ended sizedCall ceiledCall answerText requestFrom requestOf bodyText lineOf formText formsText bookForms bookText textRoom writeCall serveLines parted sessionProgram aligned signOf pageOf noPage
 session-pages = refl
 
 -- ---- books of either edition
@@ -152,5 +152,5 @@ record Editions : Type 0 where
   call-tagged : sessionProgram paper (ascii "(book 2)\n(flags 1)\n(end)\n(rule (tag 1) 1)\n") ≡ ascii "(refused 1 4)\n"
 
 session-editions : Editions
-unfolding split same digits number items consed closed inside formFrom formOf ruleFrom lineFrom lineSaid readLines readEditions openEditions placeOf lastDigits decimal literalText itemsText lineText linesText visitsText cardText refusalText overflowText queryText callFrom ceiled ceiledCall answerText requestFrom requestOf bodyText lineOf formText formsText bookForms bookText textRoom writeCall serveLines parted sessionProgram
+unfolding split same digits number items consed closed inside formFrom formOf ruleFrom lineFrom lineSaid readLines readEditions openEditions placeOf lastDigits decimal literalText itemsText lineText linesText visitsText cardText refusalText overflowText queryText callFrom ended sizedCall ceiledCall answerText requestFrom requestOf bodyText lineOf formText formsText bookForms bookText textRoom writeCall serveLines parted sessionProgram
 session-editions = record { tagged = refl; ones = refl; written = refl; out-of-range = refl; no-edition = refl; call-tagged = refl }

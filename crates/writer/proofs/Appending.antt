@@ -25,6 +25,10 @@ wrote-then {d₀} {x} {d₁} {y} {d₂} {at} {r₁} {r₂} p q =
       is = q .is ∙ ap (λ (l : Bytes). l ++ y) (p .is) ∙ append-assoc (take at d₀) x y;
     }
 
+-- .. and two more texts at once
+pub wrote-two : {d₀ x d₁ d₂ : Bytes} {at r₁ r₂ : ℕ} (y z : Bytes) → Wrote d₀ at x d₁ r₁ → Wrote d₁ r₁ (y ++ z) d₂ r₂ → Wrote d₀ at (x ++ y ++ z) d₂ r₂
+wrote-two {d₀} {x} {d₁} {d₂} {at} {r₁} {r₂} y z p q = subst (λ (t : Bytes). Wrote d₀ at t d₂ r₂) (sym (append-assoc x y z)) (wrote-then p q)
+
 -- ---- a word: its first j bytes are written
 pub record Copied (d₀ : Bytes) (at : ℕ) (w : Bytes) (d : Bytes) (j : ℕ) : Type 0 where
   pub high : j ≤ length w

@@ -7,7 +7,7 @@ use native.Mathlib.Omega.{arith}
 use lib.ListN.{length, length-append}
 use Rattle.layout.specs.Words.{Bytes, ascii}
 use Rattle.layout.specs.Output.{decimal, visitsText, cardHead, refusalText, overflowText, queryText}
-use Rattle.writer.specs.Rows.{rowsText, cardRows}
+use Rattle.writer.specs.Rows.{itemsFrom, rowsText, cardRows, closestRow}
 
 -- ---- numbers in words
 pub visits-length : (n : ℕ) → length (visitsText n) ≡ length (decimal n) + 10
@@ -38,3 +38,9 @@ pub card-length : (p : Bool) (f : ℕ) (numbers table : List ℕ) (n visits : �
     → length (cardRows p f numbers table n visits) ≡ length (cardHead p) + length (rowsText f numbers table n) + length (visitsText visits) + 6
 unfolding cardRows
 card-length p f numbers table n visits = simp length-append (omega arith)
+
+-- ---- a closest reading
+pub closest-length : (numbers row : List ℕ) (differs lines visits : ℕ)
+    → length (closestRow numbers row differs lines visits) ≡ length (itemsFrom numbers 1 row) + length (decimal differs) + length (decimal lines) + length (decimal visits) + 50
+unfolding closestRow
+closest-length numbers row differs lines visits = simp length-append (omega arith)

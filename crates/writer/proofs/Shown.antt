@@ -1,9 +1,9 @@
 -- The text by the tables is the text of the card that they show; and how long it is at most.
 use Prim.Native.Nat.{ℕ, zero, suc, _+_, _*_, _-_, _^_, _<_, _≤_, zero-le, suc-le-suc}
-use mathlib.Core.Path.{_≡_, refl, ap, _∙_}
+use mathlib.Core.Path.{_≡_, refl, sym, ap, _∙_}
 use mathlib.Core.Logic.{inl, inr}
 use mathlib.Core.Bool.{Bool, true, false, cond, not, _&&_}
-use mathlib.Core.List.{List, [], _∷_, _++_, map, append-assoc}
+use mathlib.Core.List.{List, [], _∷_, _++_, map, append-assoc, append-nil}
 use native.Mathlib.Omega.{arith}
 use native.Mathlib.Nat.{le-of-suc-le-suc, not-suc-le-zero, suc-mul}
 use borrow.Author.Tests.{leb-true}
@@ -19,9 +19,9 @@ use Rattle.theory.proofs.Cards.{line-length}
 use Rattle.tables.specs.Views.{Numbers}
 use Rattle.layout.specs.Words.{Bytes, ascii, space}
 use Rattle.layout.specs.Forms.{off}
-use Rattle.layout.specs.Output.{decimal, literalText, setLiterals, itemsText, lineText, linesText, visitsText, cardHead, cardText}
+use Rattle.layout.specs.Output.{decimal, literalText, setLiterals, itemsText, lineText, linesText, visitsText, cardHead, cardText, closestText}
 use Rattle.layout_laws.proofs.Decimal.{decimal-length}
-use Rattle.writer.specs.Rows.{itemText, itemsFrom, rowText, rowsText, cardRows}
+use Rattle.writer.specs.Rows.{itemText, itemsFrom, rowText, rowsText, cardRows, closestRow}
 use Rattle.writer.proofs.Lengths.{visits-length, head-length}
 
 -- ---- one item
@@ -114,6 +114,18 @@ module _ (L : Limits) (D : Prefix) (numbers : List ℕ) (f : ℕ) (fine : number
   card-shown p ls size visits within =
       ap (λ (t : Bytes). cardHead p ++ t ++ visitsText visits ++ ascii "(end)\n") (rows-shown ls (replicate (size - length ls * f) 0) within)
 
+-- ---- the closest reading that they show
+module _ (L : Limits) (D : Prefix) (numbers : List ℕ) (fine : numbersOk L [] D ≡ true) (shown : Numbers D numbers) where
+  pub closest-shown : (t : Node) (differs lines visits : ℕ) → length t ≤ length D → closestRow numbers (map byteOf t) differs lines visits ≡ closestText D t differs lines visits
+  unfolding closestRow closestText numbers-of
+  closest-shown t differs lines visits within =
+      ap (λ (s : Bytes). ascii "(closest (reading" ++ s ++ ascii ") (differs " ++ decimal differs ++ ascii ") (lines " ++ decimal lines ++ ascii ") (visits " ++ decimal visits ++ ascii "))\n")
+      (ap (itemsFrom numbers 1) (sym (append-nil (map byteOf t)))
+      ∙ items-shown L numbers [] 1 0 D t fine (λ k h. ap (λ (j : ℕ). getD numbers j 0) (next k) ∙ shown .at k h) within)
+    where
+      next : (k : ℕ) → 1 + k ≡ suc k
+      next k = omega arith
+
 -- ---- how long a card is at most
 two-digits : (seen : List ℕ) (d : Variable) (D : Prefix) → numbersOk paper seen (d ∷ D) ≡ true → d .number < 100
 two-digits seen d D e =
@@ -158,3 +170,10 @@ module _ (D : Prefix) (fine : numbersOk paper [] D ≡ true) where
         length-append (cardHead p ++ linesText D ls) (visitsText visits),
         length-append (cardHead p) (linesText D ls),
       )
+
+  -- numbers of at most 20 digits
+  pub closest-most : (t : Node) (differs lines visits : ℕ) → differs < 10 ^ 20 → lines < 10 ^ 20 → visits < 10 ^ 20 → length (closestText D t differs lines visits) ≤ 8 * length t + 110
+  unfolding closestText
+  closest-most t differs lines visits a b c =
+      let sum : length (closestText D t differs lines visits) ≡ length (itemsText (setLiterals D t)) + length (decimal differs) + length (decimal lines) + length (decimal visits) + 50 = simp length-append (omega arith) in
+      omega (arith, sum, items-most [] D t fine, decimal-length 19 differs a, decimal-length 19 lines b, decimal-length 19 visits c)

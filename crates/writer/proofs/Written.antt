@@ -27,7 +27,7 @@ module _ (n v : ℕ) where
   unfolding itemText
   item-open g h = rw (ne-eqb v 2 g, ne-eqb v 1 h)
 
--- ---- a line
+-- ---- a row
 abbrev all-items : Bytes → Bytes → Bytes
 all-items numbers row = itemsFrom numbers 1 row
 
@@ -61,7 +61,7 @@ module _ {numbers row d₀ : Bytes} {p₀ : ℕ} {d : Bytes} {p i : ℕ} (inv : 
     rest : Bytes
     rest = itemsFrom numbers (suc (i + 1)) (drop (i + 1) row)
 
-    pub line-room : p₀ + (length (all-items numbers row) + 2) ≤ length d₀ → p + length (itemText (getD numbers (i + 1) 0) (getD row i 0)) ≤ length d
+    pub line-room : p₀ + length (all-items numbers row) ≤ length d₀ → p + length (itemText (getD numbers (i + 1) 0) (getD row i 0)) ≤ length d
     unfolding item rest
     line-room room = omega (arith, room, left-length, inv .wrote .size, inv .wrote .next, ap length (items-step numbers row i inside), length-append item rest)
 
@@ -79,14 +79,5 @@ module _ {numbers row d₀ : Bytes} {p₀ : ℕ} {d : Bytes} {p i : ℕ} (inv : 
   unfolding itemsFrom
   all-done h = inv .is ∙ ap (λ (t : Bytes). inv .done ++ t) (ap (itemsFrom numbers (suc i)) (drop-of-length-le row h)) ∙ append-nil (inv .done)
 
-  pub line-last : p₀ + (length (all-items numbers row) + 2) ≤ length d₀ → p + 2 ≤ length d
-  line-last room = omega (arith, room, left-length, inv .wrote .size, inv .wrote .next)
-
-  pub line-end : {d₁ d₂ : Bytes} {at r : ℕ} → length row ≤ i → Wrote d₁ at (ascii "(line") d₀ p₀ → Wrote d p (ascii ")\n") d₂ r → Wrote d₁ at (rowText numbers row) d₂ r
-  unfolding rowText
-  line-end {d₁} {d₂} {at} {r} h a b =
-      subst (λ (t : Bytes). Wrote d₁ at (ascii "(line" ++ t ++ ascii ")\n") d₂ r) (sym (all-done h)) (wrote-then (wrote-then a (inv .wrote)) b)
-
-pub line-start : {d d₀ : Bytes} {at p₀ : ℕ} (numbers row : Bytes) → at + length (rowText numbers row) ≤ length d → Wrote d at (ascii "(line") d₀ p₀
-    → p₀ + (length (all-items numbers row) + 2) ≤ length d₀
-line-start numbers row room w = omega (arith, room, row-length numbers row, w .size, w .next)
+  pub line-end : length row ≤ i → Wrote d₀ p₀ (all-items numbers row) d p
+  line-end h = subst (λ (t : Bytes). Wrote d₀ p₀ t d p) (sym (all-done h)) (inv .wrote)

@@ -1,4 +1,4 @@
--- The text of a card by its tables: the numbers of the places, and the rows of values.
+-- The text of a card and of a closest reading by their tables: the numbers of the places, and the rows of values.
 use Prim.Native.Nat.{ℕ, zero, suc}
 use mathlib.Core.Bool.{Bool, cond}
 use mathlib.Core.List.{List, [], _∷_, _++_}
@@ -27,3 +27,9 @@ rowsText f numbers table (suc n) = rowText numbers (take f table) ++ rowsText f 
 
 unfoldable pub cardRows : Bool → ℕ → List ℕ → List ℕ → ℕ → ℕ → Bytes
 cardRows p f numbers table n visits = cardHead p ++ rowsText f numbers table n ++ visitsText visits ++ ascii "(end)\n"
+
+-- a closest reading
+unfoldable pub closestRow : List ℕ → List ℕ → ℕ → ℕ → ℕ → Bytes
+closestRow numbers row differs lines visits =
+    ascii "(closest (reading" ++ itemsFrom numbers 1 row ++ ascii ") (differs " ++ decimal differs
+    ++ ascii ") (lines " ++ decimal lines ++ ascii ") (visits " ++ decimal visits ++ ascii "))\n"

@@ -3,7 +3,7 @@ use borrow.Author.Needs.{needs}
 use Rattle.reader.proofs.call.call_word.Statement.{statement}
 use Rattle.reader.proofs.call.call_word.Tie as tie
 use mathlib.Core.Path.{sym, _∙_}
-use Rattle.reader.proofs.Calls.{call-1, call-2, call-3, call-4, call-5, call-6, call-7, call-8}
+use Rattle.reader.proofs.Calls.{call-1, call-2, call-3, call-4, call-5, call-6, call-7, call-8, call-9}
 
 slice-aggregate-same-word : tie.Need-slice-aggregate-same-word
 slice-aggregate-same-word c = search needs
@@ -103,16 +103,35 @@ returns-7 c =
     let is-one = sym (c .before .same-word7 .ensures) ∙ c .if7 .taken in
     call-7 _ not-rule not-query not-card not-keep-card not-forget not-withdraw is-one
 
+slice-aggregate-same-word-8 : tie.Need-slice-aggregate-same-word-8
+slice-aggregate-same-word-8 c = search needs
+
+same-word-requires-8 : tie.Need-same-word-requires-8
+same-word-requires-8 c κs = search needs
+
 returns-8 : tie.Need-returns-8
 returns-8 c =
-    let not-rule = sym (c .before .before .before .before .before .before .before .before .before .before .before .before .before .before .before .before .before .before .before .same-word .ensures) ∙ c .before .before .before .before .before .before .before .before .before .before .before .before .before .before .before .before .before .before .if1 .left in
-    let not-query = sym (c .before .before .before .before .before .before .before .before .before .before .before .before .before .before .before .before .same-word2 .ensures) ∙ c .before .before .before .before .before .before .before .before .before .before .before .before .before .before .before .if2 .left in
-    let not-card = sym (c .before .before .before .before .before .before .before .before .before .before .before .before .before .same-word3 .ensures) ∙ c .before .before .before .before .before .before .before .before .before .before .before .before .if3 .left in
-    let not-keep-card = sym (c .before .before .before .before .before .before .before .before .before .before .same-word4 .ensures) ∙ c .before .before .before .before .before .before .before .before .before .if4 .left in
-    let not-forget = sym (c .before .before .before .before .before .before .before .same-word5 .ensures) ∙ c .before .before .before .before .before .before .if5 .left in
-    let not-withdraw = sym (c .before .before .before .before .same-word6 .ensures) ∙ c .before .before .before .if6 .left in
-    let not-one = sym (c .before .same-word7 .ensures) ∙ c .if7 .left in
-    call-8 _ not-rule not-query not-card not-keep-card not-forget not-withdraw not-one
+    let not-rule = sym (c .before .before .before .before .before .before .before .before .before .before .before .before .before .before .before .before .before .before .before .before .before .before .same-word .ensures) ∙ c .before .before .before .before .before .before .before .before .before .before .before .before .before .before .before .before .before .before .before .before .before .if1 .left in
+    let not-query = sym (c .before .before .before .before .before .before .before .before .before .before .before .before .before .before .before .before .before .before .before .same-word2 .ensures) ∙ c .before .before .before .before .before .before .before .before .before .before .before .before .before .before .before .before .before .before .if2 .left in
+    let not-card = sym (c .before .before .before .before .before .before .before .before .before .before .before .before .before .before .before .before .same-word3 .ensures) ∙ c .before .before .before .before .before .before .before .before .before .before .before .before .before .before .before .if3 .left in
+    let not-keep-card = sym (c .before .before .before .before .before .before .before .before .before .before .before .before .before .same-word4 .ensures) ∙ c .before .before .before .before .before .before .before .before .before .before .before .before .if4 .left in
+    let not-forget = sym (c .before .before .before .before .before .before .before .before .before .before .same-word5 .ensures) ∙ c .before .before .before .before .before .before .before .before .before .if5 .left in
+    let not-withdraw = sym (c .before .before .before .before .before .before .before .same-word6 .ensures) ∙ c .before .before .before .before .before .before .if6 .left in
+    let not-one = sym (c .before .before .before .before .same-word7 .ensures) ∙ c .before .before .before .if7 .left in
+    let is-closest = sym (c .before .same-word8 .ensures) ∙ c .if8 .taken in
+    call-8 _ not-rule not-query not-card not-keep-card not-forget not-withdraw not-one is-closest
+
+returns-9 : tie.Need-returns-9
+returns-9 c =
+    let not-rule = sym (c .before .before .before .before .before .before .before .before .before .before .before .before .before .before .before .before .before .before .before .before .before .before .same-word .ensures) ∙ c .before .before .before .before .before .before .before .before .before .before .before .before .before .before .before .before .before .before .before .before .before .if1 .left in
+    let not-query = sym (c .before .before .before .before .before .before .before .before .before .before .before .before .before .before .before .before .before .before .before .same-word2 .ensures) ∙ c .before .before .before .before .before .before .before .before .before .before .before .before .before .before .before .before .before .before .if2 .left in
+    let not-card = sym (c .before .before .before .before .before .before .before .before .before .before .before .before .before .before .before .before .same-word3 .ensures) ∙ c .before .before .before .before .before .before .before .before .before .before .before .before .before .before .before .if3 .left in
+    let not-keep-card = sym (c .before .before .before .before .before .before .before .before .before .before .before .before .before .same-word4 .ensures) ∙ c .before .before .before .before .before .before .before .before .before .before .before .before .if4 .left in
+    let not-forget = sym (c .before .before .before .before .before .before .before .before .before .before .same-word5 .ensures) ∙ c .before .before .before .before .before .before .before .before .before .if5 .left in
+    let not-withdraw = sym (c .before .before .before .before .before .before .before .same-word6 .ensures) ∙ c .before .before .before .before .before .before .if6 .left in
+    let not-one = sym (c .before .before .before .before .same-word7 .ensures) ∙ c .before .before .before .if7 .left in
+    let not-closest = sym (c .before .same-word8 .ensures) ∙ c .if8 .left in
+    call-9 _ not-rule not-query not-card not-keep-card not-forget not-withdraw not-one not-closest
 
 pub call-word-spec : {M : Type 1} → statement M
 call-word-spec =
@@ -139,4 +158,7 @@ call-word-spec =
     slice-aggregate-same-word-7
     same-word-requires-7
     returns-7
-    returns-8)
+    slice-aggregate-same-word-8
+    same-word-requires-8
+    returns-8
+    returns-9)

@@ -4,7 +4,7 @@ use Rattle.reader.proofs.call.read_words.Statement.{statement}
 use Rattle.reader.proofs.call.read_words.Tie as tie
 use native.Mathlib.Omega.{arith}
 use lib.ListN.{length-take}
-use Rattle.reader.proofs.Calls.{call-none, rule-read, query-read, card-read, keep-card-read, forget-read, forget-none, withdraw-read, withdraw-none, one-read, no-word}
+use Rattle.reader.proofs.Calls.{call-none, rule-read, query-read, card-read, keep-card-read, forget-read, forget-none, withdraw-read, withdraw-none, one-read, closest-read, no-word}
 
 find-requires : tie.Need-find-requires
 find-requires c κs = search needs
@@ -69,6 +69,9 @@ enum-told-8 c = search needs
 enum-told-9 : tie.Need-enum-told-9
 enum-told-9 c = search needs
 
+enum-told-10 : tie.Need-enum-told-10
+enum-told-10 c = search needs
+
 same-length-2 : tie.Need-same-length-2
 same-length-2 c = search needs
 
@@ -127,7 +130,13 @@ same-length-11 : tie.Need-same-length-11
 same-length-11 c = search needs
 
 returns-11 : tie.Need-returns-11
-returns-11 c = no-word (c .before .before .before .before .before .before .before .before .before .before .before .find .ensures) (c .before .before .before .before .before .before .before .before .before .call-word .result) (c .before .before .before .before .before .before .before .before .call-signs .result) (c .before .before .before .before .before .before .before .before .before .call-word .ensures) (c .before .before .before .before .before .before .before .before .call-signs .ensures) (c .before .before .before .before .before .before .rest .result) (c .before .before .before .before .before .before .rest .last .1 .1 .1 .0) (c .before .before .before .before .before .before .rest .ensures) (c .before .before .before .n .given .1) (c .enum-told9 .given .1)
+returns-11 c = closest-read (c .before .before .before .before .before .before .before .before .before .before .before .find .ensures) (c .before .before .before .before .before .before .before .before .before .call-word .result) (c .before .before .before .before .before .before .before .before .call-signs .result) (c .before .before .before .before .before .before .before .before .before .call-word .ensures) (c .before .before .before .before .before .before .before .before .call-signs .ensures) (c .before .before .before .before .before .before .rest .result) (c .before .before .before .before .before .before .rest .last .1 .1 .1 .0) (c .before .before .before .before .before .before .rest .ensures) (c .before .before .before .n .given .1) (c .enum-told9 .given .1)
+
+same-length-12 : tie.Need-same-length-12
+same-length-12 c = search needs
+
+returns-12 : tie.Need-returns-12
+returns-12 c = no-word (c .before .before .before .before .before .before .before .before .before .before .before .find .ensures) (c .before .before .before .before .before .before .before .before .before .call-word .result) (c .before .before .before .before .before .before .before .before .call-signs .result) (c .before .before .before .before .before .before .before .before .before .call-word .ensures) (c .before .before .before .before .before .before .before .before .call-signs .ensures) (c .before .before .before .before .before .before .rest .result) (c .before .before .before .before .before .before .rest .last .1 .1 .1 .0) (c .before .before .before .before .before .before .rest .ensures) (c .before .before .before .n .given .1) (c .enum-told10 .given .1)
 
 pub read-words-spec : {M : Type 1} → statement M
 read-words-spec =
@@ -154,6 +163,7 @@ read-words-spec =
     enum-told-7
     enum-told-8
     enum-told-9
+    enum-told-10
     same-length-2
     returns-2
     same-length-3
@@ -173,4 +183,6 @@ read-words-spec =
     same-length-10
     returns-10
     same-length-11
-    returns-11)
+    returns-11
+    same-length-12
+    returns-12)

@@ -24,6 +24,9 @@ enum-told-2 c = search needs
 enum-known-line-5 : tie.Need-enum-known-line-5
 enum-known-line-5 c = search needs
 
+enum-known-line-6 : tie.Need-enum-known-line-6
+enum-known-line-6 c = search needs
+
 enum-told-3 : tie.Need-enum-told-3
 enum-told-3 c = search needs
 
@@ -49,7 +52,10 @@ returns-7 : tie.Need-returns-7
 returns-7 c = rw (c .before .line5 .given .1)
 
 returns-8 : tie.Need-returns-8
-returns-8 c = rw (c .enum-told3 .given .1)
+returns-8 c = rw (c .before .line6 .given .1)
+
+returns-9 : tie.Need-returns-9
+returns-9 c = rw (c .enum-told3 .given .1)
 
 pub limited-spec : {M : Type 1} → statement M
 limited-spec =
@@ -62,6 +68,7 @@ limited-spec =
     enum-told
     enum-told-2
     enum-known-line-5
+    enum-known-line-6
     enum-told-3
     returns
     returns-2
@@ -70,4 +77,5 @@ limited-spec =
     returns-5
     returns-6
     returns-7
-    returns-8)
+    returns-8
+    returns-9)

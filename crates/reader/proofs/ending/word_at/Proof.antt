@@ -1,26 +1,26 @@
-use Rattle.reader.proofs.ceiling.ceiling_at.Statement.{statement}
+use Rattle.reader.proofs.ending.word_at.Statement.{statement}
 use borrow.Author.Needs.{needs}
-use Rattle.reader.proofs.ceiling.ceiling_at.Tie as tie
-use Rattle.reader.proofs.ceiling.ceiling_at.Reads as reads
-use Rattle.reader.proofs.ceiling.ceiling_at.Lts as lts
+use Rattle.reader.proofs.ending.word_at.Tie as tie
+use Rattle.reader.proofs.ending.word_at.Reads as reads
+use Rattle.reader.proofs.ending.word_at.Lts as lts
 use Rattle.reader.proofs.word.find.Reads as find-reads
 use Rattle.reader.proofs.word.same_word.Reads as same-word-reads
 use Prim.Native.Nat.{_+_, _-_}
 use mathlib.Core.Path.{sym, _∙_}
 use native.Mathlib.Omega.{arith}
 use lib.ListN.{length, length-take, length-drop}
-use Rattle.reader.proofs.Ceilings.{Scanned, scan-none, scan-more, scan-found, scan-end}
+use Rattle.reader.proofs.Endings.{Scanned, scan-none, scan-more, scan-found, scan-end}
 
--- `ceiling_at` meets its contract: no word passed is the ceiling's.
+-- `word_at` meets its contract: no word passed is the item's.
 
 abbrev Inv-loop : tie.InvT-loop
-Inv-loop s at₀ t4 at = Scanned s at
+Inv-loop s word at₀ at = Scanned word s at
 
 abbrev μ-loop : tie.MeasureT-loop
-μ-loop s at₀ t4 at = length s + 1 - at
+μ-loop s word at₀ at = length s + 1 - at
 
 loop-holds : tie.Need-loop-holds Inv-loop μ-loop
-loop-holds c = scan-none _
+loop-holds c = scan-none _ _
 
 find-requires : tie.Need-find-requires Inv-loop μ-loop
 find-requires c κs = search needs
@@ -34,29 +34,26 @@ part-same-word-start c = omega (arith, c .find .ensures .low)
 part-same-word-end : tie.Need-part-same-word-end Inv-loop μ-loop
 part-same-word-end c = omega (arith, c .find .ensures .high)
 
-slice-aggregate-same-word : tie.Need-slice-aggregate-same-word Inv-loop μ-loop
-slice-aggregate-same-word c = search needs
-
 same-word-requires : tie.Need-same-word-requires Inv-loop μ-loop
 same-word-requires c κs = search needs
 
 returns : tie.Need-returns Inv-loop μ-loop
-returns c = scan-found (c .before .before .before .before .before .before .loop .inv) (c .before .before .before .before .find .ensures) (sym (c .before .same-word .ensures) ∙ c .if1 .taken)
+returns c = scan-found (c .before .before .before .before .before .loop .inv) (c .before .before .before .find .ensures) (sym (c .before .same-word .ensures) ∙ c .if1 .taken)
 
 add-at : tie.Need-add-at Inv-loop μ-loop
-add-at c = omega (arith, c .before .before .before .before .find .ensures .high)
+add-at c = omega (arith, c .before .before .before .find .ensures .high)
 
 loop-less : tie.Need-loop-less Inv-loop μ-loop
-loop-less c = omega (arith, c .before .before .before .before .find .ensures .low, c .before .before .before .before .find .ensures .high)
+loop-less c = omega (arith, c .before .before .before .find .ensures .low, c .before .before .before .find .ensures .high)
 
 loop-again : tie.Need-loop-again Inv-loop μ-loop
-loop-again c = scan-more (c .before .before .before .before .before .before .loop .inv) (c .before .before .before .before .find .ensures) (sym (c .before .same-word .ensures) ∙ c .if1 .left)
+loop-again c = scan-more (c .before .before .before .before .before .loop .inv) (c .before .before .before .find .ensures) (sym (c .before .same-word .ensures) ∙ c .if1 .left)
 
 returns-2 : tie.Need-returns-2 Inv-loop μ-loop
 returns-2 c = scan-end (c .before .loop .inv) (omega arith)
 
-pub ceiling-at-spec : {M : Type 1} → statement M
-ceiling-at-spec =
+pub word-at-spec : {M : Type 1} → statement M
+word-at-spec =
     tie.close
     (tie.spec
     Inv-loop
@@ -66,7 +63,6 @@ ceiling-at-spec =
     sub-same-word
     part-same-word-start
     part-same-word-end
-    slice-aggregate-same-word
     same-word-requires
     returns
     add-at
