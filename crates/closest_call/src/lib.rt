@@ -16,11 +16,9 @@ ghost use Rattle.closest_call.specs.Nearest.{nearestSaid, returned, foun
 use answers::in_place::card_of;
 use reading::placed::by_place;
 use replies::MALFORMED;
+use replies::NO_LINE;
 use replies::NOT_FREE;
 use replies::Printed;
-
-// "a card with no line gives 35"
-pub const NO_LINE: u16 = 35;
 
 // In how many variables the reading differs from the given one.
 pub enum Told {

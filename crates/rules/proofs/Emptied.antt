@@ -1,12 +1,11 @@
 -- The store emptied: a flat table in which no row stands.
-use Prim.Native.Nat.{ℕ, _<_, zero-le}
+use Prim.Native.Nat.{ℕ, zero-le}
 use native.Mathlib.Omega.{arith}
 use mathlib.Core.Path.{_≡_, refl, ap, _∙_}
 use mathlib.Core.Bool.{Bool, true, _&&_}
 use mathlib.Core.List.{List, []}
 use mathlib.Core.Option.{none}
-use lib.ListN.{length, getD, set}
-use lib.Seq.{getD-set-same}
+use lib.ListN.{getD, set}
 use lib.Dec.{leb}
 use borrow.Author.Tests.{le-leb}
 use lib.IntN.{ℤ}
@@ -14,7 +13,7 @@ use Rattle.qbf.specs.Formula.{paper}
 use Rattle.qbf.specs.Calls.{forget}
 use Rattle.theory.proofs.Basics.{and-both}
 use Rattle.tables.specs.Views.{rowsOf}
-use Rattle.rules.proofs.Rows.{none-rows}
+use Rattle.rule_rows.proofs.Rows.{none-rows, none-left}
 use Rattle.state.specs.declared.State.{State}
 use Rattle.state.specs.Reading.{atMost, listing, entryAt, recordAt, recordsOf, rowsFit, prefixFits, stateOf, formulaIn, valid}
 use Rattle.state.specs.Derived.{Sized}
@@ -23,9 +22,6 @@ use Rattle.serving.specs.Serves.{said, Serves}
 use Rattle.serving.proofs.Calls.{served}
 
 -- ---- a table whose count is 0
-pub none-left : (l : List ℕ) → 0 < length l → {s : List ℕ} → s ≡ set l 0 0 → getD s 0 0 ≡ 0
-none-left l long is = ap (λ (t : List ℕ). getD t 0 0) is ∙ getD-set-same l 0 0 0 long
-
 module _ (w cap : ℕ) (s : List ℕ) (empty : getD s 0 0 ≡ 0) where
   pub none-fit : rowsFit w cap s ≡ true
   none-fit = ap (λ (n : ℕ). leb n cap && atMost w (listing (entryAt s) 0 n)) empty ∙ ap (λ (b : Bool). b && true) (le-leb 0 cap zero-le)

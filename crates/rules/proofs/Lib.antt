@@ -1,8 +1,5 @@
-pub mod Rows
 pub mod Emptied
-pub mod Refusing
-pub mod Negated
-pub mod Adding
+pub mod Faultless
+pub mod Adds
 pub mod Told
-pub mod Kept
 pub mod Withdrawn

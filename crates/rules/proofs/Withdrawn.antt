@@ -22,8 +22,8 @@ use Rattle.state.specs.Derived.{Sized}
 use Rattle.state.proofs.Valid.{valid-facts, table-rows, valid-tables}
 use Rattle.serving.specs.Serves.{Said, said, saidOf, Serves}
 use Rattle.serving.proofs.Calls.{served, unchanged}
-use Rattle.rules.specs.Learned.{Room, Kept}
-use Rattle.rules.proofs.Rows.{same-rows}
+use Rattle.rule_rows.specs.Learned.{Room, Kept}
+use Rattle.rule_rows.proofs.Rows.{same-rows}
 
 -- ---- a table that counts one row less
 module _ (w cap : ℕ) (f : List ℤ) (l : List ℕ) (t : Table w cap f l) (n : ℕ) (is : getD l 0 0 ≡ suc n) where

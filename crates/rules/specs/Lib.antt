@@ -1,4 +1,1 @@
 pub mod Rules
-pub mod Faults
-pub mod Accepted
-pub mod Learned

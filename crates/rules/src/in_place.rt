@@ -5,12 +5,12 @@ ghost use Rattle.state.specs.Reading.{stateOf};
 ghost use Rattle.serving.specs.Serves.{Serves};
 ghost use Rattle.rules.specs.Rules.{changeSaid};
 use crate::Change;
-use crate::cells::clear;
-use crate::clauses::accept;
-use crate::forms::accept_one;
-use crate::forms::one_fault;
-use crate::learned::leave;
-use crate::refusals;
+use rule_faults::forms::one_fault;
+use rule_faults::refusals;
+use rule_rows::cells::clear;
+use rule_rows::clauses::accept;
+use rule_rows::forms::accept_one;
+use rule_rows::learned::leave;
 use state::check_tables;
 
 // "Forget empties the store."

@@ -2,12 +2,8 @@
 ghost use mathlib.Core.Path.{_≡_};
 ghost use Rattle.serving.specs.Serves.{number};
 ghost use Rattle.rules.specs.Rules.{changeSaid};
+use rule_faults::refusals;
 
-mod cells; // what they write into the state's tables
-mod clauses; // an accepted rule
-mod forms; // an exactly-one form: its refusals, and its rules
-mod learned; // what a withdrawal leaves
-mod refusals; // the refusals of a rule
 pub mod in_place; // the calls
 
 pub enum Change {

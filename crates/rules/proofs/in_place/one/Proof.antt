@@ -5,7 +5,7 @@ use Rattle.rules.proofs.in_place.one.Tie as tie
 use denote.Ref.{now}
 use Rattle.state.specs.declared.State.{State}
 use Rattle.state.specs.Reading.{stateOf}
-use Rattle.rules.proofs.Adding.{one-refused, one-room, one-accepted}
+use Rattle.rules.proofs.Adds.{one-refused, one-room, one-accepted}
 
 -- the state as given
 abbrev lent : tie.Start → State

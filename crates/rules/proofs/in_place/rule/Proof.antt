@@ -5,7 +5,7 @@ use Rattle.rules.proofs.in_place.rule.Tie as tie
 use denote.Ref.{now}
 use Rattle.state.specs.declared.State.{State}
 use Rattle.state.specs.Reading.{stateOf}
-use Rattle.rules.proofs.Adding.{rule-refused, rule-room, rule-accepted}
+use Rattle.rules.proofs.Adds.{rule-refused, rule-room, rule-accepted}
 
 -- the state as given
 abbrev lent : tie.Start → State

@@ -1,0 +1,4 @@
+pub mod Rows
+pub mod Negated
+pub mod Adding
+pub mod Kept
