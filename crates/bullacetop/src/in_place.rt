@@ -1,69 +1,22 @@
 // The calls on a state whose tables the caller lends, in the order of the state: what a call changes is written where it stands, and
 // nothing is copied but the learned clauses of a withdrawal, on its way.
 use book_writer::Written;
-use replies::Ruling;
-use rules::Change;
+use reply_numbers::Closest;
+use reply_numbers::Reply;
+use reply_numbers::of_card;
+use reply_numbers::of_change;
+use reply_numbers::of_closest;
+use reply_numbers::of_query;
 ghost use mathlib.Core.Path.{_≡_};
 ghost use mathlib.Core.List.{[]};
-ghost use lib.ListN.{length};
-ghost use Rattle.qbf.specs.Calls.{rule, query, card, keepCard, cardOf, forget, withdraw};
-ghost use Rattle.state.specs.Reading.{stateOf};
-ghost use Rattle.serving.specs.Serves.{number, told, Serves};
+ghost use lib.ListN.{length, take};
+ghost use Rattle.qbf.specs.Truth.{freeVariables};
+ghost use Rattle.qbf.specs.Calls.{rule, one, query, card, keepCard, cardOf, closest, forget, withdraw};
+ghost use Rattle.state.specs.Reading.{prefixOf, stateOf};
+ghost use Rattle.serving.specs.Serves.{faultOf, Serves};
 ghost use Rattle.book_writer.specs.Writes.{Writes};
-ghost use Rattle.rules.specs.Rules.{changeSaid};
-ghost use Rattle.replies.specs.Replies.{rulingSaid};
-ghost use Rattle.bullacetop.specs.Answers.{replySaid};
-
-// The numbers of an answer; the state stays with the caller. A refusal of 0 is none; a verdict is 1 for keep, 2 for swap and 3 for unsettled, 0 where the
-// call is no query.
-#[repr(C)]
-pub struct Reply {
-    pub refusal: u16,
-    pub verdict: u16,
-    pub lines: usize,
-    pub visits: u64,
-}
-
-const NONE: u16 = 0;
-
-const KEEP: u16 = 1;
-
-const SWAP: u16 = 2;
-
-const UNSETTLED: u16 = 3;
-
-fn ruling_refusal(r: Ruling) -> u16
-    ensures { λ n. ⌜ n ≡ number (rulingSaid r 0 .refusal) ⌝ }
-{
-    match r {
-        Ruling::Swap => NONE,
-        Ruling::Keep => NONE,
-        Ruling::Unsettled => NONE,
-        Ruling::Refused(n) => n,
-    }
-}
-
-fn verdict_of(r: Ruling) -> u16
-    ensures { λ n. ⌜ n ≡ rulingSaid r 0 .verdict ⌝ }
-{
-    match r {
-        Ruling::Swap => SWAP,
-        Ruling::Keep => KEEP,
-        Ruling::Unsettled => UNSETTLED,
-        Ruling::Refused(n) => NONE,
-    }
-}
-
-fn changed(c: Change) -> Reply
-    ensures { λ r. ⌜ replySaid r [] ≡ told (changeSaid c) ⌝ }
-{
-    Reply {
-        refusal: rules::refusal_of(c),
-        verdict: NONE,
-        lines: 0,
-        visits: 0,
-    }
-}
+ghost use Rattle.reply_numbers.specs.Answers.{replySaid, closestSaid, unlessRefused};
+ghost use Rattle.closest_call.specs.Nearest.{padded};
 
 #[no_mangle]
 pub extern "C" fn bullacetop_rule_in_place<'a>(
@@ -116,7 +69,61 @@ pub extern "C" fn bullacetop_rule_in_place<'a>(
         learned_cube_sizes,
         lits,
     );
-    changed(added)
+    of_change(added)
+}
+
+#[no_mangle]
+pub extern "C" fn bullacetop_one_in_place<'a>(
+    numbers: &'a [u16; tables::BY_NUMBER],
+    levels: &'a [u16; tables::BY_NUMBER],
+    kinds: &'a [u16; tables::BY_NUMBER],
+    clauses: &mut [i16; tables::CLAUSE_CELLS],
+    clause_sizes: &mut [u16; tables::CLAUSE_SIZES],
+    learned_clauses: &'a [i16; tables::CONSTRAINT_CELLS],
+    learned_clause_sizes: &'a [u16; tables::LEARNED_CLAUSE_SIZES],
+    learned_cubes: &'a [i16; tables::CONSTRAINT_CELLS],
+    learned_cube_sizes: &mut [u16; tables::CONSTRAINT_SIZES],
+    lits: &'a [i16],
+) -> Reply
+    ensures { λ r. ⌜
+        Serves
+        (stateOf
+        (now (numbers .entry))
+        (now (levels .entry))
+        (now (kinds .entry))
+        (now (clauses .entry))
+        (now («clause_sizes» .entry))
+        (now («learned_clauses» .entry))
+        (now («learned_clause_sizes» .entry))
+        (now («learned_cubes» .entry))
+        (now («learned_cube_sizes» .entry)))
+        (one (now (lits .entry)))
+        (replySaid r [])
+        (stateOf
+        (now (numbers .entry))
+        (now (levels .entry))
+        (now (kinds .entry))
+        (now (clauses .exit))
+        (now («clause_sizes» .exit))
+        (now («learned_clauses» .entry))
+        (now («learned_clause_sizes» .entry))
+        (now («learned_cubes» .entry))
+        (now («learned_cube_sizes» .exit)))
+        ⌝ }
+{
+    let formed = rules::in_place::one(
+        numbers,
+        levels,
+        kinds,
+        clauses,
+        clause_sizes,
+        learned_clauses,
+        learned_clause_sizes,
+        learned_cubes,
+        learned_cube_sizes,
+        lits,
+    );
+    of_change(formed)
 }
 
 #[no_mangle]
@@ -168,7 +175,7 @@ pub extern "C" fn bullacetop_withdraw_in_place<'a>(
         learned_cubes,
         learned_cube_sizes,
     );
-    changed(left)
+    of_change(left)
 }
 
 #[no_mangle]
@@ -220,7 +227,7 @@ pub extern "C" fn bullacetop_forget_in_place<'a>(
         learned_cubes,
         learned_cube_sizes,
     );
-    changed(emptied)
+    of_change(emptied)
 }
 
 #[no_mangle]
@@ -278,13 +285,7 @@ pub extern "C" fn bullacetop_query_in_place<'a>(
         off,
         ceiling,
     );
-    let ruling = asked.ruling;
-    Reply {
-        refusal: ruling_refusal(ruling),
-        verdict: verdict_of(ruling),
-        lines: 0,
-        visits: asked.visits,
-    }
+    of_query(asked)
 }
 
 // The card, or the keep card.
@@ -342,13 +343,7 @@ fn card_of<'a>(
         yes,
         ceiling,
     );
-    let printed = shown.printed;
-    Reply {
-        refusal: replies::refusal_of(printed),
-        verdict: NONE,
-        lines: replies::lines_of(printed),
-        visits: shown.visits,
-    }
+    of_card(shown)
 }
 
 #[no_mangle]
@@ -461,6 +456,79 @@ pub extern "C" fn bullacetop_keep_card_in_place<'a>(
         false,
         ceiling,
     )
+}
+
+// The reading on the card that differs from a given one in the fewest flags. Its bytes stand first in the lent reading, and zeros behind them.
+#[no_mangle]
+pub extern "C" fn bullacetop_closest_in_place<'a>(
+    numbers: &'a [u16; tables::BY_NUMBER],
+    levels: &'a [u16; tables::BY_NUMBER],
+    kinds: &'a [u16; tables::BY_NUMBER],
+    clauses: &'a [i16; tables::CLAUSE_CELLS],
+    clause_sizes: &'a [u16; tables::CLAUSE_SIZES],
+    learned_clauses: &mut [i16; tables::CONSTRAINT_CELLS],
+    learned_clause_sizes: &mut [u16; tables::LEARNED_CLAUSE_SIZES],
+    learned_cubes: &mut [i16; tables::CONSTRAINT_CELLS],
+    learned_cube_sizes: &mut [u16; tables::CONSTRAINT_SIZES],
+    on: &'a [i16],
+    off: &'a [i16],
+    table: &mut [u8],
+    reading: &mut [u8; tables::MOST_FREE],
+    ceiling: u32,
+) -> Closest
+    ensures { λ r. ⌜
+        Serves
+        (stateOf
+        (now (numbers .entry))
+        (now (levels .entry))
+        (now (kinds .entry))
+        (now (clauses .entry))
+        (now («clause_sizes» .entry))
+        (now («learned_clauses» .entry))
+        (now («learned_clause_sizes» .entry))
+        (now («learned_cubes» .entry))
+        (now («learned_cube_sizes» .entry)))
+        (closest ceiling (length (now (table .entry))) (now (on .entry)) (now (off .entry)))
+        (closestSaid
+        r
+        (now (table .exit))
+        (take (freeVariables (prefixOf (now (numbers .entry)) (now (levels .entry)) (now (kinds .entry)))) (now (reading .exit))))
+        (stateOf
+        (now (numbers .entry))
+        (now (levels .entry))
+        (now (kinds .entry))
+        (now (clauses .entry))
+        (now («clause_sizes» .entry))
+        (now («learned_clauses» .exit))
+        (now («learned_clause_sizes» .exit))
+        (now («learned_cubes» .exit))
+        (now («learned_cube_sizes» .exit)))
+        ⌝ }
+    ensures { λ r. ⌜
+        now (reading .exit)
+        ≡ padded
+        (unlessRefused
+        (faultOf (r .refusal))
+        (take (freeVariables (prefixOf (now (numbers .entry)) (now (levels .entry)) (now (kinds .entry)))) (now (reading .exit))))
+        ⌝ }
+{
+    let found = closest_call::closest(
+        numbers,
+        levels,
+        kinds,
+        clauses,
+        clause_sizes,
+        learned_clauses,
+        learned_clause_sizes,
+        learned_cubes,
+        learned_cube_sizes,
+        on,
+        off,
+        table,
+        reading,
+        ceiling,
+    );
+    of_closest(found)
 }
 
 // The book's text. Nothing of the state is written.

@@ -1,3 +1,4 @@
+-- `closest_call::clear_reading` meets its contract.
 use borrow.Author.Needs.{needs}
 use Rattle.closest_call.proofs.clear_reading.Statement.{statement}
 use Rattle.closest_call.proofs.clear_reading.Tie as tie

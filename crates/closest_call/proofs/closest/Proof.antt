@@ -1,3 +1,4 @@
+-- `closest_call::closest` meets its contract: by what the card on the same state was served with, or by the refusal of the arguments.
 use borrow.Author.Needs.{needs}
 use Rattle.closest_call.proofs.closest.Statement.{statement}
 use Rattle.closest_call.proofs.closest.Tie as tie
@@ -12,15 +13,12 @@ use Rattle.reading.proofs.placed.by_place.Reads as by-place-reads
 use Rattle.reading.proofs.read.Reads as read-reads
 use Rattle.state.proofs.check_tables.Reads as check-tables-reads
 use Rattle.state.proofs.kinds.free_count.Reads as free-count-reads
-use Prim.Native.Nat.{ℕ, _+_}
+use Prim.Native.Nat.{_+_}
 use native.Mathlib.Omega.{arith}
-use mathlib.Core.Path.{_≡_, refl, sym, ap, _∙_, subst}
-use mathlib.Core.List.{List}
+use mathlib.Core.Path.{refl, sym, ap, _∙_}
 use denote.Ref.{now}
-use lib.ListN.{length, take, drop}
+use lib.ListN.{length}
 use borrow.Author.Tests.{not-true, not-false}
-use Rattle.qbf.specs.Card.{zeroTable}
-use Rattle.qbf.specs.Calls.{closest, card}
 use Rattle.state.proofs.Valid.{valid-numbers, valid-quantified}
 use Rattle.answers.proofs.Running.{free-small}
 use Rattle.answers.proofs.Asking.{read-ready}
@@ -43,8 +41,14 @@ same-length c = search needs
 
 returns : tie.Need-returns
 returns c =
-    refused-owed _ _ _ (c .not-found .result .told) (c .not-found .result .lines) (c .not-found .result .visits) 22 0 (c .before .before .before .clear .last .0) _ (c .not-found .ensures) (c .before .before .before .before .before .before .before .before .before .before .before .clear-reading .ensures)
-    (malformed-closest _ (c .before .before .before .before .before .before .before .before .before .before .before .before .before .before .args .ceiling) (length (now (c .before .before .before .before .before .before .before .before .before .before .before .before .before .before .args .table))) (now (c .before .before .before .before .before .before .before .before .before .before .before .before .before .before .args .on)) (now (c .before .before .before .before .before .before .before .before .before .before .before .before .before .before .args .off)) _ (c .before .before .before .clear .ensures) (sym (c .before .before .before .before .before .before .check-tables .ensures .said) ∙ not-true _ (c .before .before .before .before .before .if1 .taken)))
+    let not-found = c .not-found in
+    let clear = c .before .before .before .clear in
+    let clear-reading = c .before .before .before .before .before .before .before .before .before .before .before .clear-reading in
+    let called = c .before .before .before .before .before .before .before .before .before .before .before .before .before .before .args in
+    let check-tables = c .before .before .before .before .before .before .check-tables in
+    let if1 = c .before .before .before .before .before .if1 in
+    refused-owed _ _ _ (not-found .result .told) (not-found .result .lines) (not-found .result .visits) 22 0 (clear .last .0) _ (not-found .ensures) (clear-reading .ensures)
+    (malformed-closest _ (called .ceiling) (length (now (called .table))) (now (called .on)) (now (called .off)) _ (clear .ensures) (sym (check-tables .ensures .said) ∙ not-true _ (if1 .taken)))
 
 free-count-requires : tie.Need-free-count-requires
 free-count-requires c κs = search needs
@@ -66,11 +70,20 @@ same-length-2 c = search needs
 
 returns-2 : tie.Need-returns-2
 returns-2 c =
-    let v = sym (c .before .before .before .before .before .before .before .before .before .before .before .before .before .before .before .before .before .before .before .check-tables .ensures .said) ∙ not-false _ (c .before .before .before .before .before .before .before .before .before .before .before .before .before .before .before .before .before .before .if1 .left) in
-    let frees = c .before .before .before .before .before .before .before .before .before .before .before .before .before .before .free-count .ensures _ (valid-numbers _ v) (valid-quantified _ v) in
-    let read = c .before .before .before .before .before .before .before .before .read .ensures _ _ (read-ready _ v frees (c .before .before .before .before .before .before .before .before .before .before .before .before .before .before .before .before .before .before .before .check-tables .ensures .placed v)) in
-    refused-owed _ _ _ (c .not-found2 .result .told) (c .not-found2 .result .lines) (c .not-found2 .result .visits) 8 0 (c .before .before .before .clear2 .last .0) _ (c .not-found2 .ensures) (c .before .before .before .before .before .before .before .before .before .before .before .before .before .before .before .before .before .before .before .before .before .before .before .before .clear-reading .ensures)
-    (refused-closest _ v (c .before .before .before .before .before .before .before .before .before .before .before .before .before .before .before .before .before .before .before .before .before .before .before .before .before .before .before .args .ceiling) (length (now (c .before .before .before .before .before .before .before .before .before .before .before .before .before .before .before .before .before .before .before .before .before .before .before .before .before .before .before .args .table))) (now (c .before .before .before .before .before .before .before .before .before .before .before .before .before .before .before .before .before .before .before .before .before .before .before .before .before .before .before .args .on)) (now (c .before .before .before .before .before .before .before .before .before .before .before .before .before .before .before .before .before .before .before .before .before .before .before .before .before .before .before .args .off)) _ (c .before .before .before .clear2 .ensures) (fault-named _ v read (not-true _ (c .before .before .before .before .before .if2 .taken))))
+    let check-tables = c .before .before .before .before .before .before .before .before .before .before .before .before .before .before .before .before .before .before .before .check-tables in
+    let if1 = c .before .before .before .before .before .before .before .before .before .before .before .before .before .before .before .before .before .before .if1 in
+    let free-count = c .before .before .before .before .before .before .before .before .before .before .before .before .before .before .free-count in
+    let read = c .before .before .before .before .before .before .before .before .read in
+    let not-found2 = c .not-found2 in
+    let clear2 = c .before .before .before .clear2 in
+    let clear-reading = c .before .before .before .before .before .before .before .before .before .before .before .before .before .before .before .before .before .before .before .before .before .before .before .before .clear-reading in
+    let called = c .before .before .before .before .before .before .before .before .before .before .before .before .before .before .before .before .before .before .before .before .before .before .before .before .before .before .before .args in
+    let if2 = c .before .before .before .before .before .if2 in
+    let v = sym (check-tables .ensures .said) ∙ not-false _ (if1 .left) in
+    let frees = free-count .ensures _ (valid-numbers _ v) (valid-quantified _ v) in
+    let recorded = read .ensures _ _ (read-ready _ v frees (check-tables .ensures .placed v)) in
+    refused-owed _ _ _ (not-found2 .result .told) (not-found2 .result .lines) (not-found2 .result .visits) 8 0 (clear2 .last .0) _ (not-found2 .ensures) (clear-reading .ensures)
+    (refused-closest _ v (called .ceiling) (length (now (called .table))) (now (called .on)) (now (called .off)) _ (clear2 .ensures) (fault-named _ v recorded (not-true _ (if2 .taken))))
 
 clear-requires-3 : tie.Need-clear-requires-3
 clear-requires-3 c κs = search needs
@@ -83,11 +96,21 @@ same-length-3 c = search needs
 
 returns-3 : tie.Need-returns-3
 returns-3 c =
-    let v = sym (c .before .before .before .before .before .before .before .before .before .before .before .before .before .before .before .before .before .before .before .before .before .check-tables .ensures .said) ∙ not-false _ (c .before .before .before .before .before .before .before .before .before .before .before .before .before .before .before .before .before .before .before .before .if1 .left) in
-    let frees = c .before .before .before .before .before .before .before .before .before .before .before .before .before .before .before .before .free-count .ensures _ (valid-numbers _ v) (valid-quantified _ v) in
-    let read = c .before .before .before .before .before .before .before .before .before .before .read .ensures _ _ (read-ready _ v frees (c .before .before .before .before .before .before .before .before .before .before .before .before .before .before .before .before .before .before .before .before .before .check-tables .ensures .placed v)) in
-    refused-owed _ _ _ (c .not-found3 .result .told) (c .not-found3 .result .lines) (c .not-found3 .result .visits) 8 0 (c .before .before .before .clear3 .last .0) _ (c .not-found3 .ensures) (c .before .before .before .before .before .before .before .before .before .before .before .before .before .before .before .before .before .before .before .before .before .before .before .before .before .before .clear-reading .ensures)
-    (refused-closest _ v (c .before .before .before .before .before .before .before .before .before .before .before .before .before .before .before .before .before .before .before .before .before .before .before .before .before .before .before .before .before .args .ceiling) (length (now (c .before .before .before .before .before .before .before .before .before .before .before .before .before .before .before .before .before .before .before .before .before .before .before .before .before .before .before .before .before .args .table))) (now (c .before .before .before .before .before .before .before .before .before .before .before .before .before .before .before .before .before .before .before .before .before .before .before .before .before .before .before .before .before .args .on)) (now (c .before .before .before .before .before .before .before .before .before .before .before .before .before .before .before .before .before .before .before .before .before .before .before .before .before .before .before .before .before .args .off)) _ (c .before .before .before .clear3 .ensures) (fault-open _ v read (not-false _ (c .before .before .before .before .before .before .before .if2 .left)) (not-true _ (c .before .before .before .before .before .if3 .taken))))
+    let check-tables = c .before .before .before .before .before .before .before .before .before .before .before .before .before .before .before .before .before .before .before .before .before .check-tables in
+    let if1 = c .before .before .before .before .before .before .before .before .before .before .before .before .before .before .before .before .before .before .before .before .if1 in
+    let free-count = c .before .before .before .before .before .before .before .before .before .before .before .before .before .before .before .before .free-count in
+    let read = c .before .before .before .before .before .before .before .before .before .before .read in
+    let not-found3 = c .not-found3 in
+    let clear3 = c .before .before .before .clear3 in
+    let clear-reading = c .before .before .before .before .before .before .before .before .before .before .before .before .before .before .before .before .before .before .before .before .before .before .before .before .before .before .clear-reading in
+    let called = c .before .before .before .before .before .before .before .before .before .before .before .before .before .before .before .before .before .before .before .before .before .before .before .before .before .before .before .before .before .args in
+    let if2 = c .before .before .before .before .before .before .before .if2 in
+    let if3 = c .before .before .before .before .before .if3 in
+    let v = sym (check-tables .ensures .said) ∙ not-false _ (if1 .left) in
+    let frees = free-count .ensures _ (valid-numbers _ v) (valid-quantified _ v) in
+    let recorded = read .ensures _ _ (read-ready _ v frees (check-tables .ensures .placed v)) in
+    refused-owed _ _ _ (not-found3 .result .told) (not-found3 .result .lines) (not-found3 .result .visits) 8 0 (clear3 .last .0) _ (not-found3 .ensures) (clear-reading .ensures)
+    (refused-closest _ v (called .ceiling) (length (now (called .table))) (now (called .on)) (now (called .off)) _ (clear3 .ensures) (fault-open _ v recorded (not-false _ (if2 .left)) (not-true _ (if3 .taken))))
 
 card-of-requires : tie.Need-card-of-requires
 card-of-requires c κs = search needs
@@ -100,8 +123,11 @@ slice-aggregate-by-place-2 c = search needs
 
 by-place-requires : tie.Need-by-place-requires
 by-place-requires c κs =
-    let v = sym (c .before .before .before .before .before .before .before .before .before .before .before .before .before .before .before .before .before .before .before .before .before .before .before .before .before .before .before .check-tables .ensures .said) ∙ not-false _ (c .before .before .before .before .before .before .before .before .before .before .before .before .before .before .before .before .before .before .before .before .before .before .before .before .before .before .if1 .left) in
-    let frees = c .before .before .before .before .before .before .before .before .before .before .before .before .before .before .before .before .before .before .before .before .before .before .free-count .ensures _ (valid-numbers _ v) (valid-quantified _ v) in
+    let check-tables = c .before .before .before .before .before .before .before .before .before .before .before .before .before .before .before .before .before .before .before .before .before .before .before .before .before .before .before .check-tables in
+    let if1 = c .before .before .before .before .before .before .before .before .before .before .before .before .before .before .before .before .before .before .before .before .before .before .before .before .before .before .if1 in
+    let free-count = c .before .before .before .before .before .before .before .before .before .before .before .before .before .before .before .before .before .before .before .before .before .before .free-count in
+    let v = sym (check-tables .ensures .said) ∙ not-false _ (if1 .left) in
+    let frees = free-count .ensures _ (valid-numbers _ v) (valid-quantified _ v) in
     omega (arith, free-small _ v _ frees)
 
 enum-known-printed : tie.Need-enum-known-printed
@@ -109,8 +135,11 @@ enum-known-printed c = search needs
 
 add-on-lines : tie.Need-add-on-lines
 add-on-lines c =
-    let v = sym (c .before .before .before .before .before .before .before .before .before .before .before .before .before .before .before .before .before .before .before .before .before .before .before .before .before .before .before .before .before .before .before .before .before .check-tables .ensures .said) ∙ not-false _ (c .before .before .before .before .before .before .before .before .before .before .before .before .before .before .before .before .before .before .before .before .before .before .before .before .before .before .before .before .before .before .before .before .if1 .left) in
-    let frees = c .before .before .before .before .before .before .before .before .before .before .before .before .before .before .before .before .before .before .before .before .before .before .before .before .before .before .before .before .free-count .ensures _ (valid-numbers _ v) (valid-quantified _ v) in
+    let check-tables = c .before .before .before .before .before .before .before .before .before .before .before .before .before .before .before .before .before .before .before .before .before .before .before .before .before .before .before .before .before .before .before .before .before .check-tables in
+    let if1 = c .before .before .before .before .before .before .before .before .before .before .before .before .before .before .before .before .before .before .before .before .before .before .before .before .before .before .before .before .before .before .before .before .if1 in
+    let free-count = c .before .before .before .before .before .before .before .before .before .before .before .before .before .before .before .before .before .before .before .before .before .before .before .before .before .before .before .before .free-count in
+    let v = sym (check-tables .ensures .said) ∙ not-false _ (if1 .left) in
+    let frees = free-count .ensures _ (valid-numbers _ v) (valid-quantified _ v) in
     omega (arith, free-small _ v _ frees)
 
 sub-on-lines : tie.Need-sub-on-lines
@@ -121,21 +150,35 @@ part-on-lines-start c = search needs
 
 part-on-lines-end : tie.Need-part-on-lines-end
 part-on-lines-end c =
-    let v = sym (c .before .before .before .before .before .before .before .before .before .before .before .before .before .before .before .before .before .before .before .before .before .before .before .before .before .before .before .before .before .before .before .before .before .before .check-tables .ensures .said) ∙ not-false _ (c .before .before .before .before .before .before .before .before .before .before .before .before .before .before .before .before .before .before .before .before .before .before .before .before .before .before .before .before .before .before .before .before .before .if1 .left) in
-    let frees = c .before .before .before .before .before .before .before .before .before .before .before .before .before .before .before .before .before .before .before .before .before .before .before .before .before .before .before .before .before .free-count .ensures _ (valid-numbers _ v) (valid-quantified _ v) in
+    let check-tables = c .before .before .before .before .before .before .before .before .before .before .before .before .before .before .before .before .before .before .before .before .before .before .before .before .before .before .before .before .before .before .before .before .before .before .check-tables in
+    let if1 = c .before .before .before .before .before .before .before .before .before .before .before .before .before .before .before .before .before .before .before .before .before .before .before .before .before .before .before .before .before .before .before .before .before .if1 in
+    let free-count = c .before .before .before .before .before .before .before .before .before .before .before .before .before .before .before .before .before .before .before .before .before .before .before .before .before .before .before .before .before .free-count in
+    let v = sym (check-tables .ensures .said) ∙ not-false _ (if1 .left) in
+    let frees = free-count .ensures _ (valid-numbers _ v) (valid-quantified _ v) in
     omega (arith, free-small _ v _ frees)
 
 on-lines-requires : tie.Need-on-lines-requires
 on-lines-requires c κs =
-    let v = sym (c .before .before .before .before .before .before .before .before .before .before .before .before .before .before .before .before .before .before .before .before .before .before .before .before .before .before .before .before .before .before .before .before .before .before .before .before .check-tables .ensures .said) ∙ not-false _ (c .before .before .before .before .before .before .before .before .before .before .before .before .before .before .before .before .before .before .before .before .before .before .before .before .before .before .before .before .before .before .before .before .before .before .before .if1 .left) in
-    let frees = c .before .before .before .before .before .before .before .before .before .before .before .before .before .before .before .before .before .before .before .before .before .before .before .before .before .before .before .before .before .before .before .free-count .ensures _ (valid-numbers _ v) (valid-quantified _ v) in
-    let read = c .before .before .before .before .before .before .before .before .before .before .before .before .before .before .before .before .before .before .before .before .before .before .before .before .before .read .ensures _ _ (read-ready _ v frees (c .before .before .before .before .before .before .before .before .before .before .before .before .before .before .before .before .before .before .before .before .before .before .before .before .before .before .before .before .before .before .before .before .before .before .before .before .check-tables .ensures .placed v)) in
-    let ok = not-false _ (c .before .before .before .before .before .before .before .before .before .before .before .before .before .before .before .before .before .before .before .before .before .before .if2 .left) in
-    let whole = not-false _ (c .before .before .before .before .before .before .before .before .before .before .before .before .before .before .before .before .before .before .before .before .if3 .left) in
-    let s = with-lines _ _ _ _ _ _ _ (c .before .before .before .before .before .printed .given .1) (c .before .before .before .before .before .before .before .before .before .before .before .before .before .before .card-of .ensures) in
+    let check-tables = c .before .before .before .before .before .before .before .before .before .before .before .before .before .before .before .before .before .before .before .before .before .before .before .before .before .before .before .before .before .before .before .before .before .before .before .before .check-tables in
+    let if1 = c .before .before .before .before .before .before .before .before .before .before .before .before .before .before .before .before .before .before .before .before .before .before .before .before .before .before .before .before .before .before .before .before .before .before .before .if1 in
+    let free-count = c .before .before .before .before .before .before .before .before .before .before .before .before .before .before .before .before .before .before .before .before .before .before .before .before .before .before .before .before .before .before .before .free-count in
+    let read = c .before .before .before .before .before .before .before .before .before .before .before .before .before .before .before .before .before .before .before .before .before .before .before .before .before .read in
+    let if2 = c .before .before .before .before .before .before .before .before .before .before .before .before .before .before .before .before .before .before .before .before .before .before .if2 in
+    let if3 = c .before .before .before .before .before .before .before .before .before .before .before .before .before .before .before .before .before .before .before .before .if3 in
+    let printed = c .before .before .before .before .before .printed in
+    let card-of = c .before .before .before .before .before .before .before .before .before .before .before .before .before .before .card-of in
+    let by-place = c .before .before .before .before .before .before .before .before .by-place in
+    let called = c .before .before .before .before .before .before .before .before .before .before .before .before .before .before .before .before .before .before .before .before .before .before .before .before .before .before .before .before .before .before .before .before .before .before .before .before .before .before .before .before .before .before .before .before .args in
+    let clear-reading = c .before .before .before .before .before .before .before .before .before .before .before .before .before .before .before .before .before .before .before .before .before .before .before .before .before .before .before .before .before .before .before .before .before .before .before .before .before .before .before .before .before .clear-reading in
+    let v = sym (check-tables .ensures .said) ∙ not-false _ (if1 .left) in
+    let frees = free-count .ensures _ (valid-numbers _ v) (valid-quantified _ v) in
+    let recorded = read .ensures _ _ (read-ready _ v frees (check-tables .ensures .placed v)) in
+    let ok = not-false _ (if2 .left) in
+    let whole = not-false _ (if3 .left) in
+    let s = with-lines _ _ _ _ _ _ _ (printed .given .1) (card-of .ensures) in
     let wide = part-on-lines-end (c .before .before) in
-    let g = given-lent _ v read ok whole (c .before .before .before .before .before .before .before .before .before .before .before .before .before .before .before .before .before .before .before .before .before .before .before .before .before .before .before .before .before .before .before .free-count .result) (c .before .before .before .before .before .before .before .before .before .before .before .before .before .before .before .before .before .before .before .before .before .before .before .before .before .before .before .before .before .before .before .free-count .result + 1) _ _ frees refl wide (c .before .before .before .before .before .before .before .before .by-place .ensures) in
-    lines-ready _ v (c .before .before .before .before .before .before .before .before .before .before .before .before .before .before .before .before .before .before .before .before .before .before .before .before .before .before .before .before .before .before .before .before .before .before .before .before .before .before .before .before .before .before .before .before .args .ceiling) (length (now (c .before .before .before .before .before .before .before .before .before .before .before .before .before .before .before .before .before .before .before .before .before .before .before .before .before .before .before .before .before .before .before .before .before .before .before .before .before .before .before .before .before .before .before .before .args .table))) (now (c .before .before .before .before .before .before .before .before .before .before .before .before .before .before .before .before .before .before .before .before .before .before .before .before .before .before .before .before .before .before .before .before .before .before .before .before .before .before .before .before .before .before .before .before .args .on)) (now (c .before .before .before .before .before .before .before .before .before .before .before .before .before .before .before .before .before .before .before .before .before .before .before .before .before .before .before .before .before .before .before .before .before .before .before .before .before .before .before .before .before .before .before .before .args .off)) s g (c .before .before .before .before .before .before .before .before .before .before .before .before .before .before .before .before .before .before .before .before .before .before .before .before .before .before .before .before .before .before .before .before .before .before .before .before .before .before .before .before .before .clear-reading .ensures) (free-small _ v _ refl)
+    let g = given-lent _ v recorded ok whole (free-count .result) (free-count .result + 1) _ _ frees refl wide (by-place .ensures) in
+    lines-ready _ v (called .ceiling) (length (now (called .table))) (now (called .on)) (now (called .off)) s g (clear-reading .ensures) (free-small _ v _ refl)
 
 enum-known-printed-2 : tie.Need-enum-known-printed-2
 enum-known-printed-2 c = search needs
@@ -148,29 +191,52 @@ same-length-4 c = search needs
 
 returns-4 : tie.Need-returns-4
 returns-4 c =
-    let v = sym (c .before .before .before .before .before .before .before .before .before .before .before .before .before .before .before .before .before .before .before .before .before .before .before .before .before .before .before .before .before .before .before .before .before .before .before .before .before .before .before .check-tables .ensures .said) ∙ not-false _ (c .before .before .before .before .before .before .before .before .before .before .before .before .before .before .before .before .before .before .before .before .before .before .before .before .before .before .before .before .before .before .before .before .before .before .before .before .before .before .if1 .left) in
-    let frees = c .before .before .before .before .before .before .before .before .before .before .before .before .before .before .before .before .before .before .before .before .before .before .before .before .before .before .before .before .before .before .before .before .before .before .free-count .ensures _ (valid-numbers _ v) (valid-quantified _ v) in
-    let read = c .before .before .before .before .before .before .before .before .before .before .before .before .before .before .before .before .before .before .before .before .before .before .before .before .before .before .before .before .read .ensures _ _ (read-ready _ v frees (c .before .before .before .before .before .before .before .before .before .before .before .before .before .before .before .before .before .before .before .before .before .before .before .before .before .before .before .before .before .before .before .before .before .before .before .before .before .before .before .check-tables .ensures .placed v)) in
-    let ok = not-false _ (c .before .before .before .before .before .before .before .before .before .before .before .before .before .before .before .before .before .before .before .before .before .before .before .before .before .if2 .left) in
-    let whole = not-false _ (c .before .before .before .before .before .before .before .before .before .before .before .before .before .before .before .before .before .before .before .before .before .before .before .if3 .left) in
-    let s = with-lines _ _ _ _ _ _ _ (c .before .before .before .before .before .before .before .before .printed .given .1) (c .before .before .before .before .before .before .before .before .before .before .before .before .before .before .before .before .before .card-of .ensures) in
+    let check-tables = c .before .before .before .before .before .before .before .before .before .before .before .before .before .before .before .before .before .before .before .before .before .before .before .before .before .before .before .before .before .before .before .before .before .before .before .before .before .before .before .check-tables in
+    let if1 = c .before .before .before .before .before .before .before .before .before .before .before .before .before .before .before .before .before .before .before .before .before .before .before .before .before .before .before .before .before .before .before .before .before .before .before .before .before .before .if1 in
+    let free-count = c .before .before .before .before .before .before .before .before .before .before .before .before .before .before .before .before .before .before .before .before .before .before .before .before .before .before .before .before .before .before .before .before .before .before .free-count in
+    let read = c .before .before .before .before .before .before .before .before .before .before .before .before .before .before .before .before .before .before .before .before .before .before .before .before .before .before .before .before .read in
+    let if2 = c .before .before .before .before .before .before .before .before .before .before .before .before .before .before .before .before .before .before .before .before .before .before .before .before .before .if2 in
+    let if3 = c .before .before .before .before .before .before .before .before .before .before .before .before .before .before .before .before .before .before .before .before .before .before .before .if3 in
+    let printed = c .before .before .before .before .before .before .before .before .printed in
+    let card-of = c .before .before .before .before .before .before .before .before .before .before .before .before .before .before .before .before .before .card-of in
+    let by-place = c .before .before .before .before .before .before .before .before .before .before .before .by-place in
+    let called = c .before .before .before .before .before .before .before .before .before .before .before .before .before .before .before .before .before .before .before .before .before .before .before .before .before .before .before .before .before .before .before .before .before .before .before .before .before .before .before .before .before .before .before .before .before .before .before .args in
+    let clear-reading = c .before .before .before .before .before .before .before .before .before .before .before .before .before .before .before .before .before .before .before .before .before .before .before .before .before .before .before .before .before .before .before .before .before .before .before .before .before .before .before .before .before .before .before .before .clear-reading in
+    let on-lines = c .before .before .on-lines in
+    let v = sym (check-tables .ensures .said) ∙ not-false _ (if1 .left) in
+    let frees = free-count .ensures _ (valid-numbers _ v) (valid-quantified _ v) in
+    let recorded = read .ensures _ _ (read-ready _ v frees (check-tables .ensures .placed v)) in
+    let ok = not-false _ (if2 .left) in
+    let whole = not-false _ (if3 .left) in
+    let s = with-lines _ _ _ _ _ _ _ (printed .given .1) (card-of .ensures) in
     let wide = part-on-lines-end (c .before .before .before .before .before) in
-    let g = given-lent _ v read ok whole (c .before .before .before .before .before .before .before .before .before .before .before .before .before .before .before .before .before .before .before .before .before .before .before .before .before .before .before .before .before .before .before .before .before .before .free-count .result) (c .before .before .before .before .before .before .before .before .before .before .before .before .before .before .before .before .before .before .before .before .before .before .before .before .before .before .before .before .before .before .before .before .before .before .free-count .result + 1) _ _ frees refl wide (c .before .before .before .before .before .before .before .before .before .before .before .by-place .ensures) in
-    found-owed _ v (c .before .before .before .before .before .before .before .before .before .before .before .before .before .before .before .before .before .before .before .before .before .before .before .before .before .before .before .before .before .before .before .before .before .before .before .before .before .before .before .before .before .before .before .before .before .before .before .args .ceiling) (length (now (c .before .before .before .before .before .before .before .before .before .before .before .before .before .before .before .before .before .before .before .before .before .before .before .before .before .before .before .before .before .before .before .before .before .before .before .before .before .before .before .before .before .before .before .before .before .before .before .args .table))) (now (c .before .before .before .before .before .before .before .before .before .before .before .before .before .before .before .before .before .before .before .before .before .before .before .before .before .before .before .before .before .before .before .before .before .before .before .before .before .before .before .before .before .before .before .before .before .before .before .args .on)) (now (c .before .before .before .before .before .before .before .before .before .before .before .before .before .before .before .before .before .before .before .before .before .before .before .before .before .before .before .before .before .before .before .before .before .before .before .before .before .before .before .before .before .before .before .before .before .before .before .args .off)) s (no-fault _ v read ok whole) _ g _ _ (c .before .before .before .before .before .before .before .before .before .before .before .before .before .before .before .before .before .before .before .before .before .before .before .before .before .before .before .before .before .before .before .before .before .before .before .before .before .before .before .before .before .before .before .before .clear-reading .ensures) (free-small _ v _ refl) (c .before .before .on-lines .ensures .1 .1 ∙ ap length (c .before .before .before .before .before .before .before .before .before .before .before .before .before .before .before .before .before .before .before .before .before .before .before .before .before .before .before .before .before .before .before .before .before .before .before .before .before .before .before .before .before .before .before .before .clear-reading .ensures)) (c .before .before .on-lines .result .told) (c .before .before .on-lines .result .lines) (c .before .before .on-lines .result .visits) _ (c .before .before .on-lines .ensures .0) (c .before .before .on-lines .ensures .1 .0)
+    let g = given-lent _ v recorded ok whole (free-count .result) (free-count .result + 1) _ _ frees refl wide (by-place .ensures) in
+    found-owed _ v (called .ceiling) (length (now (called .table))) (now (called .on)) (now (called .off)) s (no-fault _ v recorded ok whole) _ g _ _ (clear-reading .ensures) (free-small _ v _ refl) (on-lines .ensures .1 .1 ∙ ap length (clear-reading .ensures)) (on-lines .result .told) (on-lines .result .lines) (on-lines .result .visits) _ (on-lines .ensures .0) (on-lines .ensures .1 .0)
 
 same-length-5 : tie.Need-same-length-5
 same-length-5 c = search needs
 
 returns-5 : tie.Need-returns-5
 returns-5 c =
-    let v = sym (c .before .before .before .before .before .before .before .before .before .before .before .before .before .before .before .before .before .before .before .before .before .before .before .before .before .before .before .before .before .before .before .before .before .check-tables .ensures .said) ∙ not-false _ (c .before .before .before .before .before .before .before .before .before .before .before .before .before .before .before .before .before .before .before .before .before .before .before .before .before .before .before .before .before .before .before .before .if1 .left) in
-    let frees = c .before .before .before .before .before .before .before .before .before .before .before .before .before .before .before .before .before .before .before .before .before .before .before .before .before .before .before .before .free-count .ensures _ (valid-numbers _ v) (valid-quantified _ v) in
-    let read = c .before .before .before .before .before .before .before .before .before .before .before .before .before .before .before .before .before .before .before .before .before .before .read .ensures _ _ (read-ready _ v frees (c .before .before .before .before .before .before .before .before .before .before .before .before .before .before .before .before .before .before .before .before .before .before .before .before .before .before .before .before .before .before .before .before .before .check-tables .ensures .placed v)) in
-    let ok = not-false _ (c .before .before .before .before .before .before .before .before .before .before .before .before .before .before .before .before .before .before .before .if2 .left) in
-    let whole = not-false _ (c .before .before .before .before .before .before .before .before .before .before .before .before .before .before .before .before .before .if3 .left) in
-    let s = with-refusal _ _ _ _ (c .before .before .printed2 .given .0 .0) (c .before .before .before .before .before .before .before .before .before .before .before .card-of .result .visits) _ (c .before .before .printed2 .given .1) (c .before .before .before .before .before .before .before .before .before .before .before .card-of .ensures) in
-    refused-owed _ _ _ (c .not-found4 .result .told) (c .not-found4 .result .lines) (c .not-found4 .result .visits) (c .before .before .printed2 .given .0 .0) (c .before .before .before .before .before .before .before .before .before .before .before .card-of .result .visits) _ _ (c .not-found4 .ensures) (c .before .before .before .before .before .before .before .before .before .before .before .before .before .before .before .before .before .before .before .before .before .before .before .before .before .before .before .before .before .before .before .before .before .before .before .before .before .before .clear-reading .ensures)
-    (refusal-served _ v (c .before .before .before .before .before .before .before .before .before .before .before .before .before .before .before .before .before .before .before .before .before .before .before .before .before .before .before .before .before .before .before .before .before .before .before .before .before .before .before .before .before .args .ceiling) (length (now (c .before .before .before .before .before .before .before .before .before .before .before .before .before .before .before .before .before .before .before .before .before .before .before .before .before .before .before .before .before .before .before .before .before .before .before .before .before .before .before .before .before .args .table))) (now (c .before .before .before .before .before .before .before .before .before .before .before .before .before .before .before .before .before .before .before .before .before .before .before .before .before .before .before .before .before .before .before .before .before .before .before .before .before .before .before .before .before .args .on)) (now (c .before .before .before .before .before .before .before .before .before .before .before .before .before .before .before .before .before .before .before .before .before .before .before .before .before .before .before .before .before .before .before .before .before .before .before .before .before .before .before .before .before .args .off)) (no-fault _ v read ok whole) (c .before .before .printed2 .given .0 .0) (c .before .before .before .before .before .before .before .before .before .before .before .card-of .result .visits) _ _ s)
+    let check-tables = c .before .before .before .before .before .before .before .before .before .before .before .before .before .before .before .before .before .before .before .before .before .before .before .before .before .before .before .before .before .before .before .before .before .check-tables in
+    let if1 = c .before .before .before .before .before .before .before .before .before .before .before .before .before .before .before .before .before .before .before .before .before .before .before .before .before .before .before .before .before .before .before .before .if1 in
+    let free-count = c .before .before .before .before .before .before .before .before .before .before .before .before .before .before .before .before .before .before .before .before .before .before .before .before .before .before .before .before .free-count in
+    let read = c .before .before .before .before .before .before .before .before .before .before .before .before .before .before .before .before .before .before .before .before .before .before .read in
+    let if2 = c .before .before .before .before .before .before .before .before .before .before .before .before .before .before .before .before .before .before .before .if2 in
+    let if3 = c .before .before .before .before .before .before .before .before .before .before .before .before .before .before .before .before .before .if3 in
+    let printed2 = c .before .before .printed2 in
+    let card-of = c .before .before .before .before .before .before .before .before .before .before .before .card-of in
+    let not-found4 = c .not-found4 in
+    let clear-reading = c .before .before .before .before .before .before .before .before .before .before .before .before .before .before .before .before .before .before .before .before .before .before .before .before .before .before .before .before .before .before .before .before .before .before .before .before .before .before .clear-reading in
+    let called = c .before .before .before .before .before .before .before .before .before .before .before .before .before .before .before .before .before .before .before .before .before .before .before .before .before .before .before .before .before .before .before .before .before .before .before .before .before .before .before .before .before .args in
+    let v = sym (check-tables .ensures .said) ∙ not-false _ (if1 .left) in
+    let frees = free-count .ensures _ (valid-numbers _ v) (valid-quantified _ v) in
+    let recorded = read .ensures _ _ (read-ready _ v frees (check-tables .ensures .placed v)) in
+    let ok = not-false _ (if2 .left) in
+    let whole = not-false _ (if3 .left) in
+    let s = with-refusal _ _ _ _ (printed2 .given .0 .0) (card-of .result .visits) _ (printed2 .given .1) (card-of .ensures) in
+    refused-owed _ _ _ (not-found4 .result .told) (not-found4 .result .lines) (not-found4 .result .visits) (printed2 .given .0 .0) (card-of .result .visits) _ _ (not-found4 .ensures) (clear-reading .ensures)
+    (refusal-served _ v (called .ceiling) (length (now (called .table))) (now (called .on)) (now (called .off)) (no-fault _ v recorded ok whole) (printed2 .given .0 .0) (card-of .result .visits) _ _ s)
 
 pub closest-spec : {M : Type 1} → statement M
 closest-spec =

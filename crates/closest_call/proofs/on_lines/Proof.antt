@@ -1,3 +1,4 @@
+-- `closest_call::on_lines` meets its contract.
 use borrow.Author.Needs.{needs}
 use Rattle.closest_call.proofs.on_lines.Statement.{statement}
 use Rattle.closest_call.proofs.on_lines.Tie as tie

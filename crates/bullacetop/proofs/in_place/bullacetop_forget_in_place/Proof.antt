@@ -2,16 +2,16 @@
 use borrow.Author.Needs.{needs}
 use Rattle.bullacetop.proofs.in_place.bullacetop_forget_in_place.Statement.{statement}
 use Rattle.bullacetop.proofs.in_place.bullacetop_forget_in_place.Tie as tie
-use Rattle.bullacetop.proofs.Numbers.{says-as}
+use Rattle.reply_numbers.proofs.Numbers.{says-as}
 
 forget-requires : tie.Need-forget-requires
 forget-requires c κs = search needs
 
-changed-requires : tie.Need-changed-requires
-changed-requires c κs = search needs
+of-change-requires : tie.Need-of-change-requires
+of-change-requires c κs = search needs
 
 returns : tie.Need-returns
-returns c = says-as (c .before .forget .ensures) (c .changed .ensures)
+returns c = says-as (c .before .forget .ensures) (c .of-change .ensures)
 
 pub bullacetop-forget-in-place-spec : {M : Type 1} → statement M
-bullacetop-forget-in-place-spec = tie.close (tie.spec forget-requires changed-requires returns)
+bullacetop-forget-in-place-spec = tie.close (tie.spec forget-requires of-change-requires returns)
