@@ -11,7 +11,7 @@ use borrow.Author.Tests.{ltb-true, ltb-false}
 use Rattle.qbf.specs.Formula.{paper}
 use Rattle.tables.specs.Records.{recordsAt}
 use Rattle.tables.proofs.Records.{grown-at-once}
-use Rattle.loading.specs.Written.{recordFrom, Recorded}
+use Rattle.unloading.specs.Written.{recordFrom, Recorded}
 use Rattle.state.specs.Reading.{listing, recordAt, recordsOf}
 use Rattle.state.proofs.Listing.{listing-length, listing-at}
 

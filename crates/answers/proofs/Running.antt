@@ -29,12 +29,12 @@ use Rattle.tables.specs.Codes.{codes, Statuses, Quantified}
 use Rattle.tables.specs.Shelves.{entriesOf, newestOf}
 use Rattle.tables.specs.Records.{Ledger, StoreKept, recordsAt}
 use Rattle.tables.proofs.Records.{ledger-start}
-use Rattle.loading.specs.Written.{Recorded}
+use Rattle.unloading.specs.Written.{Recorded}
 use Rattle.answers.proofs.Records.{records-length, records-back}
 use Rattle.tables.specs.Matrices.{MatrixShown, RowLength, wordsOf}
 use Rattle.tables.specs.Sets.{Descended}
-use Rattle.loading.specs.Started.{StartShown}
-use Rattle.loading.proofs.Matrix.{matrix-words}
+use Rattle.loading_start.specs.Started.{StartShown}
+use Rattle.loading_clauses.proofs.Matrix.{matrix-words}
 use Rattle.coding.proofs.Placewise.{zeros}
 use Rattle.cover.specs.Cover.{Covers}
 use Rattle.node.specs.Node.{entryOf, Reads}

@@ -15,17 +15,17 @@ ghost use Rattle.tables.specs.Shelves.{Shelves, newestOf};
 ghost use Rattle.answers.specs.Run.{Ready, AtStart, Below, Over, Searched, Ran};
 use coding::quantifiers::quantifiers_of;
 use coding::statuses::statuses_of;
-use loading::clauses::load_clauses;
-use loading::clauses::words_of;
-use loading::entries::load;
-use loading::entries::unload;
-use loading::entries::unload_clauses;
-use loading::start::start_rows;
+use loading_clauses::load_clauses;
+use loading_clauses::words_of;
+use loading_constraints::load;
+use loading_start::start_rows;
 use node::Answer;
 use node::Position;
 use node::Verdict;
 use search_entry::Source;
 use search_start::Start;
+use unloading::unload;
+use unloading::unload_clauses;
 
 // Room for the constraint that each level of the search puts aside.
 const SAVED: usize = tables::NUMBERS * tables::NUMBERS;

@@ -21,7 +21,7 @@ use Rattle.tables.specs.Sets.{ClauseSets}
 use Rattle.tables.proofs.Laws.{rows-length}
 use Rattle.clause_sets.proofs.Descending.{rows-start}
 use Rattle.coding.proofs.Placewise.{zeros}
-use Rattle.loading.specs.Started.{FirstRow}
+use Rattle.loading_start.specs.Started.{FirstRow}
 use Rattle.reading.specs.Placed.{Placed}
 use Rattle.reading.proofs.Placing.{placed-reading}
 use Rattle.node.specs.declared.Verdict.the-variants.{Yes, No, Mixed}

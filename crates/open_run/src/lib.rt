@@ -5,9 +5,10 @@ ghost use Rattle.qbf.specs.Formula.{paper};
 ghost use Rattle.tables.specs.Formed.{Clauses};
 ghost use Rattle.open_run.specs.OpenRun.{Ready, AtEmpty, Below, Searched, Walked};
 use coding::quantifiers::quantifiers_of;
-use loading::clauses::load_clauses;
-use loading::clauses::words_of;
-use loading::start::first_row;
+use dead_clauses::any_dead;
+use loading_clauses::load_clauses;
+use loading_clauses::words_of;
+use loading_start::first_row;
 use node::Verdict;
 use open_search::start;
 use open_search::verdicts::Finding;
@@ -15,7 +16,6 @@ use open_search::verdicts::counted;
 use open_search::verdicts::found;
 use reading::placed::by_place;
 use search_start::Start;
-use search_start::dead::any_dead;
 use search_start::satisfied::all_satisfied;
 
 // The tests of the empty node, where every variable is open: "If a rule is dead: No. Else if every rule is satisfied: Yes."

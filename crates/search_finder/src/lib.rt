@@ -2,10 +2,10 @@
 // the first table, `sizes` their count and the number of literals of each; places, quantifiers and values stand by number.
 ghost use Rattle.qbf.specs.Formula.{paper};
 ghost use Rattle.tables.specs.Views.{Standing};
-ghost use Rattle.search_start.specs.Dead.{FoundLowest};
+ghost use Rattle.lowest_dead.specs.Found.{FoundLowest};
 ghost use Rattle.search_finder.specs.Lent.{Tells};
 use literal::cell_at;
-use search_start::lowest::lowest_dead;
+use lowest_dead::lowest_dead;
 
 // Whether the rows that stand lie within the table.
 fn stand<'a>(clauses: &'a [i16], sizes: &'a [u16]) -> bool

@@ -1,8 +1,3 @@
-pub mod Flat
-pub mod Scan
-pub mod Lost
-pub mod Next
-pub mod Lowering
 pub mod Satisfying
 pub mod Tried
 pub mod Matching

@@ -1,22 +1,15 @@
 -- Steps 1 to 4 at the start node, by the answers of the finders.
-use Prim.Native.Nat.{ℕ, _≤_, _<_}
-use native.Mathlib.Omega.{arith}
 use mathlib.Core.Path.{_≡_, refl, sym, ap, _∙_}
 use mathlib.Core.Bool.{Bool, true, false, cond, _||_, true≢false, false≢true}
 use mathlib.Core.List.{List, [], _∷_}
 use mathlib.Core.Option.{Option, none, some}
 use lib.Dec.{leb}
-use lib.IntN.{ℤ}
-use lib.ListN.{getD}
-use Rattle.qbf.specs.Formula.{paper, Prefix, Clause, Node, any, all, dead, satisfied}
+use Rattle.qbf.specs.Formula.{Prefix, Clause, Node, any, all, dead, satisfied}
 use Rattle.qbf.specs.Truth.{Outcome}
 use Rattle.qbf.specs.Learning.{Constraint, first, lowestDead, reducedFound, reduce, implicant, eligibleMatch, concludeBy}
 use Rattle.theory.proofs.Basics.{→any}
 use Rattle.theory.proofs.Sets.{Found}
 use Rattle.theory.proofs.Lowest.{lowest-found}
-use Rattle.tables.specs.Views.{Kinds, Values, rowsOf}
-use Rattle.search_start.specs.Dead.{NextDead}
-use Rattle.search_start.proofs.Flat.{rows-some, rows-none}
 use Rattle.search_start.specs.Match.{matching}
 use Rattle.search_start.specs.Start.{isNo, isYes, Starts, Concludes}
 use Rattle.search_start.specs.declared.Start.the-variants.{No, Yes, Open}
@@ -38,16 +31,7 @@ found-any : {A : Type 0} (f : A → Bool) (xs : List A) (o : Option A) → Found
 found-any f xs none w = sym w
 found-any f xs (some x) w = sym (→any f xs x (w .0) (w .1))
 
--- ---- a dead clause, by the index of the first
-module _ {flat : List ℤ} {sizes kinds values : List ℕ} {r : ℕ} (f : NextDead flat sizes kinds values 0 r)
-    (D : Prefix) (s : Node) (k : Kinds D kinds) (v : Values D s values) where
-  pub dead-found : r < getD sizes 0 0 → true ≡ any (dead D s) (rowsOf (paper .literals) flat sizes)
-  dead-found h = sym (rows-some (dead D s) (paper .literals) flat sizes r h (f .is-dead h D s k v))
-
-  pub none-dead : getD sizes 0 0 ≤ r → false ≡ any (dead D s) (rowsOf (paper .literals) flat sizes)
-  none-dead h = sym (rows-none (dead D s) (paper .literals) flat sizes (λ j m. f .alive D s k v j (omega arith) (omega (arith, m, h))))
-
--- steps 1 and 2, by whether a clause is dead
+-- ---- steps 1 and 2, by whether a clause is dead
 module _ (D : Prefix) (s : Node) (R : List Clause) (cs : List Constraint) {a : Bool} (is : a ≡ any (dead D s) R) where
   pub no-by-clause : a ≡ true → true ≡ isNo D s R cs
   no-by-clause e = ap (λ (b : Bool). b || any (matching D false s) cs) (sym e ∙ is)

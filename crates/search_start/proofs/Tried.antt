@@ -9,7 +9,7 @@ use lib.IntN.{ℤ}
 use lib.ListN.{getD}
 use Rattle.qbf.specs.Formula.{Prefix, Node, all, any}
 use Rattle.tables.specs.Views.{row, rowsOf}
-use Rattle.search_start.proofs.Flat.{rows-all, rows-none}
+use Rattle.lent_rows.proofs.Flat.{rows-all, rows-none}
 
 pub record Tried (shown : Prefix → Node → Type 0) (test : Prefix → Node → List ℤ → Bool) (b : Bool) (w : ℕ) (flat : List ℤ) (sizes : List ℕ) (count k : ℕ) : Type 0 where
   pub counted : count ≡ getD sizes 0 0

@@ -1,3 +1,2 @@
-pub mod Dead
 pub mod Match
 pub mod Start

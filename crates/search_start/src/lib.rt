@@ -5,14 +5,11 @@ ghost use lib.ListN.{length};
 ghost use Rattle.qbf.specs.Formula.{paper, Prefix, Node};
 ghost use Rattle.tables.specs.Views.{Places, Kinds, Values, Standing, rowsOf};
 ghost use Rattle.search_start.specs.Start.{isNo, isYes, Concludes};
-use dead::any_dead;
+use dead_clauses::any_dead;
 use matches::any_match;
 use satisfied::all_satisfied;
 
-pub mod dead; // the dead clauses
-pub mod lowest; // the one of them that step 1 takes, at any node
 pub mod matches; // learned constraints
-pub mod rows;
 pub mod satisfied;
 
 // What steps 1 to 4 decide, or that the node is open.

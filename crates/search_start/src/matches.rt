@@ -5,8 +5,8 @@ ghost use lib.ListN.{length};
 ghost use Rattle.qbf.specs.Formula.{Prefix, Node, all, any, has};
 ghost use Rattle.tables.specs.Views.{Places, Values, Standing, rowsOf};
 ghost use Rattle.search_start.specs.Match.{matching};
-use crate::rows::row;
 use constraint::mention::last_place;
+use lent_rows::row;
 use literal::cell_at;
 use literal::status_of;
 

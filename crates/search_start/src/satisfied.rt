@@ -2,7 +2,7 @@
 ghost use mathlib.Core.Path.{_≡_};
 ghost use Rattle.qbf.specs.Formula.{paper, Prefix, Node, all, satisfied};
 ghost use Rattle.tables.specs.Views.{Values, Standing, rowsOf};
-use crate::rows::row;
+use lent_rows::row;
 use literal::TRUE;
 use literal::cell_at;
 use literal::status_of;

@@ -2,7 +2,7 @@
 use borrow.Author.Needs.{needs}
 use Rattle.open_run.proofs.at_empty.Statement.{statement}
 use Rattle.open_run.proofs.at_empty.Tie as tie
-use Rattle.search_start.proofs.dead.any_dead.Reads as any-dead-reads
+use Rattle.dead_clauses.proofs.any_dead.Reads as any-dead-reads
 use Rattle.search_start.proofs.satisfied.all_satisfied.Reads as all-satisfied-reads
 use mathlib.Core.Path.{_∙_, sym}
 use mathlib.Core.List.{[]}

@@ -2,8 +2,8 @@
 use borrow.Author.Needs.{needs}
 use Rattle.open_run.proofs.below.Statement.{statement}
 use Rattle.open_run.proofs.below.Tie as tie
-use Rattle.loading.proofs.clauses.words_of.Reads as words-of-reads
-use Rattle.loading.proofs.start.first_row.Reads as first-row-reads
+use Rattle.loading_clauses.proofs.words_of.Reads as words-of-reads
+use Rattle.loading_start.proofs.first_row.Reads as first-row-reads
 use Rattle.open_search.proofs.start.Reads as start-reads
 use Rattle.open_run.proofs.Walking.{below-found}
 

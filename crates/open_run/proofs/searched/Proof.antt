@@ -7,7 +7,7 @@ use Rattle.open_run.proofs.Walking.{searched-found}
 use Rattle.open_run.proofs.searched.Statement.{statement}
 use Rattle.open_run.proofs.searched.Tie as tie
 use Rattle.coding.proofs.quantifiers.quantifiers_of.Reads as quantifiers-of-reads
-use Rattle.loading.proofs.clauses.load_clauses.Reads as load-clauses-reads
+use Rattle.loading_clauses.proofs.load_clauses.Reads as load-clauses-reads
 use Rattle.open_run.proofs.below.Reads as below-reads
 use Rattle.reading.proofs.placed.by_place.Reads as by-place-reads
 

@@ -4,11 +4,11 @@ use Rattle.answers.proofs.run.below.Tie as tie
 use Rattle.answers.proofs.run.below.Reads as reads
 use Rattle.answers.proofs.run.below.Lts as lts
 use Rattle.coding.proofs.statuses.statuses_of.Reads as statuses-of-reads
-use Rattle.loading.proofs.clauses.words_of.Reads as words-of-reads
-use Rattle.loading.proofs.start.start_rows.Reads as start-rows-reads
+use Rattle.loading_clauses.proofs.words_of.Reads as words-of-reads
+use Rattle.loading_start.proofs.start_rows.Reads as start-rows-reads
 use Rattle.search.proofs.start.Reads as start-reads
 use native.Mathlib.Omega.{arith}
-use Rattle.loading.proofs.Matrix.{row-length}
+use Rattle.loading_clauses.proofs.Matrix.{row-length}
 use Rattle.answers.proofs.Running.{room, few-lines, below-shown}
 
 words-of-requires : tie.Need-words-of-requires

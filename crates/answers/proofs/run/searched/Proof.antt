@@ -5,7 +5,7 @@ use Rattle.answers.proofs.run.searched.Reads as reads
 use Rattle.answers.proofs.run.searched.Lts as lts
 use Rattle.answers.proofs.run.over_clauses.Reads as over-clauses-reads
 use Rattle.coding.proofs.quantifiers.quantifiers_of.Reads as quantifiers-of-reads
-use Rattle.loading.proofs.clauses.load_clauses.Reads as load-clauses-reads
+use Rattle.loading_clauses.proofs.load_clauses.Reads as load-clauses-reads
 use native.Mathlib.Omega.{arith}
 use Rattle.qbf.specs.Formula.{paper}
 use Rattle.tables.proofs.Laws.{rows-length}

@@ -10,7 +10,7 @@ use lib.ListN.{length}
 use Rattle.tables.specs.Views.{Places, Values}
 use Rattle.search_start.specs.Match.{matching}
 use Rattle.search_start.proofs.Tried.{Tried, tried-none, tried-more, tried-below, none-passes}
-use Rattle.search_start.proofs.Flat.{rows-some}
+use Rattle.lent_rows.proofs.Flat.{rows-some}
 
 abbrev Inv-loop : tie.InvT-loop
 Inv-loop learned sizes width places values cube at count k₀ k = Tried (λ D s. Places D places × Values D s values × (length s ≡ at)) (λ D s. matching D cube s) false width learned sizes count k

@@ -10,7 +10,7 @@ use borrow.Author.Tests.{not-true, not-false}
 use Rattle.qbf.specs.Formula.{paper, satisfied}
 use Rattle.tables.specs.Views.{Values}
 use Rattle.search_start.proofs.Tried.{Tried, tried-none, tried-more, tried-below, all-pass}
-use Rattle.search_start.proofs.Flat.{rows-fail}
+use Rattle.lent_rows.proofs.Flat.{rows-fail}
 
 abbrev Inv-loop : tie.InvT-loop
 Inv-loop clauses sizes values count k₀ k = Tried (λ D s. Values D s values) satisfied true (paper .literals) clauses sizes count k

@@ -1,0 +1,3 @@
+pub mod Scan
+pub mod Lost
+pub mod Next
