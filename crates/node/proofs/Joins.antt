@@ -1,9 +1,9 @@
 -- Joining the constraints of two sides: the resolvent, and what is stored.
-use Prim.Native.Nat.{ℕ, suc, _≤_, _<_}
+use Prim.Native.Nat.{ℕ, zero, suc, _≤_, _<_}
 use native.Mathlib.Omega.{arith}
 use mathlib.Core.Path.{_≡_, refl, sym, ap, subst, _∙_}
 use mathlib.Core.Bool.{Bool, true, false}
-use mathlib.Core.List.{List, map}
+use mathlib.Core.List.{List, [], _∷_, _++_, map}
 use lib.ListN.{length, take, drop, length-map}
 use lib.Seq.{length-take-le}
 use lib.Dec.{eqb}
@@ -18,10 +18,24 @@ use Rattle.node.specs.Node.{Fits}
 use Rattle.search_entry.specs.Entry.{tableOf, entryAt}
 use Rattle.search_entry.specs.declared.Source.{Source}
 use Rattle.search_entry.specs.declared.Bounds.{Bounds}
-use Rattle.node.specs.Step.{Stored, JoinedSides}
-use Rattle.node.proofs.Coded.{map-push}
+use Rattle.resolution.specs.Stored.{Stored}
+use Rattle.node.specs.Step.{JoinedSides}
 
--- by whether the on side's constraint f ends at the next place, which no literal of it stands beyond
+-- ---- one row more of a list of rows
+map-drop : {A B : Type 0} (f : A → B) (n : ℕ) (l : List A) → map f (drop n l) ≡ drop n (map f l)
+map-drop f zero l = refl
+map-drop f (suc n) [] = refl
+map-drop f (suc n) (x ∷ l) = map-drop f n l
+
+map-append : {A B : Type 0} (f : A → B) (l m : List A) → map f (l ++ m) ≡ map f l ++ map f m
+map-append f [] m = refl
+map-append f (x ∷ l) m = ap {B = List _} (λ t. f x ∷ t) (map-append f l m)
+
+-- one more, mapped
+map-push : {A B : Type 0} (f : A → B) (n : ℕ) (e : A) (es : List A) → map f (push n e es) ≡ push n (f e) (map f es)
+map-push f n e es = rw (map-append, map-drop, length-map)
+
+-- ---- by whether the on side's constraint f ends at the next place, which no literal of it stands beyond
 module _ (D : Prefix) (at : ℕ) (v : Polarity) (e f : Constraint) (ordered : inOrder D 0 f ≡ true) (ends : lastPlace D f ≤ suc at) {b : Bool} (named : b ≡ eqb (lastPlace D f) (suc at)) where
   -- that is whether it names that place
   is-named : mentions D (suc at) f ≡ b

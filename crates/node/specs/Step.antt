@@ -6,10 +6,7 @@ use mathlib.Core.List.{List, map}
 use Rattle.qbf.specs.Formula.{paper, Quantifier, Prefix}
 use Rattle.qbf.specs.Plain.{decides}
 use Rattle.qbf.specs.Learning.{Polarity, Constraint, push, mentions, resolvent}
-use lib.ListN.{take, drop}
 use Rattle.tables.specs.Codes.{codes}
-use Rattle.search_entry.specs.declared.Bounds.{Bounds}
-use Rattle.search_entry.specs.declared.Source.the-variants.{Learned}
 use Rattle.node.specs.declared.Verdict.{Verdict}
 use Rattle.node.specs.declared.Verdict.the-variants.{Yes, No, Mixed}
 use Rattle.node.specs.declared.Answer.{Answer}
@@ -41,11 +38,6 @@ joinedOf D p v e₀ e₁ = cond (mentions D p e₁) (resolvent D p v e₀ e₁) 
 -- "Joining unites the two without v, reduces, stores the result and sends it up"
 abbrev pub storedOf : Prefix → ℕ → Polarity → Constraint → Constraint → List Constraint → List Constraint
 storedOf D p v e₀ e₁ es = cond (mentions D p e₁) (push (paper .constraints) (resolvent D p v e₀ e₁) es) es
-
--- the bounds are those of a stored row
-pub record Stored (b : Bounds) (row cells : List ℕ) : Type 0 where
-  pub source : b .source ≡ Learned
-  pub part : take (b .len) (drop (b .start) cells) ≡ row
 
 -- the codes of the constraint that goes up, and of the constraints of that polarity after; the number n of the newest becomes m
 pub record JoinedSides (D : Prefix) (p : ℕ) (v : Polarity) (e₀ e₁ : Constraint) (es : List Constraint) (cs : List ℕ) (rows : List (List ℕ)) (n m : ℕ) : Type 0 where

@@ -1,6 +1,7 @@
 // Step 5 of a visit: what a node's two sides give, without the sides themselves; and the lines of a card that they add or take back.
 use coding::list::wide;
 use coding::list::write;
+use resolution::ends_next;
 use search_entry::Bounds;
 use search_entry::Source;
 use search_entry::entry;
@@ -23,9 +24,9 @@ ghost use Rattle.search_entry.specs.Entry.{Bounded};
 ghost use Rattle.node.specs.Node.{boundsOf, entryOf, Reads, Ended, Grown, goesUpOf, onwardOf, resolventOf, Fits, NextKind, Finished, Joined, LineTask, linedOf, settledLines, SettledTo};
 
 mod line; // one line more of the card
-pub mod side; // what the verdict and the constraint of one side say
+pub mod side; // what the verdict of one side says
 mod both; // what the verdicts of both sides ask for
-mod join; // the resolvent of both sides, made and stored
+mod join; // the resolvent of both sides, where it is asked for
 
 // "two Yes give Yes, two No give No, anything else Mixed"
 pub enum Verdict {
@@ -125,7 +126,7 @@ pub fn goes_up<'a>(
         return true;
     }
     let row = entry_of(off, clauses, learned, cubes, area);
-    !side::ends_next(row, row.len(), at)
+    !ends_next(row, row.len(), at)
 }
 
 // Puts the off side's constraint aside, so that it survives what is stored while the on side is visited.

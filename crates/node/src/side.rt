@@ -1,16 +1,8 @@
-// What the verdict and the constraint of one side say at a node.
+// What the verdict of one side says at a node.
 use super::Verdict;
-use coding::code::place_of;
-use coding::list::last_code;
 ghost use mathlib.Core.Path.{_≡_};
-ghost use mathlib.Core.Bool.{true};
-ghost use Prim.Native.Nat.{suc, _≤_, _<_};
-ghost use lib.ListN.{length, take};
-ghost use lib.Dec.{eqb};
-ghost use Rattle.qbf.specs.Formula.{paper, Prefix, Quantifier};
-ghost use Rattle.qbf.specs.Learning.{Constraint, lastPlace};
+ghost use Rattle.qbf.specs.Formula.{Quantifier};
 ghost use Rattle.tables.specs.Views.{quantifierCode};
-ghost use Rattle.tables.specs.Codes.{codes};
 ghost use Rattle.node.specs.Node.{isOf, isMixed, storedBy};
 ghost use Rattle.node.specs.Step.{alone};
 
@@ -59,17 +51,4 @@ pub fn is_enough(v: Verdict, kind: u16) -> bool
         Verdict::No => kind == tables::FORALL,
         Verdict::Mixed => false,
     }
-}
-
-// Whether the last of the first n codes is of the place after `at`; then there is one.
-pub fn ends_next<'a>(cells: &'a [u16], n: usize, at: usize) -> bool
-    requires { ⌜ (n ≤ length (now cells)) × (at < suc (paper .numbers)) ⌝ }
-    ensures { λ r. ⌜
-        (r ≡ true → 1 ≤ n)
-        × ((D : Prefix) (e : Constraint)
-        → take n (now (cells .entry)) ≡ codes D e
-        → r ≡ eqb (lastPlace D e) (suc at))
-        ⌝ }
-{
-    place_of(last_code(cells, n)) == at + 1
 }

@@ -1,4 +1,2 @@
 pub mod Rows
-pub mod Negated
-pub mod Adding
-pub mod Kept
+pub mod Appending

@@ -22,7 +22,7 @@ use Rattle.state.specs.Derived.{Sized}
 use Rattle.state.proofs.Valid.{valid-facts, table-rows, valid-tables}
 use Rattle.serving.specs.Serves.{Said, said, saidOf, Serves}
 use Rattle.serving.proofs.Calls.{served, unchanged}
-use Rattle.rule_rows.specs.Learned.{Room, Kept}
+use Rattle.withdrawal.specs.Learned.{Room, Kept}
 use Rattle.rule_rows.proofs.Rows.{same-rows}
 
 -- ---- a table that counts one row less

@@ -5,13 +5,13 @@ ghost use Rattle.state.specs.Reading.{stateOf};
 ghost use Rattle.serving.specs.Serves.{Serves};
 ghost use Rattle.rules.specs.Rules.{changeSaid};
 use crate::Change;
+use form_rows::accept_one;
 use rule_faults::forms::one_fault;
 use rule_faults::refusals;
 use rule_rows::cells::clear;
 use rule_rows::clauses::accept;
-use rule_rows::forms::accept_one;
-use rule_rows::learned::leave;
 use state::check_tables;
+use withdrawal::leave;
 
 // "Forget empties the store."
 pub fn forget<'a>(

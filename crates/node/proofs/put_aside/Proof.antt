@@ -5,7 +5,7 @@ use Rattle.node.proofs.put_aside.Tie as tie
 use mathlib.Core.Path.{_∙_}
 use native.Mathlib.Omega.{arith}
 use denote.Ref.{now}
-use Rattle.node.proofs.Aside.{counted-part}
+use Rattle.resolution.proofs.Aside.{counted-part}
 
 entry-of-requires : tie.Need-entry-of-requires
 entry-of-requires c κs = search needs
