@@ -429,7 +429,7 @@ struct bullacetop_written bullacetop_print(const uint8_t *text, size_t n, uint8_
  * One line of a session, of n bytes without its newline: `(rule 1 (no 2))`, `(one 1 2)`, `(withdraw)`, `(query 1 (no 2))`, `(card)`, `(card 64)` for a table of 64
  * bytes, `(keep-card)`, `(keep-card 64)`, `(closest 1 (no 2))`, `(forget)`, `(write)`, `(write 64)`, `(page 1)`. The number is the line's, for the text of a refusal. A
  * line that is none of them is refused with 1. `shown` and `cards` tell the card answered last: hand in what the last turn returned, and the
- * table as that turn left it. A page is printed from them; only a card writes to the table.
+ * table as that turn left it. A page is printed from them; only a card, a keep card or a closest reading writes to the table.
  */
 struct bullacetop_turn bullacetop_line(
     struct bullacetop_state x,

@@ -1,5 +1,2 @@
-pub mod Lines
 pub mod NextPlace
 pub mod Sides
-pub mod Joins
-pub mod Steps

@@ -1,4 +1,4 @@
-// Step 5 of a visit: what a node's two sides give, without the sides themselves; and the lines of a card that they add or take back.
+// What a visit hands up and where it stands; and of step 5, what the off side gives.
 use coding::list::wide;
 use coding::list::write;
 use resolution::ends_next;
@@ -7,26 +7,17 @@ use search_entry::Source;
 use search_entry::entry;
 use search_entry::placed;
 ghost use mathlib.Core.Path.{_≡_};
-ghost use mathlib.Core.Bool.{Bool, true, false, cond};
-ghost use mathlib.Core.List.{List, [], _∷_, _++_};
-ghost use Prim.Native.Nat.{ℕ, suc, _+_, _-_, _^_, _≤_, _<_};
-ghost use lib.ListN.{length, getD, take};
-ghost use Rattle.qbf.specs.Formula.{paper, Quantifier, Prefix, Clause, Node, _▹_};
+ghost use mathlib.Core.Bool.{true};
+ghost use Prim.Native.Nat.{suc, _+_, _-_, _≤_, _<_};
+ghost use lib.ListN.{length, take};
+ghost use Rattle.qbf.specs.Formula.{paper, Quantifier, Prefix};
 ghost use Rattle.qbf.specs.Truth.{Outcome};
-ghost use Rattle.qbf.specs.Learning.{Constraint, Store};
-ghost use Rattle.qbf.specs.Card.{byteOf};
+ghost use Rattle.qbf.specs.Learning.{Constraint};
 ghost use Rattle.tables.specs.Views.{quantifierCode};
-ghost use Rattle.tables.specs.Codes.{Quantified};
-ghost use Rattle.tables.specs.Shelves.{Shelves, newestOf};
-ghost use Rattle.tables.specs.Records.{Ledger, StoreKept};
-ghost use Rattle.cover.specs.Cover.{Covers};
 ghost use Rattle.search_entry.specs.Entry.{Bounded};
-ghost use Rattle.node.specs.Node.{boundsOf, entryOf, Reads, Ended, Grown, goesUpOf, onwardOf, resolventOf, Fits, NextKind, Finished, Joined, LineTask, linedOf, settledLines, SettledTo};
+ghost use Rattle.node.specs.Node.{boundsOf, entryOf, Reads, Ended, goesUpOf, NextKind};
 
-mod line; // one line more of the card
 pub mod side; // what the verdict of one side says
-mod both; // what the verdicts of both sides ask for
-mod join; // the resolvent of both sides, where it is asked for
 
 // "two Yes give Yes, two No give No, anything else Mixed"
 pub enum Verdict {
@@ -68,7 +59,7 @@ pub fn next_kind<'a>(quantifiers: &'a [u8; tables::CODES], at: usize) -> u16
 }
 
 // The bounds of the constraint.
-fn bounds_of(a: Answer) -> Bounds
+pub fn bounds_of(a: Answer) -> Bounds
     ensures { λ r. ⌜ r ≡ boundsOf a ⌝ }
 {
     let source = a.source;
@@ -146,169 +137,6 @@ pub fn put_aside<'a>(
         ⌝ }
 {
     write(saved, entry_of(off, clauses, learned, cubes, area));
-}
-
-// Both sides done, where the off side did not go up: the on side's result, the resolvent of both, which is stored, or Mixed.
-pub fn finish<'a>(
-    first: Verdict,
-    n: usize,
-    on: Answer,
-    kind: u16,
-    saved: &'a [u16],
-    clauses: &'a [u16; tables::CLAUSE_ROWS],
-    area: &'a [u16; tables::AREA],
-    learned: &mut [u16; tables::CONSTRAINT_CODES],
-    learned_links: &mut [u64; tables::CONSTRAINT_LINKS],
-    cubes: &mut [u16; tables::CONSTRAINT_CODES],
-    cube_links: &mut [u64; tables::CONSTRAINT_LINKS],
-    quantifiers: &'a [u8; tables::CODES],
-    at: usize,
-) -> Answer
-    requires { ⌜
-        (n ≤ paper .numbers)
-        × Bounded (boundsOf on)
-        × (n ≤ length (now saved))
-        × (at < suc (paper .numbers))
-        × Shelves (now learned) (now «learned_links») (now cubes) (now «cube_links»)
-        × (newestOf (now «learned_links») < 2 ^ 63)
-        × (newestOf (now «cube_links») < 2 ^ 63)
-        ⌝ }
-    ensures { λ r. ⌜
-        Finished on r
-        × Shelves (now (learned .exit)) (now («learned_links» .exit)) (now (cubes .exit)) (now («cube_links» .exit))
-        × Grown (now («learned_links» .entry)) (now («cube_links» .entry)) (now («learned_links» .exit)) (now («cube_links» .exit))
-        ⌝ }
-    ensures { λ r. ⌜
-        ((D : Prefix) (R : List Clause) (s : Node) (κ : Quantifier) (a o : Outcome Constraint) (g : Ledger) (st : Store) (k : ℕ)
-        → Quantified D (now (quantifiers .entry))
-        → length s ≡ at
-        → quantifierCode κ ≡ kind
-        → Reads D first (take n (now (saved .entry))) a
-        → Reads
-        D
-        (on .verdict)
-        (entryOf on (now (clauses .entry)) (now (learned .entry)) (now (cubes .entry)) (now (area .entry)))
-        o
-        → Ended D (suc at) a
-        → Ended D (suc at) o
-        → Fits D (resolventOf D (suc at) a o)
-        → g .clauses ≡ length R
-        → StoreKept D g st (now (learned .entry)) (now («learned_links» .entry)) (now (cubes .entry)) (now («cube_links» .entry))
-        → Joined
-        D
-        g
-        (onwardOf D R κ s a o st k)
-        r
-        (now (clauses .entry))
-        (now (area .entry))
-        (now (learned .exit))
-        (now («learned_links» .exit))
-        (now (cubes .exit))
-        (now («cube_links» .exit)))
-        ⌝ }
-{
-    let second = on.verdict;
-    let enough = side::is_enough(second, kind);
-    let step = both::step_of(first, second, enough);
-    match step {
-        both::Step::Mixed => both::mixed(on),
-        both::Step::On => with_lines(on, on.lines), // not copied whole
-        both::Step::Clauses => join::join(
-            on,
-            clauses,
-            area,
-            saved,
-            n,
-            at,
-            quantifiers,
-            false,
-            learned,
-            learned_links,
-        ),
-        both::Step::Cubes => join::join(
-            on,
-            clauses,
-            area,
-            saved,
-            n,
-            at,
-            quantifiers,
-            true,
-            cubes,
-            cube_links,
-        ),
-    }
-}
-
-// Whether a side of that verdict is a line by itself, the lines being Yes nodes or No nodes: below the free variables there are none.
-pub fn lined(v: Verdict, kind: u16, yes: bool) -> bool
-    ensures { λ r. ⌜ r ≡ linedOf kind yes v ⌝ }
-{
-    if kind == tables::FREE {
-        return side::is_of(v, yes);
-    }
-    false
-}
-
-// A line more where the side with that value is one.
-pub fn line_if<'a>(
-    one: bool,
-    value: u8,
-    table: &mut [u8],
-    lines: usize,
-    p: Position,
-    statuses: &'a [u8; tables::CODES],
-) -> usize
-    requires { ⌜ (p .free ≤ paper .numbers) × (lines < 2 ^ 63) ⌝ }
-    ensures { λ r. ⌜
-        (length (now (table .exit)) ≡ length (now (table .entry)))
-        × (r ≡ cond one (lines + 1) lines)
-        × (one ≡ false → now (table .exit) ≡ now (table .entry))
-        ⌝ }
-    ensures { λ _. ⌜
-        ((s : Node) (b : Bool) (ls : List Node)
-        → LineTask s ls (now (statuses .entry)) (now (table .entry)) p lines
-        → value ≡ byteOf b
-        → Covers (p .free) (now (table .exit)) (ls ++ cond one ((s ▹ b) ∷ []) []))
-        ⌝ }
-{
-    if !one {
-        return lines;
-    }
-    line::add_line(table, value, lines, p, statuses);
-    lines + 1
-}
-
-// After both sides: two lines are one line above, so the off side's line is taken back; else the on side's line is added where it is one.
-pub fn settle_lines<'a>(
-    first: bool,
-    second: bool,
-    table: &mut [u8],
-    lines: usize,
-    p: Position,
-    statuses: &'a [u8; tables::CODES],
-) -> usize
-    requires { ⌜ (p .free ≤ paper .numbers) × (lines < 2 ^ 63) × (first ≡ true → second ≡ true → 1 ≤ lines) ⌝ }
-    ensures { λ r. ⌜
-        (length (now (table .exit)) ≡ length (now (table .entry)))
-        × (r ≡ settledLines first second lines)
-        × (second ≡ false → now (table .exit) ≡ now (table .entry))
-        ⌝ }
-    ensures { λ _. ⌜
-        ((s : Node) (ls : List Node)
-        → LineTask s ls (now (statuses .entry)) (now (table .entry)) p lines
-        → SettledTo first second s ls (p .free) (now (table .exit)))
-        ⌝ }
-{
-    if !second {
-        return lines;
-    }
-    if first {
-        let free = p.free;
-        cover::pop_line(table, lines, free);
-        return lines - 1;
-    }
-    line_if(second, tables::ON, table, lines, p, statuses)
 }
 
 // The position of the off side, where this visit is counted, and of the on side.

@@ -7,7 +7,7 @@ ghost use Rattle.qbf.specs.Ceiling.{highestCeiling};
 ghost use Rattle.serving.specs.Serves.{said, number};
 ghost use Rattle.replies.specs.Replies.{rulingSaid, cardSaid, rulingFor, total};
 use node::Verdict;
-use node::lined;
+use node_lines::lined;
 
 // "22 the state is malformed", "8 a query names a non-flag, or a flag twice", "21 the card has more lines than the table holds", "a stopped walk
 // returns 34"

@@ -26,13 +26,13 @@ use Rattle.search.proofs.visit.Kinds as visit-kinds
 use Rattle.search.proofs.+branch+exists+forall+free+side+turn+visit.Lts-visit as visit-lts
 use Rattle.coding.proofs.statuses.give.Reads as give-reads
 use Rattle.coding.proofs.statuses.restore.Reads as restore-reads
-use Rattle.node.proofs.finish.Reads as finish-reads
+use Rattle.both_sides.proofs.finish.Reads as finish-reads
 use Rattle.node.proofs.goes_up.Reads as goes-up-reads
-use Rattle.node.proofs.line_if.Reads as line-if-reads
-use Rattle.node.proofs.lined.Reads as lined-reads
+use Rattle.node_lines.proofs.line_if.Reads as line-if-reads
+use Rattle.node_lines.proofs.lined.Reads as lined-reads
 use Rattle.node.proofs.next_kind.Reads as next-kind-reads
 use Rattle.node.proofs.put_aside.Reads as put-aside-reads
-use Rattle.node.proofs.settle_lines.Reads as settle-lines-reads
+use Rattle.node_lines.proofs.settle_lines.Reads as settle-lines-reads
 use Rattle.node.proofs.settled.Reads as settled-reads
 use Rattle.node.proofs.stopped.Reads as stopped-reads
 use Rattle.node.proofs.to_off.Reads as to-off-reads
