@@ -7,7 +7,7 @@ use mathlib.Core.Option.{Option, none, some}
 use lib.IntN.{ℤ}
 use lib.ListN.{length, take}
 use Rattle.qbf.specs.Formula.{paper, Literal}
-use Rattle.qbf.specs.Calls.{Call, rule, query, card, keepCard, forget, withdraw, one}
+use Rattle.qbf.specs.Calls.{Call, rule, query, card, keepCard, forget, withdraw, one, closest}
 use Rattle.layout.specs.Words.{Bytes}
 use Rattle.layout.specs.Output.{refusalText}
 use Rattle.layout.specs.Session.{named, callOf}
@@ -25,7 +25,7 @@ use Rattle.answer_text.specs.Shown.{cardIn}
 use Rattle.serve.specs.Line.{CallServed, lineCard, Turned, TurnedBeside}
 use Rattle.serve.specs.Calls.{Small}
 use Rattle.named.proofs.Standing.{deciding, flags-standing}
-use Rattle.serve.proofs.Cut.{rule-served, rule-card, one-served, one-card, query-served}
+use Rattle.serve.proofs.Cut.{rule-served, rule-card, one-served, one-card, query-served, closest-served, closest-card}
 
 -- ---- a card, or a closest reading, asks for no more than the table has
 pub small-call : (l : Bytes) (top : ℕ) (q : CallLine) (out : List ℤ) → CallUnder top (callOf l) q out → Small q
@@ -40,6 +40,13 @@ small-call l top (line.Closest n size) out h = subst Fits (h .1) (fits-call l)
 small-call l top line.NotCall out h = tt
 
 -- ---- by the literals that stand in the table
+-- the flags that are on, or those that are off, in a table of the same length
+standing : (n : ℕ) (lits : List ℤ) → length lits ≡ suc (paper .numbers) → (ls : List Literal) → Kept n lits ls → (k : ℕ) → k ≡ min n (suc (paper .numbers))
+    → (v : Bool) (m : ℕ) (out : List ℤ) → length out ≡ suc (paper .numbers) → Kept m out (named v (take k lits)) → (c : ℕ) → c ≡ min m (suc (paper .numbers)) → take c out ≡ named v (deciding ls)
+standing n lits wide ls z k e v m out room w c i =
+    ap (λ (j : ℕ). take j out) i
+    ∙ flags-standing n lits wide ls z v m out room (subst (λ (j : ℕ). Kept m out (named v (take j lits))) e w)
+
 module _ {x : State} {number : ℕ} {s : Shown} {r : Turn} {d : Bytes} (n : ℕ) (lits : List ℤ) (wide : length lits ≡ suc (paper .numbers)) where
   -- a call that adds clauses, by its literals' first ones
   adding-turned : (make : List Literal → Call) (ls : List Literal)
@@ -57,27 +64,42 @@ module _ {x : State} {number : ℕ} {s : Shown} {r : Turn} {d : Bytes} (n : ℕ)
   pub one-turned : (k : ℕ) → k ≡ min n (suc (paper .numbers)) → TurnedBeside x (some (one (take k lits))) number s r d → (ls : List Literal) → Kept n lits ls → TurnedBeside x (some (one ls)) number s r d
   one-turned k e h ls q = adding-turned one ls (λ t x′ w. one-served x n lits wide number t x′ ls q w) (one-card x n lits wide ls q) k e h
 
-  -- the flags that are on and those that are off, in tables of the same length
   pub query-turned : (top k : ℕ) → k ≡ min n (suc (paper .numbers))
       → (ons : ℕ) (on : List ℤ) → length on ≡ suc (paper .numbers) → Kept ons on (named true (take k lits))
       → (offs : ℕ) (off : List ℤ) → length off ≡ suc (paper .numbers) → Kept offs off (named false (take k lits))
       → {a b : ℕ} → a ≡ min ons (suc (paper .numbers)) → b ≡ min offs (suc (paper .numbers))
       → TurnedBeside x (some (query top (take a on) (take b off))) number s r d
       → (ls : List Literal) → Kept n lits ls → TurnedBeside x (some (query top (named true ls) (named false ls))) number s r d
-  query-turned top k e ons on on-room p offs off off-room q {a} {b} ea eb h ls z = λ t. by (h t)
+  query-turned top k e ons on on-room p offs off off-room q {a} {b} ea eb h ls z = λ t.
+      let u = h t in
+      record { within = u .within; served = query-served x ls (take a on) (take b off) on-flags off-flags number (take (r .length) d) (r .state) top (u .served); shown = u .shown }
     where
-      standing : (v : Bool) (m : ℕ) (out : List ℤ) → length out ≡ suc (paper .numbers) → Kept m out (named v (take k lits)) → {c : ℕ} → c ≡ min m (suc (paper .numbers)) → take c out ≡ named v (deciding ls)
-      standing v m out room w {c} i =
-          ap (λ (j : ℕ). take j out) i
-          ∙ flags-standing n lits wide ls z v m out room (subst (λ (j : ℕ). Kept m out (named v (take j lits))) e w)
+      on-flags : take a on ≡ named true (deciding ls)
+      on-flags = standing n lits wide ls z k e true ons on on-room p a ea
 
-      by : {t : Bytes} → Turned x (some (query top (take a on) (take b off))) number s t r t d → Turned x (some (query top (named true ls) (named false ls))) number s t r t d
-      by {t} u =
-          record {
-            within = u .within;
-            served = query-served x number (take (r .length) d) (r .state) top ls (take a on) (take b off) (standing true ons on on-room p ea) (standing false offs off off-room q eb) (u .served);
-            shown = u .shown;
-          }
+      off-flags : take b off ≡ named false (deciding ls)
+      off-flags = standing n lits wide ls z k e false offs off off-room q b eb
+
+-- a closest reading likewise
+pub closest-turned : {x : State} {number : ℕ} {r : Turn} {t d : Bytes} (n : ℕ) (lits : List ℤ) → length lits ≡ suc (paper .numbers) → (top size k : ℕ) → k ≡ min n (suc (paper .numbers))
+    → (ons : ℕ) (on : List ℤ) → length on ≡ suc (paper .numbers) → Kept ons on (named true (take k lits))
+    → (offs : ℕ) (off : List ℤ) → length off ≡ suc (paper .numbers) → Kept offs off (named false (take k lits))
+    → {a b : ℕ} → a ≡ min ons (suc (paper .numbers)) → b ≡ min offs (suc (paper .numbers))
+    → ((s₀ : Shown) (t₀ : Bytes) → Turned x (some (closest top size (take a on) (take b off))) number s₀ t₀ r t d)
+    → (ls : List Literal) → Kept n lits ls → (s₀ : Shown) (t₀ : Bytes) → Turned x (some (closest top size (named true ls) (named false ls))) number s₀ t₀ r t d
+closest-turned {x} {number} {r} {t} {d} n lits wide top size k e ons on on-room p offs off off-room q {a} {b} ea eb h ls z s₀ t₀ =
+    let u = h s₀ t₀ in
+    record {
+      within = u .within;
+      served = closest-served x ls (take a on) (take b off) on-flags off-flags number (take (r .length) d) (r .state) top size (u .served);
+      shown = u .shown ∙ closest-card x ls (take a on) (take b off) on-flags off-flags top size (cardIn s₀ t₀);
+    }
+  where
+    on-flags : take a on ≡ named true (deciding ls)
+    on-flags = standing n lits wide ls z k e true ons on on-room p a ea
+
+    off-flags : take b off ≡ named false (deciding ls)
+    off-flags = standing n lits wide ls z k e false offs off off-room q b eb
 
 -- ---- by the kind of the call
 module _ {x : State} {number : ℕ} {s₀ : Shown} {t₀ : Bytes} {r : Turn} {t d : Bytes} where
@@ -102,6 +124,12 @@ module _ {x : State} {number : ℕ} {s₀ : Shown} {t₀ : Bytes} {r : Turn} {t 
       where
         by : CallUnder top c (line.Query n) lits → Turned x c number s₀ t₀ r t d
         by (ls, i, k) = meant c (some (query top (named true ls) (named false ls))) i (u ls k)
+
+    pub called-closest : (n size : ℕ) → q ≡ line.Closest n size → ((ls : List Literal) → Kept n lits ls → Turned x (some (closest top size (named true ls) (named false ls))) number s₀ t₀ r t d) → Turned x c number s₀ t₀ r t d
+    called-closest n size e u = by (subst (λ (z : CallLine). CallUnder top c z lits) e h)
+      where
+        by : CallUnder top c (line.Closest n size) lits → Turned x c number s₀ t₀ r t d
+        by (ls, i, k) = meant c (some (closest top size (named true ls) (named false ls))) i (u ls k)
 
     pub called-card : (size : ℕ) → q ≡ line.Card size → Turned x (some (card top size)) number s₀ t₀ r t d → Turned x c number s₀ t₀ r t d
     called-card size e u = meant c (some (card top size)) (subst (λ (z : CallLine). CallUnder top c z lits) e h) u

@@ -143,9 +143,9 @@ refused-served top v x size line r p k tb x′ t s q h e =
       kept = s .kept;
     }
 
--- a card that is shown
-pub shown-served : (top : ℕ) (v : Bool) (x : State) (size line : ℕ) (a : Said) (x′ : State) (t : Bytes) → Serves x (cardOf v top size) a x′ → t ≡ lineAnswer (readState x) line (some (cardOf v top size)) → CallServed x (some (cardOf v top size)) line t x′
-shown-served top v x size line a x′ t s e = record { text = e; next = s .next; kept = s .kept }
+-- a call whose answer is shown
+pub shown-served : (x : State) (c : Call) (line : ℕ) (a : Said) (x′ : State) (t : Bytes) → Serves x c a x′ → t ≡ lineAnswer (readState x) line (some c) → CallServed x (some c) line t x′
+shown-served x c line a x′ t s e = record { text = e; next = s .next; kept = s .kept }
 
 -- what the lines' table owes to the writer, from the contract
 pub shown-said : (top : ℕ) (v : Bool) (x : State) (size r n : ℕ) (p : Printed) (k : ℕ) (tb : List ℕ) (x′ : State) → length tb ≡ size → Serves x (cardOf v top size) (cardSaid p k tb) x′ → r ≡ number (cardSaid p 0 [] .refusal) → r ≡ 0 → n ≡ cardSaid p 0 [] .lines

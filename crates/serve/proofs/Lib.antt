@@ -4,6 +4,7 @@ pub mod Answered
 pub mod Demands
 pub mod Turns
 pub mod CardTexts
+pub mod NearestTexts
 pub mod LastCard
 pub mod Called
 pub mod Books

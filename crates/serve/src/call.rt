@@ -6,6 +6,7 @@ use crate::change::serve_forget;
 use crate::change::serve_one;
 use crate::change::serve_rule;
 use crate::change::serve_withdraw;
+use crate::closest::serve_closest;
 use crate::query::serve_query;
 use answer_text::refusal::refuse;
 use answer_text::shown::Shown;
@@ -22,10 +23,13 @@ ghost use mathlib.Core.Option.{Option, none, some};
 ghost use Prim.Native.Nat.{ℕ, suc, _≤_};
 ghost use lib.ListN.{length};
 ghost use Rattle.qbf.specs.Formula.{paper, Literal};
-ghost use Rattle.qbf.specs.Calls.{Call, rule, query, one};
+ghost use Rattle.qbf.specs.Calls.{Call, rule, query, one, closest};
+ghost use Rattle.layout.specs.Words.{Bytes};
+ghost use Rattle.layout.specs.Program.{tableBytes};
 ghost use Rattle.layout.specs.Session.{named, callOf};
 ghost use Rattle.reader.specs.Items.{Kept};
 ghost use Rattle.reader.specs.Calls.{CallUnder};
+ghost use Rattle.answer_text.specs.declared.shown.Shown.{Shown};
 ghost use Rattle.answer_text.specs.Room.{answerBytes};
 ghost use Rattle.serve.specs.Line.{Turned, TurnedBeside};
 ghost use Rattle.serve.specs.Calls.{Small};
@@ -78,6 +82,32 @@ fn query_of(
     serve_query(x, &on[..ons], &off[..offs], line, shown, out, ceiling)
 }
 
+fn closest_of(
+    x: State,
+    lits: &[i16],
+    n: usize,
+    size: usize,
+    line: u64,
+    cards: &mut [u8; TABLE],
+    out: &mut [u8],
+    ceiling: u32,
+) -> Turn
+    requires { ⌜ size ≤ tableBytes ⌝ }
+    requires { ⌜ length (now lits) ≡ suc (paper .numbers) ⌝ }
+    requires { ⌜ answerBytes ≤ length (now out) ⌝ }
+    ensures { λ r. ⌜ ((ls : List Literal)
+        → Kept n (now (lits .entry)) ls
+        → (s : Shown) (t : Bytes)
+        → Turned x (some (closest ceiling size (named true ls) (named false ls))) line s t r (now (cards .exit)) (now (out .exit))) ⌝ }
+{
+    let k = kept(n);
+    let mut on = [0i16; tables::BY_NUMBER];
+    let mut off = [0i16; tables::BY_NUMBER];
+    let ons = kept(named(&lits[..k], true, &mut on));
+    let offs = kept(named(&lits[..k], false, &mut off));
+    serve_closest(x, &on[..ons], &off[..offs], size, line, cards, out, ceiling)
+}
+
 // A line that is no call leaves the state.
 fn no_call(x: State, line: u64, shown: Shown, out: &mut [u8]) -> Turn
     requires { ⌜ answerBytes ≤ length (now out) ⌝ }
@@ -116,6 +146,7 @@ fn serve_call(
         CallLine::Forget => serve_forget(x, line, shown, out),
         CallLine::Withdraw => serve_withdraw(x, line, shown, out),
         CallLine::One(n) => one_of(x, lits, n, line, shown, out),
+        CallLine::Closest(n, size) => closest_of(x, lits, n, size, line, cards, out, ceiling),
         CallLine::NotCall => no_call(x, line, shown, out),
     }
 }

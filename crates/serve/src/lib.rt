@@ -5,7 +5,8 @@ use state::State;
 pub mod book;
 pub mod call;
 mod card;
-mod change; // rule, withdraw, forget
+mod change; // rule, one, withdraw, forget
+mod closest;
 mod query;
 pub mod write; // the book's text
 

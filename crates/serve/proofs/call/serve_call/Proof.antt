@@ -6,7 +6,7 @@ use native.Mathlib.Omega.{arith}
 use mathlib.Core.Path.{subst}
 use denote.Ref.{now}
 use Rattle.serve.specs.Calls.{Small}
-use Rattle.serve.proofs.Called.{called-rule, called-query, called-card, called-keep-card, called-forget, called-withdraw, called-one, called-none}
+use Rattle.serve.proofs.Called.{called-rule, called-query, called-card, called-keep-card, called-forget, called-withdraw, called-one, called-closest, called-none}
 
 enum-known-call : tie.Need-enum-known-call
 enum-known-call c = search needs
@@ -49,6 +49,12 @@ enum-known-call-5 c = search needs
 
 one-of-requires : tie.Need-one-of-requires
 one-of-requires c κs = search needs
+
+enum-known-call-6 : tie.Need-enum-known-call-6
+enum-known-call-6 c = search needs
+
+closest-of-requires : tie.Need-closest-of-requires
+closest-of-requires c κs = (subst Small (c .before .before .before .call6 .given .1) (c .before .before .before .before .before .before .pre .0), c .before .before .before .before .before .before .pre .1)
 
 enum-told-3 : tie.Need-enum-told-3
 enum-told-3 c = search needs
@@ -117,6 +123,14 @@ same-length-8 c = search needs
 
 returns-8 : tie.Need-returns-8
 returns-8 c = λ o h.
+    let args = c .before .before .before .before .before .before .before .before .before .args in
+    called-closest (now (args .lits)) (args .ceiling) (args .call) o h (c .before .before .before .before .before .before .call6 .given .0 .0) (c .before .before .before .before .before .before .call6 .given .0 .1 .0) (c .before .before .before .before .before .before .call6 .given .1) (λ ls k. c .before .before .closest-of .ensures ls k (args .shown) (now (args .cards)))
+
+same-length-9 : tie.Need-same-length-9
+same-length-9 c = search needs
+
+returns-9 : tie.Need-returns-9
+returns-9 c = λ o h.
     let args = c .before .before .before .before .before .before .before .args in
     called-none (now (args .lits)) (args .ceiling) (args .call) o h (c .before .before .before .before .enum-told3 .given .1) (c .before .before .no-call .ensures (now (args .cards)))
 
@@ -138,6 +152,8 @@ serve-call-spec =
     serve-withdraw-requires
     enum-known-call-5
     one-of-requires
+    enum-known-call-6
+    closest-of-requires
     enum-told-3
     no-call-requires
     same-length
@@ -155,4 +171,6 @@ serve-call-spec =
     same-length-7
     returns-7
     same-length-8
-    returns-8)
+    returns-8
+    same-length-9
+    returns-9)

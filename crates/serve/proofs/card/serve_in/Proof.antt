@@ -79,7 +79,7 @@ returns-2 c = λ s t after.
     let size = length (now (c .before .before .before .before .before .before .before .before .before .before .before .before .before .before .before .before .before .before .before .before .before .before .before .before .before .before .before .before .before .args .table)) in
     let long : length (c .before .before .before .before .before .before .before .before .before .before .before .card-of .last .1 .1 .1 .1 .1 .1 .1 .1 .1 .0) ≡ length (now (c .before .before .before .before .before .before .before .before .before .before .before .before .before .before .before .before .before .before .before .before .before .before .before .before .before .before .before .before .before .args .table)) = search needs in
     turned (args .t1) (some (cardOf (args .yes) (args .ceiling) size)) (args .line) _ s (c .before .before .before .before .before .before .before .card-of2 .result) (c .before .before .put-shown .ensures (args .line))
-    (λ u e. shown-served (args .ceiling) (args .yes) (args .t1) size (args .line) (cardSaid (made .result .printed) (made .result .visits) table) _ u (made .ensures) (e ∙ ap (λ m. lineAnswer (readState (args .t1)) (args .line) (some (cardOf (args .yes) (args .ceiling) m))) long))
+    (λ u e. shown-served (args .t1) (cardOf (args .yes) (args .ceiling) size) (args .line) (cardSaid (made .result .printed) (made .result .visits) table) _ u (made .ensures) (e ∙ ap (λ m. lineAnswer (readState (args .t1)) (args .line) (some (cardOf (args .yes) (args .ceiling) m))) long))
     t (table ++ after)
     (card-left (args .ceiling) (args .yes) (args .t1) size (made .result .printed) (made .result .visits) table _ (made .ensures) (c .before .before .before .before .before .before .before .card-of2 .result) (c .before .before .before .before .before .before .before .card-of2 .ensures) after (cardIn s t))
 

@@ -5,7 +5,8 @@ use Rattle.serve.proofs.card.serve_part.Tie as tie
 use native.Mathlib.Omega.{arith}
 use denote.Ref.{now}
 use lib.ListN.{length, take, drop, length-take}
-use Rattle.serve.proofs.Turns.{card-sized}
+use Rattle.qbf.specs.Calls.{cardOf}
+use Rattle.serve.proofs.Turns.{sized}
 
 slice-relend-prefix-serve-in : tie.Need-slice-relend-prefix-serve-in
 slice-relend-prefix-serve-in c = search needs
@@ -25,7 +26,7 @@ same-length-2 c = search needs
 returns : tie.Need-returns
 returns c = λ s t.
     let args = c .before .before .before .before .before .before .before .before .before .args in
-    card-sized (args .ceiling) (args .yes) (length (take (args .size) (now (args .cards)))) (args .size) (omega (arith, length-take (args .size) (now (args .cards)), c .before .before .before .before .before .before .before .before .before .pre .0 .1)) (c .before .before .before .before .serve-in .ensures s t (drop (args .size) (now (args .cards))))
+    sized (cardOf (args .yes) (args .ceiling)) (length (take (args .size) (now (args .cards)))) (args .size) (omega (arith, length-take (args .size) (now (args .cards)), c .before .before .before .before .before .before .before .before .before .pre .0 .1)) (c .before .before .before .before .serve-in .ensures s t (drop (args .size) (now (args .cards))))
 
 pub serve-part-spec : {M : Type 1} → statement M
 serve-part-spec =
