@@ -22,7 +22,7 @@ fn opened_formulas() {
     assert_eq!(largest, (40, 255, 16), "{tally}");
     assert!(tally.truths > 1_000 && tally.swaps > 100 && tally.keeps > 100, "{tally}");
     assert!(tally.written > 1_000 && tally.withdrawals > 1_000, "{tally}");
-    assert!(tally.unsettled > 300 && tally.open > 300, "{tally}");
+    assert!(tally.unsettled > 200 && tally.open > 300, "{tally}");
     assert!(tally.closest > 300 && tally.differing > 100, "{tally}");
 }
 

@@ -133,10 +133,10 @@ impl Both {
         let text = found.text.expect("the page is large enough");
         assert_eq!(shown(&text), shown(expected.as_bytes()), "line {}", shown(line));
         assert_eq!(text, expected.as_bytes());
-        if matches!(said, Said::Refused(number) if ![21, 34].contains(&number)) {
+        if matches!(said, Said::Refused(number) if ![21, 34, 35].contains(&number)) {
             assert!(found.state == self.state, "the state is not the given one: {}", shown(line));
         }
-        let cards: [&[u8]; 2] = [b"(card", b"(keep-card"];
+        let cards: [&[u8]; 3] = [b"(card", b"(keep-card", b"(closest"];
         if cards.iter().any(|card| line.starts_with(card)) {
             assert!(self.cards.table().starts_with(&table), "another table: {}", shown(line));
         } else {
