@@ -1,6 +1,7 @@
 //! Whatever is called, no state comes out that the library refuses, and nothing panics.
 
-use bullacetop::{tag, untag, Book, Refusal, Refused, Session};
+use bullacetop::{print, room, tag, untag, Book, Refusal, Refused, Session};
+use std::thread;
 
 const BOOK: &[u8] = include_bytes!("../../examples/fan_board.book");
 
@@ -98,6 +99,23 @@ fn books_go_to_other_threads() {
     let book = Book::open(BOOK).unwrap();
     goes(&book);
     let mut other = book.clone();
-    let there = std::thread::spawn(move || other.card_lines(u32::MAX)).join().unwrap();
+    let there = thread::spawn(move || other.card_lines(u32::MAX)).join().unwrap();
     assert_eq!(there, book.clone().card_lines(u32::MAX));
+}
+
+/// What a call gives on a thread with a stack of so many KiB.
+fn on_stack<T: Send + 'static>(size: usize, call: impl FnOnce() -> T + Send + 'static) -> T {
+    thread::Builder::new().stack_size(size * 1024).spawn(call).unwrap().join().unwrap()
+}
+
+/// The header asks for 128 KiB for a call and 512 for a text or a line; the types take no more.
+#[test]
+fn on_the_stack_that_the_header_asks_for() {
+    const LARGEST: &[u8] = include_bytes!("../../examples/parlour_board.book");
+    const CARD: &[u8] = include_bytes!("../../examples/parlour_board.card");
+    let mut session = on_stack(512, || Session::open(LARGEST).unwrap());
+    let mut book = session.book().clone();
+    assert_eq!(on_stack(512, move || session.line(b"(card)").to_vec()), CARD);
+    assert_eq!(on_stack(512, || print(LARGEST, &mut vec![0; room()]).unwrap().to_vec()), CARD);
+    assert_eq!(on_stack(128, move || book.card_lines(u32::MAX).unwrap().lines.len()), 161);
 }
