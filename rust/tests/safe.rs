@@ -4,6 +4,7 @@ use bullacetop::{print, room, tag, untag, Book, Refusal, Refused, Session};
 use std::thread;
 
 const BOOK: &[u8] = include_bytes!("../../examples/fan_board.book");
+const CALLS: usize = 5_000;
 
 /// Numbers that look random, the same in each run.
 struct Numbers(u64);
@@ -61,7 +62,7 @@ fn no_call_leaves_a_malformed_state() {
     let mut numbers = Numbers(1);
     let mut book = Book::open(BOOK).unwrap();
     let mut refused = 0;
-    for _ in 0..20_000 {
+    for _ in 0..CALLS {
         if let Err(told) = call(&mut book, &mut numbers) {
             assert_ne!(told.refusal, Refusal::Malformed);
             assert!(!matches!(told.refusal, Refusal::Other(_)));
@@ -70,7 +71,7 @@ fn no_call_leaves_a_malformed_state() {
         let text = book.text().unwrap();
         assert_eq!(Book::open(&text).unwrap().text().unwrap(), text);
     }
-    assert!(0 < refused && refused < 20_000);
+    assert!(0 < refused && refused < CALLS);
 }
 
 #[test]
