@@ -1,0 +1,3 @@
+pub mod Accounts
+pub mod Day
+pub mod Promises
