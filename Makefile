@@ -1,6 +1,6 @@
 # Builds the programs and the library, each proved first, and installs them:
 #
-#     make                             proves and builds, with `rt`
+#     make                             proves and builds, with `tools/build`
 #     make shared                      links the library once more, as a shared one, which Python's module loads
 #     make install PREFIX=$HOME/.local programs, man pages, library and header; DESTDIR is put in front, for packages
 #     make uninstall PREFIX=..         takes them away again
@@ -24,10 +24,10 @@ SHARED = target/staticlib/libbullacetop.so
 all: programs library
 
 programs:
-	rt check $(PROGRAMS)
+	tools/build $(PROGRAMS)
 
 library:
-	rt staticlib bullacetop
+	tools/build bullacetop
 
 shared:
 	@[ -f $(ARCHIVE) ] || { echo "$(ARCHIVE) is not there: make library"; exit 1; }

@@ -1,7 +1,7 @@
 // Cards and lists of queries of the same books by other ways: DepQBF, incremental, with one list of assumptions a reading, and binary decision diagrams (BuDDy),
 // which quantify variable by variable from the innermost on and list the card from the diagram that is left.
 //
-//     rt staticlib bullacetop
+//     tools/build bullacetop
 //     gcc -O2 -I../include others.c ../target/staticlib/libbullacetop.a -lqdpll -lbdd -lm -o others      Debian's packages depqbf and libbdd-dev
 //     others BOOK..      BOOK as `bench --books FOLDER` writes them
 //

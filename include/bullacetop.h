@@ -1,7 +1,7 @@
 /*
  * Bullacetop: a proved solver for parametric quantified Boolean formulas, for C and whatever calls C.
  *
- * Link target/staticlib/libbullacetop.a, which `rt staticlib bullacetop` makes (x86-64 Linux; size_t has 64 bits).
+ * Link target/staticlib/libbullacetop.a, which `tools/build bullacetop` makes (x86-64 Linux; size_t has 64 bits).
  *
  * A state belongs to the caller, who lends it to a call; what the call changes is written where it stands. Only a line of a session takes a
  * state and answers with the next one. The library has no memory of its own: it allocates nothing, keeps no pointer after a call returns and

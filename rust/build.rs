@@ -1,4 +1,4 @@
-//! Links the static library that `rt staticlib bullacetop` makes.
+//! Links the static library that `tools/build bullacetop` makes.
 
 use std::env;
 use std::path::{Path, PathBuf};
@@ -14,7 +14,7 @@ fn main() {
     let library = folder.join("libbullacetop.a");
     assert!(
         library.exists(),
-        "{} is missing: rt staticlib bullacetop, or set {FOLDER} to its folder",
+        "{} is missing: tools/build bullacetop, or set {FOLDER} to its folder",
         library.display()
     );
     println!("cargo:rustc-link-search=native={}", folder.display());

@@ -2,7 +2,7 @@
  * Book A of paper 01 through the C calls, and a few refusals.
  *
  * From the repository's root:
- *   rt staticlib bullacetop
+ *   tools/build bullacetop
  *   gcc -std=c99 -Wall -Wextra -pedantic -O2 -Iinclude examples/c/card.c target/staticlib/libbullacetop.a -o target/card_c
  *   target/card_c
  */

@@ -2,7 +2,7 @@
  * A book as text, then calls as lines, each answered in text; a page of the card; the book written back; a refused text, and a table that is too short.
  *
  * From the repository's root:
- *   rt staticlib bullacetop
+ *   tools/build bullacetop
  *   gcc -std=c99 -Wall -Wextra -pedantic -O2 -Iinclude examples/c/session.c target/staticlib/libbullacetop.a -o target/session_c
  *   target/session_c
  */

@@ -1,11 +1,11 @@
-//! Links the static library that `rt staticlib bullacetop` makes.
+//! Links the static library that `tools/build bullacetop` makes.
 
 use std::path::Path;
 
 fn main() {
     let folder = Path::new(env!("CARGO_MANIFEST_DIR")).join("../../target/staticlib");
     let library = folder.join("libbullacetop.a");
-    assert!(library.exists(), "{} is missing: rt staticlib bullacetop", library.display());
+    assert!(library.exists(), "{} is missing: tools/build bullacetop", library.display());
     println!("cargo:rustc-link-search=native={}", folder.display());
     println!("cargo:rustc-link-lib=static=bullacetop");
     println!("cargo:rerun-if-changed={}", library.display());

@@ -2,7 +2,6 @@
 use Prim.Native.Nat.{ℕ, zero, suc, ◌≤◌, ◌<◌, ◌^◌}
 use native.Mathlib.Omega.{arith}
 use mathlib.Core.Path.{◌≡◌, refl, sym, ap, subst, ◌∙◌}
-use mathlib.Core.Bool.{Bool}
 use borrow.Author.Tests.{ne_eqb}
 use lib.ListN.{length, take, length-take}
 use Rattle.layout.specs.Words.{Bytes}

@@ -1,4 +1,6 @@
 // The text of an answer that is no card, in a lent table that holds every answer; and the card answered last, as a session holds it.
+#![tactic(auto)]
+
 pub mod book; // a refused text, and a table too short
 pub mod change; // rule, withdraw, forget
 pub mod query;

@@ -7,7 +7,7 @@ use state::State;
 
 // The card stands in the first bytes of the table, as many as the call asked for; a refusal other than 0 is no card.
 #[repr(C)]
-#[derive(Drop)]
+#[derive(Clone, Copy)]
 pub struct Shown {
     pub refusal: u16,
     pub size: usize,

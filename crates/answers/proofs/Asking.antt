@@ -19,7 +19,7 @@ use Rattle.qbf.specs.Calls.{Call, query, card, keep_card, card_of, Reply, refuse
 use Rattle.qbf.specs.Demands.{refusal_of}
 use Rattle.theory.proofs.Starting.{free_rest, start_length}
 use Rattle.theory.proofs.Queries.{reading_length}
-use Rattle.tables.specs.Views.{Numbers, Places, Kinds}
+use Rattle.tables.specs.Views.{Places, Kinds}
 use Rattle.cover.specs.Cover.{Covers}
 use Rattle.cover.proofs.Laws.{covers_none, covers_open, covers_fits}
 use Rattle.node.specs.Node.{new_lines}

@@ -11,8 +11,8 @@ use borrow.Author.Tests.{ltb-true, ltb-false}
 use Rattle.qbf.specs.Formula.{paper}
 use Rattle.tables.specs.Records.{records_at}
 use Rattle.tables.proofs.Records.{grown_at_once}
-use Rattle.unloading.specs.Written.{record_from, Recorded}
-use Rattle.state.specs.Reading.{listing, record_at, records_of}
+use Rattle.unloading.specs.Written.{Recorded}
+use Rattle.state.specs.Reading.{record_at, records_of}
 use Rattle.state.proofs.Listing.{listing_length, listing_at}
 
 pub records_length : (sizes : List ℕ) → length (records_of sizes) ≡ get_or sizes 0 0

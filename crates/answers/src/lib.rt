@@ -1,4 +1,6 @@
 // The calls query, card and keep card, open to outsiders, on a state whose tables are lent.
+#![tactic(auto)]
+
 pub mod in_place; // the calls
 mod open; // the plain search for a query with open flags
 mod run; // the search on lent tables

@@ -1,4 +1,6 @@
 // Paper 01's table of bench cases, its other cases, and wish 5's figures, on the compiled code: the answer of every call, one to a line.
+#![tactic(auto)]
+
 use replies::{Printed, Ruling};
 use rules::Change;
 use state::State;

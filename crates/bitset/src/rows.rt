@@ -39,7 +39,7 @@ fn rest(a: u64, b: u64) -> u64
 }
 
 // Four words, each gathered from every fourth word of a row.
-#[derive(Drop)]
+#[derive(Clone, Copy)]
 struct Four {
     pub w0: u64,
     pub w1: u64,
@@ -96,14 +96,14 @@ pub fn first_outside<'a>(a: &'a [u64], a0: usize, b: &'a [u64], b0: usize, n: us
 }
 
 // Whether the row has every number, and whether one that was not in it before.
-#[derive(Drop)]
+#[derive(Clone, Copy)]
 pub struct United {
     pub all: bool,
     pub fresh: bool,
 }
 
 // What four words have in common and what is new in them, each gathered from every fourth word of a row.
-#[derive(Drop)]
+#[derive(Clone, Copy)]
 struct Seen {
     pub s0: u64,
     pub s1: u64,

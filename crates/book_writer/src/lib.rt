@@ -1,5 +1,7 @@
 // A book written back as text, from the tables of a state into a lent byte table. Paper 02, wish 2. The bytes are counted first, so that a
 // table that is too short is refused before anything is written.
+#![tactic(auto)]
+
 ghost use Rattle.std.specs.Prelude.{◌≡◌, ◌≤◌, length};
 ghost use Rattle.qbf.specs.Card.{zero_table};
 ghost use Rattle.writer.specs.Wrote.{Wrote};
@@ -17,7 +19,7 @@ use writer::bytes::put_word;
 
 // The number of the refusal, 0 where there is none, and the length of the text, which stands in the first bytes of the lent table.
 #[repr(C)]
-#[derive(Drop)]
+#[derive(Clone, Copy)]
 pub struct Written {
     pub refusal: u16,
     pub length: usize,

@@ -7,7 +7,7 @@ use node::{Answer, Verdict};
 use search_entry::Source;
 
 // Mixed; the on side's answer; or two constraints of one polarity.
-#[derive(Drop)]
+#[derive(Clone, Copy)]
 pub enum Step {
     Mixed,
     On,

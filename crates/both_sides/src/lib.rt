@@ -1,4 +1,6 @@
 // Step 5 of a visit where both sides are done.
+#![tactic(auto)]
+
 ghost use Rattle.std.specs.Prelude.{◌≡◌, List, ℕ, suc, ◌^◌, ◌≤◌, ◌<◌, length, take};
 ghost use Rattle.qbf.specs.Formula.{paper, Quantifier, Prefix, Clause, Node};
 ghost use Rattle.qbf.specs.Truth.{Outcome};

@@ -1,7 +1,7 @@
 -- Literals by their codes: a code tells place and sign, the last code the last literal, and marks by place the literals of a cube.
 use Prim.Native.Nat.{ℕ, suc, ◌+◌, ◌≤◌, ◌<◌}
 use native.Mathlib.Omega.{arith}
-use mathlib.Core.Path.{◌≡◌, refl, sym, ap, ◌∙◌}
+use mathlib.Core.Path.{◌≡◌, refl, sym, ap, ◌∙◌, subst}
 use mathlib.Core.Logic.{inl, inr}
 use mathlib.Core.Bool.{Bool, true, false, ◌||◌, beq, false≢true}
 use mathlib.Core.List.{List, [], ◌∷◌}
@@ -91,7 +91,7 @@ module _ (D : Prefix) (marks : List ℕ) where
       marked = λ i h.
           let z : suc (d + suc i) ≡ suc (suc d + i) = omega arith in
           let far : eqb (place D l) (suc (suc d + i)) ≡ false = ne_eqb (place D l) (suc (suc d + i)) (λ e. omega (arith, here, e)) in
-          (rw z at (c.marked (suc i) (omega arith))) ∙ ap (λ (x : Bool). x || mentions D (suc (suc d + i)) E) far;
+          subst (λ (p : ℕ). eqb (get_or marks p 0) 1 ≡ mentions D p (l ∷ E)) z (c.marked (suc i) (omega arith)) ∙ ap (λ (x : Bool). x || mentions D (suc (suc d + i)) E) far;
     }
 
     -- whether the place is marked

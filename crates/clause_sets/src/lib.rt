@@ -1,1 +1,2 @@
 // Theorems only: laws of the sets of clauses that a search has at its nodes. See proofs/.
+#![tactic(auto)]

@@ -1,18 +1,20 @@
 // The closest reading, from the bytes of a card's table: lines of f bytes, 0 open, 1 off, 2 on, their set flags first.
+#![tactic(auto)]
+
 ghost use Rattle.std.specs.Prelude.{◌≡◌, cond, map, ◌++◌, ◌*◌, ◌≤◌, ◌<◌, length, take, drop, leb};
 ghost use Rattle.qbf.specs.Card.{byte_of};
 ghost use Rattle.qbf.specs.Closest.{differs, distance, closest_in as closestOf};
 ghost use Rattle.closest.specs.Table.{value_in, values_in, line_in, lines_in, answer_of, reading_after, Best as BestLine};
 
 // The reading's number, or that the card has no line: "a card with no line gives 35".
-#[derive(Drop)]
+#[derive(Clone, Copy)]
 pub enum Nearest {
     Reading(usize),
     NoLine,
 }
 
 // A line, counted from 0, and its number.
-#[derive(Drop)]
+#[derive(Clone, Copy)]
 struct Best {
     line: usize,
     number: usize,

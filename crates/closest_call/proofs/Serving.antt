@@ -4,19 +4,19 @@ use native.Mathlib.Omega.{arith}
 use mathlib.Core.Path.{◌≡◌, refl, sym, ap, ◌∙◌, subst}
 use mathlib.Core.Logic.{◌⊎◌, inl, inr}
 use mathlib.Core.Bool.{Bool, true, false, cond, not}
-use mathlib.Core.List.{List, [], ◌∷◌, ◌++◌, map}
+use mathlib.Core.List.{List, [], ◌++◌, map}
 use mathlib.Core.Option.{Option, none, some}
 use lib.ListN.{length, take, drop, length-append, length-drop, length-map, take-append-drop, replicate-append-replicate}
-use lib.Seq.{take_at, drop_at}
+use lib.Seq.{drop_at}
 use lib.Dec.{leb}
 use borrow.Author.Tests.{leb-true}
 use Rattle.qbf.specs.Formula.{Formula, Literal, Node, most_free, paper, quantifiers}
-use Rattle.qbf.specs.Truth.{Outcome, outline, decided_nodes, select, free_variables}
+use Rattle.qbf.specs.Truth.{outline, decided_nodes, select, free_variables}
 use Rattle.qbf.specs.Open.{reading_of, is_full}
 use Rattle.qbf.specs.Ceiling.{Attempt, finished, stopped, search_within}
 use Rattle.qbf.specs.Card.{Mem, byte_of, table_of, zero_table}
 use Rattle.qbf.specs.Closest.{Found, closest_in}
-use Rattle.qbf.specs.Calls.{Call, card, closest, Reply, lines, card_refused, Answer, answer, start_node, query_fault, closest_fault, given, ◌or_else◌, from_card, found_reply, closest_answer, card_reply_of, attempt_answer, learning_card, learning_closest, guarded, State as Read}
+use Rattle.qbf.specs.Calls.{Call, card, closest, Reply, lines, card_refused, Answer, start_node, closest_fault, given, ◌or_else◌, from_card, found_reply, closest_answer, card_reply_of, attempt_answer, learning_card, learning_closest, guarded, State as Read}
 use Rattle.qbf.specs.Demands.{AfterSearch, refusal_of}
 use Rattle.theory.proofs.AcceptedRule.{some_none}
 use Rattle.theory.proofs.Starting.{start_length}

@@ -2,11 +2,11 @@
 use Prim.Native.Nat.{ℕ, ◌≤◌}
 use native.Mathlib.Omega.{arith}
 use mathlib.Core.Path.{◌≡◌, refl, sym, ap, ◌∙◌, subst}
-use mathlib.Core.List.{List, ◌++◌, map}
+use mathlib.Core.List.{List, ◌++◌}
 use mathlib.Core.Option.{Option, none, some}
 use lib.ListN.{length, take, drop, length-append, length-drop}
 use lib.Seq.{take_at}
-use Rattle.qbf.specs.Card.{byte_of, zero_table}
+use Rattle.qbf.specs.Card.{zero_table}
 use Rattle.qbf.specs.Closest.{Found}
 use Rattle.serving.specs.Serves.{Said, said, said_with}
 use Rattle.closest.specs.Table.{answer_of, reading_after}

@@ -1,4 +1,6 @@
 // The call for the closest reading on lent tables, open to outsiders. Paper 02, wish 9.
+#![tactic(auto)]
+
 ghost use Rattle.std.specs.Prelude.{◌≡◌, List, ◌++◌, ℕ, ◌*◌, ◌≤◌, length, take, drop};
 ghost use Rattle.std.proofs.Math.Option.{none, some};
 ghost use Rattle.qbf.specs.Formula.{most_free};
@@ -16,13 +18,13 @@ use reading::placed::by_place;
 use replies::{MALFORMED, NO_LINE, NOT_FREE, Printed};
 
 // In how many variables the reading differs from the given one.
-#[derive(Drop)]
+#[derive(Clone, Copy)]
 pub enum Told {
     Reading(usize),
     Refused(u16),
 }
 
-#[derive(Drop)]
+#[derive(Clone, Copy)]
 pub struct Nearest {
     pub told: Told,
     pub lines: usize,

@@ -18,7 +18,7 @@ use mir.Facts.{to_z-of_z}
 use Rattle.qbf.specs.Formula.{paper, Prefix, Literal, number_of, place, positive}
 use Rattle.qbf.specs.Calls.{numbers_are_ok}
 use Rattle.theory.proofs.WellFormed.{inside}
-use Rattle.theory.proofs.Prefixes.{numbers, number_at, number_range}
+use Rattle.theory.proofs.Prefixes.{number_at, number_range}
 use Rattle.literal.proofs.Signed.{back, tested}
 use Rattle.tables.specs.Views.{Numbers}
 use Rattle.tables.specs.Codes.{sign, code_at, code_of, codes}

@@ -7,9 +7,9 @@ use mathlib.Core.Bool.{Bool, true, false}
 use mathlib.Core.Logic.{◌⊎◌, inl, inr}
 use mathlib.Core.List.{List, []}
 use mathlib.Core.Option.{some}
-use lib.ListN.{length, get_or, set, take, replicate, length-map, get_or-replicate, length-replicate, get_or-eq_default}
+use lib.ListN.{length, get_or, set, take, replicate, get_or-replicate, length-replicate, get_or-eq_default}
 use lib.Seq.{take-suc, length-take-le, take-length}
-use Rattle.qbf.specs.Formula.{paper, Quantifier, free, exists, forall, Prefix, Node, value_at, quantifiers, quantifier_at}
+use Rattle.qbf.specs.Formula.{paper, Quantifier, free, exists, forall, Prefix, Node, value_at, quantifier_at}
 use Rattle.qbf.specs.Card.{byte_of}
 use Rattle.qbf.specs.Calls.{numbers_are_ok}
 use Rattle.theory.proofs.Basics.{value_some, le_or_lt}

@@ -8,7 +8,7 @@ ghost use Rattle.tables.specs.Codes.{code_at, Statuses, given};
 use literal::{byte_at, cell_at, negated};
 
 // What the two codes of a place had.
-#[derive(Drop)]
+#[derive(Clone, Copy)]
 pub struct Was {
     pub negative: u8,
     pub positive: u8,

@@ -1,6 +1,8 @@
 // The lines of a card, kept in the lent table as a stack while the search runs: a line is pushed where a side of a free node is Yes,
 // and taken back where the other side is Yes too. A push past the table's end only counts, and the bytes after the last line are
 // always zero, so that the count alone decides refusal 21 at the end.
+#![tactic(auto)]
+
 ghost use Rattle.std.specs.Prelude.{◌≡◌, Bool, List, [], ◌∷◌, ◌++◌, suc, ◌+◌, ◌*◌, ◌≤◌, ◌<◌, length, drop, leb};
 ghost use Rattle.qbf.specs.Formula.{Node, ◌▹◌, paper};
 ghost use Rattle.qbf.specs.Card.{byte_of, zero_table};

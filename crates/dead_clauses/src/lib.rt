@@ -1,4 +1,6 @@
 // Step 1 of a visit: the dead clauses, in order of adding.
+#![tactic(auto)]
+
 ghost use Rattle.std.specs.Prelude.{◌≡◌, ◌≤◌, get_or};
 ghost use Rattle.qbf.specs.Formula.{paper, Prefix, Node, any, dead};
 ghost use Rattle.tables.specs.Views.{Kinds, Values, Standing, rows_of};
@@ -35,7 +37,8 @@ pub fn next_dead<'a>(
             }
             if status == tables::OPEN {
                 let kind = kind_of(kinds, number_of(lit));
-                if kind != tables::FORALL {
+                let hope = kind != tables::FORALL;
+                if hope {
                     continue 'clauses;
                 }
             }

@@ -1,5 +1,5 @@
 -- What the functions answer, from what their callees do.
-use Prim.Native.Nat.{ℕ, zero, suc, ◌+◌, ◌-◌, ◌<◌, ◌≤◌}
+use Prim.Native.Nat.{ℕ, suc, ◌-◌, ◌<◌, ◌≤◌}
 use mathlib.Core.Path.{◌≡◌, refl, sym, ap, subst, ◌∙◌}
 use mathlib.Core.Bool.{Bool, true, false, cond, not, ◌&&◌, ◌||◌}
 use mathlib.Core.List.{List, [], ◌∷◌, ◌++◌, append-nil}
@@ -9,15 +9,15 @@ use native.Mathlib.Omega.{arith}
 use borrow.Author.Tests.{lt-ltb, le-ltb}
 use lib.Dec.{ltb}
 use lib.ListN.{length, take, drop, replicate, length-take, length-drop, drop_of_length-le}
-use Rattle.qbf.specs.Formula.{paper, Formula}
+use Rattle.qbf.specs.Formula.{paper}
 use Rattle.qbf.specs.Card.{zero_table}
-use Rattle.layout.specs.Words.{Bytes, newline, split}
+use Rattle.layout.specs.Words.{Bytes}
 use Rattle.layout.specs.Opening.{text_bytes, Opened, opened}
 use Rattle.layout.specs.Opening as opening
 use Rattle.opening.specs.declared.Opened.{Opened as Answered}
 use Rattle.opening.specs.Opened.{OpenedAs}
-use Rattle.editions.specs.Opening.{Editions, only, open_editions}
-use Rattle.editions.specs.Converting.{Converted, converted, refused, is_rule, has_tag, next, lost_from, lost_line, tagged_text, untagged_text, fitted, unlost, after_opening, to_tagged, to_untagged}
+use Rattle.editions.specs.Opening.{Editions, open_editions}
+use Rattle.editions.specs.Converting.{Converted, converted, refused, is_rule, has_tag, next, lost_from, lost_line, fitted, unlost, after_opening}
 use Rattle.editions_laws.proofs.Converting.{fits_text}
 use Rattle.edition_opening.proofs.Apart.{edition_apart}
 use Rattle.edition_tags.specs.Appended.{Appended, line_or0}

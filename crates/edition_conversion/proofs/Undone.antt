@@ -17,7 +17,7 @@ use Rattle.opening.specs.Opened.{OpenedAs}
 use Rattle.opening.proofs.Apart.{NumberedText}
 use Rattle.state.specs.Reading.{read_state}
 use Rattle.editions.specs.Opening.{only, both, open_editions}
-use Rattle.editions.specs.Converting.{Converted, converted, refused, lost_line, tagged_text, untagged_text, fitted, unlost, after_opening, to_tagged, to_untagged, table_of}
+use Rattle.editions.specs.Converting.{Converted, converted, refused, lost_line, tagged_text, untagged_text, fitted, unlost, after_opening, to_tagged, to_untagged}
 use Rattle.editions_laws.proofs.Converting.{tags_undone, untags_undone}
 use Rattle.edition_opening.proofs.Apart.{edition_numbered}
 use Rattle.edition_opening.proofs.Books.{tagged_alike, untagged_alike}

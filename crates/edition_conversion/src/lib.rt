@@ -1,5 +1,7 @@
 // A text converted from one edition into the other, on lent bytes. Paper 02, wish 13. It is judged first, as a reader of its own edition judges it;
 // then its lines are copied.
+#![tactic(auto)]
+
 ghost use Rattle.std.specs.Prelude.{◌≤◌, length};
 ghost use Rattle.qbf.specs.Formula.{paper};
 ghost use Rattle.layout.specs.Words.{Bytes};
@@ -19,7 +21,7 @@ pub const TAG_LOST: u16 = 40;
 
 // The length of the converted text, which stands in the first bytes of the lent table, with no refusal and no line; or the refusal with its line.
 #[repr(C)]
-#[derive(Drop)]
+#[derive(Clone, Copy)]
 pub struct Converted {
     pub refusal: u16,
     pub line: usize,

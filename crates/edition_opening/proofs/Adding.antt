@@ -6,7 +6,7 @@ use mathlib.Core.List.{List}
 use mathlib.Core.Option.{Option, none, some}
 use native.Mathlib.Omega.{arith}
 use lib.IntN.{ℤ}
-use Rattle.qbf.specs.Formula.{Formula, Literal}
+use Rattle.qbf.specs.Formula.{Formula}
 use Rattle.qbf.specs.Learning.{empty_store}
 use Rattle.qbf.specs.Calls.{State as Read, one as one_call, answer, rule_reply, one_fault, with_one, store_after_rule, well_formed, guarded}
 use Rattle.qbf.specs.Runs.{fresh}

@@ -4,11 +4,9 @@ use Prim.Native.Nat.{ℕ}
 use mathlib.Core.Path.{◌≡◌, refl, sym, subst, ◌∙◌}
 use mathlib.Core.Bool.{true}
 use mathlib.Core.List.{List, map}
-use mathlib.Core.Option.{some}
 use native.Mathlib.Omega.{arith}
 use Rattle.qbf.specs.Formula.{paper, Formula}
 use Rattle.qbf.specs.Calls.{Call}
-use Rattle.qbf.specs.Runs.{fresh}
 use Rattle.layout.specs.Words.{Bytes}
 use Rattle.layout.specs.Opening.{Opened, refused, opened, open_text}
 use Rattle.state.specs.Reading.{read_state}

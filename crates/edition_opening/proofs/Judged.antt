@@ -1,18 +1,15 @@
 -- An exactly-one form is judged by the items that stand in a table with one cell more than there are numbers.
-use Prim.Native.Nat.{ℕ, suc, ◌+◌, ◌<◌, ◌≤◌, min}
+use Prim.Native.Nat.{ℕ, suc, ◌<◌, ◌≤◌, min}
 use mathlib.Core.Path.{◌≡◌, sym, ap, subst, ◌∙◌}
-use mathlib.Core.Bool.{◌||◌}
 use mathlib.Core.List.{List, [], map}
-use mathlib.Core.Option.{Option, none, some}
+use mathlib.Core.Option.{none, some}
 use native.Mathlib.Omega.{arith}
 use native.Mathlib.Decide.{dec_lt}
-use lib.Dec.{ltb}
 use lib.IntN.{ℤ}
 use lib.ListN.{length, take, length-map, length-take}
 use lib.Seq.{take_all}
 use Rattle.qbf.specs.Formula.{Limits, paper, Literal, Formula}
-use Rattle.qbf.specs.One.{one_count}
-use Rattle.qbf.specs.Calls.{given, literal_fault, one_fault, ◌or_else◌}
+use Rattle.qbf.specs.Calls.{literal_fault, one_fault}
 use Rattle.theory.proofs.OneAdded.{twenty}
 use Rattle.reader.specs.Items.{narrowed, Kept}
 use Rattle.reader.proofs.Judged.{literals_judged, literals_same, cut_same}

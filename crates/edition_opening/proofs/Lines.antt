@@ -6,7 +6,7 @@ use mathlib.Core.Option.{Option, none, some}
 use lib.IntN.{ℤ, pos}
 use lib.ListN.{length, get_or, take}
 use native.Mathlib.Omega.{arith}
-use Rattle.qbf.specs.Formula.{paper, Formula, number_of}
+use Rattle.qbf.specs.Formula.{paper, number_of}
 use Rattle.state.specs.declared.State.{State}
 use Rattle.state.specs.Reading.{formula_in}
 use Rattle.layout.specs.Forms.{book, block, clause, end}

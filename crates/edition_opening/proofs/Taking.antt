@@ -1,11 +1,11 @@
 -- The lines of either edition, each on the state that stands.
-use Prim.Native.Nat.{ℕ, zero, suc, ◌≤◌, ◌<◌}
+use Prim.Native.Nat.{ℕ, suc, ◌≤◌, ◌<◌}
 use mathlib.Core.Path.{◌≡◌, refl, sym, ap, subst, ◌∙◌}
 use mathlib.Core.Bool.{Bool, true, false, not, ◌||◌, true≢false, false≢true}
 use mathlib.Core.List.{List, []}
-use mathlib.Core.Option.{Option, none, some}
+use mathlib.Core.Option.{none, some}
 use native.Mathlib.Omega.{arith}
-use borrow.Author.Tests.{eq-eqb, ne_eqb, eqb-true, lt-ltb, le-ltb}
+use borrow.Author.Tests.{eq-eqb, ne_eqb, eqb-true}
 use lib.Dec.{eqb, leb, ltb}
 use lib.IntN.{ℤ}
 use lib.ListN.{length}
@@ -14,13 +14,13 @@ use Rattle.qbf.specs.Calls.{given, rule_fault, literal_fault, ◌or_else◌}
 use Rattle.state.specs.declared.State.{State}
 use Rattle.state.specs.Reading.{formula_in}
 use Rattle.serving.specs.Serves.{fault_of}
-use Rattle.layout.specs.Forms.{Form, book, block, clause, end}
+use Rattle.layout.specs.Forms.{Form, book, clause}
 use Rattle.layout.specs.Opening.{rank, allowed, stage_after, form_fault}
 use Rattle.layout.specs.Opening as own
 use Rattle.layout_laws.proofs.Opened.{allowed_is}
 use Rattle.reader.specs.Items.{narrow}
-use Rattle.editions.specs.Lines.{Line, says, tagged, one}
-use Rattle.editions.specs.Opening.{Editions, both, only, rank_of, tags_fit, said_fault, tagged_fault, line_fault, with_line, edition_after}
+use Rattle.editions.specs.Lines.{Line, says, tagged}
+use Rattle.editions.specs.Opening.{Editions, rank_of, tags_fit, said_fault, line_fault, with_line, edition_after}
 use Rattle.opening.specs.declared.line.Taken.{Taken}
 use Rattle.opening.specs.Opened.{Standing, TookForm, RuleTook}
 use Rattle.edition_opening.specs.declared.line.Step.{Step}

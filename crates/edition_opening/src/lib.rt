@@ -1,4 +1,6 @@
 // Opening a text of either edition: the state that its lines build, or the refusal with its line. Paper 02, wishes 10 and 13.
+#![tactic(auto)]
+
 ghost use Rattle.std.specs.Prelude.{◌≡◌};
 ghost use Rattle.qbf.specs.Formula.{paper};
 ghost use Rattle.editions.specs.Opening.{open_editions};
@@ -16,7 +18,7 @@ pub const FIRST: usize = 1;
 pub const SECOND: usize = 2;
 
 // The editions that a reader takes.
-#[derive(Drop)]
+#[derive(Clone, Copy)]
 pub enum Editions {
     First,
     Second,

@@ -24,7 +24,7 @@ pub const NOT_IN_LAYOUT: u16 = 1;
 const NOT_EDITION: u16 = 2;
 
 // A refusal, or the next state, stage and edition.
-#[derive(Drop)]
+#[derive(Clone, Copy)]
 pub struct Step {
     pub refusal: u16,
     pub stage: usize,

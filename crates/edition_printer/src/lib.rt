@@ -1,4 +1,6 @@
 // What the programs `tag` and `untag` print: the book of a text in the other edition, or the refusal. Paper 02, wish 13.
+#![tactic(auto)]
+
 ghost use Rattle.qbf.specs.Formula.{paper};
 ghost use Rattle.layout.specs.Output.{refusal_text};
 ghost use Rattle.layout.specs.Opening.{text_bytes};

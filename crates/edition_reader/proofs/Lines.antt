@@ -1,24 +1,21 @@
 -- A line of either edition by its first words.
-use Prim.Native.Nat.{ℕ, ◌+◌, ◌≤◌, ◌<◌, ◌-◌}
+use Prim.Native.Nat.{ℕ, ◌+◌, ◌≤◌, ◌-◌}
 use mathlib.Core.Path.{◌≡◌, refl, sym, ap, subst, ◌∙◌}
 use mathlib.Core.Bool.{Bool, true, false, cond}
 use mathlib.Core.List.{List, [], ◌∷◌}
 use mathlib.Core.Option.{Option, none, some}
-use native.Mathlib.Omega.{arith}
-use borrow.Author.Tests.{le-leb, lt-leb}
 use lib.IntN.{ℤ}
 use lib.ListN.{length, take, drop}
 use lib.Seq.{take-nil}
 use Rattle.qbf.specs.Formula.{Literal}
-use Rattle.layout.specs.Words.{Bytes, ascii, split, space, same, number, digits, closed, inside}
+use Rattle.layout.specs.Words.{Bytes, split, space, same, number, digits, closed, inside}
 use Rattle.layout.specs.Forms.{then, items, consed, Form, rule_word, form_from, one_word}
 use Rattle.editions.specs.Lines.{says, tag_word, said, rule_line, exactly_one_line, tagged_line, rule_from, line_from, line_of}
 use Rattle.editions.specs.Lines as form
 use Rattle.reader.specs.Pieces.{pieces_from, Piece}
-use Rattle.reader.specs.Items.{Kept, Filled}
+use Rattle.reader.specs.Items.{Filled}
 use Rattle.reader.specs.Lines as old
-use Rattle.reader.specs.declared.items.Count.{Count}
-use Rattle.reader.specs.declared.items.Count.TheVariants.{Items, NotItems}
+use Rattle.reader.specs.declared.items.Count.TheVariants.{Items}
 use Rattle.reader.specs.declared.keyword.Line.{Line as FormLine}
 use Rattle.reader.specs.declared.keyword.Line.TheVariants as first
 use Rattle.reader.proofs.Words.{same_true}

@@ -14,7 +14,7 @@ use reader::word::{SPACE, find, same_word};
 
 // What a line holds. The numbers of a block and the literals of a rule are counted here and lie in a lent table, as in the first edition;
 // a tagged rule has its tag, which is judged as it is written.
-#[derive(Drop)]
+#[derive(Clone, Copy)]
 pub enum Line {
     Book,
     Block(u16, usize),

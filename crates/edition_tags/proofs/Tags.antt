@@ -1,11 +1,11 @@
 -- A tag, and a line with it or without it.
-use Prim.Native.Nat.{ℕ, suc, ◌+◌, ◌^◌, ◌<◌, ◌≤◌}
-use mathlib.Core.Path.{◌≡◌, refl, sym, ap, subst, ◌∙◌}
+use Prim.Native.Nat.{ℕ, suc, ◌+◌, ◌≤◌}
+use mathlib.Core.Path.{◌≡◌, sym, ap, ◌∙◌}
 use mathlib.Core.Bool.{Bool, true, false, cond, not, ◌&&◌}
-use mathlib.Core.List.{[], ◌∷◌, ◌++◌}
+use mathlib.Core.List.{◌++◌}
 use native.Mathlib.Omega.{arith}
 use lib.ListN.{length, take, drop, length-append, length-take, length-drop}
-use Rattle.layout.specs.Words.{Bytes, ascii, newline, same}
+use Rattle.layout.specs.Words.{Bytes, ascii, same}
 use Rattle.layout.specs.Output.{decimal}
 use Rattle.layout_laws.proofs.Decimal.{decimal_length}
 use Rattle.editions.specs.Converting.{rule_head, is_rule, tag_text, insert_tag, remove_tag, has_tag, next}

@@ -1,7 +1,7 @@
 -- What is written of a converted text, whether it fits or not.
-use Rattle.std.specs.Prelude.{ℕ, ◌+◌, ◌≤◌, ◌≡◌, List, [], ◌∷◌, ◌++◌, length, take}
+use Rattle.std.specs.Prelude.{ℕ, ◌+◌, ◌≤◌, ◌≡◌, ◌++◌, length, take}
 use Rattle.std.proofs.Math.Option.{Option, none, some}
-use Rattle.layout.specs.Words.{Bytes, ascii, newline, split}
+use Rattle.layout.specs.Words.{Bytes, ascii}
 use Rattle.editions.specs.Converting.{tag_text, insert_tag, remove_tag, tag_line, untag_line, tagged_text, untagged_text}
 use Rattle.edition_tags.specs.declared.To.{To}
 use Rattle.edition_tags.specs.declared.To.TheVariants.{First, Second}

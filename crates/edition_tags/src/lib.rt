@@ -1,12 +1,14 @@
 // Tags put into a text and taken out of it, line by line, into a lent table. Paper 02, wish 13. Bytes past the table's end are only counted, so
 // that the length alone decides refusal 31.
+#![tactic(auto)]
+
 mod bytes; // appending, and the start of a line
 mod line; // one line
 mod tag; // the text of a tag
 pub mod text; // a whole text
 
 // The edition that a text is converted to.
-#[derive(Drop)]
+#[derive(Clone, Copy)]
 pub enum To {
     First,
     Second,

@@ -4,7 +4,7 @@ use Prim.Native.String.{String}
 use mathlib.Core.Path.{◌≡◌, refl}
 use mathlib.Core.List.{List, [], ◌∷◌, ◌++◌}
 use lib.IntN.{pos, negsuc}
-use Rattle.qbf.specs.Formula.{Clause, Prefix, free, exists, paper, place_of}
+use Rattle.qbf.specs.Formula.{Clause, Prefix, free, paper, place_of}
 use Rattle.layout.specs.Words.{Bytes, ascii, split, same, digits, number, closed, inside}
 use Rattle.layout.specs.Forms.{consed, items, form_from}
 use Rattle.layout.specs.Opening.{Opened, refused, opened, variable}

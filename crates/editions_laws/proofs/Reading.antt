@@ -6,7 +6,7 @@ use mathlib.Core.List.{List, [], ◌∷◌}
 use mathlib.Core.Option.{Option, none, some}
 use native.Mathlib.Omega.{arith}
 use borrow.Author.Tests.{ltb-false}
-use lib.Dec.{ltb}
+use lib.Dec.{ltb, eqb}
 use Rattle.qbf.specs.Formula.{Formula}
 use Rattle.layout.specs.Words.{Bytes}
 use Rattle.layout.specs.Opening.{stage_after, Opened, refused, opened, refused_or, at_end}
@@ -72,6 +72,10 @@ module _
         onward' : Line → Formula → Opened
         onward' f x = cond (is_end f) (at_end (suc n) x rest') (read_lines a' (suc n) (edition_after e' f) (stage_after (rank_of f)) x rest')
 
+        -- what follows a line of that rank
+        after : ℕ → Formula → ℕ → Opened
+        after r x q = cond (eqb r 4) (at_end (suc n) x rest') (read_lines a' (suc n) q (stage_after r) x rest')
+
         Next : Type 0
         Next = (s : ℕ) (x : Formula) → I (next k l) x → 1 ≤ s → read_lines a (suc n) e s x (m ∷ ls) ≡ opened c → read_lines a' (suc n) e' s x rest' ≡ opened c
 
@@ -86,4 +90,7 @@ module _
             let w = went n (line_fault a e stage b f) (onward f (with_line b f)) c y in
             let s = says_same k stage b l f h i fit.0 q w.0 in
             let t = s.0 in
-            rw (t.is, t.fault, t.formula, t.rank, t.edition') (last f (is_end f) s.1 t.edition w.1 ih)
+            ap (λ (o : Option Line). read_line a' n e' stage b o onward') t.is
+            ∙ ap (λ (o : Option ℕ). refused_or n o (onward' t.line (with_line b t.line))) t.fault
+            ∙ (λ i. after (t.rank i) (t.formula i) (t.edition' i))
+            ∙ last f (is_end f) s.1 t.edition w.1 ih

@@ -1,9 +1,7 @@
 -- What the program `session` prints at each piece of its input, and at the end, by computation.
 use Prim.Native.String.{String}
 use mathlib.Core.Path.{◌≡◌, refl}
-use Prim.Native.Nat.{ℕ}
-use mathlib.Core.List.{List, [], ◌∷◌, ◌++◌}
-use mathlib.Core.Option.{none}
+use mathlib.Core.List.{List, [], ◌∷◌}
 use Rattle.qbf.specs.Formula.{paper, place_of}
 use Rattle.layout.specs.Words.{Bytes, ascii, split, same, digits, number, closed, inside}
 use Rattle.layout.specs.Forms.{items, consed, form_from, form_of}

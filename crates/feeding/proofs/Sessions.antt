@@ -7,7 +7,7 @@ use mathlib.Core.Option.{Option, none, some}
 use native.Mathlib.Omega.{arith}
 use native.Mathlib.Decide.{dec_lt}
 use borrow.Author.Tests.{le-ltb, lt-ltb}
-use lib.Dec.{eqb, ltb}
+use lib.Dec.{eqb}
 use lib.ListN.{length, length-append}
 use Rattle.qbf.specs.Formula.{Limits}
 use Rattle.qbf.specs.Calls.{State}
@@ -19,8 +19,8 @@ use Rattle.layout.specs.Opening.{text_bytes, Opened, refused, opened}
 use Rattle.editions.specs.Opening.{both, open_editions}
 use Rattle.layout.specs.Session.{end_line, Parted, onto, parted}
 use Rattle.sessions.specs.Session.{Request, request_of, Card, turn_of, serve_lines, opened_session, session_program}
-use Rattle.feeding.specs.Lines.{Step, after, fed, Serving, at_line, answered, longer, on_line_byte, last_line, line_of, as_line, lines_text}
-use Rattle.feeding.specs.Sessions.{Left, as_answered, serve_call, Begun, Held, book, calls, over, start, behind, in_book, opening, on_book_byte, unended_book, on_byte, at_end}
+use Rattle.feeding.specs.Lines.{Step, after, fed, Serving, at_line, on_line_byte, as_line, lines_text}
+use Rattle.feeding.specs.Sessions.{Left, serve_call, Begun, Held, book, calls, over, start, behind, in_book, opening, unended_book, on_byte, at_end}
 use Rattle.feeding.proofs.Lines.{fed_pieces, every_cut, split_some, line_steps, fed_lines, lines_printed}
 
 -- ---- the lines of calls

@@ -1,5 +1,7 @@
 // The rules that an exactly-one form stands for, "the rule of all its literals, then one rule for each pair as given, first with second,
 // first with third and so on, with both negated".
+#![tactic(auto)]
+
 ghost use Rattle.std.specs.Prelude.{◌≡◌, ◌+◌, ◌≤◌, ◌<◌, pos, neg_ℤ, length, get_or, drop};
 ghost use Rattle.qbf.specs.Formula.{paper, number_of};
 ghost use Rattle.qbf.specs.One.{pairs_with, pairs, one_forms, one_count};

@@ -8,7 +8,7 @@ use mathlib.Core.List.{List, [], ◌∷◌, map}
 use mathlib.Core.Option.{Option, none, some}
 use borrow.Author.Tests.{lt-ltb, le-ltb}
 use lib.Dec.{eqb}
-use lib.ListN.{length, get_or, take, drop}
+use lib.ListN.{length, take, drop}
 use Rattle.qbf.specs.Formula.{paper, Prefix, Node, value_at}
 use Rattle.qbf.specs.Learning.{Constraint, eligible_match}
 use Rattle.tables.specs.Codes.{code_at, codes, wanted, Statuses}

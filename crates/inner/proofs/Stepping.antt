@@ -1,13 +1,13 @@
 -- The step to an inner node by its last value: the code of that value, the rows that it reads, the clause that dies, the row and the mark that
 -- it leaves, and the cube.
 use Prim.Native.Nat.{ℕ, suc, ◌+◌, ◌-◌, ◌*◌, ◌≤◌, ◌<◌}
-use native.Mathlib.Nat.{mul-le-mul, mul-le-mul_right, suc-mul}
+use native.Mathlib.Nat.{mul-le-mul, suc-mul}
 use native.Mathlib.Numerals.{add-one}
 use native.Mathlib.Omega.{arith}
 use mathlib.Core.Path.{◌≡◌, refl, sym, ap, ◌∙◌, subst}
 use mathlib.Core.Bool.{Bool, true, false}
 use mathlib.Core.List.{List, []}
-use mathlib.Core.Option.{Option, none, some}
+use mathlib.Core.Option.{none, some}
 use lib.ListN.{length, get_or, set, take, drop}
 use lib.Seq.{get_or-set_other}
 use lib.Dec.{eqb}
@@ -23,8 +23,8 @@ use Rattle.bitset.specs.Rows.{Unites, least_below, outside, some_below, width}
 use Rattle.tables.specs.Codes.{code_at, codes, sign, Statuses}
 use Rattle.tables.specs.Formed.{Formed}
 use Rattle.tables.specs.Shelves.{code_count}
-use Rattle.tables.specs.Matrices.{MatrixShown, RowLength, clause_row, dying_at, left_at, row_words}
-use Rattle.tables.specs.Sets.{ClauseSets, Descended, MarkedSteps, RowsKept, dying_row, marked_from, newly, satisfying_row}
+use Rattle.tables.specs.Matrices.{MatrixShown, clause_row, dying_at, left_at, row_words}
+use Rattle.tables.specs.Sets.{ClauseSets, Descended, MarkedSteps, RowsKept, dying_row, marked_from, satisfying_row}
 use Rattle.clause_sets.proofs.Descending.{first_dies, none_dies}
 use Rattle.clause_sets.proofs.StepMarks.{cube_marked, marks_set}
 use Rattle.clause_sets.proofs.Unions.{unites_step}

@@ -13,7 +13,7 @@ use search_entry::{Bounds, Source, placed};
 use shelf::find::{find, row_in};
 
 // Where a constraint lies, or none.
-#[derive(Drop)]
+#[derive(Clone, Copy)]
 pub enum Found {
     At(Bounds),
     Nothing,

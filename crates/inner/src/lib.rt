@@ -1,5 +1,7 @@
 // Steps 1 to 4 of a visit at an inner node: only what the last step changed is looked at. A clause that dies there, a learned clause or a
 // cube that decides it ends in the literal of the node's last place; the clauses satisfied are the parent's and those of the value given last.
+#![tactic(auto)]
+
 pub mod found; // steps 2 and 4: the oldest constraint on a shelf that ends in the last place's literal
 pub mod dying; // step 1: the first clause that dies
 pub mod step_down; // step 3: the clauses that are satisfied, and the mark of a place whose value satisfied one more
@@ -23,7 +25,7 @@ use search_entry::{Bounds, Source, placed};
 use step_down::step_down;
 
 // What decides the node, with the constraint that goes up by its bounds, or that it is open.
-#[derive(Drop)]
+#[derive(Clone, Copy)]
 pub enum Leaf {
     No(Bounds),
     Yes(Bounds),

@@ -1,5 +1,4 @@
 -- The ceiling of a call's line, by computation. Paper 02, wish 8.
-use Prim.Native.Nat.{ℕ}
 use Prim.Native.String.{String}
 use mathlib.Core.Path.{◌≡◌, refl}
 use mathlib.Core.List.{List, [], ◌∷◌}

@@ -3,11 +3,10 @@ use mathlib.Core.Path.{◌≡◌, refl}
 use mathlib.Core.Bool.{true, false}
 use mathlib.Core.List.{List, [], ◌∷◌, ◌++◌}
 use Prim.Native.Nat.{ℕ}
-use Prim.Native.String.{String}
-use lib.ListN.{length, get_or, take, drop, replicate}
-use Rattle.layout.specs.Words.{Bytes, ascii, newline}
+use lib.ListN.{get_or, replicate}
+use Rattle.layout.specs.Words.{Bytes, ascii}
 use Rattle.layout.specs.Output.{last_digits, decimal}
-use Rattle.layout.specs.Page.{aligned, sign_of, head_row, line_row, blank_row, page_of, pages, no_page, zero_page, printed}
+use Rattle.layout.specs.Page.{aligned, sign_of, head_row, line_row, blank_row, page_of, pages, no_page, printed}
 
 -- ---- rows
 -- an open flag, one that is off and one that is on, on line 3

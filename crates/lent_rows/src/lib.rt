@@ -1,4 +1,6 @@
 // A row of a flat table that is lent, as the part of it that it is. What stands in such a table, and the laws of its rows: specs/ and proofs/.
+#![tactic(auto)]
+
 ghost use Rattle.std.specs.Prelude.{◌≡◌, ◌<◌, get_or};
 ghost use Rattle.tables.specs.Views.{Standing, row};
 

@@ -1,4 +1,6 @@
 // The lines of an input that is read piece by piece into a buffer: what is held of it, and when a line is too long, is not ended, or is the last.
+#![tactic(auto)]
+
 ghost use Rattle.std.specs.Prelude.{◌≡◌, cond, true, ◌&&◌, ◌||◌, ◌-◌, ◌≤◌, length, take, drop, eqb, ltb};
 ghost use Rattle.line_buffer.specs.Numbers.{next_number};
 

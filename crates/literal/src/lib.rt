@@ -1,16 +1,18 @@
 // Literals: the number of a literal's variable, and what the tables by number say of it. -32768 is tested before any negation.
+#![tactic(auto)]
+
 ghost use Rattle.std.specs.Prelude.{◌≡◌, get_or};
 ghost use Rattle.qbf.specs.Formula.{Prefix, number_of, place};
 ghost use Rattle.tables.specs.Views.{Places, negated, status};
 
 // "Number, place and quantification level are separate counters and never stand in for one another."
-#[derive(Drop)]
+#[derive(Clone, Copy)]
 pub struct Number(pub usize);
 
-#[derive(Drop)]
+#[derive(Clone, Copy)]
 pub struct Place(pub usize);
 
-#[derive(Drop)]
+#[derive(Clone, Copy)]
 pub struct Level(pub usize);
 
 // The one literal whose negation is not a signed 16-bit number.

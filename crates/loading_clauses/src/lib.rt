@@ -1,4 +1,6 @@
 // The clauses of a search: of each a row with its length under universal reduction and its codes, and by code the sets of clauses.
+#![tactic(auto)]
+
 ghost use Rattle.std.specs.Prelude.{◌≡◌, [], ◌+◌, ◌*◌, ◌≤◌, ◌<◌, length, get_or, take};
 ghost use Rattle.qbf.specs.Formula.{paper, Prefix};
 ghost use Rattle.tables.specs.Views.{Places, row};

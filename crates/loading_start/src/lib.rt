@@ -1,5 +1,7 @@
 // What a search knows of the clauses at the node it begins with: of each place, and before the first, the row of the clauses satisfied, and of each
 // place the mark that its value satisfied one more. There is no dead clause to look for on the way.
+#![tactic(auto)]
+
 ghost use Rattle.std.specs.Prelude.{List, ◌≡◌, ℕ, ◌-◌, ◌≤◌, length};
 ghost use Rattle.qbf.specs.Formula.{paper, Prefix, Clause, Node};
 ghost use Rattle.tables.specs.Codes.{sign};

@@ -1,4 +1,6 @@
 // The finder of step 1: "the dead rule whose reduced form has the lowest last place, the earliest added among equals".
+#![tactic(auto)]
+
 ghost use Rattle.std.specs.Prelude.{◌≡◌};
 ghost use Rattle.qbf.specs.Formula.{paper, Prefix};
 ghost use Rattle.qbf.specs.Learning.{reach};
@@ -12,7 +14,7 @@ use lent_rows::row;
 use literal::cell_at;
 
 // A dead clause, by its index, and how far it reaches; the index of no clause where none is found.
-#[derive(Drop)]
+#[derive(Clone, Copy)]
 pub struct Lowest {
     pub at: usize,
     pub reach: usize,

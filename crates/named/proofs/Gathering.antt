@@ -4,10 +4,10 @@ use native.Mathlib.Omega.{arith}
 use native.Mathlib.Numerals.{add-one}
 use mathlib.Core.Path.{◌≡◌, refl, sym, ap, subst, ◌∙◌}
 use mathlib.Core.Bool.{Bool, true, false, cond, beq}
-use mathlib.Core.List.{List, [], ◌∷◌}
-use mathlib.Core.Option.{Option, none, some}
+use mathlib.Core.List.{List, ◌∷◌}
+use mathlib.Core.Option.{Option, some}
 use lib.IntN.{ℤ, pos}
-use lib.ListN.{length, get_or, drop, set, drop_of_length-le}
+use lib.ListN.{length, get_or, drop, drop_of_length-le}
 use lib.Seq.{drop-cons}
 use Rattle.qbf.specs.Formula.{Literal, number_of, positive}
 use Rattle.layout.specs.Forms.{consed}

@@ -1,5 +1,7 @@
 // The flags that a query names, told apart by their signs: "on flags as numbers, off flags as `(no ..)`, in any order". The literals of a line
 // stand in one table, in the order given; each sign's numbers are taken from it in turn.
+#![tactic(auto)]
+
 ghost use Rattle.std.specs.Prelude.{◌≡◌, not, ℕ, pos};
 ghost use Rattle.std.specs.Bool.{beq};
 ghost use Rattle.qbf.specs.Formula.{number_of, positive};

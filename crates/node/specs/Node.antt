@@ -1,6 +1,5 @@
 -- What the code's answers say: verdicts and the constraint that goes up, the tables of a node, step 5, and the lines of a card.
-use Rattle.std.specs.Prelude.{ℕ, zero, suc, ◌+◌, ◌-◌, ◌≤◌, ◌<◌, ◌≡◌, Bool, true, false, cond, not, List, [], ◌∷◌, ◌++◌, length, get_or, take}
-use Rattle.std.proofs.Math.Option.{none}
+use Rattle.std.specs.Prelude.{ℕ, zero, suc, ◌+◌, ◌-◌, ◌≤◌, ◌<◌, ◌≡◌, Bool, true, false, cond, not, List, [], ◌∷◌, ◌++◌, length, get_or}
 use Rattle.qbf.specs.Formula.{paper, Quantifier, Prefix, Clause, Node, ◌▹◌}
 use Rattle.qbf.specs.Truth.{Outcome, DecidedNode, decided, mixed, decided_nodes, select}
 use Rattle.qbf.specs.Learning.{Constraint, Store, goes_up, after_both, resolvent, last_place, LearningResult}

@@ -1,4 +1,6 @@
 // What a visit hands up and where it stands; and of step 5, what the off side gives.
+#![tactic(auto)]
+
 ghost use Rattle.std.specs.Prelude.{◌≡◌, true, suc, ◌+◌, ◌-◌, ◌≤◌, ◌<◌, length, take};
 ghost use Rattle.qbf.specs.Formula.{paper, Quantifier, Prefix};
 ghost use Rattle.qbf.specs.Truth.{Outcome};
@@ -14,7 +16,7 @@ use search_entry::{Bounds, Source, entry, placed};
 pub mod side; // what the verdict of one side says
 
 // "two Yes give Yes, two No give No, anything else Mixed"
-#[derive(Drop)]
+#[derive(Clone, Copy)]
 pub enum Verdict {
     Yes,
     No,
@@ -22,7 +24,7 @@ pub enum Verdict {
 }
 
 // What a visit hands up: the verdict, the bounds of its constraint in the lent tables, the budget that is left, and the lines so far.
-#[derive(Drop)]
+#[derive(Clone, Copy)]
 pub struct Answer {
     pub verdict: Verdict,
     pub source: Source,
@@ -35,7 +37,7 @@ pub struct Answer {
 // Where a visit stands: the node's length, the count of the free variables, the budget, the lines so far, and the words of a row of clauses; and
 // whether the lines are Yes nodes or No nodes. The budget is one more than the visits that may still be made: a search that ends leaves 1 at least,
 // and one that was stopped leaves 0.
-#[derive(Drop)]
+#[derive(Clone, Copy)]
 pub struct Position {
     pub at: usize,
     pub free: usize,

@@ -1,4 +1,6 @@
 // The lines of a card that the sides of a node add or take back.
+#![tactic(auto)]
+
 ghost use Rattle.std.specs.Prelude.{◌≡◌, Bool, true, false, cond, List, [], ◌∷◌, ◌++◌, ◌+◌, ◌^◌, ◌≤◌, ◌<◌, length};
 ghost use Rattle.qbf.specs.Formula.{paper, Node, ◌▹◌};
 ghost use Rattle.qbf.specs.Card.{byte_of};

@@ -1,5 +1,7 @@
 // The plain search for a reading with open flags, on the tables of a formula: the empty node is tested over those tables, and where it is open the tables of
 // a search are derived, the recorded values among them. What is learned is neither read nor written: it is not lent.
+#![tactic(auto)]
+
 ghost use Rattle.std.specs.Prelude.{◌≤◌};
 ghost use Rattle.qbf.specs.Formula.{paper};
 ghost use Rattle.tables.specs.Formed.{Clauses};

@@ -2,6 +2,8 @@
 // flag." A visit of a node, the branch on its next variable, and the visitors of exists, forall and free variables, which call one another over lent tables;
 // the number of open places falls. Each place has its row of satisfied clauses, and nothing of it is undone: only rows below the node are written. The budget
 // goes down with the visits; where none is left the visit is not made, and the other visits on the way up are not made either.
+#![tactic(auto)]
+
 ghost use Rattle.std.specs.Prelude.{suc, ◌+◌, ◌≤◌, ◌<◌, ◌≡◌, get_or};
 ghost use Rattle.qbf.specs.Formula.{paper, exists, forall, free};
 ghost use Rattle.tables.specs.Views.{quantifier_code};
@@ -231,7 +233,8 @@ fn free<'a>(
         sat.old }
 {
     let value = recorded_at(recorded, at);
-    if value == tables::OPEN {
+    let open = value == tables::OPEN;
+    if open {
         return sides(
             sets,
             quantifiers,

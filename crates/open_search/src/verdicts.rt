@@ -8,7 +8,7 @@ use node::Verdict;
 
 // The verdict, and the budget that is left. The budget is one more than the visits that may still be made: a search that ends leaves 1 at least, and one
 // that was stopped leaves 0.
-#[derive(Drop)]
+#[derive(Clone, Copy)]
 pub struct Finding {
     pub verdict: Verdict,
     pub budget: u64,

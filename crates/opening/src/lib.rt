@@ -1,4 +1,6 @@
 // Opening a text: a state with an empty store, or the refusal with its line. Paper 01, "Text and program".
+#![tactic(auto)]
+
 ghost use Rattle.std.specs.Prelude.{◌≡◌, cond, eqb};
 ghost use Rattle.std.proofs.Math.Option.{some};
 ghost use Rattle.qbf.specs.Formula.{Formula, paper};
@@ -25,7 +27,7 @@ pub const NONE: u16 = 0;
 
 // What a text opens: its state, with no refusal and no line; or the refusal with its line, and a state on which every call is refused with 22.
 #[repr(C)]
-#[derive(Drop)]
+#[derive(Clone, Copy)]
 pub struct Opened {
     pub refusal: u16,
     pub line: usize,

@@ -23,7 +23,7 @@ const NOT_EDITION: u16 = 2;
 const EDITION: usize = 1;
 
 // A refusal, or the next state and stage.
-#[derive(Drop)]
+#[derive(Clone, Copy)]
 pub struct Taken {
     pub refusal: u16,
     pub stage: usize,

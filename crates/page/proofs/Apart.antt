@@ -5,14 +5,14 @@ use native.Mathlib.Omega.{arith}
 use mathlib.Core.Path.{◌≡◌, refl, sym, ap, ◌∙◌}
 use mathlib.Core.Logic.{◌⊎◌, inl, inr}
 use mathlib.Core.Bool.{Bool, true, false, cond, ◌||◌}
-use mathlib.Core.List.{List, [], ◌∷◌, ◌++◌, map}
+use mathlib.Core.List.{[], ◌∷◌, ◌++◌, map}
 use lib.ListN.{length, get_or, take, drop, replicate, length-take, length-drop, length-map, get_or-append, get_or-map}
 use lib.Seq.{ext_get_or, get_or-take, get_or-drop, length-take-le}
 use lib.Dec.{eqb, ltb, eqb-suc-zero}
 use borrow.Author.Tests.{eqb-true, eqb-false, ne_eqb, le-ltb, lt-ltb, ltb-false}
 use Rattle.qbf.specs.Formula.{any}
 use Rattle.layout.specs.Words.{Bytes, newline, space}
-use Rattle.layout.specs.Page.{page_lines, flag_columns, most_lines, sign_of, line_row, blank_row, line_at, body_row, page_of, pages, no_card, no_page, zero_page, printed, DifferInLine, DifferInPrint}
+use Rattle.layout.specs.Page.{page_lines, flag_columns, sign_of, line_row, blank_row, line_at, body_row, page_of, pages, no_card, no_page, zero_page, printed, DifferInLine, DifferInPrint}
 use Rattle.theory.proofs.Basics.{dichotomy, le_or_lt, or_false, or_false_left, or_false_right}
 use Rattle.page.specs.Columns.{digit}
 use Rattle.page.proofs.Cells.{whole, whole_row}

@@ -4,11 +4,11 @@ use native.Mathlib.Numerals.{add-one}
 use native.Mathlib.Omega.{arith}
 use mathlib.Core.Path.{◌≡◌, sym, ap, ◌∙◌}
 use mathlib.Core.Logic.{◌⊎◌, inl, inr}
-use mathlib.Core.List.{List, [], ◌∷◌, ◌++◌, map, append_assoc, map-append}
+use mathlib.Core.List.{[], ◌∷◌, ◌++◌, map, append_assoc, map-append}
 use lib.ListN.{length, get_or, set, take, replicate, length-append, length-map, length-replicate, length-take}
 use lib.Seq.{take-suc, take_all, set_at, length-take-le}
 use Rattle.layout.specs.Words.{Bytes, ascii, newline, space}
-use Rattle.layout.specs.Page.{page_columns, number_columns, flag_columns, most_lines, aligned, sign_of, head_row, line_row}
+use Rattle.layout.specs.Page.{page_columns, number_columns, flag_columns, most_lines, sign_of, head_row, line_row}
 use Rattle.theory.proofs.Basics.{le_or_lt}
 use Rattle.page.specs.Columns.{digit, columns}
 use Rattle.page.proofs.Columns.{columns_aligned}

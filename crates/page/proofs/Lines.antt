@@ -4,7 +4,7 @@ use native.Mathlib.Nat.{not-suc-le-zero, le_of_suc-le-suc, mul-le-mul_right}
 use native.Mathlib.Omega.{arith}
 use mathlib.Core.Path.{◌≡◌, refl, sym, ap, ◌∙◌}
 use mathlib.Core.Bool.{Bool, true, false, cond}
-use mathlib.Core.List.{List, [], ◌∷◌}
+use mathlib.Core.List.{[], ◌∷◌}
 use lib.ListN.{length, get_or, set, take, drop, length-append, get_or-append}
 use lib.Seq.{get_or_at, ext_get_or, get_or-set_same, get_or-set_other}
 use lib.Dec.{ltb}

@@ -1,4 +1,6 @@
 // The card on a printed page: 24 rows of 72 bytes, by value. A card's table has lines of f bytes: 0 open, 1 off, 2 on.
+#![tactic(auto)]
+
 ghost use Rattle.std.specs.Prelude.{◌≡◌};
 ghost use Rattle.layout.specs.Page.{pages as pagesOf, printed, page_refusal};
 

@@ -1,36 +1,51 @@
 // The program `pages`: a book on standard input, all pages of its card on standard output.
+#![tactic(auto)]
+
 use printer::Made;
+use std::io;
+use std::io::Input;
 
 // One byte more than a text may have.
 const ROOM: usize = reader::text::TEXT + 1;
 
-fn print_refusal(made: Made, out: &mut [u8; page::lent::BYTES]) {
+fn print_refusal(rt: &impl Print, made: Made, out: &mut [u8; page::lent::BYTES]) -> io::Result<()> {
     let length = printer::put_refusal(out, made.refusal, made.line);
-    output::print(out, length);
+    output::print(rt, out, length)
 }
 
 // One page after the other, each in the same table.
-fn print_pages(made: Made, table: &[u8], out: &mut [u8; page::lent::BYTES]) {
+fn print_pages(
+    rt: &impl Print,
+    made: Made,
+    table: &[u8],
+    out: &mut [u8; page::lent::BYTES],
+) -> io::Result<()> {
     let last = page::pages(made.lines);
     for number in 1..=last {
         page::lent::page_into(out, table, made.lines, made.free, number);
-        output::print(out, page::lent::BYTES);
+        output::print(rt, out, page::lent::BYTES)?;
     }
+    Ok(())
 }
 
-fn print_text(text: &[u8], table: &mut [u8], out: &mut [u8; page::lent::BYTES]) {
+fn print_text(
+    rt: &impl Print,
+    text: &[u8],
+    table: &mut [u8],
+    out: &mut [u8; page::lent::BYTES],
+) -> io::Result<()> {
     let made = printer::make_card(text, table);
     if made.refusal == opening::NONE {
-        print_pages(made, table, out);
+        print_pages(rt, made, table, out)
     } else {
-        print_refusal(made, out);
+        print_refusal(rt, made, out)
     }
 }
 
-fn main() {
+fn main(rt: HostRuntime) -> io::Result<()> {
     let mut text = [0u8; ROOM];
     let mut table = [tables::OPEN; reader::call::TABLE];
     let mut out = [0u8; page::lent::BYTES];
-    let held = input::read_all(&mut text);
-    print_text(&text[..held], &mut table, &mut out);
+    let held = input::read_all(&mut rt.reader(), &mut text);
+    print_text(&rt, &text[..held], &mut table, &mut out)
 }

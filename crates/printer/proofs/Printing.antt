@@ -1,5 +1,5 @@
 -- All that is printed, from the card that was made and its pages, is what the program's definition says; and no page of it is refused.
-use Prim.Native.Nat.{ℕ, zero, suc, ◌*◌, ◌-◌, ◌≤◌, ◌<◌}
+use Prim.Native.Nat.{ℕ, zero, suc, ◌*◌, ◌-◌, ◌≤◌}
 use native.Mathlib.Nat.{le-mul_of_pos_right}
 use native.Mathlib.Omega.{arith}
 use mathlib.Core.Path.{◌≡◌, refl, sym, ap, subst, ◌∙◌}
@@ -14,9 +14,8 @@ use Rattle.qbf.specs.Truth.{free_variables}
 use Rattle.qbf.specs.Learning.{empty_store}
 use Rattle.qbf.specs.Card.{table_of, zero_table}
 use Rattle.qbf.specs.Ceiling.{highest_ceiling}
-use Rattle.qbf.specs.Calls.{Reply, lines, card_refused, learning_card, formula_is_ok, well_formed}
+use Rattle.qbf.specs.Calls.{Reply, lines, learning_card, formula_is_ok, well_formed}
 use Rattle.qbf.specs.Runs.{fresh}
-use Rattle.theory.proofs.Basics.{le_or_lt}
 use Rattle.layout.specs.Words.{Bytes, joined}
 use Rattle.layout.specs.Output.{refusal_text}
 use Rattle.layout.specs.Page.{page_bytes, most_lines, pages, page_of, no_card, no_page, zero_page, printed}
@@ -30,7 +29,7 @@ use Rattle.edition_opening.proofs.Apart.{edition_numbered}
 use Rattle.serving.specs.Serves.{Said, said_reply, number}
 use Rattle.serve.proofs.FreeLines.{card_lines, lines_within, one_line}
 use Rattle.serve.proofs.CardTexts.{Listed, Refused, formed_cases}
-use Rattle.page.specs.Lent.{PageLent, lent_refusal}
+use Rattle.page.specs.Lent.{PageLent}
 use Rattle.page.proofs.Cards.{table_printable}
 use Rattle.printer.specs.declared.Made.{Made}
 use Rattle.printer.specs.Making.{ReplyMade, CardMade, MakesCard, PagesWritten, printed_by, PagesOf}

@@ -1,4 +1,6 @@
 // A text's card, made in a lent table for its pages to be printed.
+#![tactic(auto)]
+
 ghost use Rattle.std.specs.Prelude.{◌≡◌, true, length};
 ghost use Rattle.std.proofs.Math.Option.{some};
 ghost use Rattle.qbf.specs.Formula.{Formula};
@@ -16,7 +18,7 @@ use state::State;
 use writer::answer;
 
 // The lines that stand in the table, and the count of free variables; or the refusal with its line, which is 0 for a card.
-#[derive(Drop)]
+#[derive(Clone, Copy)]
 pub struct Made {
     pub refusal: u16,
     pub line: usize,

@@ -1,5 +1,5 @@
 -- The card: its lines by the paper's sentence, their order, and the bytes of the table. Paper 01, "Calls and card".
-use Rattle.std.specs.Prelude.{ℕ, ◌+◌, ◌*◌, ◌-◌, ◌≤◌, ◌<◌, ◌≡◌, ◌⊎◌, Bool, true, false, ◌&&◌, List, [], ◌∷◌, ◌++◌, map, length, take, drop, replicate}
+use Rattle.std.specs.Prelude.{ℕ, ◌*◌, ◌-◌, ◌≤◌, ◌<◌, ◌≡◌, ◌⊎◌, Bool, true, false, ◌&&◌, List, [], ◌∷◌, ◌++◌, map, length, take, drop, replicate}
 use Rattle.std.specs.Bool.{beq}
 use Rattle.qbf.specs.Formula.{Prefix, quantifiers, Clause, Node}
 use Rattle.qbf.specs.Truth.{Verdict, has_verdict, free_variables}

@@ -13,7 +13,6 @@ use Rattle.qbf.specs.Formula.{Quantifier, free, exists, forall, is_free, Literal
 use Rattle.theory.proofs.Basics.{and_left, and_right}
 use Rattle.layout.specs.Words.{Bytes, space, split, same, is_digit, digits, number}
 use Rattle.layout.specs.Forms.{then, consed, off, block}
-use Rattle.layout.specs.Forms as own
 use Rattle.booktext_laws.proofs.Lines.{Short, Legible}
 use Rattle.qdimacs_form.specs.Lines.{filled, edged, minus, zero_word, literal_of, literal, literals, Line, comment, header, group, clause, header_word, exists_word, forall_word, cnf_word, header_of, header_from, group_of, clause_of, line_from, comment_byte, line_of}
 use Rattle.qdimacs_form.specs.Translation.{parsed}

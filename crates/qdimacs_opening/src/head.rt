@@ -8,7 +8,7 @@ pub const GROUPS: usize = 1;
 pub const CLAUSES: usize = 2;
 
 // The counts are the header's.
-#[derive(Drop)]
+#[derive(Clone, Copy)]
 pub struct Head {
     pub stage: usize,
     pub variables: usize,

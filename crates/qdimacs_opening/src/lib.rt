@@ -1,4 +1,6 @@
 // Opening a QDIMACS text, to the state that our own text would give. Paper 02, wish 1.
+#![tactic(auto)]
+
 ghost use Rattle.qbf.specs.Formula.{paper};
 ghost use Rattle.opening.specs.Opened.{OpenedAs};
 ghost use Rattle.qdimacs_form.specs.Opening.{at_end, open_qdimacs};

@@ -25,7 +25,7 @@ const TOO_MANY: u16 = 3;
 const ABOVE: u16 = 5;
 
 // A refusal, or what is read with the line.
-#[derive(Drop)]
+#[derive(Clone, Copy)]
 pub struct Taken {
     pub refusal: u16,
     pub head: Head,

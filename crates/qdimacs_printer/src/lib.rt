@@ -1,4 +1,6 @@
 // What the program `qdimacs` prints: the book of a QDIMACS text in our own text, or the refusal. Paper 02, wishes 1 and 2.
+#![tactic(auto)]
+
 ghost use Rattle.std.specs.Prelude.{◌≡◌, true};
 ghost use Rattle.std.proofs.Math.Option.{some};
 ghost use Rattle.qbf.specs.Formula.{paper, Formula};

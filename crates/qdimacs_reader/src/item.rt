@@ -10,7 +10,7 @@ use reader::word::same_word;
 
 const MINUS: u8 = b'-';
 
-#[derive(Drop)]
+#[derive(Clone, Copy)]
 pub enum Item {
     Lit(i16),
     NotItem,

@@ -14,7 +14,7 @@ const COMMENT: u8 = b'c';
 
 // What a line holds. The numbers of a quantifier line and the literals of a clause are counted here and lie in a lent table; a quantifier
 // line has its quantifier's code, tables::EXISTS or FORALL; a header has the counts of variables and of clauses.
-#[derive(Drop)]
+#[derive(Clone, Copy)]
 pub enum Line {
     Comment,
     Header(u32, u32),
@@ -23,7 +23,7 @@ pub enum Line {
     NotLine,
 }
 
-#[derive(Drop)]
+#[derive(Clone, Copy)]
 enum Word {
     Header,
     Exists,

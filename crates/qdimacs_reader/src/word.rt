@@ -6,7 +6,7 @@ ghost use Rattle.qdimacs_reader.specs.Words.{Skipped, NextWord};
 use reader::word::{SPACE, find};
 
 // Where a word starts and ends; where there is none it is empty.
-#[derive(Drop)]
+#[derive(Clone, Copy)]
 pub struct Span {
     pub start: usize,
     pub end: usize,

@@ -15,7 +15,7 @@ use Rattle.qbf.specs.Ceiling.{highest_ceiling}
 use Rattle.theory.proofs.Basics.{and_left, and_right}
 use Rattle.layout.specs.Words.{Bytes, is_digit, digits, number, number_within, closed}
 use Rattle.layout.specs.Forms.{then}
-use Rattle.layout.specs.Endings.{within, number_up_to}
+use Rattle.layout.specs.Endings.{within}
 use Rattle.reader.specs.Numbers.{num_of, UnclosedOf}
 use Rattle.reader.specs.declared.number.Num.{Num}
 use Rattle.reader.specs.declared.number.Num.TheVariants.{Value, NotNumber}

@@ -16,7 +16,7 @@ pub const TABLE: usize = 65536;
 
 // The call of a line. The literals of a rule or an exactly-one form, and those by which a query or a closest reading names flags, are
 // counted here and lie in the lent table, as many as it holds; a card and a closest reading have the size of their table.
-#[derive(Drop)]
+#[derive(Clone, Copy)]
 pub enum CallLine {
     Rule(usize),
     Query(usize),
@@ -29,7 +29,7 @@ pub enum CallLine {
     NotCall,
 }
 
-#[derive(Drop)]
+#[derive(Clone, Copy)]
 enum CallWord {
     Rule,
     Query,

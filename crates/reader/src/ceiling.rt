@@ -13,7 +13,7 @@ use crate::sized::read_sized;
 use crate::text::TEXT;
 
 // The call of a line, and its ceiling; a call that takes none has the highest.
-#[derive(Drop)]
+#[derive(Clone, Copy)]
 pub struct CeiledLine {
     pub line: CallLine,
     pub ceiling: u32,

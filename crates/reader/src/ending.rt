@@ -11,7 +11,7 @@ use crate::number::{Num, closed_within};
 use crate::word::{SPACE, find, same_word};
 
 // No such item; or one with its number, after so many bytes of words; or words outside the form.
-#[derive(Drop)]
+#[derive(Clone, Copy)]
 pub enum Ending {
     NoItem,
     Item(usize, u32),

@@ -8,13 +8,13 @@ ghost use Rattle.reader.specs.Items.{ItemRead, narrow};
 use crate::number::{Num, closed_number, read_number};
 use crate::word::{SPACE, find, same_word};
 
-#[derive(Drop)]
+#[derive(Clone, Copy)]
 pub struct Cursor {
     pub at: usize,
 }
 
 // A literal and the place of the next word, or no literal.
-#[derive(Drop)]
+#[derive(Clone, Copy)]
 pub enum Item {
     Lit(i16, Cursor),
     NotItem,

@@ -8,7 +8,7 @@ ghost use Rattle.reader.specs.Items.{Filled};
 use crate::item::{Cursor, Item, read_item};
 
 // How many items there are.
-#[derive(Drop)]
+#[derive(Clone, Copy)]
 pub enum Count {
     Items(usize),
     NotItems,

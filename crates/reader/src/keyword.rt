@@ -4,7 +4,7 @@ ghost use Rattle.reader.specs.Lines.{word_of, signs, block_of, line_of};
 
 use crate::word::same_word;
 
-#[derive(Drop)]
+#[derive(Clone, Copy)]
 pub enum Word {
     Book,
     Flags,
@@ -17,7 +17,7 @@ pub enum Word {
 
 // What a line holds. The numbers of a block and the literals of a rule are counted here and lie in a lent table; a block has its
 // quantifier's code, tables::FREE, EXISTS or FORALL; the edition of a book is the table's first number.
-#[derive(Drop)]
+#[derive(Clone, Copy)]
 pub enum Line {
     Book,
     Block(u16, usize),

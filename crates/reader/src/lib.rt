@@ -1,5 +1,7 @@
 // Reading a line of a text: words, numbers, literals and the form or the call that they make. Each function is equal to its
 // definition in layout, for every byte string.
+#![tactic(auto)]
+
 pub mod brackets;
 pub mod call;
 pub mod ceiling; // a call's line with its ceiling

@@ -9,7 +9,7 @@ ghost use Rattle.reader.specs.Numbers.{num_of, UnclosedOf};
 use crate::word::CLOSING;
 
 // What a word says as a number.
-#[derive(Drop)]
+#[derive(Clone, Copy)]
 pub enum Num {
     Value(u32),
     NotNumber,
@@ -89,7 +89,7 @@ fn read_up_to(w: &[u8], most: usize, top: u32) -> Num
 }
 
 // How many bytes of a word stand before a closing bracket that ends it.
-#[derive(Drop)]
+#[derive(Clone, Copy)]
 pub enum Unclosed {
     Bytes(usize),
     NotClosed,

@@ -14,7 +14,7 @@ use crate::word::{SPACE, find, same_word};
 
 // The whole text in a table that is large enough, or in one of so many bytes; or a page by its number. A line that is none of them may
 // be a call.
-#[derive(Drop)]
+#[derive(Clone, Copy)]
 pub enum RequestLine {
     Whole,
     Into(usize),

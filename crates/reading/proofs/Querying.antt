@@ -10,12 +10,12 @@ use borrow.Author.Tests.{not-true, not-false}
 use Rattle.qbf.specs.Formula.{Limits, Prefix, Literal, Formula, quantifiers}
 use Rattle.qbf.specs.Truth.{free_variables}
 use Rattle.qbf.specs.Open.{reading_of, is_full}
-use Rattle.qbf.specs.Calls.{numbers_are_ok, free_first, prefix_is_ok, query_fault}
+use Rattle.qbf.specs.Calls.{numbers_are_ok, free_first, query_fault}
 use Rattle.theory.proofs.Basics.{and_left}
 use Rattle.tables.specs.Views.{Places, Recorded}
 use Rattle.reading.specs.Reading.{Ready, QueryRead}
 use Rattle.reading.specs.Marking.{any_barred, named, Named, FullBy}
-use Rattle.reading.proofs.Faults.{Seen, seen_none, Passed, fault_told, fault_passed}
+use Rattle.reading.proofs.Faults.{seen_none, Passed, fault_told, fault_passed}
 use Rattle.reading.proofs.Recording.{named_length, both_recorded, full_told, full_values}
 
 module _ (L : Limits) (D : Prefix) (f : ℕ) (ns places values : List ℕ) (r : Ready L D f ns places values) (on off : List Literal) where

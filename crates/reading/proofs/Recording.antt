@@ -2,7 +2,7 @@
 use Prim.Native.Nat.{ℕ, zero, suc, ◌≤◌, ◌<◌}
 use native.Mathlib.Nat.{le_of_suc-le-suc, not-suc-le-zero}
 use native.Mathlib.Omega.{arith}
-use mathlib.Core.Path.{◌≡◌, refl, sym, ap, ◌∙◌, subst}
+use mathlib.Core.Path.{◌≡◌, refl, sym, ap, ◌∙◌}
 use mathlib.Core.Logic.{◌⊎◌, inl, inr}
 use mathlib.Core.Bool.{Bool, true, false, cond, not, ◌&&◌, ◌||◌, false≢true, true≢false}
 use mathlib.Core.List.{List, [], ◌∷◌, map}
@@ -21,7 +21,7 @@ use Rattle.theory.proofs.Starting.{free_fit}
 use Rattle.theory.proofs.Queries.{reading_length}
 use Rattle.tables.specs.Views.{value_code, Numbers, Places, Recorded, Values}
 use Rattle.reading.specs.Marking.{any_barred, named, FullBy}
-use Rattle.reading.proofs.Faults.{Fresh, named_fresh}
+use Rattle.reading.proofs.Faults.{named_fresh}
 
 -- ---- the values named
 module _ (v : ℕ) where

@@ -1,4 +1,6 @@
 // The arguments of a query: "From now on a query gives the flags that are on and those that are off, and the rest are open."
+#![tactic(auto)]
+
 mod cells;
 mod full;
 mod named;
@@ -11,7 +13,7 @@ use crate::full::is_full;
 use crate::named::mark_all;
 
 // Whether the arguments name free variables, each once; and whether they name all of them.
-#[derive(Drop)]
+#[derive(Clone, Copy)]
 pub struct Reading {
     pub ok: bool,
     pub full: bool,

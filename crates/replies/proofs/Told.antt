@@ -3,7 +3,6 @@ use Prim.Native.Nat.{ℕ}
 use native.Mathlib.Omega.{arith}
 use mathlib.Core.Path.{◌≡◌, refl, sym, ap, ◌∙◌}
 use mathlib.Core.List.{List, []}
-use mathlib.Core.Option.{none, some}
 use Rattle.theory.proofs.AcceptedRule.{some_none}
 use Rattle.serving.specs.Serves.{Said, said, number}
 use Rattle.replies.specs.declared.Ruling.{Ruling}

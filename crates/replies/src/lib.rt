@@ -1,4 +1,6 @@
 // What query, card and keep card answer, in the paper's words and numbers; and the budget of a search under a ceiling.
+#![tactic(auto)]
+
 ghost use Rattle.std.specs.Prelude.{◌≡◌, List, [], ℕ, suc, ◌+◌, ◌<◌, ◌≤◌, ◌^◌};
 ghost use Rattle.std.proofs.Math.Option.{none, some};
 ghost use Rattle.qbf.specs.Ceiling.{highest_ceiling};
@@ -21,7 +23,7 @@ pub const STOPPED: u16 = 34;
 // "a card with no line gives 35"
 pub const NO_LINE: u16 = 35;
 
-#[derive(Drop)]
+#[derive(Clone, Copy)]
 pub enum Ruling {
     Swap,
     Keep,
@@ -29,19 +31,19 @@ pub enum Ruling {
     Refused(u16),
 }
 
-#[derive(Drop)]
+#[derive(Clone, Copy)]
 pub enum Printed {
     Lines(usize),
     Refused(u16),
 }
 
-#[derive(Drop)]
+#[derive(Clone, Copy)]
 pub struct Ruled {
     pub ruling: Ruling,
     pub visits: u64,
 }
 
-#[derive(Drop)]
+#[derive(Clone, Copy)]
 pub struct Listed {
     pub printed: Printed,
     pub visits: u64,

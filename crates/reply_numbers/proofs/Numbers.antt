@@ -2,7 +2,6 @@
 use Prim.Native.Nat.{ℕ, zero, suc}
 use mathlib.Core.Path.{◌≡◌, refl, sym, ap, subst, ◌∙◌}
 use mathlib.Core.List.{List, []}
-use mathlib.Core.Option.{none, some}
 use Rattle.qbf.specs.Calls.{Call}
 use Rattle.state.specs.declared.State.{State}
 use Rattle.serving.specs.Serves.{Said, said, said_with, number, fault_of, told, Serves}

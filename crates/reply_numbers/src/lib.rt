@@ -1,4 +1,6 @@
 // An answer in plain numbers, as programs in other languages take it. The state stays with the caller.
+#![tactic(auto)]
+
 ghost use Rattle.std.specs.Prelude.{◌≡◌, List, [], ℕ};
 ghost use Rattle.serving.specs.Serves.{number, told};
 ghost use Rattle.rules.specs.Rules.{change_said};
@@ -12,7 +14,7 @@ use rules::Change;
 
 // A refusal of 0 is none; a verdict is 1 for keep, 2 for swap and 3 for unsettled, 0 where the call is no query.
 #[repr(C)]
-#[derive(Drop)]
+#[derive(Clone, Copy)]
 pub struct Reply {
     pub refusal: u16,
     pub verdict: u16,
@@ -22,7 +24,7 @@ pub struct Reply {
 
 // Of a closest reading: in how many variables it differs.
 #[repr(C)]
-#[derive(Drop)]
+#[derive(Clone, Copy)]
 pub struct Closest {
     pub refusal: u16,
     pub differs: usize,

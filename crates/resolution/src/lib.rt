@@ -1,5 +1,7 @@
 // Resolution on codes, and its dual of two cubes: two constraints united without a variable, which only their last codes can be of, and reduced; and the
 // result stored.
+#![tactic(auto)]
+
 ghost use Rattle.std.specs.Prelude.{◌≡◌, true, suc, ◌+◌, ◌^◌, ◌≤◌, ◌<◌, length, take, eqb};
 ghost use Rattle.qbf.specs.Formula.{paper, Prefix};
 ghost use Rattle.qbf.specs.Learning.{Constraint, push, without, resolvent, last_place};

@@ -1,6 +1,6 @@
 -- What a call owes on a state of two tables that is not valid, and on one that is.
 use Prim.Native.Nat.{ℕ, ◌≤◌}
-use mathlib.Core.Path.{◌≡◌, refl, sym, ap, subst, ◌∙◌}
+use mathlib.Core.Path.{◌≡◌, refl, sym, ap, ◌∙◌}
 use mathlib.Core.Bool.{Bool, true, false}
 use mathlib.Core.List.{List}
 use mathlib.Core.Option.{Option, none, some}
@@ -8,7 +8,7 @@ use lib.IntN.{ℤ}
 use lib.ListN.{get_or}
 use Rattle.qbf.specs.Formula.{Limits, highest}
 use Rattle.qbf.specs.Calls.{Call, Answer, answer, refusal, guarded, State as Read}
-use Rattle.qbf.specs.Demands.{AfterSearch, refusal_of}
+use Rattle.qbf.specs.Demands.{refusal_of}
 use Rattle.theory.proofs.AcceptedRule.{some_none}
 use Rattle.theory.proofs.WellFormed.{state_facts, numbers_capped, clauses_capped}
 use Rattle.state.specs.Reading.{own, well_formed_read, state_under}

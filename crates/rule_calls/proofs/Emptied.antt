@@ -6,12 +6,12 @@ use mathlib.Core.Bool.{Bool, true, cond, ◌&&◌}
 use mathlib.Core.List.{List, []}
 use mathlib.Core.Option.{none, some}
 use lib.IntN.{ℤ}
-use lib.ListN.{length, get_or, set, length-set}
+use lib.ListN.{get_or, set, length-set}
 use lib.Seq.{get_or-set_same, get_or-set_other}
 use lib.Dec.{leb}
 use borrow.Author.Tests.{le-leb}
 use Rattle.qbf.specs.Formula.{Limits}
-use Rattle.qbf.specs.Calls.{State as Read, forget}
+use Rattle.qbf.specs.Calls.{forget}
 use Rattle.qbf.specs.Learning.{empty_store}
 use Rattle.theory.proofs.Basics.{and_both}
 use Rattle.tables.specs.Views.{rows, rows_of}

@@ -1,4 +1,6 @@
 // The calls that ask for no search, open to outsiders, on a state in two lent tables under its own limits.
+#![tactic(auto)]
+
 ghost use Rattle.std.specs.Prelude.{◌≡◌};
 ghost use Rattle.qbf.specs.Calls.{forget};
 ghost use Rattle.rule_calls.specs.ServesAt.{ServesAt, change_said};

@@ -1,3 +1,5 @@
 // The rows that a call writes into the tables of a state.
+#![tactic(auto)]
+
 pub mod cells; // literals, and that no row stands
 pub mod clauses; // an accepted rule

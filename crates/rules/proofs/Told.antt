@@ -1,7 +1,5 @@
 -- The answers of rule and forget are told apart by what they say.
-use Prim.Native.Nat.{ℕ}
 use mathlib.Core.Path.{◌≡◌, refl, sym, ap}
-use mathlib.Core.Option.{Option, none, some}
 use Rattle.theory.proofs.AcceptedRule.{some_none}
 use Rattle.serving.specs.Serves.{Said, number}
 use Rattle.rules.specs.declared.Change.{Change}

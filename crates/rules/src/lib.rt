@@ -1,4 +1,6 @@
 // The calls rule, one, withdraw and forget, open to outsiders, on a state whose tables are lent: they ask for no search.
+#![tactic(auto)]
+
 ghost use Rattle.std.specs.Prelude.{◌≡◌};
 ghost use Rattle.serving.specs.Serves.{number};
 ghost use Rattle.rules.specs.Rules.{change_said};
@@ -7,7 +9,7 @@ use rule_faults::refusals;
 
 pub mod in_place; // the calls
 
-#[derive(Drop)]
+#[derive(Clone, Copy)]
 pub enum Change {
     Done,
     Refused(u16),

@@ -13,7 +13,6 @@ use Rattle.qbf.specs.Truth.{Outcome, decided, mixed, free_count}
 use Rattle.qbf.specs.Learning.{Constraint, Store, LearningResult, visit, below, branch, resolvent, union, without}
 use Rattle.qbf.specs.Ceiling.{Attempt, finished, stopped, visit_within, below_within, branch_within}
 use Rattle.qbf.specs.Calls.{numbers_are_ok}
-use Rattle.qbf.specs.Card.{Mem}
 use Rattle.theory.proofs.Laws.{branch_on, branch_mixed}
 use Rattle.theory.proofs.CeilingLaws.{off_goes_up, on_ends, on_stops, mixed_ends, mixed_stops}
 use Rattle.theory.proofs.Ceiling.{Any, Within, visit_within_any}

@@ -5,9 +5,8 @@ use native.Mathlib.Numerals.{add-one}
 use native.Mathlib.Omega.{arith}
 use mathlib.Core.Path.{◌≡◌, refl, sym, ap, ◌∙◌, subst}
 use mathlib.Core.Bool.{Bool, true, false}
-use mathlib.Core.List.{List, []}
-use mathlib.Core.Option.{none}
-use lib.ListN.{length, get_or, set, take}
+use mathlib.Core.List.{List}
+use lib.ListN.{length, get_or, set}
 use lib.Seq.{take-append-le, take-length}
 use Rattle.qbf.specs.Formula.{Prefix, Clause, Node, ◌▹◌}
 use Rattle.qbf.specs.Learning.{first_dead}

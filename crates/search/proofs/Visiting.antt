@@ -8,7 +8,7 @@ use mathlib.Core.List.{List, [], ◌∷◌, append-nil}
 use mathlib.Core.Option.{Option, none, some}
 use lib.ListN.{length, take, drop, length-map, drop_of_length-le}
 use lib.Dec.{eqb}
-use Rattle.qbf.specs.Formula.{paper, Quantifier, free, Prefix, Clause, Node, ◌▹◌, quantifiers, quantifier_at}
+use Rattle.qbf.specs.Formula.{paper, Quantifier, Prefix, Clause, Node, ◌▹◌, quantifiers, quantifier_at}
 use Rattle.qbf.specs.Truth.{Outcome, decided}
 use Rattle.qbf.specs.Learning.{Constraint, Store, leaf, first_dead, lowest_dead, reduced_found, conclude_by}
 use Rattle.qbf.specs.Ceiling.{Attempt, finished, below_within, settle_within, visit_within}

@@ -2,14 +2,13 @@
 -- every prefix, clauses, store, node and list of lines that the tables show.
 use Rattle.std.specs.Prelude.{ℕ, suc, ◌+◌, ◌-◌, ◌*◌, ◌^◌, ◌≤◌, ◌<◌, ◌≡◌, Bool, true, false, cond, List, [], ◌∷◌, ◌++◌, length, take, drop, eqb}
 use Rattle.std.proofs.Math.Option.{none}
-use Rattle.qbf.specs.Formula.{paper, Quantifier, Prefix, Clause, Node, ◌▹◌, quantifiers, quantifier_at}
+use Rattle.qbf.specs.Formula.{paper, Quantifier, Prefix, Clause, Node, ◌▹◌, quantifiers}
 use Rattle.qbf.specs.Truth.{free_variables}
 use Rattle.qbf.specs.Learning.{Store, LearningResult, first_dead}
 use Rattle.qbf.specs.Ceiling.{Attempt, finished, stopped, visit_within, below_within, branch_within}
 use Rattle.qbf.specs.Card.{byte_of}
 use Rattle.cover.specs.Cover.{Covers}
 use Rattle.tables.specs.Formed.{Formed}
-use Rattle.tables.specs.Views.{quantifier_code}
 use Rattle.tables.specs.Shelves.{Shelves, newest_of}
 use Rattle.tables.specs.Records.{Ledger, StoreKept}
 use Rattle.tables.specs.Matrices.{MatrixShown, RowLength}

@@ -6,6 +6,8 @@
 //
 // A level of the search is one call in the compiled code: `visit` is called from the start and from each side, and the others become a part of it.
 // The compiler does that for a function that is called from one place, or is short, where it takes the call to be likely; bench/ sees it.
+#![tactic(auto)]
+
 ghost use Rattle.std.specs.Prelude.{suc, ◌+◌, ◌≤◌, ◌<◌, length};
 ghost use Rattle.qbf.specs.Formula.{exists, forall, free};
 ghost use Rattle.tables.specs.Views.{quantifier_code};

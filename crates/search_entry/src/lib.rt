@@ -1,17 +1,19 @@
 // "The bar handed back is that part of the rule table, not a copy": where the constraint that a visit hands up lies, and that part of the lent
 // tables.
+#![tactic(auto)]
+
 ghost use Rattle.std.specs.Prelude.{◌≡◌, ◌+◌, ◌≤◌, ◌<◌, length, take, drop};
 ghost use Rattle.search_entry.specs.Entry.{entry_at, Bounded};
 
 // In the clauses of the search, among the learned constraints of its polarity, or in the area in which step 3 makes a cube.
-#[derive(Drop)]
+#[derive(Clone, Copy)]
 pub enum Source {
     Clauses,
     Learned,
     Area,
 }
 
-#[derive(Drop)]
+#[derive(Clone, Copy)]
 pub struct Bounds {
     pub source: Source,
     pub start: usize,

@@ -1,5 +1,7 @@
 // The finder of step 1 as a call of its own, on tables that anybody lends, to try it at nodes that no search reaches. A clause has 16 cells of
 // the first table, `sizes` their count and the number of literals of each; places, quantifiers and values stand by number.
+#![tactic(auto)]
+
 ghost use Rattle.qbf.specs.Formula.{paper};
 ghost use Rattle.tables.specs.Views.{Standing};
 ghost use Rattle.lowest_dead.specs.Found.{FoundLowest};
@@ -18,7 +20,8 @@ fn stand<'a>(clauses: &'a [i16], sizes: &'a [u16]) -> bool
     }
     for k in 0..count {
         let end = k * tables::LITERALS + cell_at(sizes, k + 1) as usize;
-        if clauses.len() < end {
+        let outside = clauses.len() < end;
+        if outside {
             return false;
         }
     }

@@ -1,5 +1,7 @@
 // Steps 1 to 4 of a visit at the start node, over the state's own tables. The start node has no parent, so nobody learns from what decides
 // it: the answer is the verdict alone.
+#![tactic(auto)]
+
 ghost use Rattle.std.specs.Prelude.{◌≡◌, length};
 ghost use Rattle.qbf.specs.Formula.{paper, Prefix, Node};
 ghost use Rattle.tables.specs.Views.{Places, Kinds, Values, Standing, rows_of};
@@ -13,7 +15,7 @@ pub mod matches; // learned constraints
 pub mod satisfied;
 
 // What steps 1 to 4 decide, or that the node is open.
-#[derive(Drop)]
+#[derive(Clone, Copy)]
 pub enum Start {
     No,
     Yes,

@@ -7,7 +7,7 @@ use mathlib.Core.Logic.{◌⊎◌, inl, inr}
 use mathlib.Core.Bool.{Bool, true, false, cond}
 use mathlib.Core.List.{List, []}
 use mathlib.Core.Option.{Option, none, some}
-use borrow.Author.Tests.{leb-true, ne_eqb}
+use borrow.Author.Tests.{leb-true}
 use lib.ListN.{length}
 use lib.Dec.{leb}
 use Rattle.qbf.specs.Formula.{paper, Limits, Prefix, Clause, quantifiers}
@@ -20,7 +20,7 @@ use Rattle.theory.proofs.AcceptedRule.{some_none}
 use Rattle.theory.proofs.Ceiling.{Any, Within, search_within_any}
 use Rattle.theory.proofs.WellFormed.{state_facts, numbers_ok}
 use Rattle.layout.specs.Words.{Bytes}
-use Rattle.layout.specs.Output.{refusal_text, overflow_text, card_text}
+use Rattle.layout.specs.Output.{card_text}
 use Rattle.layout.specs.Program.{table_bytes}
 use Rattle.layout.specs.Session.{answer_text, reply_printed, lists_yes, search_refusal_text}
 use Rattle.tables.specs.Views.{Numbers}
@@ -34,7 +34,6 @@ use Rattle.serving.proofs.Calls.{malformed}
 use Rattle.replies.specs.Replies.{card_said}
 use Rattle.replies.proofs.Told.{card_said_lem}
 use Rattle.replies.specs.declared.Printed.{Printed}
-use Rattle.replies.specs.declared.Printed.TheVariants as printed
 use Rattle.answers.proofs.Running.{free_within, free_small}
 use Rattle.writer.specs.Rows.{card_rows}
 use Rattle.writer.proofs.Shown.{card_shown, card_most}

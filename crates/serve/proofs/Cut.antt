@@ -24,7 +24,7 @@ use Rattle.sessions.specs.Session.{Card, card_of as shown_of, card_after_rule}
 use Rattle.serve.specs.Line.{prefix_read, CallServed, line_card}
 use Rattle.edition_opening.proofs.Judged.{one_cut, one_cut_same}
 use Rattle.named.proofs.Judged.{flags, flags_judged, flags_same}
-use Rattle.named.proofs.Standing.{deciding, flags_standing}
+use Rattle.named.proofs.Standing.{deciding}
 
 -- ---- one step
 module _ (y : Read) where

@@ -16,7 +16,6 @@ use Rattle.qbf.specs.Calls.{Call, closest, Reply, card_refused, found, Answer, s
 use Rattle.qbf.specs.Demands.{refusal_of}
 use Rattle.theory.proofs.AcceptedRule.{some_none}
 use Rattle.theory.proofs.WellFormed.{state_facts, numbers_ok}
-use Rattle.layout.specs.Words.{Bytes}
 use Rattle.layout.specs.Output.{closest_text}
 use Rattle.layout.specs.Session.{answer_text, search_refusal_text}
 use Rattle.tables.specs.Views.{Numbers}
@@ -24,7 +23,7 @@ use Rattle.state.specs.declared.State.{State}
 use Rattle.state.specs.Reading.{read_state, valid, well_formed_read, prefix_in, state_in}
 use Rattle.state.specs.Derived.{Quantified}
 use Rattle.state.proofs.Valid.{valid_facts, valid_numbers, valid_quantified}
-use Rattle.serving.specs.Serves.{Said, said, said_with, said_of, number, out_of, Serves}
+use Rattle.serving.specs.Serves.{Said, said, said_with, said_of, number, out_of}
 use Rattle.serving.proofs.Numbered.{Numbered, out_numbered}
 use Rattle.answers.proofs.Running.{free_within, free_small}
 use Rattle.closest_call.specs.Nearest.{nearest_said}

@@ -17,7 +17,7 @@ ghost use Rattle.serve.specs.Calls.{Small};
 use crate::Turn;
 use crate::card::serve_card;
 use crate::change::{serve_forget, serve_one, serve_rule, serve_withdraw};
-use crate::closest::serve_closest;
+use crate::nearest::serve_closest;
 use crate::query::serve_query;
 use answer_text::refusal::refuse;
 use answer_text::shown::Shown;
@@ -30,6 +30,7 @@ use state::State;
 // "1 text not in the layout"
 const NOT_IN_LAYOUT: u16 = 1;
 
+#[inline(never)]
 fn rule_of(x: State, lits: &[i16], n: usize, line: u64, shown: Shown, out: &mut [u8]) -> Turn
     requires lits_len { length lits.now ≡ suc paper.numbers }
     requires answer_bytes_in_bounds { answer_bytes ≤ length out.old }
@@ -41,6 +42,7 @@ fn rule_of(x: State, lits: &[i16], n: usize, line: u64, shown: Shown, out: &mut 
     serve_rule(x, &lits[..k], line, shown, out)
 }
 
+#[inline(never)]
 fn one_of(x: State, lits: &[i16], n: usize, line: u64, shown: Shown, out: &mut [u8]) -> Turn
     requires lits_len { length lits.now ≡ suc paper.numbers }
     requires answer_bytes_in_bounds { answer_bytes ≤ length out.old }
@@ -52,6 +54,7 @@ fn one_of(x: State, lits: &[i16], n: usize, line: u64, shown: Shown, out: &mut [
     serve_one(x, &lits[..k], line, shown, out)
 }
 
+#[inline(never)]
 fn query_of(
     x: State,
     lits: &[i16],
@@ -75,6 +78,7 @@ fn query_of(
     serve_query(x, &on[..ons], &off[..offs], line, shown, out, ceiling)
 }
 
+#[inline(never)]
 fn closest_of(
     x: State,
     lits: &[i16],
@@ -102,6 +106,7 @@ fn closest_of(
 }
 
 // A line that is no call leaves the state.
+#[inline(never)]
 fn no_call(x: State, line: u64, shown: Shown, out: &mut [u8]) -> Turn
     requires { answer_bytes ≤ length out.old }
     ensures { TurnedBeside x none line shown result out.new }
@@ -114,6 +119,7 @@ fn no_call(x: State, line: u64, shown: Shown, out: &mut [u8]) -> Turn
     }
 }
 
+#[inline(never)]
 fn serve_call(
     x: State,
     call: CallLine,

@@ -110,6 +110,7 @@ fn serve_part(
     serve_in(x, &mut cards[..size], line, out, yes, ceiling)
 }
 
+#[inline(never)]
 pub fn serve_card(
     x: State,
     size: usize,

@@ -11,6 +11,7 @@ use answer_text::shown::{Shown, after_rule};
 use rules::{in_place, refusal_of};
 use state::State;
 
+#[inline(never)]
 pub fn serve_rule(x: State, lits: &[i16], line: u64, shown: Shown, out: &mut [u8]) -> Turn
     requires { answer_bytes ≤ length out.old }
     ensures { TurnedBeside x (some (rule lits.now)) line shown result out.new }
@@ -43,6 +44,7 @@ pub fn serve_rule(x: State, lits: &[i16], line: u64, shown: Shown, out: &mut [u8
     }
 }
 
+#[inline(never)]
 pub fn serve_one(x: State, lits: &[i16], line: u64, shown: Shown, out: &mut [u8]) -> Turn
     requires { answer_bytes ≤ length out.old }
     ensures { TurnedBeside x (some (one lits.now)) line shown result out.new }
@@ -76,6 +78,7 @@ pub fn serve_one(x: State, lits: &[i16], line: u64, shown: Shown, out: &mut [u8]
     }
 }
 
+#[inline(never)]
 pub fn serve_withdraw(x: State, line: u64, shown: Shown, out: &mut [u8]) -> Turn
     requires { answer_bytes ≤ length out.old }
     ensures { TurnedBeside x (some withdraw) line shown result out.new }
@@ -108,6 +111,7 @@ pub fn serve_withdraw(x: State, line: u64, shown: Shown, out: &mut [u8]) -> Turn
     }
 }
 
+#[inline(never)]
 pub fn serve_forget(x: State, line: u64, shown: Shown, out: &mut [u8]) -> Turn
     requires { answer_bytes ≤ length out.old }
     ensures { TurnedBeside x (some forget) line shown result out.new }

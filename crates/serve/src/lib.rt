@@ -1,4 +1,7 @@
-// What a session asks for, served on a state by value: a call, or the book's text, with the answer written into a lent table.
+// What a session asks for, served on a state by value: a call, or the book's text, with the answer written into a lent table. Each call has a frame of its
+// own (`inline(never)`), so that the stack of a line is that of one call.
+#![tactic(auto)]
+
 use answer_text::shown::Shown;
 use state::State;
 
@@ -6,12 +9,12 @@ pub mod book;
 pub mod call;
 mod card;
 mod change; // rule, one, withdraw, forget
-mod closest;
+mod nearest;
 mod query;
 pub mod write; // the book's text
 
 // The answer stands in the first bytes of the lent table, which is long enough.
-#[derive(Drop)]
+#[derive(Clone, Copy)]
 pub struct Turn {
     pub state: State,
     pub length: usize,

@@ -10,6 +10,7 @@ use answer_text::query::put_ruling;
 use answer_text::shown::Shown;
 use state::State;
 
+#[inline(never)]
 pub fn serve_query<'a>(
     x: State,
     on: &'a [i16],

@@ -11,6 +11,7 @@ use book_writer::{LONGEST, NONE, write_book};
 use state::State;
 
 // `(write 4)`: the first bytes of the table, as many as the line asks for.
+#[inline(never)]
 pub fn serve_write(x: State, size: usize, line: u64, shown: Shown, out: &mut [u8]) -> Turn
     requires size_in_bounds { size ≤ length out.old }
     requires answer_bytes_in_bounds { answer_bytes ≤ length out.old }
@@ -33,6 +34,7 @@ pub fn serve_write(x: State, size: usize, line: u64, shown: Shown, out: &mut [u8
 }
 
 // `(write)`: a table that holds every text.
+#[inline(never)]
 pub fn serve_whole(x: State, line: u64, shown: Shown, out: &mut [u8]) -> Turn
     requires { answer_bytes ≤ length out.old }
     ensures { WriteTurned x none line shown result out.new }

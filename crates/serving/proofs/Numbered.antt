@@ -12,7 +12,7 @@ use Rattle.theory.proofs.Basics.{all→}
 use Rattle.theory.proofs.Refusals.{refusals}
 use Rattle.theory.proofs.Demands.{refusal_known}
 use Rattle.state.specs.declared.State.{State}
-use Rattle.serving.specs.Serves.{Said, said_with, said_reply, said_of, number, fault_of, told, out_of, ServesBy}
+use Rattle.serving.specs.Serves.{Said, said_with, said_reply, number, fault_of, told, out_of, ServesBy}
 
 abbrev pub Numbered : Option ℕ → Type 0
 Numbered none = Unit {0}

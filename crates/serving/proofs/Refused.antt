@@ -15,14 +15,14 @@ use Rattle.qbf.specs.Open.{Reading, reading_of, is_full, open_search}
 use Rattle.qbf.specs.Ceiling.{Attempt, finished, stopped, search_within}
 use Rattle.qbf.specs.Card.{Mem, table_of, zero_table}
 use Rattle.qbf.specs.Closest.{Found, closest_in}
-use Rattle.qbf.specs.Calls.{Call, rule, query, card, forget, withdraw, keep_card, one, closest, card_of, Reply, done, refused, swap, keep, unsettled, lines, card_refused, found, Answer, answer, refusal, rule_fault, one_fault, rule_reply, withdraw_fault, closest_fault, found_reply, from_card, query_fault, query_reply, card_reply_of, attempt_answer, open_answer, learning_reading, learning_query, learning_card, learning_closest, ceiling_of, start_node, guarded, well_formed, State as Read, step}
+use Rattle.qbf.specs.Calls.{Call, rule, query, card, forget, withdraw, keep_card, one, closest, card_of, Reply, done, refused, swap, keep, unsettled, lines, card_refused, found, Answer, refusal, rule_fault, one_fault, rule_reply, withdraw_fault, closest_fault, found_reply, from_card, query_fault, query_reply, card_reply_of, attempt_answer, open_answer, learning_reading, learning_query, learning_card, learning_closest, ceiling_of, start_node, guarded, well_formed, State as Read}
 use Rattle.qbf.specs.Demands.{AfterSearch, refusal_of}
 use Rattle.theory.proofs.AcceptedRule.{some_none}
 use Rattle.theory.proofs.Refusals.{refusals}
 use Rattle.theory.proofs.Demands.{demand_1, refusal_known, visits_under_ceiling}
 use Rattle.state.specs.declared.State.{State}
-use Rattle.serving.specs.Serves.{Said, said, said_reply, said_of, number, out_of, next_of, ServesBy}
-use Rattle.serving.specs.Demands.{formula_of, zeroed, Refused, LeavesIfRefused, UnderCeiling}
+use Rattle.serving.specs.Serves.{Said, said, said_reply, number, out_of, next_of, ServesBy}
+use Rattle.serving.specs.Demands.{formula_of, zeroed, LeavesIfRefused, UnderCeiling}
 use Rattle.serving.proofs.Numbered.{said_refusal, said_visits}
 
 -- ---- a refused reply is the refusal of the call

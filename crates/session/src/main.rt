@@ -1,4 +1,6 @@
 // The program `session`: a book on standard input, then one call to a line, each answered as soon as its line is read.
+#![tactic(auto)]
+
 ghost use Rattle.std.specs.Prelude.{◌<◌};
 
 use answer_text::ANSWER;
@@ -6,11 +8,13 @@ use input::read_more;
 use output::print;
 use reader::call::TABLE;
 use session_turn::{ROOM, turn};
+use std::io;
+use std::io::{Input, Read};
 
 // Where the program does not wait, what it holds is used first.
-fn read_where(waits: bool, text: &mut [u8; ROOM], held: usize) -> usize {
+fn read_where<R: Read>(reader: &mut R, waits: bool, text: &mut [u8; ROOM], held: usize) -> usize {
     if waits {
-        return read_more(text, held);
+        return read_more(reader, text, held);
     }
     0
 }
@@ -26,20 +30,27 @@ fn rounds_left(rounds: u64, over: bool) -> u64
     rounds - 1
 }
 
-fn run(text: &mut [u8; ROOM], cards: &mut [u8; TABLE], answer: &mut [u8; ANSWER]) {
+fn run<R: Read>(
+    rt: &impl Print,
+    reader: &mut R,
+    text: &mut [u8; ROOM],
+    cards: &mut [u8; TABLE],
+    answer: &mut [u8; ANSWER],
+) -> io::Result<()> {
     let mut s = session_turn::start();
     let mut rounds = u64::MAX;
     while rounds > 0 {
-        let got = read_where(s.waits, text, s.held);
+        let got = read_where(reader, s.waits, text, s.held);
         s = turn(s, got, text, cards, answer);
-        print(answer, s.length);
+        print(rt, answer, s.length)?;
         rounds = rounds_left(rounds, s.over);
     }
+    Ok(())
 }
 
-fn main() {
+fn main(rt: HostRuntime) -> io::Result<()> {
     let mut text = [0u8; ROOM];
     let mut cards = [tables::OPEN; TABLE];
     let mut answer = [0u8; ANSWER];
-    run(&mut text, &mut cards, &mut answer);
+    run(&rt, &mut rt.reader(), &mut text, &mut cards, &mut answer)
 }

@@ -1,5 +1,7 @@
 // One line of a session on a state by value: its request is read and served, and the answer written into a lent table. The lines of the card
 // answered last stay in a table of their own, from which `(page 1)` prints.
+#![tactic(auto)]
+
 ghost use Rattle.std.specs.Prelude.{◌≤◌, length};
 ghost use Rattle.sessions.specs.Session.{request_of};
 ghost use Rattle.reader.specs.Requests.{from_line, RequestRead};
@@ -22,7 +24,7 @@ mod rows; // a page of the card answered last
 // The length of a text as `book_writer::Written` says, the next state, and the card answered last. A lent table of fewer bytes than
 // answer_text::ANSWER is too short, whatever the answer would need: it is zeroed.
 #[repr(C)]
-#[derive(Drop)]
+#[derive(Clone, Copy)]
 pub struct Spoken {
     pub refusal: u16,
     pub length: usize,

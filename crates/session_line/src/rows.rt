@@ -45,6 +45,7 @@ fn put_shown<'a>(out: &mut [u8], cards: &'a [u8], shown: Shown, k: usize, line: 
 }
 
 // The state and the card are left.
+#[inline(never)]
 pub fn serve_page(
     x: State,
     k: usize,

@@ -3,15 +3,12 @@ use Prim.Native.Nat.{ℕ, ◌+◌, ◌-◌, ◌≤◌, ◌<◌}
 use mathlib.Core.Path.{◌≡◌, refl, sym, ap, subst, ◌∙◌}
 use mathlib.Core.Bool.{Bool, true, false, cond, ◌||◌}
 use mathlib.Core.List.{[]}
-use mathlib.Core.Option.{some}
 use native.Mathlib.Omega.{arith}
 use lib.Dec.{eqb, ltb}
 use lib.ListN.{length, take, drop}
-use Rattle.qbf.specs.Calls.{State as Read}
 use Rattle.layout.specs.Words.{Bytes, newline}
 use Rattle.sessions.specs.Session.{request_of, turn_of}
 use Rattle.reader.specs.Pieces.{Piece}
-use Rattle.state.specs.Reading.{read_state}
 use Rattle.answer_text.specs.Shown.{card_in}
 use Rattle.session_line.specs.declared.Spoken.{Spoken}
 use Rattle.session_line.specs.Line.{ServesLine}

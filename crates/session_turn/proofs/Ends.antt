@@ -1,13 +1,10 @@
 -- What the functions on the book answer, from what their callees do.
-use Prim.Native.Nat.{ℕ, zero, suc, ◌+◌, ◌≤◌, ◌<◌}
+use Prim.Native.Nat.{ℕ, zero, suc, ◌≤◌, ◌<◌}
 use mathlib.Core.Path.{◌≡◌, refl, sym, ap, subst, ◌∙◌}
 use mathlib.Core.Bool.{Bool, true, false}
-use mathlib.Core.List.{[]}
-use mathlib.Core.Option.{some}
 use native.Mathlib.Omega.{arith}
 use lib.ListN.{length, take}
 use Rattle.qbf.specs.Formula.{paper}
-use Rattle.qbf.specs.Runs.{fresh}
 use Rattle.layout.specs.Words.{Bytes}
 use Rattle.layout.specs.Output.{refusal_text}
 use Rattle.layout.specs.Opening.{Opened as Text, refused, opened}
@@ -23,7 +20,7 @@ use Rattle.answer_text.specs.Shown.{no_card}
 use Rattle.answer_text.specs.declared.shown.Shown.{Shown}
 use Rattle.session_turn.specs.declared.Session.{Session}
 use Rattle.line_buffer.specs.Numbers.{next_number}
-use Rattle.session_turn.specs.Turns.{Over, Ends, WaitsForBook, Behind, BookLeft, BookOpened, BookClosed, BookNotEnded, BookAt, BookTurned}
+use Rattle.session_turn.specs.Turns.{Over, Ends, WaitsForBook, BookLeft, BookOpened, BookClosed, BookNotEnded, BookTurned}
 
 pub refused_ends : {t d₀ d : Bytes} {v : Written} {r : Session} → Prints t d₀ v d → Over v.length r → Ends t d₀ r d
 refused_ends {t} {d₀} {d} {v} {r} w o =

@@ -4,7 +4,7 @@ use mathlib.Core.Path.{◌≡◌, refl, sym, ap, subst, ◌∙◌}
 use mathlib.Core.Bool.{Bool, true, false, ◌&&◌}
 use mathlib.Core.List.{List, [], ◌∷◌, ◌++◌, append_assoc, append-nil}
 use native.Mathlib.Omega.{arith}
-use borrow.Author.Tests.{eqb-true, eqb-false}
+use borrow.Author.Tests.{eqb-true}
 use lib.Dec.{eqb}
 use lib.ListN.{length, take, drop, length-append, length-take}
 use lib.Seq.{take-add, drop-append-le}
@@ -13,14 +13,14 @@ use Rattle.layout.specs.Words.{Bytes, newline, split, joined}
 use Rattle.layout.specs.Opening.{text_bytes}
 use Rattle.layout.specs.Session.{parted}
 use Rattle.sessions.specs.Session.{session_program}
-use Rattle.feeding.specs.Lines.{Step, after, fed}
-use Rattle.feeding.specs.Sessions.{Held, book, calls, over, start, behind, on_byte, at_end, serve_call}
+use Rattle.feeding.specs.Lines.{Step, after}
+use Rattle.feeding.specs.Sessions.{Held, over, start, behind, on_byte, at_end, serve_call}
 use Rattle.feeding.proofs.Lines.{fed_append, line_steps}
 use Rattle.feeding.proofs.Sessions.{fed_over, fed_calls, fed_book, whole, by_steps}
 use Rattle.answer_text.specs.Shown.{card_in}
 use Rattle.session_turn.specs.declared.Session.{Session}
 use Rattle.line_buffer.specs.Numbers.{last_number}
-use Rattle.session_turn.specs.Turns.{started, part_in, calls_in, Shows, Quiet, unused, feed, Ready, Went, Finished, has_ended, Turned}
+use Rattle.session_turn.specs.Turns.{started, part_in, Shows, Quiet, unused, feed, Ready, Went, Finished, has_ended}
 use Rattle.session_turn.specs.Runs.{Reading, Round, Ran}
 use Rattle.session_turn.proofs.Books.{all_book}
 use Rattle.session_turn.proofs.Turns.{true_false, shows_over, shows_book, as_over, as_book, as_calls}

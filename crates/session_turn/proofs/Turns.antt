@@ -1,15 +1,14 @@
 -- What was read and is not used yet, and what a turn on it leaves.
-use Prim.Native.Nat.{ℕ, zero, suc, ◌+◌, ◌-◌, ◌≤◌, ◌<◌, min}
+use Prim.Native.Nat.{ℕ, zero, suc, ◌+◌, ◌-◌, ◌≤◌, ◌<◌}
 use mathlib.Core.Path.{◌≡◌, refl, sym, ap, subst, ◌∙◌}
-use mathlib.Core.Bool.{Bool, true, false, cond, ◌&&◌, ◌||◌}
-use mathlib.Core.List.{List, [], ◌∷◌, ◌++◌, append-nil}
+use mathlib.Core.Bool.{Bool, true, false, cond, ◌||◌}
+use mathlib.Core.List.{List, [], ◌∷◌, append-nil}
 use mathlib.Core.Option.{Option, none, some}
 use native.Mathlib.Omega.{arith}
 use native.Mathlib.Decide.{dec_lt}
-use native.Mathlib.Numerals.{add-one}
 use borrow.Author.Tests.{lt-leb, le-ltb, lt-ltb, eqb-true, eqb-false}
 use lib.Dec.{eqb, ltb}
-use lib.ListN.{length, take, drop, length-drop, length-take, drop_of_length-le}
+use lib.ListN.{length, take, drop, length-drop, length-take}
 use lib.Seq.{take_all, take-take, take-add, drop_at}
 use Rattle.qbf.specs.Formula.{paper}
 use Rattle.qbf.specs.Calls.{State as Read}
@@ -21,19 +20,19 @@ use Rattle.layout.specs.Opening.{text_bytes, Opened, refused, opened}
 use Rattle.editions.specs.Opening.{both, open_editions}
 use Rattle.layout.specs.Session.{parted}
 use Rattle.sessions.specs.Session.{Request, request_of, Turn, turn_of}
-use Rattle.feeding.specs.Lines.{Step, after, fed, Part, begun, overlong, line_of, Answered, Serving, at_line, unended, as_line}
-use Rattle.feeding.specs.Sessions.{Left, as_answered, serve_call, Held, book, calls, over, start, behind, unended_book, on_byte, at_end}
-use Rattle.feeding.proofs.Lines.{grown_by, grown_short, grown_long, overlong_stays, whole_line, split_some, held, served_as, line_steps, line_more, last_one}
+use Rattle.feeding.specs.Lines.{Step, after, fed, Part, overlong, line_of, Serving, at_line, unended}
+use Rattle.feeding.specs.Sessions.{Left, as_answered, serve_call, Held, calls, over, start, behind, unended_book, at_end}
+use Rattle.feeding.proofs.Lines.{grown_by, grown_long, overlong_stays, whole_line, split_some, held, line_steps, line_more, last_one}
 use Rattle.feeding.proofs.Sessions.{same_request, fed_over, fed_calls, open_long, opened_then, fed_book}
 use Rattle.reader.specs.Books.{count_of_lines, BookEnd}
 use Rattle.reader.specs.Pieces.{pieces_from, Piece}
 use Rattle.reader.proofs.Texts.{pieces_at}
 use Rattle.state.specs.Reading.{read_state}
-use Rattle.answer_text.specs.Shown.{card_in, no_card}
+use Rattle.answer_text.specs.Shown.{card_in}
 use Rattle.answer_text.specs.Room.{answer_bytes}
 use Rattle.session_turn.specs.declared.Session.{Session}
-use Rattle.line_buffer.specs.Numbers.{last_number, next_number}
-use Rattle.session_turn.specs.Turns.{Over, Ends, WaitsForBook, Calling, Behind, BookLeft, BookAt, BookTurned, Served, line_from, line_at, LineAnswered, last_text, LineEnded, skips, Refilled, LineTurned, part_in, calls_in, ShowsAs, Shows, Quiet, unused, feed, Ready, Kept, Went, Finished, has_ended, Turned}
+use Rattle.line_buffer.specs.Numbers.{last_number}
+use Rattle.session_turn.specs.Turns.{Over, WaitsForBook, BookLeft, BookTurned, Served, line_at, LineAnswered, last_text, LineEnded, skips, Refilled, LineTurned, part_in, calls_in, ShowsAs, Shows, Quiet, unused, feed, Ready, Kept, Went, Finished, has_ended, Turned}
 use Rattle.session_turn.proofs.Books.{all_book, count_book, count_few}
 use Rattle.session_turn.proofs.Served.{no_request}
 

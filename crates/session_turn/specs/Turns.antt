@@ -1,6 +1,6 @@
 -- What a turn of the program `session` owes for every buffer: what it prints and leaves is what the definition by steps prints and holds.
-use Rattle.std.specs.Prelude.{ℕ, zero, suc, ◌+◌, ◌-◌, ◌≤◌, ◌<◌, min, ◌≡◌, Bool, true, false, cond, ◌&&◌, ◌||◌, List, [], ◌∷◌, ◌++◌, eqb, ltb, length, take, drop}
-use Rattle.std.proofs.Math.Option.{Option, none, some}
+use Rattle.std.specs.Prelude.{ℕ, zero, suc, ◌+◌, ◌-◌, ◌≤◌, ◌<◌, ◌≡◌, Bool, true, false, cond, ◌&&◌, ◌||◌, [], ◌∷◌, eqb, ltb, length, take, drop}
+use Rattle.std.proofs.Math.Option.{some}
 use Rattle.qbf.specs.Formula.{paper}
 use Rattle.qbf.specs.Calls.{State as Read}
 use Rattle.qbf.specs.Runs.{fresh}
@@ -10,8 +10,8 @@ use Rattle.layout.specs.Opening.{text_bytes, Opened, refused, opened}
 use Rattle.editions.specs.Opening.{both, open_editions}
 use Rattle.layout.specs.Session.{parted}
 use Rattle.sessions.specs.Session.{request_of, Turn, turn_of}
-use Rattle.feeding.specs.Lines.{Step, after, fed, Part, begun, overlong, Serving}
-use Rattle.feeding.specs.Sessions.{Left, Held, book, calls, over, start, unended_book, on_byte, at_end}
+use Rattle.feeding.specs.Lines.{Step, after, fed, Part, begun, overlong}
+use Rattle.feeding.specs.Sessions.{Held, book, calls, over, start, unended_book, on_byte, at_end}
 use Rattle.reader.specs.Books.{count_of_lines, BookEnd}
 use Rattle.reader.specs.Pieces.{Piece}
 use Rattle.state.specs.Reading.{read_state}

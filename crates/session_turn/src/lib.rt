@@ -1,5 +1,7 @@
 // The program `session` without its reads and writes: a turn on a lent buffer takes one line of what was read, or the book, says what is to be
 // printed, and whether more has to be read first.
+#![tactic(auto)]
+
 ghost use Rattle.session_turn.specs.Turns.{Turned, Over, started};
 
 use answer_text::shown::{Shown, no_card};
@@ -14,7 +16,7 @@ mod lines; // the lines behind it
 
 // text[at..held] has been read and is not used yet; where the program waits, more is to be read behind it. A line that is too long is skipped to
 // its end. The last turn's answer has so many bytes.
-#[derive(Drop)]
+#[derive(Clone, Copy)]
 pub struct Session {
     pub calling: bool,
     pub over: bool,

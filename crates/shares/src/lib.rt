@@ -1,4 +1,6 @@
 // The accounts of a day: eight books share one total of visits. Nothing is asked of the accounts: where they exceed the total a call is refused.
+#![tactic(auto)]
+
 ghost use Rattle.std.specs.Prelude.{◌≡◌, true, ◌+◌, ◌<◌, min, length};
 ghost use Rattle.days.specs.Accounts.{books, owed as owedOf, used as usedOf, owing, stop_number};
 ghost use Rattle.days.specs.Day.{stop_as};
@@ -19,7 +21,7 @@ pub const STOPPED_BY_SHARE: u16 = 37;
 pub const STOPPED: u16 = 34;
 
 // The visits that a call may use, or the number of a refusal.
-#[derive(Drop)]
+#[derive(Clone, Copy)]
 pub enum Share {
     Visits(u32),
     Refused(u16),

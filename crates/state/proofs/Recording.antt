@@ -1,13 +1,13 @@
 -- The test of the records of the learned clauses.
-use Prim.Native.Nat.{ℕ, zero, suc, ◌+◌, ◌≤◌, ◌<◌}
+use Prim.Native.Nat.{ℕ, suc, ◌+◌, ◌≤◌, ◌<◌}
 use native.Mathlib.Omega.{arith}
-use mathlib.Core.Path.{◌≡◌, refl, sym, ap, ◌∙◌}
+use mathlib.Core.Path.{◌≡◌, refl, sym, ap}
 use mathlib.Core.Bool.{Bool, true, false}
 use mathlib.Core.List.{List}
 use lib.ListN.{get_or}
 use lib.Dec.{leb}
 use borrow.Author.Tests.{leb-true, leb-false}
-use Rattle.state.specs.Reading.{listing, at_most, record_at, records_of}
+use Rattle.state.specs.Reading.{at_most, record_at, records_of}
 use Rattle.state.proofs.Listing.{listing_all, listing_most}
 
 -- none of the first k is above n

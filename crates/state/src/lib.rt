@@ -1,4 +1,6 @@
 // The state as anyone may hand it in: its check (refusal 22), and the tables that are derived from it.
+#![tactic(auto)]
+
 ghost use Rattle.std.specs.Prelude.{◌≡◌, true, false};
 ghost use Rattle.std.proofs.Math.Option.{some};
 ghost use Rattle.state.specs.Reading.{state_of, read_state, empty_state, valid};
@@ -16,7 +18,7 @@ mod room;
 mod rows;
 
 #[repr(C)]
-#[derive(Drop)]
+#[derive(Clone, Copy)]
 pub struct State {
     // the count of the variables, then the number of each place's variable
     pub numbers: [u16; tables::BY_NUMBER],

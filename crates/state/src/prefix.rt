@@ -3,7 +3,7 @@ ghost use Rattle.std.specs.Prelude.{◌≡◌, suc, length};
 ghost use Rattle.qbf.specs.Formula.{Limits};
 ghost use Rattle.state.specs.Derived.{Shown};
 
-#[derive(Drop)]
+#[derive(Clone, Copy)]
 pub struct Tables {
     pub ok: bool,
     pub places: [u16; tables::BY_NUMBER],

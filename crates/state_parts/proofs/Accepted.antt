@@ -1,5 +1,5 @@
 -- What the check of two lent tables that passes says of their state.
-use Prim.Native.Nat.{ℕ, suc, ◌≤◌, ◌<◌}
+use Prim.Native.Nat.{ℕ, suc, ◌≤◌}
 use native.Mathlib.Omega.{arith}
 use mathlib.Core.Path.{◌≡◌, refl, sym, ap, subst, ◌∙◌}
 use mathlib.Core.Bool.{Bool, true, false, cond, not, ◌&&◌}
@@ -9,8 +9,8 @@ use lib.Dec.{leb, eqb}
 use lib.IntN.{ℤ}
 use lib.ListN.{length, get_or}
 use lib.Seq.{take_at}
-use borrow.Author.Tests.{le-leb, lt-leb, leb-true}
-use Rattle.qbf.specs.Formula.{Limits, highest, Prefix, any}
+use borrow.Author.Tests.{le-leb, leb-true}
+use Rattle.qbf.specs.Formula.{Limits, Prefix, any}
 use Rattle.qbf.specs.Calls.{numbers_are_ok, limits_are_ok}
 use Rattle.theory.proofs.Basics.{and_left, and_right, and_both}
 use Rattle.tables.specs.Views.{Numbers, Table}

@@ -1,12 +1,12 @@
 -- The state that opening starts from is empty and valid under its limits.
-use Prim.Native.Nat.{ℕ, suc, ◌+◌, ◌≤◌, ◌<◌, min, zero-le}
+use Prim.Native.Nat.{ℕ, ◌+◌, ◌≤◌, ◌<◌, min, zero-le}
 use native.Mathlib.Nat.{min-eq_left, min_comm}
 use native.Mathlib.Omega.{arith}
 use mathlib.Core.Path.{◌≡◌, refl, sym, ap, subst, ◌∙◌}
 use mathlib.Core.Logic.{◌⊎◌, inl, inr}
-use mathlib.Core.Bool.{Bool, true, false, ◌&&◌, false≢true}
+use mathlib.Core.Bool.{Bool, true, false, ◌&&◌}
 use mathlib.Core.List.{List, []}
-use mathlib.Core.Option.{Option, some}
+use mathlib.Core.Option.{some}
 use lib.Dec.{leb, eqb}
 use lib.IntN.{ℤ}
 use lib.ListN.{length, get_or, set, length-set, get_or-eq_default}
@@ -21,10 +21,10 @@ use Rattle.tables.specs.Views.{rows, rows_of}
 use Rattle.tables.proofs.Laws.{rows_zero}
 use Rattle.state.specs.declared.State.{State}
 use Rattle.state.specs.Reading.{listing, entry_at, at_most, variable_at, prefix_in, record_at, records_of, own, state_under, roomy, valid_under}
-use Rattle.state.specs.Derived.{clauses_fine, constraints_fine, records_fine, Roomy}
+use Rattle.state.specs.Derived.{clauses_fine, constraints_fine}
 use Rattle.state.proofs.Rooms.{room_is}
 use Rattle.state.proofs.SoundPrefix.{none_sound, sound_under}
-use Rattle.state_parts.specs.Parts.{Lesser, part, limits_of, by_number, clause_count, cube_sizes, recorded, numbers_at, clause_sizes_at, learned_clause_sizes_at, learned_cube_sizes_at, parts_under, state_at, read_at, valid_at, Whole, Exact}
+use Rattle.state_parts.specs.Parts.{Lesser, part, limits_of, by_number, clause_count, cube_sizes, recorded, numbers_at, clause_sizes_at, learned_clause_sizes_at, learned_cube_sizes_at, parts_under, state_at, read_at, valid_at, Whole}
 use Rattle.state_parts.specs.Initial.{empty_under, initial_cells, Initial}
 use Rattle.state_parts.proofs.Cutting.{part_at}
 use Rattle.state_parts.proofs.Written.{whole_exact, exact_roomy}

@@ -7,7 +7,7 @@ use mathlib.Core.Logic.{◌⊎◌, inl, inr}
 use mathlib.Core.List.{List, [], ◌∷◌, ◌++◌}
 use borrow.Rule.Slice.PartMut.{put_mid, post_of, take_put, drop_put}
 use lib.ListN.{length, get_or, set, take, drop, length-drop, length-take, drop_of_length-le}
-use lib.Seq.{length-take-le, take_all, take-nil, take-take, take_at, drop_at, drop-drop, take-append-le, get_or-take, get_or-drop, take-set-lt, take-set-le, drop-set-lt, drop-set-add}
+use lib.Seq.{length-take-le, take_all, take-nil, take-take, take_at, drop_at, drop-drop, get_or-take, get_or-drop, take-set-lt, take-set-le, drop-set-lt, drop-set-add}
 use Rattle.state_parts.specs.Parts.{Lesser, part}
 
 module _ {A : Type 0} where

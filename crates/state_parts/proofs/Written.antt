@@ -1,5 +1,5 @@
 -- The parts of the two tables: their lengths, and what is left when one of them is written.
-use Prim.Native.Nat.{ℕ, suc, ◌≤◌, ◌<◌}
+use Prim.Native.Nat.{ℕ, ◌≤◌, ◌<◌}
 use native.Mathlib.Omega.{arith}
 use mathlib.Core.Path.{◌≡◌, refl, sym, ap, ◌∙◌, subst}
 use mathlib.Core.Bool.{Bool, true}
@@ -13,7 +13,7 @@ use Rattle.state.specs.declared.State.{State}
 use Rattle.state.specs.Reading.{own, state_of, roomy}
 use Rattle.state.specs.Derived.{Sized, Roomy, CheckedUnder}
 use Rattle.state.proofs.Rooms.{room_facts}
-use Rattle.state_parts.specs.Parts.{part, limits_of, by_number, clause_count, cube_sizes, recorded, numbers_at, levels_at, kinds_at, clause_sizes_at, learned_clause_sizes_at, learned_cube_sizes_at, cell_count, clause_cells, learned_cells, learned_cubes_at, literal_count, parts_under, state_at, Whole, Exact}
+use Rattle.state_parts.specs.Parts.{limits_of, by_number, clause_count, cube_sizes, recorded, numbers_at, levels_at, kinds_at, clause_sizes_at, learned_clause_sizes_at, learned_cube_sizes_at, clause_cells, learned_cells, learned_cubes_at, parts_under, state_at, Whole, Exact}
 use Rattle.state_parts.proofs.Cutting.{part_length, part_most, put_here, put_before, put_after}
 
 -- equal parts are equal states

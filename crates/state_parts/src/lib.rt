@@ -1,4 +1,6 @@
 // A state in two lent tables: its own limits in the first two cells, its parts, each a part of one of them, and its check.
+#![tactic(auto)]
+
 ghost use Rattle.std.specs.Prelude.{◌≡◌, suc, ◌≤◌, ◌<◌, length};
 ghost use Rattle.qbf.specs.Formula.{highest};
 ghost use Rattle.state.specs.Reading.{own};
@@ -66,7 +68,8 @@ pub fn check<'a>(
         by_number.new }
 {
     let numbers = layout::numbers_limit(cells);
-    if numbers > tables::HIGHEST_NUMBERS {
+    let over = numbers > tables::HIGHEST_NUMBERS;
+    if over {
         return false;
     }
     let clauses = layout::clauses_limit(cells);

@@ -3,7 +3,6 @@ use Rattle.std.specs.Prelude.{ℕ, ◌+◌, ◌*◌, ◌≤◌, ◌<◌, ◌≡�
 use Rattle.std.specs.Bool.{beq}
 use Rattle.std.proofs.Math.Option.{Option, none, some}
 use Rattle.qbf.specs.Formula.{paper, Prefix, Literal, Node, place, positive, all, quantifier_at, value_at}
-use Rattle.qbf.specs.Learning.{Polarity}
 use Rattle.tables.specs.Views.{quantifier_code, negated}
 
 abbrev pub sign : Bool → ℕ

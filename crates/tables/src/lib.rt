@@ -1,5 +1,6 @@
 // The limits of paper 01, named once, and the sizes of the tables that they give. How the tables show a formula, a node and a
 // store is in specs/; this crate has no function.
+#![tactic(auto)]
 
 // Variable numbers run from 1 to this. A table by number or by place has one cell more: its first cell is not a variable's.
 pub const NUMBERS: usize = 40;

@@ -1,8 +1,7 @@
 -- On any well-formed state, reached or not, a line of a card sets no more than the free variables: the search mixes verdicts at free variables alone.
 use Prim.Native.Nat.{ℕ, suc, ◌+◌, ◌*◌, ◌≤◌}
-use native.Mathlib.Nat.{le_refl}
 use native.Mathlib.Omega.{arith}
-use mathlib.Core.Path.{◌≡◌, refl, sym, ap, ◌∙◌, subst}
+use mathlib.Core.Path.{◌≡◌, refl, sym, ap, subst}
 use mathlib.Core.Logic.{◌⊎◌, inl, inr}
 use mathlib.Core.Bool.{Bool, true, false, cond, beq}
 use mathlib.Core.List.{List, [], ◌∷◌, ◌++◌}
@@ -10,7 +9,7 @@ use lib.ListN.{length, length-append}
 use lib.Dec.{eqb, leb}
 use Rattle.qbf.specs.Formula.{Clause, Formula, Limits, Node, Prefix, Quantifier, ◌▹◌, exists, forall, free, quantifiers}
 use Rattle.qbf.specs.Truth.{DecidedNode, Outcome, decided, decided_nodes, free_count, free_variables, mixed, outline, select}
-use Rattle.qbf.specs.Learning.{Constraint, Store, below, learning_search, visit}
+use Rattle.qbf.specs.Learning.{Constraint, Store, below, learning_search}
 use Rattle.qbf.specs.Ceiling.{search_within}
 use Rattle.qbf.specs.Card.{Mem, table_of, zero_table}
 use Rattle.qbf.specs.Calls.{Reply, State, card, card_refused, card_reply_of, done, found, guarded, keep, lines, refused, step, swap, unsettled, well_formed}
@@ -19,7 +18,7 @@ use Rattle.theory.proofs.Game.{Rising}
 use Rattle.theory.proofs.Stores.{ShapedStore, mem_append}
 use Rattle.theory.proofs.Induction.{BranchCases, LeafCases, SearchCases, Mixes, visit_by, below_by}
 use Rattle.theory.proofs.Leaves.{shaped_leaves}
-use Rattle.theory.proofs.Verdict.{NoFree, decided_outline}
+use Rattle.theory.proofs.Verdict.{decided_outline}
 use Rattle.theory.proofs.Search.{FreeFirst}
 use Rattle.theory.proofs.ShapedSearch.{ShapedOutcome, shaped_branches, shaped_search}
 use Rattle.theory.proofs.Unmixed.{Unmixed, not_mixing}

@@ -1,4 +1,6 @@
 // The learned constraints of one polarity are written back from a shelf into the state's table, the oldest first.
+#![tactic(auto)]
+
 ghost use Rattle.std.specs.Prelude.{◌≡◌, true, List, [], map, suc, ◌+◌, ◌-◌, ◌*◌, ◌%◌, ◌≤◌, ◌<◌, length, get_or, take, drop};
 ghost use Rattle.qbf.specs.Formula.{paper, Prefix, Literal, place};
 ghost use Rattle.qbf.specs.Learning.{Constraint};

@@ -1,12 +1,12 @@
 -- What stands in the table in the end is the start of the input, as much of it as fits.
 use Prim.Native.Nat.{ℕ, ◌+◌, ◌≤◌}
-use mathlib.Core.Path.{◌≡◌, refl, sym, ap, subst, ◌∙◌}
-use mathlib.Core.List.{[], ◌++◌, append_assoc, append-nil}
+use mathlib.Core.Path.{◌≡◌, sym, ap, ◌∙◌}
+use mathlib.Core.List.{◌++◌, append_assoc, append-nil}
 use native.Mathlib.Omega.{arith}
 use lib.ListN.{length, take, drop, length-take}
 use lib.Seq.{take-add, take_all, take-append_seam}
 use Rattle.layout.specs.Words.{Bytes}
-use Rattle.whole_input.specs.Filling.{Read, Fills, full, ended, more}
+use Rattle.whole_input.specs.Filling.{Fills, full, ended, more}
 
 -- behind what is held comes what is still to be read
 filled_from : {text input d : Bytes} {held r : ℕ} → Fills text held input d r → held ≤ length text → take r d ≡ take (length text) (take held text ++ input)

@@ -1,7 +1,7 @@
 -- The programs that read their input whole: what they print for what stands in their table is what they print for the whole input, whatever its
 -- length and however the reads cut it. One byte more than a text may have is enough: every longer text is 9.
 use Prim.Native.Nat.{ℕ, suc, ◌≤◌, ◌<◌}
-use mathlib.Core.Path.{◌≡◌, refl, sym, ap, subst, ◌∙◌}
+use mathlib.Core.Path.{◌≡◌, sym, ap, ◌∙◌}
 use mathlib.Core.Logic.{◌⊎◌, inl, inr}
 use native.Mathlib.Omega.{arith}
 use borrow.Author.Tests.{lt-ltb}
@@ -11,12 +11,12 @@ use Rattle.qbf.specs.Formula.{Limits}
 use Rattle.theory.proofs.Basics.{le_or_lt}
 use Rattle.layout.specs.Words.{Bytes}
 use Rattle.layout.specs.Output.{refusal_text}
-use Rattle.layout.specs.Opening.{text_bytes, Opened, refused}
+use Rattle.layout.specs.Opening.{text_bytes, refused}
 use Rattle.layout.specs.Program.{opened_printed, opened_pages}
 use Rattle.editions.specs.Opening.{Editions, both, only, open_editions}
-use Rattle.editions.specs.Converting.{fitted, unlost, lost_line, after_opening, to_tagged, to_untagged}
+use Rattle.editions.specs.Converting.{to_tagged, to_untagged}
 use Rattle.editions.specs.Program.{card_program, pages_program}
-use Rattle.edition_printer.specs.Printing.{converted_text, tag_program, untag_program}
+use Rattle.edition_printer.specs.Printing.{tag_program, untag_program}
 use Rattle.qdimacs_form.specs.Opening.{open_qdimacs}
 use Rattle.qdimacs_printer.specs.Printing.{opened_text, qdimacs_program}
 use Rattle.whole_input.specs.Filling.{Fills}

@@ -1,5 +1,5 @@
 -- An input read into a table, read by read, as `input::read_all` does it.
-use Rattle.std.specs.Prelude.{ℕ, ◌+◌, ◌≤◌, ◌<◌, ◌≡◌, [], ◌++◌, length, take, drop}
+use Rattle.std.specs.Prelude.{ℕ, ◌+◌, ◌≤◌, ◌≡◌, [], ◌++◌, length, take, drop}
 use Rattle.layout.specs.Words.{Bytes}
 use Rattle.input.specs.More.{More}
 

@@ -1,1 +1,2 @@
 // Definitions and theorems only: what the programs judge that read their input whole. See specs/ and proofs/.
+#![tactic(auto)]

@@ -1,5 +1,7 @@
 // The learned clauses that a withdrawal leaves: those whose record is no larger than the count of clauses that remain, in their order, with
 // their records.
+#![tactic(auto)]
+
 ghost use Rattle.std.specs.Prelude.{◌≡◌, [], ◌∷◌, ◌++◌, suc, ◌+◌, ◌*◌, ◌≤◌, ◌<◌, length, get_or};
 ghost use Rattle.qbf.specs.Formula.{paper};
 ghost use Rattle.tables.specs.Views.{row};

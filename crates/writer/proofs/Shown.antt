@@ -9,7 +9,7 @@ use native.Mathlib.Nat.{le_of_suc-le-suc, not-suc-le-zero, suc-mul}
 use borrow.Author.Tests.{leb-true}
 use lib.Dec.{leb, eqb}
 use lib.IntN.{pos}
-use lib.ListN.{length, get_or, take, drop, replicate, length-append, length-map, length-replicate}
+use lib.ListN.{length, get_or, take, drop, replicate, length-append}
 use lib.Seq.{take_at, drop_at}
 use Rattle.qbf.specs.Formula.{Limits, paper, Variable, Prefix, Node, any}
 use Rattle.qbf.specs.Card.{Mem, byte_of, line_bytes, bytes_of, table_of}

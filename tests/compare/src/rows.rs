@@ -59,7 +59,7 @@ fn open(file: &str) -> io::Result<Source> {
     let text = fs::read_to_string(folder.join(file))?;
     let mut source = Source { definitions: BTreeMap::new() };
     let used = text.lines().filter_map(|line| {
-        let used = line.strip_prefix("use Rattle·qbf·proofs.proofs.")?;
+        let used = line.strip_prefix("use Rattle.qbf.proofs.")?;
         used.split_once('.').map(|(name, _)| name)
     });
     // What rows are built with stands in Rows, and is known here by name.
@@ -89,7 +89,7 @@ struct Definition {
 }
 
 /// Names with arguments that are known here, whatever the files say.
-const KNOWN: [&str; 7] = ["many", "wide", "all-on", "store", "recorded", "from", "at"];
+const KNOWN: [&str; 7] = ["many", "wide", "all_on", "store", "recorded", "from", "at"];
 
 impl Source {
     fn add(&mut self, text: &str) {
@@ -174,7 +174,7 @@ impl Source {
 
     fn literals(&self, term: &Term) -> Vec<Literal> {
         match self.open(term) {
-            (name, args) if name == "all-on" => (1..=number(&args[0]) as i16).collect(),
+            (name, args) if name == "all_on" => (1..=number(&args[0]) as i16).collect(),
             (name, args) if name == "map" => self.literals_of(&args[0], &args[1]),
             _ => self.list(term).iter().map(|literal| self.literal(literal)).collect(),
         }
@@ -285,7 +285,7 @@ impl Source {
         }
         let (name, args) = self.open(term);
         match (&*name, &args[..]) {
-            ("emptyStore", []) => Store::default(),
+            ("empty_store", []) => Store::default(),
             // Learned clauses of record 0.
             ("store", [clauses, cubes]) => {
                 let clauses = self.clauses(clauses);
@@ -332,7 +332,7 @@ impl Source {
                 Call::Closest(self.reading(on, off), number(size) as usize)
             }
             ("card", [size]) => Call::Card(number(size) as usize),
-            ("keepCard", [size]) => Call::KeepCard(number(size) as usize),
+            ("keep_card", [size]) => Call::KeepCard(number(size) as usize),
             ("forget", []) => Call::Forget,
             _ => panic!("{name} is no call"),
         };
@@ -359,7 +359,7 @@ impl Source {
                 (Said::Closest(found), bytes(table))
             }
             (
-                "cardRefused",
+                "card_refused",
                 [number, table],
                 Call::Card(_) | Call::KeepCard(_) | Call::Closest(..),
             ) => (refused(number), bytes(table)),

@@ -4,7 +4,7 @@ use compare::random::Random;
 use compare::{Formula, Literal, Quantifier, Variable};
 use native::raw::{CLAUSE_WIDTH, EXISTS, FORALL, FREE};
 
-/// Made by `rt staticlib search_finder`.
+/// Made by `tools/build search_finder`.
 #[link(name = "search_finder", kind = "static")]
 extern "C" {
     fn search_finder_lowest_dead(

@@ -1,0 +1,76 @@
+-- `answers::in_place::card_of` meets its contract.
+use native.Mathlib.Omega.{arith}
+use mathlib.Core.Path.{◌∙◌, sym, ap, refl}
+use mathlib.Core.List.{[]}
+use lib.Dec.{leb}
+use Prim.Native.Nat.{◌*◌}
+use lib.ListN.{length}
+use Rattle.qbf.specs.Calls.{card_of}
+use Rattle.qbf.specs.Card.{zero_table}
+use Rattle.cover.proofs.Laws.{covers_none}
+use Rattle.state.proofs.Valid.{valid_numbers, valid_quantified}
+use Rattle.answers.proofs.Running.{ready, free_small, open_values}
+use Rattle.answers.proofs.Asking.{cleared_length, served_as_lem, malformed_card, halted_card, shown_card, full_card}
+use Rattle.answers.proofs.in_place.card_of.Goals as goal
+
+pub returns-then-not-prefix : goal.returns-then-not-prefix
+returns-then-not-prefix c = let check-tables = c.check_tables-prefix in
+    served_as_lem _ (card_of c.args.yes c.args.ceiling _) (c.malformed_card.ensures _) (malformed_card _ c.args.yes c.args.ceiling _ _ c.clear.ensures (sym check-tables.ensures.said ∙ c.if-not-prefix.true))
+
+pub run-found-requires : goal.run-found-requires
+run-found-requires c = let check-tables = c.check_tables-prefix in
+    let free-count = c.free_count-free in
+    let budget-of = c.budget_of in
+    let v = sym check-tables.ensures.said ∙ c.if-not-prefix.false in
+    ready _ v check-tables.ensures.sized _ _ _ (omega arith) (free_small _ v _ (free-count.ensures _ (valid_numbers _ v) (valid_quantified _ v))) budget-of.ensures.1
+
+pub shape_of-table-then-found-eq0 : goal.shape_of-table-then-found-eq0
+shape_of-table-then-found-eq0 c = cleared_length _ c.clear-then-found-eq0.ensures ∙ c.run-found.ensures.table_len_unchanged.0 ∙ cleared_length (length c.args.table.now) c.clear.ensures
+
+pub returns-then-found-eq0 : goal.returns-then-found-eq0
+returns-then-found-eq0 c = let check-tables = c.check_tables-prefix in
+    let free-count = c.free_count-free in
+    let stopped-card = c.stopped_card in
+    let budget-of = c.budget_of in
+    let v = sym check-tables.ensures.said ∙ c.if-not-prefix.false in
+    let frees = free-count.ensures _ (valid_numbers _ v) (valid_quantified _ v) in
+    let sized = c.run-found.ensures.table_len_unchanged.0 ∙ cleared_length (length c.args.table.now) c.clear.ensures in
+    served_as_lem _ (card_of c.args.yes c.args.ceiling _) (stopped-card.ensures c.clear-then-found-eq0.new.table)
+    (halted_card _ v c.args.yes c.args.ceiling _ free-count.result budget-of.result c.run-found.result _ _ frees sized budget-of.ensures.0 ((c.run-found.ensures.by_index _ _ v).found [] (check-tables.ensures.placed v) (check-tables.ensures.kinded v) (open_values _) refl frees (covers_none free-count.result (length c.args.table.now) _ c.clear.ensures)) c.if-found-eq0.true _ (c.clear-then-found-eq0.ensures ∙ ap zero_table sized))
+
+pub visits_of-visits-requires : goal.visits_of-visits-requires
+visits_of-visits-requires c = let budget-of = c.budget_of in
+    omega (arith, c.run-found.ensures.table_len_unchanged.2, budget-of.ensures.0)
+
+pub shape_of-table-then-fits : goal.shape_of-table-then-fits
+shape_of-table-then-fits c = c.run-found.ensures.table_len_unchanged.0 ∙ cleared_length (length c.args.table.now) c.clear.ensures
+
+pub returns-then-fits : goal.returns-then-fits
+returns-then-fits c = let check-tables = c.check_tables-prefix in
+    let free-count = c.free_count-free in
+    let budget-of = c.budget_of in
+    let visits-of = c.visits_of-visits in
+    let total-lines = c.total_lines-lines in
+    let v = sym check-tables.ensures.said ∙ c.if-not-prefix.false in
+    let frees = free-count.ensures _ (valid_numbers _ v) (valid_quantified _ v) in
+    let sized = c.run-found.ensures.table_len_unchanged.0 ∙ cleared_length (length c.args.table.now) c.clear.ensures in
+    served_as_lem _ (card_of c.args.yes c.args.ceiling _) (c.with_lines.ensures _)
+    (shown_card _ v c.args.yes c.args.ceiling _ free-count.result budget-of.result c.run-found.result _ _ frees sized budget-of.ensures.0 ((c.run-found.ensures.by_index _ _ v).found [] (check-tables.ensures.placed v) (check-tables.ensures.kinded v) (open_values _) refl frees (covers_none free-count.result (length c.args.table.now) _ c.clear.ensures)) c.if-found-eq0.false visits-of.result visits-of.ensures
+    total-lines.result total-lines.ensures (ap (λ k. leb (total-lines.result * free-count.result) k) (sym sized) ∙ sym c.fits.ensures ∙ c.if-fits.true))
+
+pub shape_of-table : goal.shape_of-table
+shape_of-table c = cleared_length _ c.clear-2.ensures ∙ c.run-found.ensures.table_len_unchanged.0 ∙ cleared_length (length c.args.table.now) c.clear.ensures
+
+pub returns : goal.returns
+returns c = let check-tables = c.check_tables-prefix in
+    let free-count = c.free_count-free in
+    let too-many-lines = c.too_many_lines in
+    let budget-of = c.budget_of in
+    let visits-of = c.visits_of-visits in
+    let total-lines = c.total_lines-lines in
+    let v = sym check-tables.ensures.said ∙ c.if-not-prefix.false in
+    let frees = free-count.ensures _ (valid_numbers _ v) (valid_quantified _ v) in
+    let sized = c.run-found.ensures.table_len_unchanged.0 ∙ cleared_length (length c.args.table.now) c.clear.ensures in
+    served_as_lem _ (card_of c.args.yes c.args.ceiling _) (too-many-lines.ensures c.clear-2.new.table)
+    (full_card _ v c.args.yes c.args.ceiling _ free-count.result budget-of.result c.run-found.result _ _ frees sized budget-of.ensures.0 ((c.run-found.ensures.by_index _ _ v).found [] (check-tables.ensures.placed v) (check-tables.ensures.kinded v) (open_values _) refl frees (covers_none free-count.result (length c.args.table.now) _ c.clear.ensures)) c.if-found-eq0.false visits-of.result visits-of.ensures
+    total-lines.result total-lines.ensures _ (c.clear-2.ensures ∙ ap zero_table sized) (ap (λ k. leb (total-lines.result * free-count.result) k) (sym sized) ∙ sym c.fits.ensures ∙ c.if-fits.false))

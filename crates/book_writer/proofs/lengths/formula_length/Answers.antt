@@ -1,0 +1,8 @@
+-- `formula_length` meets its contract.
+use native.Mathlib.Omega.{arith}
+use Rattle.book_writer.specs.Tables.{formula_of}
+use Rattle.booktext_laws.proofs.Room.{parts_length}
+use Rattle.book_writer.proofs.lengths.formula_length.Goals as goal
+
+pub returns : goal.returns
+returns c = omega (arith, c.variables_length-variables.ensures.is, c.rules_length-rules.ensures.is, parts_length (formula_of c.args.numbers.now c.args.levels.now c.args.kinds.now c.args.clauses.now c.args.clause_sizes.now))

@@ -1,0 +1,23 @@
+-- `variables_length` meets its contract: the places passed are counted, and the line of the last one stands open.
+use native.Mathlib.Omega.{arith}
+use Rattle.qbf.specs.Formula.{free}
+use Rattle.book_writer.proofs.Parts.{counting_none, counting_more, counting_last}
+use Rattle.book_writer.proofs.Places.{places_all, places_next, places_end}
+use Rattle.book_writer.proofs.lengths.variables_length.Goals as goal
+
+pub loop-i-init : goal.loop-i-init
+loop-i-init c = (counting_none _ (places_all c.args.numbers.now c.args.levels.now c.args.kinds.now free), omega arith)
+
+pub overflow_add-bytes : goal.overflow_add-bytes
+overflow_add-bytes c = omega (arith, c.loop-i.invariant.0.few, c.loop-i.invariant.1, c.variable_length-bytes.ensures.few)
+
+pub loop-i-preserved : goal.loop-i-preserved
+loop-i-preserved c = let Cell-at = c.cell_at-count in
+    let loop-test = c.loop-i-test in
+    (counting_more c.loop-i.invariant.0 _ _ (places_next c.args.numbers.now c.args.levels.now c.args.kinds.now _ (omega (arith, loop-test.true, Cell-at.ensures)) c.kind_at-kind.ensures c.cell_at-n.ensures) c.variable_length-bytes.ensures (omega arith), omega (arith, loop-test.true))
+
+pub overflow_add-result : goal.overflow_add-result
+overflow_add-result c = omega (arith, c.loop-i.invariant.0.few, c.loop-i.invariant.1)
+
+pub returns : goal.returns
+returns c = counting_last c.loop-i.invariant.0 (places_end c.args.numbers.now c.args.levels.now c.args.kinds.now _ (omega (arith, c.loop-i-test.false, c.cell_at-count.ensures))) (omega (arith, c.loop-i.invariant.1))

@@ -1,0 +1,16 @@
+-- `coding::list::reduced_first` meets its contract. The loop keeps what the reduction comes to.
+use Prim.Native.Nat.{◌≤◌}
+use mathlib.Core.Path.{◌≡◌}
+use lib.ListN.{length, take}
+use Rattle.qbf.specs.Formula.{Prefix}
+use Rattle.qbf.specs.Learning.{Constraint, reduce}
+use Rattle.tables.specs.Codes.{codes, Quantified}
+use Rattle.coding.proofs.list.reduced_first.Given as goal
+
+abbrev pub invariant-loop-left : goal.invariant-loop-left
+invariant-loop-left l = (l.left ≤ l.n)
+    × (l.n ≤ length l.cells)
+    × ((D : Prefix) (e : Constraint) → Quantified D l.quantifiers → take l.n l.cells ≡ codes D e → reduce D l.cube (take l.left e) ≡ reduce D l.cube e)
+
+abbrev pub decreases-loop-left : goal.decreases-loop-left
+decreases-loop-left l = l.left

@@ -1,0 +1,8 @@
+-- `edition_printer::print_untagged` meets its contract: what the conversion answers.
+use native.Mathlib.Omega.{arith}
+use lib.ListN.{length}
+use Rattle.edition_printer.proofs.Printing.{untag_printed}
+use Rattle.edition_printer.proofs.print_untagged.Goals as goal
+
+pub returns : goal.returns
+returns c = untag_printed c.args.text.now (omega arith) c.put_answer.ensures (length c.args.out.now) (omega arith) c.untag-converted.ensures

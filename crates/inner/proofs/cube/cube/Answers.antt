@@ -1,0 +1,13 @@
+-- `inner::cube::cube` meets its contract. The true literals of the marked places are the implicant; then its reduct.
+use native.Mathlib.Omega.{arith}
+use mathlib.Core.Path.{◌∙◌}
+use mathlib.Core.List.{[]}
+use Rattle.qbf.specs.Learning.{implicant}
+use Rattle.inner.proofs.Stepping.{steps_cube}
+use Rattle.inner.proofs.cube.cube.Goals as goal
+
+pub returns : goal.returns
+returns c = (
+  omega (arith, c.marked_codes-n.ensures.0, c.reduced_first.ensures.0),
+  λ D R s st shown quantified formed long marked every. c.reduced_first.ensures.1 D (implicant D s R []) quantified (c.marked_codes-n.ensures.1 s shown long ∙ steps_cube formed long marked every),
+)

@@ -1,0 +1,22 @@
+-- `page::row::line_row` meets its contract. The row has the number, and the flags passed.
+use native.Mathlib.Omega.{arith}
+use mathlib.Core.Path.{refl, ◌∙◌}
+use lib.ListN.{length-set}
+use Rattle.page.proofs.Cells.{five, flags_none, flags_more, flags_all, whole_row}
+use Rattle.page.proofs.row.line_row.Goals as goal
+
+pub loop-i-init : goal.loop-i-init
+loop-i-init c = let digits = five c.args.number c.digit.ensures c.digit-2.ensures c.digit-3.ensures c.digit-4.ensures c.digit-5.ensures in
+    (omega arith, c.shown-width.ensures, refl, flags_none digits c.args.line.now)
+
+pub loop-i-preserved : goal.loop-i-preserved
+loop-i-preserved c = (
+  omega arith,
+  c.loop-i.invariant.1,
+  simp length-set c.loop-i.invariant.2,
+  flags_more c.args.number c.args.line.now c.loop-i.row c.loop-i.i _ c.sign.result (omega arith) (omega arith) (omega arith) c.sign.ensures c.loop-i.invariant.3,
+)
+
+pub returns : goal.returns
+returns c = flags_all c.args.number c.args.line.now c.loop-i.row c.loop-i.i (omega arith) c.loop-i.invariant.3
+    ∙ whole_row c.args.number c.args.line.now c.requires.0 c.requires.1

@@ -1,0 +1,9 @@
+-- `page_items` meets its contract: no item, or the bytes after the space read as a number.
+use Rattle.reader.proofs.Requests.{page_none, page_number_lem}
+use Rattle.reader.proofs.request.page_items.Goals as goal
+
+pub returns-then-s-e : goal.returns-then-s-e
+returns-then-s-e c = page_none c.args.s.now c.args.e c.if-s-e.true
+
+pub returns : goal.returns
+returns c = page_number_lem c.args.s.now c.args.e c.if-s-e.false c.read_number.result c.read_number.ensures c.page_of.result c.page_of.ensures

@@ -1,0 +1,11 @@
+-- `reading::named::mark_all`: what is left of the literals is judged as the whole was.
+use Prim.Native.Nat.{◌-◌}
+use lib.ListN.{length}
+use Rattle.reading.proofs.Marking.{Marking}
+use Rattle.reading.proofs.named.mark_all.Given as goal
+
+abbrev pub invariant-loop-i : goal.invariant-loop-i
+invariant-loop-i l = Marking l.places l.free l.value l.initial.values l.literals l.values l.i
+
+abbrev pub decreases-loop-i : goal.decreases-loop-i
+decreases-loop-i l = length l.literals - l.i

@@ -1,0 +1,13 @@
+-- `serve::query::serve_query` meets its contract.
+use mathlib.Core.Path.{refl}
+use mathlib.Core.Option.{some}
+use Rattle.qbf.specs.Calls.{query}
+use Rattle.serve.proofs.Answered.{query_answered}
+use Rattle.serve.proofs.Turns.{turned}
+use Rattle.serve.proofs.query.serve_query.Goals as goal
+
+pub returns : goal.returns
+returns c = λ t.
+    turned c.args.x (some (query c.args.ceiling c.args.on.now c.args.off.now)) c.args.line _ c.args.shown c.args.shown c.put_ruling-length.ensures
+    (λ u e. query_answered c.args.ceiling c.args.x c.args.on.now c.args.off.now c.args.line c.query-asked.result.ruling c.query-asked.result.visits _ u c.query-asked.ensures e)
+    t t refl

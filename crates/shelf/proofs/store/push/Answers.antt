@@ -1,0 +1,15 @@
+-- `shelf::store::push` meets its contract: the row takes the slot of its number, and the links name it the newest.
+use native.Mathlib.Omega.{arith}
+use Rattle.shelf.proofs.Slots.{from_below, slot_within}
+use Rattle.shelf.proofs.Pushing.{pushing}
+use Rattle.shelf.proofs.store.push.Goals as goal
+
+pub overflow_mul-slot : goal.overflow_mul-slot
+overflow_mul-slot c = omega (arith, from_below c.requires.0 c.next_slot-slot.result c.next_slot-slot.ensures.1)
+
+pub write_row-requires : goal.write_row-requires
+write_row-requires c = (omega (arith, slot_within c.requires.0 c.next_slot-slot.result c.next_slot-slot.ensures.1, c.requires.4), omega (arith, c.requires.4, c.requires.2))
+
+pub returns : goal.returns
+returns c = let p = pushing c.requires.0 c.requires.1 c.args.row.now c.next_slot-slot.result c.last_code-code.result _ _ c.next_slot-slot.ensures.0 c.last_code-code.ensures (omega (arith, c.last_code-code.type_inv)) c.requires.4 c.write_row.ensures c.write_links.ensures in
+    (p.stands, p.rows, p.newest, p.low, p.kept)
