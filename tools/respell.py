@@ -1,7 +1,7 @@
 #!/usr/bin/env python3
 """Respells the repository's own definitions, lemmas, fields and local names in snake case, as the kit's are: `faultOf` is `fault_of`, `rows-none` is `rows_none`.
 
-usage: python3 tools/respell.py [--dry] in a checkout that /opt/rattle/port/port.py has just turned. Names of the kit, functions of src/, types and modules, strings and what
+usage: python3 tools/respell.py [--dry] in a checkout that the kit's port.py has just turned. Names of the kit, functions of src/, types and modules, strings and what
 Rattle itself makes keep theirs. Names that would fall together are told apart by APART, and the run stops if any are left.
 """
 import collections
