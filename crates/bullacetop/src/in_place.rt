@@ -502,7 +502,8 @@ pub extern "C" fn bullacetop_closest_in_place<'a>(
         reading,
         ceiling,
     );
-    of_closest(found)
+    let reply = of_closest(found);
+    reply
 }
 
 // The book's text. Nothing of the state is written.
