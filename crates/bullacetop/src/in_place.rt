@@ -12,8 +12,7 @@ ghost use Rattle.closest_call.specs.Nearest.{padded};
 use book_writer::Written;
 use reply_numbers::{Closest, Reply, of_card, of_change, of_closest, of_query};
 
-#[unsafe(no_mangle)]
-pub extern "C" fn bullacetop_rule_in_place<'a>(
+pub fn bullacetop_rule_in_place<'a>(
     numbers: &'a [u16; tables::BY_NUMBER],
     levels: &'a [u16; tables::BY_NUMBER],
     kinds: &'a [u16; tables::BY_NUMBER],
@@ -64,8 +63,7 @@ pub extern "C" fn bullacetop_rule_in_place<'a>(
     of_change(added)
 }
 
-#[unsafe(no_mangle)]
-pub extern "C" fn bullacetop_one_in_place<'a>(
+pub fn bullacetop_one_in_place<'a>(
     numbers: &'a [u16; tables::BY_NUMBER],
     levels: &'a [u16; tables::BY_NUMBER],
     kinds: &'a [u16; tables::BY_NUMBER],
@@ -116,8 +114,7 @@ pub extern "C" fn bullacetop_one_in_place<'a>(
     of_change(formed)
 }
 
-#[unsafe(no_mangle)]
-pub extern "C" fn bullacetop_withdraw_in_place<'a>(
+pub fn bullacetop_withdraw_in_place<'a>(
     numbers: &'a [u16; tables::BY_NUMBER],
     levels: &'a [u16; tables::BY_NUMBER],
     kinds: &'a [u16; tables::BY_NUMBER],
@@ -166,8 +163,7 @@ pub extern "C" fn bullacetop_withdraw_in_place<'a>(
     of_change(left)
 }
 
-#[unsafe(no_mangle)]
-pub extern "C" fn bullacetop_forget_in_place<'a>(
+pub fn bullacetop_forget_in_place<'a>(
     numbers: &'a [u16; tables::BY_NUMBER],
     levels: &'a [u16; tables::BY_NUMBER],
     kinds: &'a [u16; tables::BY_NUMBER],
@@ -216,8 +212,7 @@ pub extern "C" fn bullacetop_forget_in_place<'a>(
     of_change(emptied)
 }
 
-#[unsafe(no_mangle)]
-pub extern "C" fn bullacetop_query_in_place<'a>(
+pub fn bullacetop_query_in_place<'a>(
     numbers: &'a [u16; tables::BY_NUMBER],
     levels: &'a [u16; tables::BY_NUMBER],
     kinds: &'a [u16; tables::BY_NUMBER],
@@ -328,8 +323,7 @@ fn card_of<'a>(
     of_card(shown)
 }
 
-#[unsafe(no_mangle)]
-pub extern "C" fn bullacetop_card_in_place<'a>(
+pub fn bullacetop_card_in_place<'a>(
     numbers: &'a [u16; tables::BY_NUMBER],
     levels: &'a [u16; tables::BY_NUMBER],
     kinds: &'a [u16; tables::BY_NUMBER],
@@ -382,8 +376,7 @@ pub extern "C" fn bullacetop_card_in_place<'a>(
     )
 }
 
-#[unsafe(no_mangle)]
-pub extern "C" fn bullacetop_keep_card_in_place<'a>(
+pub fn bullacetop_keep_card_in_place<'a>(
     numbers: &'a [u16; tables::BY_NUMBER],
     levels: &'a [u16; tables::BY_NUMBER],
     kinds: &'a [u16; tables::BY_NUMBER],
@@ -437,8 +430,7 @@ pub extern "C" fn bullacetop_keep_card_in_place<'a>(
 }
 
 // The reading on the card that differs from a given one in the fewest flags. Its bytes stand first in the lent reading, and zeros behind them.
-#[unsafe(no_mangle)]
-pub extern "C" fn bullacetop_closest_in_place<'a>(
+pub fn bullacetop_closest_in_place<'a>(
     numbers: &'a [u16; tables::BY_NUMBER],
     levels: &'a [u16; tables::BY_NUMBER],
     kinds: &'a [u16; tables::BY_NUMBER],
@@ -507,8 +499,7 @@ pub extern "C" fn bullacetop_closest_in_place<'a>(
 }
 
 // The book's text. Nothing of the state is written.
-#[unsafe(no_mangle)]
-pub extern "C" fn bullacetop_write_in_place<'a>(
+pub fn bullacetop_write_in_place<'a>(
     numbers: &'a [u16; tables::BY_NUMBER],
     levels: &'a [u16; tables::BY_NUMBER],
     kinds: &'a [u16; tables::BY_NUMBER],

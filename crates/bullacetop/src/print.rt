@@ -2,8 +2,7 @@
 ghost use Rattle.page.specs.Lent.{PageLent};
 
 // The rows one after another in the first bytes of the lent table, and zeros behind them; refused, zeros alone. A refusal of 0 is none.
-#[unsafe(no_mangle)]
-pub extern "C" fn bullacetop_page(
+pub fn bullacetop_page(
     table: &[u8],
     lines: usize,
     flags: usize,

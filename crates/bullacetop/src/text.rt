@@ -21,64 +21,56 @@ use reader::call::TABLE;
 use session_line::Spoken;
 use state::State;
 
-#[unsafe(no_mangle)]
-pub extern "C" fn bullacetop_room() -> usize
+pub fn bullacetop_room() -> usize
     ensures { result ≡ answer_bytes }
 {
     answer_text::ANSWER
 }
 
 // What the program `card` prints for a text.
-#[unsafe(no_mangle)]
-pub extern "C" fn bullacetop_print(text: &[u8], out: &mut [u8]) -> Written
+pub fn bullacetop_print(text: &[u8], out: &mut [u8]) -> Written
     ensures { PrintsCard text.now out.old result out.new }
 {
     serve::book::print_card(text, out)
 }
 
 // A text opened: its state; or the refusal, its line, and a state on which every call is refused with 22.
-#[unsafe(no_mangle)]
-pub extern "C" fn bullacetop_open(text: &[u8]) -> Opened
+pub fn bullacetop_open(text: &[u8]) -> Opened
     ensures { OpenedAs (open_editions both paper text.now) result }
 {
     open_editions(Editions::Both, text)
 }
 
 // A QDIMACS text opened likewise, to the state that our own text would give.
-#[unsafe(no_mangle)]
-pub extern "C" fn bullacetop_open_qdimacs(text: &[u8]) -> Opened
+pub fn bullacetop_open_qdimacs(text: &[u8]) -> Opened
     ensures { OpenedAs (open_qdimacs paper text.now) result }
 {
     qdimacs_opening::open_qdimacs(text)
 }
 
 // A text of edition 1 in edition 2: its rule forms are tagged 1, 2, 3 and so on.
-#[unsafe(no_mangle)]
-pub extern "C" fn bullacetop_tag(text: &[u8], table: &mut [u8]) -> Converted
+pub fn bullacetop_tag(text: &[u8], table: &mut [u8]) -> Converted
     ensures { ConvertedAs (length table.old) (to_tagged paper (length table.old) text.now) result table.new }
 {
     edition_conversion::tag(text, table)
 }
 
 // A text of edition 2 in edition 1, where its tags are those.
-#[unsafe(no_mangle)]
-pub extern "C" fn bullacetop_untag(text: &[u8], table: &mut [u8]) -> Converted
+pub fn bullacetop_untag(text: &[u8], table: &mut [u8]) -> Converted
     ensures { ConvertedAs (length table.old) (to_untagged paper (length table.old) text.now) result table.new }
 {
     edition_conversion::untag(text, table)
 }
 
 // No card has been answered yet: what a session begins with.
-#[unsafe(no_mangle)]
-pub extern "C" fn bullacetop_no_card() -> Shown
+pub fn bullacetop_no_card() -> Shown
     ensures { result ≡ no_card }
 {
     answer_text::shown::no_card()
 }
 
 // One line of a session, without its byte 10, and its number in the input. The lines of the card answered last stand in the lent table of cards.
-#[unsafe(no_mangle)]
-pub extern "C" fn bullacetop_line(
+pub fn bullacetop_line(
     x: State,
     line: &[u8],
     number: u64,

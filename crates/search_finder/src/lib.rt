@@ -29,8 +29,7 @@ fn stand<'a>(clauses: &'a [i16], sizes: &'a [u16]) -> bool
 }
 
 // The index of the clause that step 1 takes; the count of the clauses where none is dead, and where they do not lie within their table.
-#[unsafe(no_mangle)]
-pub extern "C" fn search_finder_lowest_dead<'a>(
+pub fn search_finder_lowest_dead<'a>(
     clauses: &'a [i16],
     sizes: &'a [u16],
     places: &'a [u16],
