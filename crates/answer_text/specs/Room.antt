@@ -9,6 +9,10 @@ use Rattle.layout.specs.Program.{table_bytes}
 abbrev pub answer_bytes : ℕ
 answer_bytes = 15 * table_bytes + 50
 
+-- No refusal with its line is longer: two numbers of 64 bits have at most 20 digits each.
+abbrev pub refusal_bytes : ℕ
+refusal_bytes = 52
+
 -- "A table too short is 31 .. and zeroed" (paper 02): one that is too short for some answers. Nothing else is done, and nothing is written.
 abbrev pub TooShort : ℕ → ℕ → Bytes → Bytes → Type 0
 TooShort refusal written d₀ d = (refusal ≡ 31) × (written ≡ 0) × (d ≡ zero_table (length d₀))

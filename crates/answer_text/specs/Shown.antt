@@ -1,5 +1,5 @@
 -- The card answered last, as the code holds it: numbers, and a table whose first bytes are the card's.
-use Rattle.std.specs.Prelude.{ℕ, ◌≡◌, cond, [], take, eqb}
+use Rattle.std.specs.Prelude.{ℕ, ◌≡◌, cond, [], take, eqb, Result}
 use Rattle.std.proofs.Math.Option.{Option, none, some}
 use Rattle.qbf.specs.Formula.{Prefix}
 use Rattle.qbf.specs.Truth.{free_variables}
@@ -10,7 +10,7 @@ use Rattle.state.specs.declared.State.{State}
 use Rattle.state.specs.Derived.{Quantified}
 use Rattle.serving.specs.Serves.{number}
 use Rattle.replies.specs.Replies.{card_said}
-use Rattle.replies.specs.declared.Printed.{Printed}
+use Rattle.refusal.specs.declared.Refusal.{Refusal}
 use Rattle.answer_text.specs.declared.shown.Shown.{Shown}
 
 -- the card that the numbers and the table tell, or none
@@ -21,7 +21,7 @@ abbrev pub no_card : Shown
 no_card = record { refusal = 36; size = 0; lines = 0; free = 0 }
 
 -- what the answer of a card in a table of m bytes tells of it
-pub record CardTold (x : State) (p : Printed) (m : ℕ) (r : Shown) : Type 0 where
+pub record CardTold (x : State) (p : Result ℕ Refusal) (m : ℕ) (r : Shown) : Type 0 where
   pub refusal : r.refusal ≡ number (card_said p 0 []).refusal
   pub size : r.size ≡ m
   pub lines : r.lines ≡ (card_said p 0 []).lines

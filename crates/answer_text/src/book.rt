@@ -3,27 +3,22 @@ ghost use Rattle.std.specs.Prelude.{◌≡◌};
 ghost use Rattle.answer_text.specs.Room.{TooShort};
 ghost use Rattle.answer_text.specs.Books.{PrintsRefusal};
 
-use crate::refusal::refuse;
-use book_writer::{NONE, TEXT_TABLE_TOO_SHORT, Written};
+use crate::refused::refuse;
+use book_writer::Written;
+use refusal::Refusal;
 
 // In a table of fewer than ANSWER bytes nothing is written.
 pub fn short(out: &mut [u8]) -> Written
     ensures { TooShort result.refusal result.length out.old out.new }
 {
     cover::clear(out);
-    Written {
-        refusal: TEXT_TABLE_TOO_SHORT,
-        length: 0,
-    }
+    Written::from(Err(Refusal::TableTooShort))
 }
 
 pub fn told(length: usize) -> Written
     ensures { (result.refusal ≡ 0) × (result.length ≡ length) }
 {
-    Written {
-        refusal: NONE,
-        length: length,
-    }
+    Written::from(Ok(length))
 }
 
 // What a session prints for a text that is refused.

@@ -4,8 +4,8 @@ ghost use Rattle.writer.specs.Wrote.{Wrote};
 ghost use Rattle.answer_text.specs.Room.{answer_bytes};
 ghost use Rattle.answer_text.specs.Texts.{change_text};
 
-use crate::refusal::refuse;
-use writer::bytes::put_word;
+use crate::refused::refuse;
+use writer::Output;
 
 // The word of a call that is done, or the refusal.
 pub fn put_change(out: &mut [u8], done: &[u8], refusal: u16, line: u64) -> usize
@@ -14,7 +14,9 @@ pub fn put_change(out: &mut [u8], done: &[u8], refusal: u16, line: u64) -> usize
     ensures { Wrote out.old 0 (change_text done.now refusal line) out.new result }
 {
     if refusal == 0 {
-        return put_word(out, 0, done);
+        let mut text = Output { bytes: out, at: 0 };
+        text.put_word(done);
+        return text.at;
     }
     refuse(out, refusal, line)
 }

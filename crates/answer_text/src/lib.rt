@@ -4,7 +4,7 @@
 pub mod book; // a refused text, and a table too short
 pub mod change; // rule, withdraw, forget
 pub mod query;
-pub mod refusal;
+pub mod refused;
 pub mod shown; // the card answered last
 
 // No answer is longer: all lines of a card together have no more places than its table has bytes. A line has up to 8 bytes for each of

@@ -2,7 +2,7 @@
 ghost use Rattle.std.specs.Prelude.{◌≡◌, cond, eqb};
 ghost use Rattle.answer_text.specs.Shown.{no_card, CardTold};
 
-use replies::{Printed, lines_of, refusal_of};
+use refusal::{Refusal, number_if};
 use state::State;
 
 // The card stands in the first bytes of the table, as many as the call asked for; a refusal other than 0 is no card.
@@ -41,17 +41,21 @@ pub fn after_rule(shown: Shown, refusal: u16) -> Shown
 }
 
 // The card of a call with a table of that many bytes.
-pub fn card_of(x: State, printed: Printed, size: usize) -> Shown
-    ensures { CardTold x printed size result }
+pub fn card_of(x: State, lines: Result<usize, Refusal>, size: usize) -> Shown
+    ensures { CardTold x lines size result }
 {
     let numbers = x.numbers;
     let levels = x.levels;
     let kinds = x.kinds;
-    let free = state::kinds::free_count(&numbers, &levels, &kinds);
+    let free = state::kinds::free_count(state::prefix::Variables {
+        numbers: &numbers,
+        levels: &levels,
+        kinds: &kinds,
+    });
     Shown {
-        refusal: refusal_of(printed),
+        refusal: number_if(lines.err()),
         size: size,
-        lines: lines_of(printed),
+        lines: lines.unwrap_or(0),
         free: free,
     }
 }

@@ -34,8 +34,8 @@ use Rattle.reading.specs.Reading.{QueryRead, Ready}
 use Rattle.serving.specs.Serves.{Said, said, said_reply, said_of, Serves}
 use Rattle.serving.proofs.Calls.{Passes, malformed, moved_on, unchanged}
 use Rattle.replies.specs.Replies.{ruling_said, card_said, ruling_for, total}
-use Rattle.replies.specs.declared.Printed.TheVariants as shown
-use Rattle.replies.specs.declared.Ruling.{Ruling}
+use Rattle.refusal.specs.declared.Refusal.TheVariants as refusal
+use Rattle.std.specs.Prelude.{Ok, Err}
 use Rattle.open_run.specs.OpenRun.{Shown}
 use Rattle.answers.specs.OpenRun.{open_walk, open_said}
 use Rattle.answers.specs.Run.{Ends, EndsBy, TriedBy, store_left, FoundBy, Ran}
@@ -47,7 +47,7 @@ served_as_lem x c {a} {q} {y} p s = subst (λ (u : Said). Serves x c u y) (sym p
 
 -- ---- query
 -- swap or keep, by the verdict
-ruling_is : (w : Verdict) (o : Outcome Constraint) (k : ℕ) → Ends w o → ruling_said (ruling_for w) k ≡ said_reply (query_reply (outline o)) k
+ruling_is : (w : Verdict) (o : Outcome Constraint) (k : ℕ) → Ends w o → ruling_said (Ok (ruling_for w)) k ≡ said_reply (query_reply (outline o)) k
 ruling_is Yes o k (e, p) = ap (λ (x : Outcome Constraint). said_reply (query_reply (outline x)) k) (sym p)
 ruling_is No o k (e, p) = ap (λ (x : Outcome Constraint). said_reply (query_reply (outline x)) k) (sym p)
 ruling_is Mixed o k (ds, p) = ap (λ (x : Outcome Constraint). said_reply (query_reply (outline x)) k) (sym p)
@@ -131,17 +131,17 @@ module _ (x : State) (v : valid x ≡ true) where
           one_less = omega (arith, allowed)
 
       -- swap or keep, where some budget is left
-      asked : (k : ℕ) → k + r.budget ≡ suc top → (r.budget ≡ 0 → ⊥) → Serves x (query top on off) (ruling_said (ruling_for r.verdict) k) y
+      asked : (k : ℕ) → k + r.budget ≡ suc top → (r.budget ≡ 0 → ⊥) → Serves x (query top on off) (ruling_said (Ok (ruling_for r.verdict)) k) y
       asked k counted some_left = by (search_from (budget - 1) free (start_node on (prefix_in x))) same f.tried f.state
         where
           by : (t : Attempt) → search_within paper (prefix_in x) b.clauses top (bound (quantifiers (prefix_in x))) (start_node on (prefix_in x)) (store_in x) ≡ t → TriedBy p t free budget r table
-              → read_state y ≡ some (record { formula = b; store = store_left t }) → Serves x (query top on off) (ruling_said (ruling_for r.verdict) k) y
+              → read_state y ≡ some (record { formula = b; store = store_left t }) → Serves x (query top on off) (ruling_said (Ok (ruling_for r.verdict)) k) y
           by (stopped z) is spent_all left = absurd (some_left spent_all)
           by (finished o) is h left =
               subst (λ (a : Said). Serves x (query top on off) a y) told (query_by (finished o) is left (query_passes (outline o.outcome)))
             where
-              told : said_reply (query_reply (outline o.outcome)) o.visits ≡ ruling_said (ruling_for r.verdict) k
-              told = sym (ruling_is r.verdict o.outcome o.visits h.verdict) ∙ ap (ruling_said (ruling_for r.verdict)) k_is
+              told : said_reply (query_reply (outline o.outcome)) o.visits ≡ ruling_said (Ok (ruling_for r.verdict)) k
+              told = sym (ruling_is r.verdict o.outcome o.visits h.verdict) ∙ ap (ruling_said (Ok (ruling_for r.verdict))) k_is
                 where
                   k_is : o.visits ≡ k
                   k_is = omega (arith, counted, h.visits, allowed)
@@ -170,9 +170,9 @@ module _ (x : State) (v : valid x ≡ true) where
       whole : is_full (reading_of on off (prefix_in x)) ≡ true
       whole = sym (read.told fine) ∙ all_named
 
-      pub asked_by : (k : ℕ) → k + r.budget ≡ suc top → (r.budget ≡ 0 → ⊥) → {q : Ruling} → q ≡ ruling_for r.verdict → Serves x (query top on off) (ruling_said q k) y
-      asked_by k counted some_left {q} is =
-          subst (λ (z : Ruling). Serves x (query top on off) (ruling_said z k) y) (sym is) (asked top on off y no_fault whole free budget r table frees allowed found_at k counted some_left)
+      pub asked_by : (k : ℕ) → k + r.budget ≡ suc top → (r.budget ≡ 0 → ⊥) → {a : Said} → a ≡ ruling_said (Ok (ruling_for r.verdict)) k → Serves x (query top on off) a y
+      asked_by k counted some_left {a} is =
+          subst (λ (z : Said). Serves x (query top on off) z y) (sym is) (asked top on off y no_fault whole free budget r table frees allowed found_at k counted some_left)
 
       pub halted_by : r.budget ≡ 0 → Serves x (query top on off) (said (some 34) 0 0 top []) y
       halted_by none_left = halted top on off y no_fault whole free budget r table frees allowed found_at none_left
@@ -344,7 +344,7 @@ module _ (x : State) (v : valid x ≡ true) where
         out_by t e = ap (λ (z : Bool). answer (cond z (lines ls (table_of (free_variables (prefix_in x)) size ls)) (card_refused 21 (zero_table size))) o.visits) (sym test ∙ e)
 
         -- the lines fit
-        shown_ended : leb (n * free) size ≡ true → Serves x (card_of p top size) (card_said (shown.Lines n) k table) y
+        shown_ended : leb (n * free) size ≡ true → Serves x (card_of p top size) (card_said (Ok n) k table) y
         shown_ended e =
             subst (λ (a : Said). Serves x (card_of p top size) a y) whole
             (card_by p top size y (finished o) is left (subst (λ (a : Answer). Passes (refusal_of a.reply)) (sym (out_by true e)) tt))
@@ -354,16 +354,16 @@ module _ (x : State) (v : valid x ≡ true) where
                 covers_fits free table ls both.0 ((λ i. leb (sym both.1 i * free) (sized i)) ∙ ap (λ (m : ℕ). leb (m * free) size) (sym counted) ∙ e)
                 ∙ (λ i. table_of (frees i) (sized i) ls)
 
-            whole : said_of (card_answered p top size y (finished o)) ≡ card_said (shown.Lines n) k table
+            whole : said_of (card_answered p top size y (finished o)) ≡ card_said (Ok n) k table
             whole = ap said_of (out_by true e) ∙ sym (λ i. said none 0 ((counted ∙ both.1) i) (k_is i) (table_is i))
 
         -- they do not: 21, with the visits and the store of the search
-        full_ended : (zeros : List ℕ) → zeros ≡ zero_table size → leb (n * free) size ≡ false → Serves x (card_of p top size) (card_said (shown.Refused 21) k zeros) y
+        full_ended : (zeros : List ℕ) → zeros ≡ zero_table size → leb (n * free) size ≡ false → Serves x (card_of p top size) (card_said (Err refusal.TooManyLines) k zeros) y
         full_ended zeros z e =
             subst (λ (a : Said). Serves x (card_of p top size) a y) whole
             (card_by p top size y (finished o) is left (subst (λ (a : Answer). Passes (refusal_of a.reply)) (sym (out_by false e)) (inl refl)))
           where
-            whole : said_of (card_answered p top size y (finished o)) ≡ card_said (shown.Refused 21) k zeros
+            whole : said_of (card_answered p top size y (finished o)) ≡ card_said (Err refusal.TooManyLines) k zeros
             whole = ap said_of (out_by false e) ∙ sym (λ i. said (some 21) 0 0 (k_is i) (z i))
 
       -- the search came to its end
@@ -374,8 +374,8 @@ module _ (x : State) (v : valid x ≡ true) where
           by (stopped z) is spent_all left = absurd (some_left spent_all)
           by (finished o) is h left = then o is h left
 
-      pub shown_card : leb (n * free) size ≡ true → Serves x (card_of p top size) (card_said (shown.Lines n) k table) y
+      pub shown_card : leb (n * free) size ≡ true → Serves x (card_of p top size) (card_said (Ok n) k table) y
       shown_card e = ended_by (λ o is h left. shown_ended o is h left e)
 
-      pub full_card : (zeros : List ℕ) → zeros ≡ zero_table size → leb (n * free) size ≡ false → Serves x (card_of p top size) (card_said (shown.Refused 21) k zeros) y
+      pub full_card : (zeros : List ℕ) → zeros ≡ zero_table size → leb (n * free) size ≡ false → Serves x (card_of p top size) (card_said (Err refusal.TooManyLines) k zeros) y
       full_card zeros z e = ended_by (λ o is h left. full_ended o is h left zeros z e)

@@ -18,11 +18,11 @@ use Rattle.open_search.specs.declared.verdicts.Finding.{Finding}
 use Rattle.open_run.specs.OpenRun.{Walked}
 use Rattle.serving.specs.Serves.{Said, said, said_reply, said_of}
 use Rattle.replies.specs.Replies.{ruling_said, ruling_for}
-use Rattle.replies.specs.declared.Ruling.{Ruling}
+use Rattle.std.specs.Prelude.{Ok}
 use Rattle.answers.specs.OpenRun.{OpenRuled, open_said}
 
 -- swap, keep or unsettled, by the verdict
-ruled_so : (o : Outcome (Unit {0})) (k : ℕ) → ruling_said (ruling_for (verdict_of o)) k ≡ said_reply (query_reply o) k
+ruled_so : (o : Outcome (Unit {0})) (k : ℕ) → ruling_said (Ok (ruling_for (verdict_of o))) k ≡ said_reply (query_reply o) k
 ruled_so (decided true u) k = refl
 ruled_so (decided false u) k = refl
 ruled_so (mixed ds) k = refl
@@ -38,9 +38,9 @@ module _ {w : PlainResult} {budget top : ℕ} {r : Finding} (f : Found w budget 
   stopped_is : r.budget ≡ 0 → said (some 34) 0 0 top [] ≡ open_said top w
   stopped_is none_left = sym (ap (λ (fit : Bool). said_of (open_answer fit empty_store top w).out) (over none_left))
 
-  ruled_is : (r.budget ≡ 0 → ⊥) → (k : ℕ) → k + r.budget ≡ suc top → ruling_said (ruling_for r.verdict) k ≡ open_said top w
+  ruled_is : (r.budget ≡ 0 → ⊥) → (k : ℕ) → k + r.budget ≡ suc top → ruling_said (Ok (ruling_for r.verdict)) k ≡ open_said top w
   ruled_is some_left k counted =
-      (λ i. ruling_said (ruling_for (verdict_is i)) (k_is i))
+      (λ i. ruling_said (Ok (ruling_for (verdict_is i))) (k_is i))
       ∙ ruled_so w.outcome w.visits
       ∙ sym (ap (λ (fit : Bool). said_of (open_answer fit empty_store top w).out) (le-leb w.visits top (within some_left)))
     where
@@ -55,5 +55,5 @@ module _ {numbers : List ℕ} {clauses : List ℤ} {sizes places kinds values : 
   pub open_stopped : r.budget ≡ 0 → {a : Said} → a ≡ said (some 34) 0 0 top [] → OpenRuled numbers clauses sizes places kinds values free top a
   open_stopped none_left e = record { ruled = λ D os h. e ∙ stopped_is (f.found D os h) allowed none_left }
 
-  pub open_ruled : (r.budget ≡ 0 → ⊥) → (k : ℕ) → k + r.budget ≡ suc top → {q : Ruling} → q ≡ ruling_for r.verdict → OpenRuled numbers clauses sizes places kinds values free top (ruling_said q k)
-  open_ruled some_left k counted {q} is = record { ruled = λ D os h. ap (λ (z : Ruling). ruling_said z k) is ∙ ruled_is (f.found D os h) allowed some_left k counted }
+  pub open_ruled : (r.budget ≡ 0 → ⊥) → (k : ℕ) → k + r.budget ≡ suc top → {a : Said} → a ≡ ruling_said (Ok (ruling_for r.verdict)) k → OpenRuled numbers clauses sizes places kinds values free top a
+  open_ruled some_left k counted {a} is = record { ruled = λ D os h. is ∙ ruled_is (f.found D os h) allowed some_left k counted }

@@ -6,21 +6,47 @@ ghost use Rattle.qbf.specs.Formula.{paper};
 ghost use Rattle.qbf.specs.Ceiling.{highest_ceiling};
 ghost use Rattle.state.specs.Reading.{state_of, valid};
 ghost use Rattle.tables.specs.Formed.{Clauses, Stores};
-ghost use Rattle.tables.specs.Shelves.{Shelves, newest_of};
+ghost use Rattle.shelf.specs.Standing.{newest};
+ghost use Rattle.search_entry.specs.Tables.{Stand};
 ghost use Rattle.answers.specs.Run.{Ready, AtStart, Below, Over, Searched, Ran};
 
 use coding::quantifiers::quantifiers_of;
 use coding::statuses::statuses_of;
+use lent_rows::LentRows;
+use literal::ByNumber;
 use loading_clauses::{load_clauses, words_of};
 use loading_constraints::load;
 use loading_start::start_rows;
 use node::{Answer, Position, Verdict};
-use search_entry::Source;
+use search_entry::{ASIDE, Learned, Matrix, Search, Source, Trail};
 use search_start::Start;
+use shelf::Shelf;
 use unloading::{unload, unload_clauses};
 
-// Room for the constraint that each level of the search puts aside.
-const SAVED: usize = tables::NUMBERS * tables::NUMBERS;
+// Empty shelves, and the scratch space of a search.
+fn empty() -> Search
+    ensures { Stand result.learned × (newest result.learned.clauses ≡ 0) × (newest result.learned.cubes ≡ 0) }
+{
+    Search {
+        learned: Learned {
+            clauses: Shelf {
+                cells: [0u16; tables::CONSTRAINT_CODES],
+                links: [0u64; tables::CONSTRAINT_LINKS],
+            },
+            cubes: Shelf {
+                cells: [0u16; tables::CONSTRAINT_CODES],
+                links: [0u64; tables::CONSTRAINT_LINKS],
+            },
+        },
+        trail: Trail {
+            sat: [0u64; tables::SATISFIED],
+            marks: [0u8; tables::BY_NUMBER],
+            cube: [0u16; tables::AREA],
+        },
+        statuses: [tables::OPEN; tables::CODES],
+        aside: [0u16; ASIDE],
+    }
+}
 
 // Steps 1 to 4 at the start node, where an entry of any smaller last place counts too: the general finders, over the state's tables.
 fn at_start<'a>(
@@ -67,19 +93,27 @@ fn at_start<'a>(
         at
         result }
 {
-    search_start::conclude(
-        clauses,
-        clause_sizes,
-        learned_clauses,
-        learned_clause_sizes,
-        learned_cubes,
-        learned_cube_sizes,
-        tables::NUMBERS,
+    let rows = LentRows {
+        cells: clauses,
+        sizes: clause_sizes,
+        width: tables::LITERALS,
+    };
+    let learned = LentRows {
+        cells: learned_clauses,
+        sizes: learned_clause_sizes,
+        width: tables::NUMBERS,
+    };
+    let cubes = LentRows {
+        cells: learned_cubes,
+        sizes: learned_cube_sizes,
+        width: tables::NUMBERS,
+    };
+    let shown = ByNumber {
         places,
-        by_number,
+        kinds: by_number,
         values,
-        at,
-    )
+    };
+    search_start::conclude(rows, learned, cubes, shown, at)
 }
 
 // A start node that does not branch: no line is below it, and that budget is left.
@@ -98,16 +132,11 @@ fn ended(verdict: Verdict, budget: u64) -> Answer
 
 // The search below an open start node, with its scratch space and what it knows of the clauses at that node.
 fn below<'a>(
-    rows: &'a [u16; tables::CLAUSE_ROWS],
-    sets: &'a [u64; tables::CLAUSE_SETS],
+    matrix: &'a Matrix,
     count: usize,
     numbers: &'a [u16; tables::BY_NUMBER],
-    quantifiers: &'a [u8; tables::CODES],
     values: &'a [u8; tables::BY_NUMBER],
-    learned: &mut [u16; tables::CONSTRAINT_CODES],
-    learned_links: &mut [u64; tables::CONSTRAINT_LINKS],
-    cubes: &mut [u16; tables::CONSTRAINT_CODES],
-    cube_links: &mut [u64; tables::CONSTRAINT_LINKS],
+    search: &mut Search,
     table: &mut [u8],
     at: usize,
     free: usize,
@@ -115,80 +144,66 @@ fn below<'a>(
     budget: u64,
 ) -> Answer
     requires { (count ≤ paper.clauses)
-        × Shelves learned.old learned_links.old cubes.old cube_links.old
+        × Stand search.old.learned
         × (get_or numbers.now 0 0 ≤ paper.numbers)
         × (at ≤ get_or numbers.now 0 0)
         × (free ≤ paper.numbers)
-        × (newest_of learned_links.old ≤ paper.constraints)
-        × (newest_of cube_links.old ≤ paper.constraints)
+        × (newest search.old.learned.clauses ≤ paper.constraints)
+        × (newest search.old.learned.cubes ≤ paper.constraints)
         × (2 ≤ budget)
         × (budget ≤ suc highest_ceiling) }
     ensures table_len_unchanged { (length table.new ≡ length table.old)
         × (result.lines < 2 ^ 63)
-        × Shelves learned.new learned_links.new cubes.new cube_links.new
+        × Stand search.new.learned
         × (result.budget ≤ budget) }
     ensures below { Below
         yes
-        rows.now
-        sets.now
+        matrix.now.rows
+        matrix.now.sets
         count
         numbers.now
-        quantifiers.now
+        matrix.now.quantifiers
         values.now
-        learned.old
-        learned_links.old
-        cubes.old
-        cube_links.old
+        search.old.learned.clauses.cells
+        search.old.learned.clauses.links
+        search.old.learned.cubes.cells
+        search.old.learned.cubes.links
         table.old
         at
         free
         budget
         result
-        learned.new
-        learned_links.new
-        cubes.new
-        cube_links.new
+        search.new.learned.clauses.cells
+        search.new.learned.clauses.links
+        search.new.learned.cubes.cells
+        search.new.learned.cubes.links
         table.new }
 {
     let words = words_of(count);
-    let mut statuses = statuses_of(numbers, values, at);
-    let mut sat = [0u64; tables::SATISFIED];
-    let mut marks = [0u8; tables::BY_NUMBER];
-    start_rows(sets, &statuses, words, count, at, &mut sat, &mut marks);
-    let mut up = [0u16; tables::AREA];
-    let mut saved = [0u16; SAVED];
+    search.statuses = statuses_of(numbers, values, at);
+    start_rows(
+        &matrix.sets,
+        &search.statuses,
+        words,
+        count,
+        at,
+        &mut search.trail,
+    );
     let start = Position {
-        at: at,
-        free: free,
-        budget: budget,
+        at,
+        free,
+        budget,
         lines: 0,
-        words: words,
-        yes: yes,
+        words,
+        yes,
     };
-    search::start(
-        rows,
-        sets,
-        quantifiers,
-        &mut statuses,
-        learned,
-        learned_links,
-        cubes,
-        cube_links,
-        &mut up,
-        &mut saved,
-        table,
-        &mut sat,
-        &mut marks,
-        start,
-    )
+    search::start(matrix, search, table, start)
 }
 
 // .. over the derived tables of the clauses: those of the learned constraints are derived here, and written back.
 fn over_clauses<'a>(
-    rows: &'a [u16; tables::CLAUSE_ROWS],
-    sets: &'a [u64; tables::CLAUSE_SETS],
+    matrix: &'a Matrix,
     count: usize,
-    quantifiers: &'a [u8; tables::CODES],
     numbers: &'a [u16; tables::BY_NUMBER],
     learned_clauses: &mut [i16; tables::CONSTRAINT_CELLS],
     learned_clause_sizes: &mut [u16; tables::LEARNED_CLAUSE_SIZES],
@@ -235,10 +250,10 @@ fn over_clauses<'a>(
         learned_clause_sizes.old
         learned_cubes.old
         learned_cube_sizes.old)
-        rows.now
-        sets.now
+        matrix.now.rows
+        matrix.now.sets
         count
-        quantifiers.now
+        matrix.now.quantifiers
         places.now
         values.now
         at
@@ -258,35 +273,25 @@ fn over_clauses<'a>(
         learned_cube_sizes.new)
         table.new }
 {
-    let mut learned = [0u16; tables::CONSTRAINT_CODES];
-    let mut learned_links = [0u64; tables::CONSTRAINT_LINKS];
-    let mut cubes = [0u16; tables::CONSTRAINT_CODES];
-    let mut cube_links = [0u64; tables::CONSTRAINT_LINKS];
+    let mut search = empty();
     load(
         learned_clauses,
         learned_clause_sizes,
         places,
-        &mut learned,
-        &mut learned_links,
+        &mut search.learned.clauses,
     );
     load(
         learned_cubes,
         learned_cube_sizes,
         places,
-        &mut cubes,
-        &mut cube_links,
+        &mut search.learned.cubes,
     );
     let found = below(
-        rows,
-        sets,
+        matrix,
         count,
         numbers,
-        quantifiers,
         values,
-        &mut learned,
-        &mut learned_links,
-        &mut cubes,
-        &mut cube_links,
+        &mut search,
         table,
         at,
         free,
@@ -294,16 +299,14 @@ fn over_clauses<'a>(
         budget,
     );
     unload_clauses(
-        &learned,
-        &learned_links,
+        &search.learned.clauses,
         numbers,
         learned_clauses,
         learned_clause_sizes,
         count as u16,
     );
     unload(
-        &cubes,
-        &cube_links,
+        &search.learned.cubes,
         numbers,
         learned_cubes,
         learned_cube_sizes,
@@ -387,23 +390,21 @@ fn searched<'a>(
         learned_cube_sizes.new)
         table.new }
 {
-    let quantifiers = quantifiers_of(numbers, by_number);
-    let mut rows = [0u16; tables::CLAUSE_ROWS];
-    let mut sets = [0u64; tables::CLAUSE_SETS];
+    let mut matrix = Matrix {
+        rows: [0u16; tables::CLAUSE_ROWS],
+        sets: [0u64; tables::CLAUSE_SETS],
+        quantifiers: quantifiers_of(numbers, by_number),
+    };
     load_clauses(
         clauses,
         clause_sizes,
         places,
-        &quantifiers,
         numbers[0] as usize,
-        &mut rows,
-        &mut sets,
+        &mut matrix,
     );
     over_clauses(
-        &rows,
-        &sets,
+        &matrix,
         clause_sizes[0] as usize,
-        &quantifiers,
         numbers,
         learned_clauses,
         learned_clause_sizes,

@@ -1,8 +1,12 @@
-// Paper 01's table of bench cases, its other cases, and wish 5's figures, on the compiled code: the answer of every call, one to a line.
+// A table of bench cases, other cases and figures of open flags, on the compiled code: the answer of every call, one to a line.
 #![tactic(auto)]
 
-use replies::{Printed, Ruling};
-use rules::Change;
+ghost use Rattle.std.specs.Prelude.{◌≤◌};
+
+use refusal::Refusal;
+use replies::Ruling;
+use rules::in_place;
+use rules::lent::{Adding, Emptying};
 use state::State;
 
 mod print;
@@ -25,72 +29,66 @@ fn with(x: State, variable: u16, level: u16, kind: u16) -> State {
     next
 }
 
-fn change(c: Change) {
+fn refused(refusal: Refusal) {
+    text(b"refused ");
+    number(refusal.number() as u64);
+}
+
+fn change(c: Result<(), Refusal>) {
     match c {
-        Change::Done => text(b"done"),
-        Change::Refused(n) => {
-            text(b"refused ");
-            number(n as u64);
-        }
+        Ok(()) => text(b"done"),
+        Err(refusal) => refused(refusal),
     }
     text(b"\n");
 }
 
-// A rule added; the answer is told where it is asked for, not for the clauses of the formula as it is opened.
-fn add(x: State, lits: &[i16], told: bool) -> State {
-    let mut clauses = x.clauses;
-    let mut clause_sizes = x.clause_sizes;
-    let mut cube_sizes = x.learned_cube_sizes;
-    let c = rules::in_place::rule(
-        &x.numbers,
-        &x.levels,
-        &x.kinds,
-        &mut clauses,
-        &mut clause_sizes,
-        &x.learned_clauses,
-        &x.learned_clause_sizes,
-        &x.learned_cubes,
-        &mut cube_sizes,
-        lits,
-    );
-    if told {
-        text(b"rule: ");
-        change(c);
-    }
+fn add(x: State, lits: &[i16]) -> (State, Result<(), Refusal>) {
     let mut next = x;
-    next.clauses = clauses;
-    next.clause_sizes = clause_sizes;
-    next.learned_cube_sizes = cube_sizes;
+    let mut tables = Adding {
+        numbers: &x.numbers,
+        levels: &x.levels,
+        kinds: &x.kinds,
+        clauses: &mut next.clauses,
+        clause_sizes: &mut next.clause_sizes,
+        learned_clauses: &x.learned_clauses,
+        learned_clause_sizes: &x.learned_clause_sizes,
+        learned_cubes: &x.learned_cubes,
+        learned_cube_sizes: &mut next.learned_cube_sizes,
+    };
+    let c = in_place::rule(&mut tables, lits);
+    (next, c)
+}
+
+// A rule added, with its answer.
+fn rule(x: State, lits: &[i16]) -> State {
+    let (next, c) = add(x, lits);
+    text(b"rule: ");
+    change(c);
     next
 }
 
-fn rule(x: State, lits: &[i16]) -> State {
-    add(x, lits, true)
-}
-
+// A clause of the formula as it is opened.
 fn clause(x: State, lits: &[i16]) -> State {
-    add(x, lits, false)
+    let (next, _) = add(x, lits);
+    next
 }
 
 fn forget(x: State) -> State {
-    let mut clause_sizes = x.learned_clause_sizes;
-    let mut cube_sizes = x.learned_cube_sizes;
-    let c = rules::in_place::forget(
-        &x.numbers,
-        &x.levels,
-        &x.kinds,
-        &x.clauses,
-        &x.clause_sizes,
-        &x.learned_clauses,
-        &mut clause_sizes,
-        &x.learned_cubes,
-        &mut cube_sizes,
-    );
+    let mut next = x;
+    let mut tables = Emptying {
+        numbers: &x.numbers,
+        levels: &x.levels,
+        kinds: &x.kinds,
+        clauses: &x.clauses,
+        clause_sizes: &x.clause_sizes,
+        learned_clauses: &x.learned_clauses,
+        learned_clause_sizes: &mut next.learned_clause_sizes,
+        learned_cubes: &x.learned_cubes,
+        learned_cube_sizes: &mut next.learned_cube_sizes,
+    };
+    let c = in_place::forget(&mut tables);
     text(b"forget: ");
     change(c);
-    let mut next = x;
-    next.learned_clause_sizes = clause_sizes;
-    next.learned_cube_sizes = cube_sizes;
     next
 }
 
@@ -102,112 +100,44 @@ fn visits(n: u64) {
 
 fn query<'a>(x: State, on: &'a [i16], off: &'a [i16]) -> State {
     text(b"query: ");
-    let mut learned_clauses = x.learned_clauses;
-    let mut learned_clause_sizes = x.learned_clause_sizes;
-    let mut learned_cubes = x.learned_cubes;
-    let mut learned_cube_sizes = x.learned_cube_sizes;
-    let r = answers::in_place::query(
-        &x.numbers,
-        &x.levels,
-        &x.kinds,
-        &x.clauses,
-        &x.clause_sizes,
-        &mut learned_clauses,
-        &mut learned_clause_sizes,
-        &mut learned_cubes,
-        &mut learned_cube_sizes,
-        on,
-        off,
-        tables::HIGHEST_CEILING,
-    );
     let mut next = x;
-    next.learned_clauses = learned_clauses;
-    next.learned_clause_sizes = learned_clause_sizes;
-    next.learned_cubes = learned_cubes;
-    next.learned_cube_sizes = learned_cube_sizes;
-    let q = r.ruling;
-    match q {
-        Ruling::Swap => text(b"swap"),
-        Ruling::Keep => text(b"keep"),
-        Ruling::Unsettled => text(b"unsettled"),
-        Ruling::Refused(n) => {
-            text(b"refused ");
-            number(n as u64);
-        }
+    let r = answers::on_state::query(&mut next, on, off, tables::HIGHEST_CEILING);
+    match r.ruling {
+        Ok(Ruling::Swap) => text(b"swap"),
+        Ok(Ruling::Keep) => text(b"keep"),
+        Ok(Ruling::Unsettled) => text(b"unsettled"),
+        Err(refusal) => refused(refusal),
     }
     visits(r.visits);
     next
 }
 
 fn cells(t: &[u8]) {
-    let mut i: usize = 0;
-    while i < t.len() {
+    for cell in t {
         text(b" ");
-        print::byte(t[i]);
-        i += 1;
+        print::byte(*cell);
     }
 }
 
-fn card(x: State, table: &mut [u8]) -> State {
+// The table is lent with a byte that is none of the card's in each of its N cells.
+fn card<const N: usize>(x: State) -> State
+    requires { N ≤ 4 }
+{
+    let mut table = [9u8; N];
     text(b"card: ");
-    let mut learned_clauses = x.learned_clauses;
-    let mut learned_clause_sizes = x.learned_clause_sizes;
-    let mut learned_cubes = x.learned_cubes;
-    let mut learned_cube_sizes = x.learned_cube_sizes;
-    let r = answers::in_place::card(
-        &x.numbers,
-        &x.levels,
-        &x.kinds,
-        &x.clauses,
-        &x.clause_sizes,
-        &mut learned_clauses,
-        &mut learned_clause_sizes,
-        &mut learned_cubes,
-        &mut learned_cube_sizes,
-        table,
-        tables::HIGHEST_CEILING,
-    );
     let mut next = x;
-    next.learned_clauses = learned_clauses;
-    next.learned_clause_sizes = learned_clause_sizes;
-    next.learned_cubes = learned_cubes;
-    next.learned_cube_sizes = learned_cube_sizes;
-    let c = r.printed;
-    match c {
-        Printed::Lines(k) => {
+    let r = answers::on_state::card_of(&mut next, &mut table, true, tables::HIGHEST_CEILING);
+    match r.lines {
+        Ok(lines) => {
             text(b"lines ");
-            number(k as u64);
+            number(lines as u64);
         }
-        Printed::Refused(k) => {
-            text(b"refused ");
-            number(k as u64);
-        }
+        Err(refusal) => refused(refusal),
     }
     text(b", table");
-    cells(table);
+    cells(&table);
     visits(r.visits);
     next
-}
-
-// A table is lent with a byte that is none of the card's in each cell.
-fn card_0(x: State) -> State {
-    let mut table = [9u8; 0];
-    card(x, &mut table)
-}
-
-fn card_2(x: State) -> State {
-    let mut table = [9u8; 2];
-    card(x, &mut table)
-}
-
-fn card_3(x: State) -> State {
-    let mut table = [9u8; 3];
-    card(x, &mut table)
-}
-
-fn card_4(x: State) -> State {
-    let mut table = [9u8; 4];
-    card(x, &mut table)
 }
 
 fn title(t: &[u8]) {
@@ -221,16 +151,10 @@ fn a_clauses(x: State) -> State {
     clause(z, &[1, 2])
 }
 
-fn book_a() -> State {
-    let x = with(state::empty(), 1, 0, tables::FREE);
-    let y = with(x, 2, 0, tables::FREE);
-    let z = with(y, 3, 1, tables::EXISTS);
-    a_clauses(with(z, 4, 2, tables::FORALL))
-}
-
-fn book_a_exchanged() -> State {
-    let x = with(state::empty(), 2, 0, tables::FREE);
-    let y = with(x, 1, 0, tables::FREE);
+// With its flags, 1 and 2, in that order.
+fn book_a(first: u16, second: u16) -> State {
+    let x = with(state::empty(), first, 0, tables::FREE);
+    let y = with(x, second, 0, tables::FREE);
     let z = with(y, 3, 1, tables::EXISTS);
     a_clauses(with(z, 4, 2, tables::FORALL))
 }
@@ -255,52 +179,48 @@ fn d_clauses(x: State) -> State {
 
 fn bench() {
     title(b"A");
-    card_4(book_a());
+    card::<4>(book_a(1, 2));
     title(b"A with (flags 2 1)");
-    card_4(book_a_exchanged());
+    card::<4>(book_a(2, 1));
     title(b"A, query 1 on; again");
-    let a = query(book_a(), &[1], &[2]);
+    let a = query(book_a(1, 2), &[1], &[2]);
     query(a, &[1], &[2]);
     title(b"A, query 2 on");
-    query(book_a(), &[2], &[1]);
+    query(book_a(1, 2), &[2], &[1]);
     title(b"B, card twice, then no flag on");
-    let b = card_0(card_0(book_b()));
+    let b = card::<0>(card::<0>(book_b()));
     query(b, &[0; 0], &[1]);
     title(b"C");
-    card_4(book_c());
+    card::<4>(book_c());
     title(b"flags 1 2, no rule");
     let x = with(state::empty(), 1, 0, tables::FREE);
-    card_2(with(x, 2, 0, tables::FREE));
+    card::<2>(with(x, 2, 0, tables::FREE));
     title(b"forall 1, rule 1");
-    card_0(clause(with(state::empty(), 1, 1, tables::FORALL), &[1]));
+    card::<0>(clause(with(state::empty(), 1, 1, tables::FORALL), &[1]));
 }
 
 fn bench_d() {
     title(b"D, then rule 2 added");
     let x = with(state::empty(), 1, 1, tables::FORALL);
-    let d = card_0(d_clauses(with(x, 2, 2, tables::EXISTS)));
-    card_0(rule(d, &[2]));
+    let d = card::<0>(d_clauses(with(x, 2, 2, tables::EXISTS)));
+    card::<0>(rule(d, &[2]));
     title(b"exists 1, forall 2, D's rules");
     let y = with(state::empty(), 1, 1, tables::EXISTS);
-    card_0(d_clauses(with(y, 2, 2, tables::FORALL)));
+    card::<0>(d_clauses(with(y, 2, 2, tables::FORALL)));
 }
 
 fn forty() -> State {
     let mut x = state::empty();
-    let mut n: usize = 0;
-    while n < tables::NUMBERS {
-        n += 1;
-        x = with(x, n as u16, 1, tables::EXISTS);
+    for n in 0..tables::NUMBERS {
+        x = with(x, n as u16 + 1, 1, tables::EXISTS);
     }
     x
 }
 
 fn almost_full() -> State {
     let mut x = with(state::empty(), 1, 1, tables::EXISTS);
-    let mut n: usize = 1;
-    while n < tables::CLAUSES {
+    for _ in 1..tables::CLAUSES {
         x = clause(x, &[1]);
-        n += 1;
     }
     x
 }
@@ -327,25 +247,25 @@ fn limits() {
 
 fn others() {
     title(b"A's card in 4 bytes, forgotten, in 3, in 4 again");
-    let a = forget(card_4(book_a()));
-    card_4(card_3(a));
+    let a = forget(card::<4>(book_a(1, 2)));
+    card::<4>(card::<3>(a));
     title(b"queries that are refused");
-    let x = query(query(book_a(), &[3], &[1]), &[1, 1], &[2]);
+    let x = query(query(book_a(1, 2), &[3], &[1]), &[1, 1], &[2]);
     let y = query(query(x, &[-1], &[2]), &[-32768], &[0; 0]);
     query(query(y, &[1], &[1]), &[0; 0], &[2, 2]);
     title(b"a malformed state");
     let m = with(with(state::empty(), 1, 0, tables::FREE), 1, 0, tables::FREE);
-    forget(card_3(query(rule(m, &[1]), &[1], &[0; 0])));
+    forget(card::<3>(query(rule(m, &[1]), &[1], &[0; 0])));
 }
 
-// Wish 5's figures: flags the logger did not record, on book A; an open query between two full ones.
+// Flags the logger did not record, on book A; an open query between two full ones.
 fn open_flags() {
     title(b"A, flag 1 or 2 recorded alone, or none");
-    let a = query(query(book_a(), &[2], &[0; 0]), &[0; 0], &[2]);
+    let a = query(query(book_a(1, 2), &[2], &[0; 0]), &[0; 0], &[2]);
     let b = query(query(a, &[0; 0], &[0; 0]), &[1], &[0; 0]);
     query(b, &[0; 0], &[1]);
     title(b"A, query 1 on; 2 off alone; 1 on again");
-    let c = query(query(book_a(), &[1], &[2]), &[0; 0], &[2]);
+    let c = query(query(book_a(1, 2), &[1], &[2]), &[0; 0], &[2]);
     query(c, &[1], &[2]);
 }
 

@@ -24,10 +24,8 @@ pub fn clear(t: &mut [u64], from: usize, n: usize)
     requires { from + n ≤ length t.old }
     ensures { Cleared from n t.old t.new }
 {
-    let mut i: usize = 0;
-    while i < n {
+    for i in 0..n {
         t[from + i] = 0;
-        i += 1;
     }
 }
 
@@ -80,17 +78,16 @@ pub fn any_outside<'a>(a: &'a [u64], a0: usize, b: &'a [u64], b0: usize, n: usiz
 }
 
 // The least such number; 64 * n where there is none.
+// stays (no plainer): the first number behind the row, as the least of an empty set below a limit is the limit
 pub fn first_outside<'a>(a: &'a [u64], a0: usize, b: &'a [u64], b0: usize, n: usize) -> usize
     requires { (a0 + n ≤ length a.now) × (b0 + n ≤ length b.now) × (n * width < 2 ^ 64) }
     ensures { result ≡ least_below (outside a.now a0 b.now b0) (n * width) }
 {
-    let mut k: usize = 0;
-    while k < n {
+    for k in 0..n {
         let w = rest(a[a0 + k], b[b0 + k]);
         if w != 0 {
             return k * WIDTH + u64::trailing_zeros(w) as usize;
         }
-        k += 1;
     }
     n * WIDTH
 }

@@ -21,6 +21,10 @@ use Rattle.book_writer.specs.Tables.{Standing}
 use Rattle.book_writer.specs.Writes.{answered, told, written_of, Writes}
 use Rattle.book_writer.proofs.Rows.{table_standing}
 
+-- the answer, by the numbers that it was made of
+pub answered_by : {p q m n : ℕ} {table : Bytes} → (p ≡ m) × (q ≡ n) → answered p q table ≡ answered m n table
+answered_by {p} {q} {m} {n} {table} e = λ i. answered (e.0 i) (e.1 i) table
+
 -- ---- refused
 pub refused_told : (n size : ℕ) {table : Bytes} → (n ≡ 0 → ⊥) → table ≡ zero_table size → answered n 0 table ≡ told (write_refused n (zero_table size))
 refused_told zero size h e = absurd (h refl)

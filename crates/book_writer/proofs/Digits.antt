@@ -19,9 +19,9 @@ use Rattle.layout.specs.Words.{ascii, space}
 use Rattle.layout.specs.Opening.{variable}
 use Rattle.layout.specs.Output.{decimal, literal_text, items_text}
 use Rattle.layout_laws.proofs.Decimal.{length_one, length_more}
-use Rattle.booktext.specs.Books.{heading_text, variable_text, rule_text}
-use Rattle.book_writer.specs.Tables.{Counted, most_digits, most_heading, most_variable, most_literal, most_literals, most_rule}
-use Rattle.book_writer.proofs.Places.{heading_flags, heading_group, same_length, new_length}
+use Rattle.booktext.specs.Books.{variable_text, rule_text}
+use Rattle.book_writer.specs.Tables.{head_text, Counted, most_digits, most_heading, most_variable, most_literal, most_literals, most_rule}
+use Rattle.book_writer.proofs.Places.{heading_flags, heading_group, head_none, head_new, variable_length}
 use Rattle.book_writer.proofs.Rows.{number_back, rule_length}
 
 -- a number between two powers of ten
@@ -36,18 +36,20 @@ pub digits_more : (k : ℕ) {n : ℕ} → 10 ^ suc k ≤ n → n < 10 ^ suc (suc
 digits_more k {n} low high few = record { is = sym (exact k n low high); few = omega arith }
 
 -- ---- variables
-pub counted_flags : {k : ℕ} → k ≡ 0 → Counted (heading_text (quantifier_of k)) most_heading 8
-counted_flags {k} e = record { is = sym (ap length (heading_flags k e)); few = omega arith }
+module _ (l k : ℕ) where
+  pub counted_none : same_quantifier (quantifier_of l) (quantifier_of k) ≡ true → Counted (head_text (quantifier_of l) (quantifier_of k)) most_heading 0
+  counted_none e = record { is = sym (ap length (head_none (quantifier_of l) (quantifier_of k) e)); few = omega arith }
 
-pub counted_group : {k : ℕ} → (k ≡ 0 → ⊥) → Counted (heading_text (quantifier_of k)) most_heading most_heading
-counted_group {k} e = record { is = sym (heading_group k e); few = omega arith }
+  module _ (e : same_quantifier (quantifier_of l) (quantifier_of k) ≡ false) where
+    pub counted_flags : k ≡ 0 → Counted (head_text (quantifier_of l) (quantifier_of k)) most_heading 8
+    counted_flags f = record { is = sym (ap length (head_new (quantifier_of l) (quantifier_of k) e ∙ heading_flags k f)); few = omega arith }
 
-module _ (κ μ : Quantifier) (n : ℕ) {r : ℕ} (number : Counted (decimal n) most_digits r) where
-  pub counted_same : same_quantifier κ μ ≡ true → Counted (variable_text κ (variable μ n)) most_variable (1 + r)
-  counted_same e = record { is = omega (arith, number.is, same_length κ μ n e); few = omega (arith, number.few) }
+    pub counted_group : (k ≡ 0 → ⊥) → Counted (head_text (quantifier_of l) (quantifier_of k)) most_heading most_heading
+    counted_group f = record { is = sym (ap length (head_new (quantifier_of l) (quantifier_of k) e) ∙ heading_group k f); few = omega arith }
 
-  pub counted_new : {h : ℕ} → same_quantifier κ μ ≡ false → Counted (heading_text μ) most_heading h → Counted (variable_text κ (variable μ n)) most_variable (h + (1 + r))
-  counted_new e f = record { is = omega (arith, number.is, f.is, new_length κ μ n e); few = omega (arith, number.few, f.few) }
+pub counted_variable : (κ μ : Quantifier) (n : ℕ) {h r : ℕ} → Counted (head_text κ μ) most_heading h → Counted (decimal n) most_digits r
+    → Counted (variable_text κ (variable μ n)) most_variable (h + 1 + r)
+counted_variable κ μ n f number = record { is = omega (arith, f.is, number.is, variable_length κ μ n); few = omega (arith, f.few, number.few) }
 
 -- ---- literals
 module _ {l : Literal} (f : SFits w16 l) {m r : ℕ} (is : m ≡ number_of (to_z w16 (of_z w16 l))) (number : Counted (decimal m) most_digits r) where

@@ -1,53 +1,12 @@
--- A text that is made part by part: what is written or counted already, and what is still to come.
+-- A text whose bytes are counted part by part: what is counted already, and what is still to come.
 use Prim.Native.Nat.{ℕ, ◌+◌, ◌≤◌}
-use mathlib.Core.Path.{◌≡◌, refl, sym, ap, subst, ◌∙◌}
-use mathlib.Core.List.{[], ◌++◌, append_assoc, append-nil}
+use mathlib.Core.Path.{◌≡◌, ap}
+use mathlib.Core.List.{[], ◌++◌}
 use native.Mathlib.Omega.{arith}
 use lib.ListN.{length, length-append}
 use Rattle.layout.specs.Words.{Bytes}
-use Rattle.writer.specs.Wrote.{Wrote}
-use Rattle.writer.proofs.Appending.{wrote_none, wrote_then}
 use Rattle.book_writer.specs.Tables.{Counted}
 
--- ---- written
--- of all, the rest is still to be written
-pub record Writing (all rest d₀ : Bytes) (p₀ : ℕ) (d : Bytes) (p : ℕ) : Type 0 where
-  pub done : Bytes
-  pub is : all ≡ done ++ rest
-  pub wrote : Wrote d₀ p₀ done d p
-
-pub writing_none : {all : Bytes} (rest d : Bytes) (p : ℕ) → all ≡ rest → Writing all rest d p d p
-writing_none rest d p e = record { done = []; is = e; wrote = wrote_none d p }
-
-module _ {all rest d₀ : Bytes} {p₀ : ℕ} {d : Bytes} {p : ℕ} (w : Writing all rest d₀ p₀ d p) where
-  left : length all ≡ length w.done + length rest
-  left = ap length w.is ∙ length-append w.done rest
-
-  -- the next part
-  module _ (part after : Bytes) (next : rest ≡ part ++ after) where
-    pub writing_room : p₀ + length all ≤ length d₀ → p + length part ≤ length d
-    writing_room room = omega (arith, room, left, w.wrote.size, w.wrote.next, ap length next, length-append part after)
-
-    pub writing_more : {d₁ : Bytes} {r : ℕ} → Wrote d p part d₁ r → Writing all after d₀ p₀ d₁ r
-    writing_more v =
-        record {
-          done = w.done ++ part;
-          is = w.is ∙ ap (λ (t : Bytes). w.done ++ t) next ∙ sym (append_assoc w.done part after);
-          wrote = wrote_then w.wrote v;
-        }
-
-  pub writing_end : rest ≡ [] → Wrote d₀ p₀ all d p
-  writing_end e = subst (λ (t : Bytes). Wrote d₀ p₀ t d p) (sym (w.is ∙ ap (λ (t : Bytes). w.done ++ t) e ∙ append-nil w.done)) w.wrote
-
--- the last part
-pub writing_rest : {all rest d₀ : Bytes} {p₀ : ℕ} {d : Bytes} {p : ℕ} {part : Bytes} → Writing all rest d₀ p₀ d p → rest ≡ part → p₀ + length all ≤ length d₀ → p + length part ≤ length d
-writing_rest {part = part} w e = writing_room w part [] (e ∙ sym (append-nil part))
-
-pub writing_last : {all rest d₀ : Bytes} {p₀ : ℕ} {d : Bytes} {p : ℕ} {d₁ : Bytes} {r : ℕ} {part : Bytes} → Writing all rest d₀ p₀ d p → rest ≡ part → Wrote d p part d₁ r
-    → Wrote d₀ p₀ all d₁ r
-writing_last {part = part} w e v = writing_end (writing_more w part [] (e ∙ sym (append-nil part)) v) refl
-
--- ---- counted
 -- of all, n bytes are counted, no more than so many
 pub record Counting (all rest : Bytes) (most n : ℕ) : Type 0 where
   pub whole : n + length rest ≡ length all

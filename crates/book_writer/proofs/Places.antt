@@ -1,8 +1,8 @@
 -- The variables by their tables, one place after the other.
 use Prim.Native.Nat.{ℕ, zero, suc, ◌+◌, ◌-◌, ◌<◌, ◌≤◌}
 use mathlib.Core.Path.{◌≡◌, refl, sym, ap, ◌∙◌}
-use mathlib.Core.Bool.{true, false}
-use mathlib.Core.List.{List, ◌++◌}
+use mathlib.Core.Bool.{Bool, true, false, cond}
+use mathlib.Core.List.{List, [], ◌++◌}
 use native.Mathlib.Omega.{arith}
 use native.Mathlib.Numerals.{add-one}
 use borrow.Author.Tests.{ne_eqb}
@@ -12,12 +12,11 @@ use Rattle.qbf.specs.Formula.{Quantifier, is_free, is_exists, is_forall, same_qu
 use Rattle.state.specs.Reading.{listing, quantifier_of, variable_at, prefix_of}
 use Rattle.state.specs.Derived.{code_for}
 use Rattle.state.proofs.Listing.{listing_next, listing_end}
-use Rattle.layout.specs.Words.{Bytes, ascii}
+use Rattle.layout.specs.Words.{ascii}
 use Rattle.layout.specs.Opening.{variable}
 use Rattle.layout.specs.Output.{decimal}
 use Rattle.booktext.specs.Books.{heading_text, variable_text, rest_text}
-use Rattle.book_writer.specs.Tables.{most_heading}
-use Rattle.book_writer.proofs.Parts.{Writing, writing_room}
+use Rattle.book_writer.specs.Tables.{most_heading, head_text}
 
 -- ---- codes of one quantifier
 code_free : (b : ℕ) → eqb b 0 ≡ is_free (quantifier_of b)
@@ -82,21 +81,24 @@ module _ (k : ℕ) where
       by (suc zero) f = refl
       by (suc (suc k)) f = refl
 
--- ---- a variable
-module _ (κ μ : Quantifier) (n : ℕ) where
-  pub variable_same : same_quantifier κ μ ≡ true → variable_text κ (variable μ n) ≡ ascii " " ++ decimal n
+-- ---- a variable: the heading where its kind is another, a space, and its number
+module _ (κ μ : Quantifier) where
+  pub head_none : same_quantifier κ μ ≡ true → head_text κ μ ≡ []
+  head_none e = rw e
+
+  pub head_new : same_quantifier κ μ ≡ false → head_text κ μ ≡ heading_text μ
+  head_new e = rw e
+
+  pub variable_parts : (n : ℕ) → variable_text κ (variable μ n) ≡ head_text κ μ ++ (ascii " " ++ decimal n)
   unfolding variable_text
-  variable_same e = rw e
+  variable_parts n = by (same_quantifier κ μ)
+    where
+      by : (b : Bool) → cond b (ascii " " ++ decimal n) (heading_text μ ++ (ascii " " ++ decimal n)) ≡ cond b [] (heading_text μ) ++ (ascii " " ++ decimal n)
+      by true = refl
+      by false = refl
 
-  pub variable_new : same_quantifier κ μ ≡ false → variable_text κ (variable μ n) ≡ heading_text μ ++ (ascii " " ++ decimal n)
-  unfolding variable_text
-  variable_new e = rw e
-
-  pub same_length : same_quantifier κ μ ≡ true → length (variable_text κ (variable μ n)) ≡ 1 + length (decimal n)
-  same_length e = ap length (variable_same e) ∙ omega arith
-
-  pub new_length : same_quantifier κ μ ≡ false → length (variable_text κ (variable μ n)) ≡ length (heading_text μ) + (1 + length (decimal n))
-  new_length e = omega (arith, ap length (variable_new e), length-append (heading_text μ) (ascii " " ++ decimal n))
+  pub variable_length : (n : ℕ) → length (variable_text κ (variable μ n)) ≡ length (head_text κ μ) + 1 + length (decimal n)
+  variable_length n = rw (variable_parts n) (simp length-append (omega arith))
 
 -- ---- the variables from a place on
 module _ (ns ls ks : List ℕ) where
@@ -118,8 +120,3 @@ module _ (ns ls ks : List ℕ) where
   pub places_end : (κ : Quantifier) {i : ℕ} → get_or ns 0 0 ≤ i → rest_text κ (places_from i) ≡ ascii ")\n"
   unfolding rest_text
   places_end κ {i} h = rw (listing_end (variable_at ns ls ks) i (get_or ns 0 0) h)
-
-  pub places_room : (κ : Quantifier) (i : ℕ) {k n : ℕ} → i < get_or ns 0 0 → k ≡ code_for ls ks (i + 1) → n ≡ get_or ns (i + 1) 0
-      → {all d₀ d : Bytes} {p₀ p : ℕ} → Writing all (rest_text κ (places_from i)) d₀ p₀ d p → p₀ + length all ≤ length d₀
-      → p + length (variable_text κ (variable (quantifier_of k) n)) ≤ length d
-  places_room κ i {k} {n} h e f w = writing_room w (variable_text κ (variable (quantifier_of k) n)) (rest_text (quantifier_of k) (places_from (i + 1))) (places_next κ h e f)

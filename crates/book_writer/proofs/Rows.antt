@@ -24,9 +24,9 @@ use Rattle.layout.specs.Words.{Bytes, space}
 use Rattle.layout.specs.Output.{literal_text, items_text}
 use Rattle.booktext.specs.Books.{rule_text, rules_text}
 use Rattle.writer.specs.Rows.{item_text}
-use Rattle.writer.specs.Wrote.{Wrote}
+use Rattle.writer.specs.declared.Output.{Output}
+use Rattle.writer.specs.Appended.{Appended}
 use Rattle.book_writer.specs.Tables.{Standing}
-use Rattle.book_writer.proofs.Parts.{Writing, writing_room}
 
 -- ---- a literal
 pub value_off : {l : Literal} → SFits w16 l → lt_z (to_z w16 (of_z w16 l)) (to_z w16 0) ≡ true → 1 ≡ byte_of (positive l)
@@ -65,27 +65,23 @@ module _ {l : Literal} (f : SFits w16 l) {n v : ℕ} (number : n ≡ number_of (
   item_is : item_text n v ≡ space ∷ literal_text l
   item_is = ap (λ (m : ℕ). item_text m v) number ∙ ap (item_text (number_of (to_z w16 (of_z w16 l)))) value ∙ item_literal (to_z w16 (of_z w16 l)) ∙ ap (λ (k : Literal). space ∷ literal_text k) (back f)
 
-  pub literal_room : (at : ℕ) (d : Bytes) → at + length (space ∷ literal_text l) ≤ length d → at + length (item_text n v) ≤ length d
-  literal_room at d h = omega (arith, h, ap length item_is)
+  pub literal_length : length (item_text n v) ≡ length (space ∷ literal_text l)
+  literal_length = ap length item_is
 
-  pub literal_wrote : {d₀ d : Bytes} {at r : ℕ} → Wrote d₀ at (item_text n v) d r → Wrote d₀ at (space ∷ literal_text l) d r
-  literal_wrote {d₀} {d} {at} {r} w = subst (λ (t : Bytes). Wrote d₀ at t d r) item_is w
+  pub literal_wrote : {o p : Output} → Appended o (item_text n v) p → Appended o (space ∷ literal_text l) p
+  literal_wrote {o} {p} w = subst (λ (t : Bytes). Appended o t p) item_is w
 
 -- a literal that is read from a table and handed on as bits
-pub wrote_back : {l : Literal} → SFits w16 l → {d₀ d : Bytes} {at r : ℕ} → Wrote d₀ at (space ∷ literal_text (to_z w16 (of_z w16 l))) d r → Wrote d₀ at (space ∷ literal_text l) d r
-wrote_back f {d₀} {d} {at} {r} w = subst (λ (k : Literal). Wrote d₀ at (space ∷ literal_text k) d r) (back f) w
+pub length_back : {l : Literal} → SFits w16 l → length (space ∷ literal_text (to_z w16 (of_z w16 l))) ≡ length (space ∷ literal_text l)
+length_back f = ap (λ (k : Literal). length (space ∷ literal_text k)) (back f)
+
+pub wrote_back : {l : Literal} → SFits w16 l → {o p : Output} → Appended o (space ∷ literal_text (to_z w16 (of_z w16 l))) p → Appended o (space ∷ literal_text l) p
+wrote_back f {o} {p} w = subst (λ (k : Literal). Appended o (space ∷ literal_text k) p) (back f) w
 
 -- ---- literals
 pub literals_next : (ls : List Literal) {i : ℕ} → i < length ls → items_text (drop i ls) ≡ (space ∷ literal_text (get_or ls i (pos 0))) ++ items_text (drop (i + 1) ls)
 unfolding items_text
 literals_next ls {i} h = rw (add-one i, drop-cons ls i (pos 0) h)
-
--- room for the next literal, as it is handed on
-pub literals_room : (ls : List Literal) (i : ℕ) → i < length ls → SFits w16 (get_or ls i (pos 0))
-    → {all d₀ d : Bytes} {p₀ p : ℕ} → Writing all (items_text (drop i ls)) d₀ p₀ d p → p₀ + length all ≤ length d₀
-    → p + length (space ∷ literal_text (to_z w16 (of_z w16 (get_or ls i (pos 0))))) ≤ length d
-literals_room ls i h f w room =
-    rw (back f) (writing_room w (space ∷ literal_text (get_or ls i (pos 0))) (items_text (drop (i + 1) ls)) (literals_next ls h) room)
 
 pub literals_end : (ls : List Literal) {i : ℕ} → length ls ≤ i → items_text (drop i ls) ≡ []
 unfolding items_text
@@ -117,10 +113,6 @@ module _ (cells : List ℤ) (sizes : List ℕ) where
       → rules_text (drop k all_rules) ≡ rule_text (part k len) ++ rules_text (drop (k + 1) all_rules)
   unfolding rules_text
   rules_next {k} h e = rw (add-one k, rules_step h, part_is k e)
-
-  pub rules_room : (k : ℕ) {len : ℕ} → k < get_or sizes 0 0 → len ≡ get_or sizes (k + 1) 0
-      → {all d₀ d : Bytes} {p₀ p : ℕ} → Writing all (rules_text (drop k all_rules)) d₀ p₀ d p → p₀ + length all ≤ length d₀ → p + length (rule_text (part k len)) ≤ length d
-  rules_room k {len} h e w = writing_room w (rule_text (part k len)) (rules_text (drop (k + 1) all_rules)) (rules_next h e)
 
   pub rules_end : (k : ℕ) → get_or sizes 0 0 ≤ k → rules_text (drop k all_rules) ≡ []
   unfolding rules_text

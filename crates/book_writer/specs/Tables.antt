@@ -1,12 +1,17 @@
 -- The formula that a state's tables hold, and what is counted of its text.
-use Rattle.std.specs.Prelude.{ℕ, ◌+◌, ◌*◌, ◌≤◌, ◌<◌, ◌≡◌, List, length, get_or, ℤ}
-use Rattle.qbf.specs.Formula.{paper, Formula}
+use Rattle.std.specs.Prelude.{ℕ, ◌+◌, ◌*◌, ◌≤◌, ◌<◌, ◌≡◌, cond, List, [], length, get_or, ℤ}
+use Rattle.qbf.specs.Formula.{paper, Quantifier, same_quantifier, Formula}
 use Rattle.tables.specs.Views.{rows_of}
 use Rattle.state.specs.Reading.{entry_at, prefix_of}
 use Rattle.layout.specs.Words.{Bytes}
+use Rattle.booktext.specs.Books.{heading_text}
 
 abbrev pub formula_of : List ℕ → List ℕ → List ℕ → List ℤ → List ℕ → Formula
 formula_of ns ls ks cells sizes = record { limits = paper; prefix = prefix_of ns ls ks; clauses = rows_of paper.literals cells sizes }
+
+-- the end of a line of variables and the word of the next one, where that one's kind is another
+abbrev pub head_text : Quantifier → Quantifier → Bytes
+head_text κ μ = cond (same_quantifier κ μ) [] (heading_text μ)
 
 -- the rows that stand lie within their table; how many rows it has room for does not matter
 pub record Standing (cells : List ℤ) (sizes : List ℕ) : Type 0 where

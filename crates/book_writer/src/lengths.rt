@@ -6,12 +6,13 @@ ghost use Rattle.state.specs.Reading.{quantifier_of, prefix_of};
 ghost use Rattle.layout.specs.Words.{space};
 ghost use Rattle.layout.specs.Opening.{variable};
 ghost use Rattle.layout.specs.Output.{decimal, literal_text, items_text};
-ghost use Rattle.booktext.specs.Books.{heading_text, variable_text, rest_text, rules_text, written_text};
-ghost use Rattle.book_writer.specs.Tables.{formula_of, Standing, Counted, most_count, most_digits, most_heading, most_variable, most_literal, most_literals, most_rule};
+ghost use Rattle.booktext.specs.Books.{variable_text, rest_text, rules_text, written_text};
+ghost use Rattle.book_writer.specs.Tables.{formula_of, head_text, Standing, Counted, most_count, most_digits, most_heading, most_variable, most_literal, most_literals, most_rule};
 
 use crate::variables::same_kind;
 use literal::{Place, cell_at, number_of};
 use state::kinds::kind_at;
+use state::prefix::Variables;
 
 // `)`, the end of a line, `(` and the word `flags`, or one of six letters.
 const FLAGS_HEADING: usize = 8;
@@ -52,41 +53,44 @@ fn digits(n: u16) -> usize
     5
 }
 
-fn heading_length(kind: u16) -> usize
-    ensures { Counted (heading_text (quantifier_of kind)) most_heading result }
+fn heading_length(line: u16, kind: u16) -> usize
+    ensures { Counted (head_text (quantifier_of line) (quantifier_of kind)) most_heading result }
 {
-    if kind == tables::FREE {
-        return FLAGS_HEADING;
+    if same_kind(line, kind) {
+        return 0;
     }
-    GROUP_HEADING
+    if kind == tables::FREE {
+        FLAGS_HEADING
+    } else {
+        GROUP_HEADING
+    }
 }
 
 fn variable_length(line: u16, kind: u16, n: u16) -> usize
     ensures { Counted (variable_text (quantifier_of line) (variable (quantifier_of kind) n)) most_variable result }
 {
-    let number = ON + digits(n);
-    if same_kind(line, kind) {
-        return number;
-    }
-    heading_length(kind) + number
+    heading_length(line, kind) + ON + digits(n)
 }
 
-fn variables_length<'a>(numbers: &'a [u16], levels: &'a [u16], kinds: &'a [u16]) -> usize
+fn variables_length(variables: Variables<'_>) -> usize
     ensures { Counted
-        (rest_text free (prefix_of numbers.now levels.now kinds.now))
+        (rest_text free (prefix_of variables.entry.numbers.now variables.entry.levels.now variables.entry.kinds.now))
         (most_count * most_variable + 2)
         result }
 {
+    let Variables {
+        numbers,
+        levels,
+        kinds,
+    } = variables;
     let count = cell_at(numbers, 0) as usize;
     let mut bytes: usize = 0;
     let mut line = tables::FREE;
-    let mut i: usize = 0;
-    while i < count {
+    for i in 0..count {
         let kind = kind_at(levels, kinds, Place(i + 1));
         let n = cell_at(numbers, i + 1);
         bytes += variable_length(line, kind, n);
         line = kind;
-        i += 1;
     }
     bytes + LINE_END
 }
@@ -102,54 +106,44 @@ fn literal_length(lit: i16) -> usize
     ON + number
 }
 
-fn literals_length<'a>(lits: &'a [i16]) -> usize
+fn literals_length(lits: &[i16]) -> usize
     requires { length lits.now ≤ paper.literals }
     ensures { Counted (items_text lits.now) most_literals result }
 {
     let mut bytes: usize = 0;
-    let mut i: usize = 0;
-    while i < lits.len() {
-        bytes += literal_length(lits[i]);
-        i += 1;
+    for lit in lits {
+        bytes += literal_length(*lit);
     }
     bytes
 }
 
-fn rules_length<'a>(cells: &'a [i16], sizes: &'a [u16]) -> usize
+fn rules_length(cells: &[i16], sizes: &[u16]) -> usize
     requires { Standing cells.now sizes.now }
     ensures { Counted (rules_text (rows_of paper.literals cells.now sizes.now)) (most_count * most_rule) result }
 {
     let count = cell_at(sizes, 0) as usize;
     let mut bytes: usize = 0;
-    let mut k: usize = 0;
-    while k < count {
+    for k in 0..count {
         let from = k * tables::LITERALS;
         let end = from + cell_at(sizes, k + 1) as usize;
         bytes += RULE + literals_length(&cells[from..end]);
-        k += 1;
     }
     bytes
 }
 
-pub fn formula_length<'a>(
-    numbers: &'a [u16],
-    levels: &'a [u16],
-    kinds: &'a [u16],
-    clauses: &'a [i16],
-    clause_sizes: &'a [u16],
-) -> usize
+pub fn formula_length(variables: Variables<'_>, clauses: &[i16], clause_sizes: &[u16]) -> usize
     requires { Standing clauses.now clause_sizes.now }
     ensures { result
         ≡ length
         (written_text
         (formula_of
-        numbers.now
-        levels.now
-        kinds.now
+        variables.entry.numbers.now
+        variables.entry.levels.now
+        variables.entry.kinds.now
         clauses.now
         clause_sizes.now)) }
 {
-    let variables = variables_length(numbers, levels, kinds);
+    let lines = variables_length(variables);
     let rules = rules_length(clauses, clause_sizes);
-    FIRST + variables + rules + LAST
+    FIRST + lines + rules + LAST
 }

@@ -4,20 +4,26 @@
 
 ghost use Rattle.std.specs.Prelude.{◌≡◌, ◌≤◌, length};
 ghost use Rattle.qbf.specs.Card.{zero_table};
+ghost use Rattle.refusal.specs.Refusal.{number_of};
 ghost use Rattle.writer.specs.Wrote.{Wrote};
+ghost use Rattle.state.specs.Lent.{lent_state};
 ghost use Rattle.state.specs.Reading.{state_of};
 ghost use Rattle.booktext.specs.Books.{written_to, write_refused, written_text};
 ghost use Rattle.book_writer.specs.Tables.{formula_of, Standing};
+ghost use Rattle.book_writer.specs.Made.{WrittenAs};
 ghost use Rattle.book_writer.specs.Writes.{answered, told, Writes};
 
 mod lengths; // how many bytes a text has
 mod rules; // the lines of the rules
 mod variables; // the lines of the variables
 
-use state::State;
-use writer::bytes::put_word;
+use refusal::Refusal;
+use state::prefix::Variables;
+use state::{Lent, State};
+use writer::Output;
 
 // The number of the refusal, 0 where there is none, and the length of the text, which stands in the first bytes of the lent table.
+// stays (C): other languages read the number of the refusal, 0 for none, and the length beside it.
 #[repr(C)]
 #[derive(Clone, Copy)]
 pub struct Written {
@@ -25,67 +31,81 @@ pub struct Written {
     pub length: usize,
 }
 
+// Nothing is refused.
+// stays (C): the number that stands in `Written`, as other languages read it.
 pub const NONE: u16 = 0;
 
-// "22 the state is malformed"
-pub const MALFORMED: u16 = 22;
+impl From<Result<usize, Refusal>> for Written {
+    ghost from_gives = { WrittenAs };
 
-// "A table too short is 31, after 22"
-pub const TEXT_TABLE_TOO_SHORT: u16 = 31;
+    fn from(written: Result<usize, Refusal>) -> Written {
+        match written {
+            Ok(length) => Written {
+                refusal: NONE,
+                length,
+            },
+            Err(refusal) => Written {
+                refusal: refusal.number(),
+                length: 0,
+            },
+        }
+    }
+}
 
 // A text is no longer: numbers have at most two digits, and every variable may stand on a line of its own (`text_room`).
 pub const LONGEST: usize = 23 + tables::NUMBERS * 12 + tables::CLAUSES * (7 + tables::LITERALS * 8);
 
 // "and zeroed"
-fn refused(table: &mut [u8], number: u16) -> Written
-    requires { number ≡ 0 → ⊥ }
-    ensures { answered result.refusal result.length table.new ≡ told (write_refused number (zero_table (length table.old))) }
+fn refused(table: &mut [u8], refusal: Refusal) -> Written
+    ensures { answered result.refusal result.length table.new
+        ≡ told (write_refused (number_of refusal) (zero_table (length table.old))) }
 {
     cover::clear(table);
-    Written {
-        refusal: number,
-        length: 0,
-    }
+    Written::from(Err(refusal))
 }
 
 // The text, line after line, at the start of the table.
-fn put_formula<'a>(
+#[tactic(auto, using(booktext_laws::proofs::Room::parts_length))]
+fn put_formula(
     table: &mut [u8],
-    numbers: &'a [u16],
-    levels: &'a [u16],
-    kinds: &'a [u16],
-    clauses: &'a [i16],
-    clause_sizes: &'a [u16],
+    variables: Variables<'_>,
+    clauses: &[i16],
+    clause_sizes: &[u16],
 ) -> usize
     requires { Standing clauses.now clause_sizes.now
-        × (length (written_text (formula_of numbers.now levels.now kinds.now clauses.now clause_sizes.now))
+        × (length
+        (written_text
+        (formula_of variables.numbers.now variables.levels.now variables.kinds.now clauses.now clause_sizes.now))
         ≤ length table.old) }
     ensures { Wrote
         table.old
         0
         (written_text
         (formula_of
-        numbers.now
-        levels.now
-        kinds.now
+        variables.entry.numbers.now
+        variables.entry.levels.now
+        variables.entry.kinds.now
         clauses.now
         clause_sizes.now))
         table.new
         result }
 {
-    let p = put_word(table, 0, b"(book 1)\n(flags");
-    let q = variables::put_variables(table, p, numbers, levels, kinds);
-    let s = rules::put_rules(table, q, clauses, clause_sizes);
-    put_word(table, s, b"(end)\n")
+    let mut out = Output {
+        bytes: table,
+        at: 0,
+    };
+    out.put_word(b"(book 1)\n(flags");
+    variables::put_variables(&mut out, variables);
+    rules::put_rules(&mut out, clauses, clause_sizes);
+    out.put_word(b"(end)\n");
+    out.at
 }
 
 // The formula of the tables, whatever its limits are.
-pub fn write_formula<'a>(
-    numbers: &'a [u16],
-    levels: &'a [u16],
-    kinds: &'a [u16],
-    clauses: &'a [i16],
-    clause_sizes: &'a [u16],
+pub fn write_formula(
+    variables: Variables<'_>,
+    clauses: &[i16],
+    clause_sizes: &[u16],
     table: &mut [u8],
 ) -> Written
     requires { Standing clauses.now clause_sizes.now }
@@ -95,25 +115,49 @@ pub fn write_formula<'a>(
         (length table.old)
         (written_text
         (formula_of
-        numbers.now
-        levels.now
-        kinds.now
+        variables.entry.numbers.now
+        variables.entry.levels.now
+        variables.entry.kinds.now
         clauses.now
         clause_sizes.now))) }
 {
-    let n = lengths::formula_length(numbers, levels, kinds, clauses, clause_sizes);
+    let n = lengths::formula_length(variables, clauses, clause_sizes);
     if n > table.len() {
-        return refused(table, TEXT_TABLE_TOO_SHORT);
+        return refused(table, Refusal::TableTooShort);
     }
-    let end = put_formula(table, numbers, levels, kinds, clauses, clause_sizes);
+    let end = put_formula(table, variables, clauses, clause_sizes);
     cover::clear(&mut table[end..]);
-    Written {
-        refusal: NONE,
-        length: end,
-    }
+    Written::from(Ok(end))
 }
 
 // "Write a book as text." The state stays as it is.
+pub fn write_lent(lent: Lent<'_>, table: &mut [u8]) -> Written
+    ensures { Writes (lent_state lent.entry) (length table.old) result.refusal result.length table.new }
+{
+    let Ok(_) = lent.check() else {
+        return refused(table, Refusal::Malformed);
+    };
+    let Lent {
+        numbers,
+        levels,
+        kinds,
+        clauses,
+        clause_sizes,
+        ..
+    } = lent;
+    write_formula(
+        Variables {
+            numbers,
+            levels,
+            kinds,
+        },
+        clauses,
+        clause_sizes,
+        table,
+    )
+}
+
+// .. of tables lent one by one.
 pub fn write<'a>(
     numbers: &'a [u16; tables::BY_NUMBER],
     levels: &'a [u16; tables::BY_NUMBER],
@@ -142,7 +186,7 @@ pub fn write<'a>(
         result.length
         table.new }
 {
-    let read = state::check_tables(
+    let lent = Lent {
         numbers,
         levels,
         kinds,
@@ -152,28 +196,24 @@ pub fn write<'a>(
         learned_clause_sizes,
         learned_cubes,
         learned_cube_sizes,
-    );
-    let ok = read.ok;
-    if !ok {
-        return refused(table, MALFORMED);
-    }
-    write_formula(numbers, levels, kinds, clauses, clause_sizes, table)
+    };
+    write_lent(lent, table)
 }
 
 // The book of a state by value.
 pub fn write_book(x: State, table: &mut [u8]) -> Written
     ensures { Writes x (length table.old) result.refusal result.length table.new }
 {
-    write(
-        &x.numbers,
-        &x.levels,
-        &x.kinds,
-        &x.clauses,
-        &x.clause_sizes,
-        &x.learned_clauses,
-        &x.learned_clause_sizes,
-        &x.learned_cubes,
-        &x.learned_cube_sizes,
-        table,
-    )
+    let lent = Lent {
+        numbers: &x.numbers,
+        levels: &x.levels,
+        kinds: &x.kinds,
+        clauses: &x.clauses,
+        clause_sizes: &x.clause_sizes,
+        learned_clauses: &x.learned_clauses,
+        learned_clause_sizes: &x.learned_clause_sizes,
+        learned_cubes: &x.learned_cubes,
+        learned_cube_sizes: &x.learned_cube_sizes,
+    };
+    write_lent(lent, table)
 }

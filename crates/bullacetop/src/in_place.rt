@@ -1,542 +1,144 @@
-// The calls on a state whose tables the caller lends, in the order of the state: what a call changes is written where it stands, and
+// The calls on a state whose tables the caller lends: what a call changes is written where it stands, and
 // nothing is copied but the learned clauses of a withdrawal, on its way.
 ghost use Rattle.std.specs.Prelude.{◌≡◌, [], length, take};
 ghost use Rattle.qbf.specs.Truth.{free_variables};
-ghost use Rattle.qbf.specs.Calls.{rule, one, query, card, keep_card, card_of, closest, forget, withdraw};
-ghost use Rattle.state.specs.Reading.{prefix_of, state_of};
+ghost use Rattle.qbf.specs.Calls.{rule, one, query, card, keep_card, closest, forget, withdraw};
+ghost use Rattle.state.specs.Reading.{prefix_in};
+ghost use Rattle.state.specs.Lent.{lent_state};
 ghost use Rattle.serving.specs.Serves.{fault_of, Serves};
+ghost use Rattle.rules.specs.Lent.{adding_state, adding_left, withdrawing_state, withdrawing_left, emptying_state, emptying_left, AddingHeld, WithdrawingHeld, EmptyingHeld};
+ghost use Rattle.answers.specs.Lent.{searching_state, SearchingHeld};
 ghost use Rattle.book_writer.specs.Writes.{Writes};
 ghost use Rattle.reply_numbers.specs.Answers.{reply_said, closest_said, unless_refused};
 ghost use Rattle.closest_call.specs.Nearest.{padded};
 
+use answers::in_place::card_of;
+use answers::lent::Searching;
 use book_writer::Written;
-use reply_numbers::{Closest, Reply, of_card, of_change, of_closest, of_query};
+use reply_numbers::{Closest, Reply, of_change};
+use rules::lent::{Adding, Emptying, Withdrawing};
+use state::Lent;
 
-pub fn bullacetop_rule_in_place<'a>(
-    numbers: &'a [u16; tables::BY_NUMBER],
-    levels: &'a [u16; tables::BY_NUMBER],
-    kinds: &'a [u16; tables::BY_NUMBER],
-    clauses: &mut [i16; tables::CLAUSE_CELLS],
-    clause_sizes: &mut [u16; tables::CLAUSE_SIZES],
-    learned_clauses: &'a [i16; tables::CONSTRAINT_CELLS],
-    learned_clause_sizes: &'a [u16; tables::LEARNED_CLAUSE_SIZES],
-    learned_cubes: &'a [i16; tables::CONSTRAINT_CELLS],
-    learned_cube_sizes: &mut [u16; tables::CONSTRAINT_SIZES],
-    lits: &'a [i16],
-) -> Reply
-    ensures { Serves
-        (state_of
-        numbers.now
-        levels.now
-        kinds.now
-        clauses.old
-        clause_sizes.old
-        learned_clauses.now
-        learned_clause_sizes.now
-        learned_cubes.now
-        learned_cube_sizes.old)
-        (rule lits.now)
-        (reply_said result [])
-        (state_of
-        numbers.now
-        levels.now
-        kinds.now
-        clauses.new
-        clause_sizes.new
-        learned_clauses.now
-        learned_clause_sizes.now
-        learned_cubes.now
-        learned_cube_sizes.new) }
+pub fn bullacetop_rule_in_place(tables: &mut Adding<'_>, lits: &[i16]) -> Reply
+    ensures held { AddingHeld tables.old tables.new }
+    ensures serves { Serves (adding_state tables.old) (rule lits.now) (reply_said result []) (adding_left tables.old tables.new) }
 {
-    let added = rules::in_place::rule(
-        numbers,
-        levels,
-        kinds,
-        clauses,
-        clause_sizes,
-        learned_clauses,
-        learned_clause_sizes,
-        learned_cubes,
-        learned_cube_sizes,
-        lits,
-    );
+    let added = rules::in_place::rule(tables, lits);
     of_change(added)
 }
 
-pub fn bullacetop_one_in_place<'a>(
-    numbers: &'a [u16; tables::BY_NUMBER],
-    levels: &'a [u16; tables::BY_NUMBER],
-    kinds: &'a [u16; tables::BY_NUMBER],
-    clauses: &mut [i16; tables::CLAUSE_CELLS],
-    clause_sizes: &mut [u16; tables::CLAUSE_SIZES],
-    learned_clauses: &'a [i16; tables::CONSTRAINT_CELLS],
-    learned_clause_sizes: &'a [u16; tables::LEARNED_CLAUSE_SIZES],
-    learned_cubes: &'a [i16; tables::CONSTRAINT_CELLS],
-    learned_cube_sizes: &mut [u16; tables::CONSTRAINT_SIZES],
-    lits: &'a [i16],
-) -> Reply
-    ensures { Serves
-        (state_of
-        numbers.now
-        levels.now
-        kinds.now
-        clauses.old
-        clause_sizes.old
-        learned_clauses.now
-        learned_clause_sizes.now
-        learned_cubes.now
-        learned_cube_sizes.old)
-        (one lits.now)
-        (reply_said result [])
-        (state_of
-        numbers.now
-        levels.now
-        kinds.now
-        clauses.new
-        clause_sizes.new
-        learned_clauses.now
-        learned_clause_sizes.now
-        learned_cubes.now
-        learned_cube_sizes.new) }
+pub fn bullacetop_one_in_place(tables: &mut Adding<'_>, lits: &[i16]) -> Reply
+    ensures held { AddingHeld tables.old tables.new }
+    ensures serves { Serves (adding_state tables.old) (one lits.now) (reply_said result []) (adding_left tables.old tables.new) }
 {
-    let formed = rules::in_place::one(
-        numbers,
-        levels,
-        kinds,
-        clauses,
-        clause_sizes,
-        learned_clauses,
-        learned_clause_sizes,
-        learned_cubes,
-        learned_cube_sizes,
-        lits,
-    );
+    let formed = rules::in_place::one(tables, lits);
     of_change(formed)
 }
 
-pub fn bullacetop_withdraw_in_place<'a>(
-    numbers: &'a [u16; tables::BY_NUMBER],
-    levels: &'a [u16; tables::BY_NUMBER],
-    kinds: &'a [u16; tables::BY_NUMBER],
-    clauses: &'a [i16; tables::CLAUSE_CELLS],
-    clause_sizes: &mut [u16; tables::CLAUSE_SIZES],
-    learned_clauses: &mut [i16; tables::CONSTRAINT_CELLS],
-    learned_clause_sizes: &mut [u16; tables::LEARNED_CLAUSE_SIZES],
-    learned_cubes: &'a [i16; tables::CONSTRAINT_CELLS],
-    learned_cube_sizes: &'a [u16; tables::CONSTRAINT_SIZES],
-) -> Reply
-    ensures { Serves
-        (state_of
-        numbers.now
-        levels.now
-        kinds.now
-        clauses.now
-        clause_sizes.old
-        learned_clauses.old
-        learned_clause_sizes.old
-        learned_cubes.now
-        learned_cube_sizes.now)
-        withdraw
-        (reply_said result [])
-        (state_of
-        numbers.now
-        levels.now
-        kinds.now
-        clauses.now
-        clause_sizes.new
-        learned_clauses.new
-        learned_clause_sizes.new
-        learned_cubes.now
-        learned_cube_sizes.now) }
+pub fn bullacetop_withdraw_in_place(tables: &mut Withdrawing<'_>) -> Reply
+    ensures held { WithdrawingHeld tables.old tables.new }
+    ensures serves { Serves (withdrawing_state tables.old) withdraw (reply_said result []) (withdrawing_left tables.old tables.new) }
 {
-    let left = rules::in_place::withdraw(
-        numbers,
-        levels,
-        kinds,
-        clauses,
-        clause_sizes,
-        learned_clauses,
-        learned_clause_sizes,
-        learned_cubes,
-        learned_cube_sizes,
-    );
+    let left = rules::in_place::withdraw(tables);
     of_change(left)
 }
 
-pub fn bullacetop_forget_in_place<'a>(
-    numbers: &'a [u16; tables::BY_NUMBER],
-    levels: &'a [u16; tables::BY_NUMBER],
-    kinds: &'a [u16; tables::BY_NUMBER],
-    clauses: &'a [i16; tables::CLAUSE_CELLS],
-    clause_sizes: &'a [u16; tables::CLAUSE_SIZES],
-    learned_clauses: &'a [i16; tables::CONSTRAINT_CELLS],
-    learned_clause_sizes: &mut [u16; tables::LEARNED_CLAUSE_SIZES],
-    learned_cubes: &'a [i16; tables::CONSTRAINT_CELLS],
-    learned_cube_sizes: &mut [u16; tables::CONSTRAINT_SIZES],
-) -> Reply
-    ensures { Serves
-        (state_of
-        numbers.now
-        levels.now
-        kinds.now
-        clauses.now
-        clause_sizes.now
-        learned_clauses.now
-        learned_clause_sizes.old
-        learned_cubes.now
-        learned_cube_sizes.old)
-        forget
-        (reply_said result [])
-        (state_of
-        numbers.now
-        levels.now
-        kinds.now
-        clauses.now
-        clause_sizes.now
-        learned_clauses.now
-        learned_clause_sizes.new
-        learned_cubes.now
-        learned_cube_sizes.new) }
+pub fn bullacetop_forget_in_place(tables: &mut Emptying<'_>) -> Reply
+    ensures held { EmptyingHeld tables.old tables.new }
+    ensures serves { Serves (emptying_state tables.old) forget (reply_said result []) (emptying_left tables.old tables.new) }
 {
-    let emptied = rules::in_place::forget(
-        numbers,
-        levels,
-        kinds,
-        clauses,
-        clause_sizes,
-        learned_clauses,
-        learned_clause_sizes,
-        learned_cubes,
-        learned_cube_sizes,
-    );
+    let emptied = rules::in_place::forget(tables);
     of_change(emptied)
 }
 
-pub fn bullacetop_query_in_place<'a>(
-    numbers: &'a [u16; tables::BY_NUMBER],
-    levels: &'a [u16; tables::BY_NUMBER],
-    kinds: &'a [u16; tables::BY_NUMBER],
-    clauses: &'a [i16; tables::CLAUSE_CELLS],
-    clause_sizes: &'a [u16; tables::CLAUSE_SIZES],
-    learned_clauses: &mut [i16; tables::CONSTRAINT_CELLS],
-    learned_clause_sizes: &mut [u16; tables::LEARNED_CLAUSE_SIZES],
-    learned_cubes: &mut [i16; tables::CONSTRAINT_CELLS],
-    learned_cube_sizes: &mut [u16; tables::CONSTRAINT_SIZES],
-    on: &'a [i16],
-    off: &'a [i16],
+pub fn bullacetop_query_in_place(
+    lent: &mut Searching<'_>,
+    on: &[i16],
+    off: &[i16],
     ceiling: u32,
 ) -> Reply
-    ensures { Serves
-        (state_of
-        numbers.now
-        levels.now
-        kinds.now
-        clauses.now
-        clause_sizes.now
-        learned_clauses.old
-        learned_clause_sizes.old
-        learned_cubes.old
-        learned_cube_sizes.old)
+    ensures held { SearchingHeld lent.old lent.new }
+    ensures serves { Serves
+        (searching_state lent.old)
         (query ceiling on.now off.now)
         (reply_said result [])
-        (state_of
-        numbers.now
-        levels.now
-        kinds.now
-        clauses.now
-        clause_sizes.now
-        learned_clauses.new
-        learned_clause_sizes.new
-        learned_cubes.new
-        learned_cube_sizes.new) }
+        (searching_state lent.new) }
 {
-    let asked = answers::in_place::query(
-        numbers,
-        levels,
-        kinds,
-        clauses,
-        clause_sizes,
-        learned_clauses,
-        learned_clause_sizes,
-        learned_cubes,
-        learned_cube_sizes,
-        on,
-        off,
-        ceiling,
-    );
-    of_query(asked)
+    let asked = answers::in_place::query(lent, on, off, ceiling);
+    Reply::from(asked)
 }
 
-// The card, or the keep card.
-fn card_of<'a>(
-    numbers: &'a [u16; tables::BY_NUMBER],
-    levels: &'a [u16; tables::BY_NUMBER],
-    kinds: &'a [u16; tables::BY_NUMBER],
-    clauses: &'a [i16; tables::CLAUSE_CELLS],
-    clause_sizes: &'a [u16; tables::CLAUSE_SIZES],
-    learned_clauses: &mut [i16; tables::CONSTRAINT_CELLS],
-    learned_clause_sizes: &mut [u16; tables::LEARNED_CLAUSE_SIZES],
-    learned_cubes: &mut [i16; tables::CONSTRAINT_CELLS],
-    learned_cube_sizes: &mut [u16; tables::CONSTRAINT_SIZES],
-    table: &mut [u8],
-    yes: bool,
-    ceiling: u32,
-) -> Reply
-    ensures { Serves
-        (state_of
-        numbers.now
-        levels.now
-        kinds.now
-        clauses.now
-        clause_sizes.now
-        learned_clauses.old
-        learned_clause_sizes.old
-        learned_cubes.old
-        learned_cube_sizes.old)
-        (card_of yes ceiling (length table.old))
-        (reply_said result table.new)
-        (state_of
-        numbers.now
-        levels.now
-        kinds.now
-        clauses.now
-        clause_sizes.now
-        learned_clauses.new
-        learned_clause_sizes.new
-        learned_cubes.new
-        learned_cube_sizes.new) }
-{
-    let shown = answers::in_place::card_of(
-        numbers,
-        levels,
-        kinds,
-        clauses,
-        clause_sizes,
-        learned_clauses,
-        learned_clause_sizes,
-        learned_cubes,
-        learned_cube_sizes,
-        table,
-        yes,
-        ceiling,
-    );
-    of_card(shown)
-}
-
-pub fn bullacetop_card_in_place<'a>(
-    numbers: &'a [u16; tables::BY_NUMBER],
-    levels: &'a [u16; tables::BY_NUMBER],
-    kinds: &'a [u16; tables::BY_NUMBER],
-    clauses: &'a [i16; tables::CLAUSE_CELLS],
-    clause_sizes: &'a [u16; tables::CLAUSE_SIZES],
-    learned_clauses: &mut [i16; tables::CONSTRAINT_CELLS],
-    learned_clause_sizes: &mut [u16; tables::LEARNED_CLAUSE_SIZES],
-    learned_cubes: &mut [i16; tables::CONSTRAINT_CELLS],
-    learned_cube_sizes: &mut [u16; tables::CONSTRAINT_SIZES],
-    table: &mut [u8],
-    ceiling: u32,
-) -> Reply
-    ensures { Serves
-        (state_of
-        numbers.now
-        levels.now
-        kinds.now
-        clauses.now
-        clause_sizes.now
-        learned_clauses.old
-        learned_clause_sizes.old
-        learned_cubes.old
-        learned_cube_sizes.old)
+pub fn bullacetop_card_in_place(lent: &mut Searching<'_>, table: &mut [u8], ceiling: u32) -> Reply
+    ensures held { SearchingHeld lent.old lent.new }
+    ensures serves { Serves
+        (searching_state lent.old)
         (card ceiling (length table.old))
         (reply_said result table.new)
-        (state_of
-        numbers.now
-        levels.now
-        kinds.now
-        clauses.now
-        clause_sizes.now
-        learned_clauses.new
-        learned_clause_sizes.new
-        learned_cubes.new
-        learned_cube_sizes.new) }
+        (searching_state lent.new) }
 {
-    card_of(
-        numbers,
-        levels,
-        kinds,
-        clauses,
-        clause_sizes,
-        learned_clauses,
-        learned_clause_sizes,
-        learned_cubes,
-        learned_cube_sizes,
-        table,
-        true,
-        ceiling,
-    )
+    let shown = card_of(lent, table, true, ceiling);
+    Reply::from(shown)
 }
 
-pub fn bullacetop_keep_card_in_place<'a>(
-    numbers: &'a [u16; tables::BY_NUMBER],
-    levels: &'a [u16; tables::BY_NUMBER],
-    kinds: &'a [u16; tables::BY_NUMBER],
-    clauses: &'a [i16; tables::CLAUSE_CELLS],
-    clause_sizes: &'a [u16; tables::CLAUSE_SIZES],
-    learned_clauses: &mut [i16; tables::CONSTRAINT_CELLS],
-    learned_clause_sizes: &mut [u16; tables::LEARNED_CLAUSE_SIZES],
-    learned_cubes: &mut [i16; tables::CONSTRAINT_CELLS],
-    learned_cube_sizes: &mut [u16; tables::CONSTRAINT_SIZES],
+pub fn bullacetop_keep_card_in_place(
+    lent: &mut Searching<'_>,
     table: &mut [u8],
     ceiling: u32,
 ) -> Reply
-    ensures { Serves
-        (state_of
-        numbers.now
-        levels.now
-        kinds.now
-        clauses.now
-        clause_sizes.now
-        learned_clauses.old
-        learned_clause_sizes.old
-        learned_cubes.old
-        learned_cube_sizes.old)
+    ensures held { SearchingHeld lent.old lent.new }
+    ensures serves { Serves
+        (searching_state lent.old)
         (keep_card ceiling (length table.old))
         (reply_said result table.new)
-        (state_of
-        numbers.now
-        levels.now
-        kinds.now
-        clauses.now
-        clause_sizes.now
-        learned_clauses.new
-        learned_clause_sizes.new
-        learned_cubes.new
-        learned_cube_sizes.new) }
+        (searching_state lent.new) }
 {
-    card_of(
-        numbers,
-        levels,
-        kinds,
-        clauses,
-        clause_sizes,
-        learned_clauses,
-        learned_clause_sizes,
-        learned_cubes,
-        learned_cube_sizes,
-        table,
-        false,
-        ceiling,
-    )
+    let shown = card_of(lent, table, false, ceiling);
+    Reply::from(shown)
 }
 
 // The reading on the card that differs from a given one in the fewest flags. Its bytes stand first in the lent reading, and zeros behind them.
-pub fn bullacetop_closest_in_place<'a>(
-    numbers: &'a [u16; tables::BY_NUMBER],
-    levels: &'a [u16; tables::BY_NUMBER],
-    kinds: &'a [u16; tables::BY_NUMBER],
-    clauses: &'a [i16; tables::CLAUSE_CELLS],
-    clause_sizes: &'a [u16; tables::CLAUSE_SIZES],
-    learned_clauses: &mut [i16; tables::CONSTRAINT_CELLS],
-    learned_clause_sizes: &mut [u16; tables::LEARNED_CLAUSE_SIZES],
-    learned_cubes: &mut [i16; tables::CONSTRAINT_CELLS],
-    learned_cube_sizes: &mut [u16; tables::CONSTRAINT_SIZES],
-    on: &'a [i16],
-    off: &'a [i16],
+pub fn bullacetop_closest_in_place(
+    lent: &mut Searching<'_>,
+    on: &[i16],
+    off: &[i16],
     table: &mut [u8],
     reading: &mut [u8; tables::MOST_FREE],
     ceiling: u32,
 ) -> Closest
+    ensures held { SearchingHeld lent.old lent.new }
     ensures serves { Serves
-        (state_of
-        numbers.now
-        levels.now
-        kinds.now
-        clauses.now
-        clause_sizes.now
-        learned_clauses.old
-        learned_clause_sizes.old
-        learned_cubes.old
-        learned_cube_sizes.old)
+        (searching_state lent.old)
         (closest ceiling (length table.old) on.now off.now)
         (closest_said
         result
         table.new
-        (take (free_variables (prefix_of numbers.now levels.now kinds.now)) reading.new))
-        (state_of
-        numbers.now
-        levels.now
-        kinds.now
-        clauses.now
-        clause_sizes.now
-        learned_clauses.new
-        learned_clause_sizes.new
-        learned_cubes.new
-        learned_cube_sizes.new) }
+        (take (free_variables (prefix_in (searching_state lent.old))) reading.new))
+        (searching_state lent.new) }
     ensures reading_after { reading.new
         ≡ padded
         (unless_refused
         (fault_of result.refusal)
-        (take (free_variables (prefix_of numbers.now levels.now kinds.now)) reading.new)) }
+        (take (free_variables (prefix_in (searching_state lent.old))) reading.new)) }
 {
-    let found = closest_call::closest(
-        numbers,
-        levels,
-        kinds,
-        clauses,
-        clause_sizes,
-        learned_clauses,
-        learned_clause_sizes,
-        learned_cubes,
-        learned_cube_sizes,
-        on,
-        off,
-        table,
-        reading,
-        ceiling,
-    );
-    let reply = of_closest(found);
+    let found = closest_call::closest(lent, on, off, table, reading, ceiling);
+    let reply = Closest::from(found);
     reply
 }
 
 // The book's text. Nothing of the state is written.
-pub fn bullacetop_write_in_place<'a>(
-    numbers: &'a [u16; tables::BY_NUMBER],
-    levels: &'a [u16; tables::BY_NUMBER],
-    kinds: &'a [u16; tables::BY_NUMBER],
-    clauses: &'a [i16; tables::CLAUSE_CELLS],
-    clause_sizes: &'a [u16; tables::CLAUSE_SIZES],
-    learned_clauses: &'a [i16; tables::CONSTRAINT_CELLS],
-    learned_clause_sizes: &'a [u16; tables::LEARNED_CLAUSE_SIZES],
-    learned_cubes: &'a [i16; tables::CONSTRAINT_CELLS],
-    learned_cube_sizes: &'a [u16; tables::CONSTRAINT_SIZES],
-    table: &mut [u8],
-) -> Written
-    ensures { Writes
-        (state_of
-        numbers.now
-        levels.now
-        kinds.now
-        clauses.now
-        clause_sizes.now
-        learned_clauses.now
-        learned_clause_sizes.now
-        learned_cubes.now
-        learned_cube_sizes.now)
-        (length table.old)
-        result.refusal
-        result.length
-        table.new }
+pub fn bullacetop_write_in_place(lent: Lent<'_>, table: &mut [u8]) -> Written
+    ensures { Writes (lent_state lent.entry) (length table.old) result.refusal result.length table.new }
 {
     let written = book_writer::write(
-        numbers,
-        levels,
-        kinds,
-        clauses,
-        clause_sizes,
-        learned_clauses,
-        learned_clause_sizes,
-        learned_cubes,
-        learned_cube_sizes,
+        lent.numbers,
+        lent.levels,
+        lent.kinds,
+        lent.clauses,
+        lent.clause_sizes,
+        lent.learned_clauses,
+        lent.learned_clause_sizes,
+        lent.learned_cubes,
+        lent.learned_cube_sizes,
         table,
     );
     written

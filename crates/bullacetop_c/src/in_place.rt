@@ -9,9 +9,13 @@ ghost use Rattle.book_writer.specs.Writes.{Writes};
 ghost use Rattle.reply_numbers.specs.Answers.{reply_said, closest_said, unless_refused};
 ghost use Rattle.closest_call.specs.Nearest.{padded};
 
+use answers::lent::Searching;
 use book_writer::Written;
 use reply_numbers::{Closest, Reply};
+use rules::lent::{Adding, Emptying, Withdrawing};
+use state::Lent;
 
+// stays (C): the tables of a state, one after another, are what the header declares
 #[unsafe(no_mangle)]
 pub extern "C" fn bullacetop_rule_in_place<'a>(
     numbers: &'a [u16; tables::BY_NUMBER],
@@ -49,7 +53,7 @@ pub extern "C" fn bullacetop_rule_in_place<'a>(
         learned_cubes.now
         learned_cube_sizes.new) }
 {
-    bullacetop::in_place::bullacetop_rule_in_place(
+    let mut tables = Adding {
         numbers,
         levels,
         kinds,
@@ -59,10 +63,11 @@ pub extern "C" fn bullacetop_rule_in_place<'a>(
         learned_clause_sizes,
         learned_cubes,
         learned_cube_sizes,
-        lits,
-    )
+    };
+    bullacetop::in_place::bullacetop_rule_in_place(&mut tables, lits)
 }
 
+// stays (C): the tables of a state, one after another, are what the header declares
 #[unsafe(no_mangle)]
 pub extern "C" fn bullacetop_one_in_place<'a>(
     numbers: &'a [u16; tables::BY_NUMBER],
@@ -100,7 +105,7 @@ pub extern "C" fn bullacetop_one_in_place<'a>(
         learned_cubes.now
         learned_cube_sizes.new) }
 {
-    bullacetop::in_place::bullacetop_one_in_place(
+    let mut tables = Adding {
         numbers,
         levels,
         kinds,
@@ -110,10 +115,11 @@ pub extern "C" fn bullacetop_one_in_place<'a>(
         learned_clause_sizes,
         learned_cubes,
         learned_cube_sizes,
-        lits,
-    )
+    };
+    bullacetop::in_place::bullacetop_one_in_place(&mut tables, lits)
 }
 
+// stays (C): the tables of a state, one after another, are what the header declares
 #[unsafe(no_mangle)]
 pub extern "C" fn bullacetop_withdraw_in_place<'a>(
     numbers: &'a [u16; tables::BY_NUMBER],
@@ -150,7 +156,7 @@ pub extern "C" fn bullacetop_withdraw_in_place<'a>(
         learned_cubes.now
         learned_cube_sizes.now) }
 {
-    bullacetop::in_place::bullacetop_withdraw_in_place(
+    let mut tables = Withdrawing {
         numbers,
         levels,
         kinds,
@@ -160,9 +166,11 @@ pub extern "C" fn bullacetop_withdraw_in_place<'a>(
         learned_clause_sizes,
         learned_cubes,
         learned_cube_sizes,
-    )
+    };
+    bullacetop::in_place::bullacetop_withdraw_in_place(&mut tables)
 }
 
+// stays (C): the tables of a state, one after another, are what the header declares
 #[unsafe(no_mangle)]
 pub extern "C" fn bullacetop_forget_in_place<'a>(
     numbers: &'a [u16; tables::BY_NUMBER],
@@ -199,7 +207,7 @@ pub extern "C" fn bullacetop_forget_in_place<'a>(
         learned_cubes.now
         learned_cube_sizes.new) }
 {
-    bullacetop::in_place::bullacetop_forget_in_place(
+    let mut tables = Emptying {
         numbers,
         levels,
         kinds,
@@ -209,9 +217,11 @@ pub extern "C" fn bullacetop_forget_in_place<'a>(
         learned_clause_sizes,
         learned_cubes,
         learned_cube_sizes,
-    )
+    };
+    bullacetop::in_place::bullacetop_forget_in_place(&mut tables)
 }
 
+// stays (C): the tables of a state, one after another, are what the header declares
 #[unsafe(no_mangle)]
 pub extern "C" fn bullacetop_query_in_place<'a>(
     numbers: &'a [u16; tables::BY_NUMBER],
@@ -251,7 +261,7 @@ pub extern "C" fn bullacetop_query_in_place<'a>(
         learned_cubes.new
         learned_cube_sizes.new) }
 {
-    bullacetop::in_place::bullacetop_query_in_place(
+    let mut lent = Searching {
         numbers,
         levels,
         kinds,
@@ -261,12 +271,11 @@ pub extern "C" fn bullacetop_query_in_place<'a>(
         learned_clause_sizes,
         learned_cubes,
         learned_cube_sizes,
-        on,
-        off,
-        ceiling,
-    )
+    };
+    bullacetop::in_place::bullacetop_query_in_place(&mut lent, on, off, ceiling)
 }
 
+// stays (C): the tables of a state, one after another, are what the header declares
 #[unsafe(no_mangle)]
 pub extern "C" fn bullacetop_card_in_place<'a>(
     numbers: &'a [u16; tables::BY_NUMBER],
@@ -305,7 +314,7 @@ pub extern "C" fn bullacetop_card_in_place<'a>(
         learned_cubes.new
         learned_cube_sizes.new) }
 {
-    bullacetop::in_place::bullacetop_card_in_place(
+    let mut lent = Searching {
         numbers,
         levels,
         kinds,
@@ -315,11 +324,11 @@ pub extern "C" fn bullacetop_card_in_place<'a>(
         learned_clause_sizes,
         learned_cubes,
         learned_cube_sizes,
-        table,
-        ceiling,
-    )
+    };
+    bullacetop::in_place::bullacetop_card_in_place(&mut lent, table, ceiling)
 }
 
+// stays (C): the tables of a state, one after another, are what the header declares
 #[unsafe(no_mangle)]
 pub extern "C" fn bullacetop_keep_card_in_place<'a>(
     numbers: &'a [u16; tables::BY_NUMBER],
@@ -358,7 +367,7 @@ pub extern "C" fn bullacetop_keep_card_in_place<'a>(
         learned_cubes.new
         learned_cube_sizes.new) }
 {
-    bullacetop::in_place::bullacetop_keep_card_in_place(
+    let mut lent = Searching {
         numbers,
         levels,
         kinds,
@@ -368,12 +377,12 @@ pub extern "C" fn bullacetop_keep_card_in_place<'a>(
         learned_clause_sizes,
         learned_cubes,
         learned_cube_sizes,
-        table,
-        ceiling,
-    )
+    };
+    bullacetop::in_place::bullacetop_keep_card_in_place(&mut lent, table, ceiling)
 }
 
 // The reading on the card that differs from a given one in the fewest flags. Its bytes stand first in the lent reading, and zeros behind them.
+// stays (C): the tables of a state, one after another, are what the header declares
 #[unsafe(no_mangle)]
 pub extern "C" fn bullacetop_closest_in_place<'a>(
     numbers: &'a [u16; tables::BY_NUMBER],
@@ -423,7 +432,7 @@ pub extern "C" fn bullacetop_closest_in_place<'a>(
         (fault_of result.refusal)
         (take (free_variables (prefix_of numbers.now levels.now kinds.now)) reading.new)) }
 {
-    bullacetop::in_place::bullacetop_closest_in_place(
+    let mut lent = Searching {
         numbers,
         levels,
         kinds,
@@ -433,15 +442,12 @@ pub extern "C" fn bullacetop_closest_in_place<'a>(
         learned_clause_sizes,
         learned_cubes,
         learned_cube_sizes,
-        on,
-        off,
-        table,
-        reading,
-        ceiling,
-    )
+    };
+    bullacetop::in_place::bullacetop_closest_in_place(&mut lent, on, off, table, reading, ceiling)
 }
 
 // The book's text. Nothing of the state is written.
+// stays (C): the tables of a state, one after another, are what the header declares
 #[unsafe(no_mangle)]
 pub extern "C" fn bullacetop_write_in_place<'a>(
     numbers: &'a [u16; tables::BY_NUMBER],
@@ -471,7 +477,7 @@ pub extern "C" fn bullacetop_write_in_place<'a>(
         result.length
         table.new }
 {
-    bullacetop::in_place::bullacetop_write_in_place(
+    let lent = Lent {
         numbers,
         levels,
         kinds,
@@ -481,6 +487,6 @@ pub extern "C" fn bullacetop_write_in_place<'a>(
         learned_clause_sizes,
         learned_cubes,
         learned_cube_sizes,
-        table,
-    )
+    };
+    bullacetop::in_place::bullacetop_write_in_place(lent, table)
 }

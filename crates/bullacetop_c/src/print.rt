@@ -2,6 +2,7 @@
 ghost use Rattle.page.specs.Lent.{PageLent};
 
 // The rows one after another in the first bytes of the lent table, and zeros behind them; refused, zeros alone. A refusal of 0 is none.
+// stays (C): a page of counts beside its table and a number for a refusal are what the header declares
 #[unsafe(no_mangle)]
 pub extern "C" fn bullacetop_page(
     table: &[u8],

@@ -76,6 +76,7 @@ pub extern "C" fn bullacetop_no_card() -> Shown
 }
 
 // One line of a session, without its byte 10, and its number in the input. The lines of the card answered last stand in the lent table of cards.
+// stays (C): the header declares these parameters
 #[unsafe(no_mangle)]
 pub extern "C" fn bullacetop_line(
     x: State,

@@ -2,10 +2,6 @@
 #![tactic(auto)]
 
 use std::io;
-use std::io::Input;
-
-// One byte more than a text may have.
-const ROOM: usize = reader::text::TEXT + 1;
 
 fn print_card(
     rt: &impl Print,
@@ -17,8 +13,6 @@ fn print_card(
 }
 
 fn main(rt: HostRuntime) -> io::Result<()> {
-    let mut text = [0u8; ROOM];
     let mut answer = [0u8; answer_text::ANSWER];
-    let held = input::read_all(&mut rt.reader(), &mut text);
-    print_card(&rt, &text[..held], &mut answer)
+    program::with_text(&rt, |text| print_card(&rt, text, &mut answer))
 }

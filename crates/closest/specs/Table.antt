@@ -3,8 +3,8 @@ use Rattle.std.specs.Prelude.{ℕ, zero, suc, ◌*◌, ◌-◌, ◌≤◌, ◌<�
 use Rattle.std.proofs.Math.Option.{Option, none, some}
 use Rattle.qbf.specs.Formula.{Node}
 use Rattle.qbf.specs.Card.{byte_of}
-use Rattle.closest.specs.declared.Nearest.{Nearest}
-use Rattle.closest.specs.declared.Nearest.TheVariants.{Reading, NoLine}
+use Rattle.std.specs.Prelude.{Some, None}
+use Rattle.std.specs.Prelude.{Option as Maybe}
 use Rattle.qbf.specs.Closest.{distance, Found, on_line, closest_in}
 
 -- "0 open, 1 off, 2 on": the value of a byte that is not open
@@ -30,9 +30,9 @@ abbrev pub row_at : ℕ → List ℕ → ℕ → List ℕ
 row_at f table k = take f (drop (k * f) table)
 
 -- the code's answer: the number, or no line (the wish's 35)
-abbrev pub answer_of : Option Found → Nearest
-answer_of none = NoLine
-answer_of (some r) = Reading r.number
+abbrev pub answer_of : Option Found → Maybe ℕ
+answer_of none = None
+answer_of (some r) = Some r.number
 
 -- the bytes of the reading, each off or on; where there is no line they stay as they were
 abbrev pub reading_after : Option Found → List ℕ → List ℕ

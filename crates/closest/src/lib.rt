@@ -6,13 +6,6 @@ ghost use Rattle.qbf.specs.Card.{byte_of};
 ghost use Rattle.qbf.specs.Closest.{differs, distance, closest_in as closestOf};
 ghost use Rattle.closest.specs.Table.{value_in, values_in, line_in, lines_in, answer_of, reading_after, Best as BestLine};
 
-// The reading's number, or that the card has no line: "a card with no line gives 35".
-#[derive(Clone, Copy)]
-pub enum Nearest {
-    Reading(usize),
-    NoLine,
-}
-
 // A line, counted from 0, and its number.
 #[derive(Clone, Copy)]
 struct Best {
@@ -35,18 +28,16 @@ fn differ(a: u8, b: u8) -> usize
 }
 
 // The flags set in a line whose value the reading does not have.
-fn line_distance<'a>(row: &'a [u8], given: &'a [u8]) -> usize
+fn line_distance(row: &[u8], given: &[u8]) -> usize
     requires { length row.now ≡ length given.now }
     ensures { (result ≡ distance (line_in row.now) (values_in given.now)) × (result ≤ length given.now) }
 {
     let mut n: usize = 0;
-    let mut i: usize = 0;
-    while i < row.len() {
-        if row[i] == 0 {
+    for (b, g) in row.iter().zip(given) {
+        if *b == 0 {
             return n;
         }
-        n += differ(row[i], given[i]);
-        i += 1;
+        n += differ(*b, *g);
     }
     n
 }
@@ -55,26 +46,21 @@ fn line_distance<'a>(row: &'a [u8], given: &'a [u8]) -> usize
 fn set_flags(row: &[u8]) -> usize
     ensures { (result ≡ length (line_in row.now)) × (result ≤ length row.now) }
 {
-    let mut i: usize = 0;
-    while i < row.len() {
-        if row[i] == 0 {
+    for (i, b) in row.iter().enumerate() {
+        if *b == 0 {
             return i;
         }
-        i += 1;
     }
-    i
+    row.len()
 }
 
-// The first k values of a table shown in another one.
-fn show(from: &[u8], to: &mut [u8], k: usize)
-    requires k_in_bounds { k ≤ length from.now }
-    requires k_in_bounds_2 { k ≤ length to.old }
-    ensures { to.new ≡ map byte_of (values_in (take k from.now)) ++ drop k to.old }
+// Values shown in the first cells of a table.
+fn show(from: &[u8], to: &mut [u8])
+    requires { length from.now ≤ length to.old }
+    ensures { to.new ≡ map byte_of (values_in from.now) ++ drop (length from.now) to.old }
 {
-    let mut i: usize = 0;
-    while i < k {
-        to[i] = shown(from[i]);
-        i += 1;
+    for (i, b) in from.iter().enumerate() {
+        to[i] = shown(*b);
     }
 }
 
@@ -90,16 +76,14 @@ fn closer(best: Best, line: usize, number: usize) -> Best
 }
 
 // The first line with the least number, from the last line to the first.
-fn best_line<'a>(table: &'a [u8], lines: usize, given: &'a [u8]) -> Best
+fn best_line(table: &[u8], lines: usize, given: &[u8]) -> Best
     requires lines_nonzero { 0 < lines }
     requires given_in_bounds { lines * length given.now ≤ length table.now }
     ensures { BestLine (length given.now) lines table.now (values_in given.now) 0 result.line result.number }
 {
     let f = given.len();
     let mut best = Best { line: 0, number: f };
-    let mut k = lines;
-    while 0 < k {
-        k -= 1;
+    for k in (0..lines).rev() {
         let at = k * f;
         let end = at + f;
         let n = line_distance(&table[at..end], given);
@@ -109,24 +93,23 @@ fn best_line<'a>(table: &'a [u8], lines: usize, given: &'a [u8]) -> Best
 }
 
 // "Given a full reading, return a reading on the swap card that differs from it in the fewest flags, and that number." The table
-// holds the card's lines.
-pub fn closest<'a>(table: &'a [u8], lines: usize, given: &'a [u8], reading: &mut [u8]) -> Nearest
+// holds the card's lines; a card without a line gives none.
+pub fn closest(table: &[u8], lines: usize, given: &[u8], reading: &mut [u8]) -> Option<usize>
     requires given_in_bounds { lines * length given.now ≤ length table.now }
     requires reading_len { length reading.old ≡ length given.now }
     ensures value { result ≡ answer_of (closestOf (lines_in (length given.now) lines table.now) (values_in given.now)) }
     ensures reading_after { reading.new ≡ reading_after (closestOf (lines_in (length given.now) lines table.now) (values_in given.now)) reading.old }
 {
     if lines == 0 {
-        return Nearest::NoLine;
+        return None;
     }
     let best = best_line(table, lines, given);
     let f = given.len();
-    let line = best.line;
-    let at = line * f;
+    let at = best.line * f;
     let end = at + f;
     let row = &table[at..end];
     let set = set_flags(row);
-    show(given, reading, f);
-    show(row, reading, set);
-    Nearest::Reading(best.number)
+    show(given, reading);
+    show(&row[..set], reading);
+    Some(best.number)
 }

@@ -31,12 +31,12 @@ use Rattle.answers.proofs.Running.{formed}
 use Rattle.serving.specs.Serves.{Said, said, said_with, said_reply, said_of, out_of, next_of, Serves}
 use Rattle.serving.proofs.Calls.{Passes, malformed, moved_on, unchanged}
 use Rattle.replies.specs.Replies.{card_said}
-use Rattle.replies.specs.declared.Printed.{Printed}
-use Rattle.replies.specs.declared.Printed.TheVariants as printed
 use Rattle.closest.specs.Table.{values_in, lines_in, reading_after}
 use Rattle.closest.proofs.Bytes.{values_shown, lines_shown}
 use Rattle.closest_call.specs.Nearest.{nearest_said, returned, found_said, padded}
-use Rattle.closest_call.specs.declared.Told.{Told}
+use Rattle.std.specs.Prelude.{Result, Ok, Err}
+use Rattle.refusal.specs.declared.Refusal.{Refusal}
+use Rattle.refusal.specs.Refusal.{number_of}
 use Rattle.closest_call.proofs.Telling.{said_returned}
 use Rattle.closest_call.proofs.Given.{given_part}
 
@@ -57,12 +57,12 @@ reading_padded free (some r) n k tb part whole small long is w = w ∙ (λ i. is
         split = omega (arith, small)
 
 -- what the call owes: what it says of the answer, and every byte of the lent reading
-abbrev Owed : State → Call → Told → ℕ → ℕ → List ℕ → List ℕ → State → Type 0
+abbrev Owed : State → Call → Result ℕ Refusal → ℕ → ℕ → List ℕ → List ℕ → State → Type 0
 Owed x c q n k tb rd y =
     Serves x c (nearest_said q n k tb (take (free_variables (prefix_in x)) rd)) y × (rd ≡ padded (returned q (take (free_variables (prefix_in x)) rd)))
 
 -- a refusal returns no reading
-pub refused_owed : (x : State) (c : Call) (y : State) (q : Told) (n k m j : ℕ) (tb rd : List ℕ) → ((ub bytes : List ℕ) → nearest_said q n k ub bytes ≡ said (some m) 0 0 j ub) → rd ≡ zero_table most_free
+pub refused_owed : (x : State) (c : Call) (y : State) (q : Result ℕ Refusal) (n k m j : ℕ) (tb rd : List ℕ) → ((ub bytes : List ℕ) → nearest_said q n k ub bytes ≡ said (some m) 0 0 j ub) → rd ≡ zero_table most_free
     → Serves x c (said (some m) 0 0 j tb) y → Owed x c q n k tb rd y
 refused_owed x c y q n k m j tb rd told z s =
     let e = told tb (take (free_variables (prefix_in x)) rd) in
@@ -219,7 +219,7 @@ module _ (x : State) (v : valid x ≡ true) (top size : ℕ) (on off : List Lite
     nearest_by bytes = closest_in (lines_in (length bytes) n tb) (values_in bytes)
 
     pub found_owed : closest_fault b on off ≡ none → (bytes : List ℕ) → bytes ≡ map byte_of t → (old rd : List ℕ) → old ≡ zero_table most_free → f ≤ most_free → length rd ≡ most_free
-        → (q : Told) (n' k' : ℕ) (tb' : List ℕ) → nearest_said q n' k' tb' (take (length bytes) rd) ≡ found_said (nearest_by bytes) n k tb
+        → (q : Result ℕ Refusal) (n' k' : ℕ) (tb' : List ℕ) → nearest_said q n' k' tb' (take (length bytes) rd) ≡ found_said (nearest_by bytes) n k tb
         → rd ≡ reading_after (nearest_by bytes) (take (length bytes) old) ++ drop (length bytes) old → Owed x call q n' k' tb' rd y
     found_owed fine bytes g old rd z small full q n' k' tb' told is =
         (nearest_served fine g told', reading_padded f (nearest_by bytes) n k tb part rd small long refl written ∙ ap padded (sym (ap (λ (a : Said). a.reading) told') ∙ said_returned q n' k' tb' (take f rd)))
@@ -255,11 +255,11 @@ module _ (x : State) (v : valid x ≡ true) (top size : ℕ) (on off : List Lite
       by (inr (n, e, h)) = at e ∙ ap (λ (r : Reply). said_reply (from_card size t r) made.visits) (sym e)
 
 -- ---- the card's answer, told apart
-pub with_lines : (x : State) (c : Call) (y : State) (p : Printed) (n k : ℕ) (tb : List ℕ) → p ≡ printed.Lines n → Serves x c (card_said p k tb) y → Serves x c (said none 0 n k tb) y
-with_lines x c y p n k tb e s = subst (λ (q : Printed). Serves x c (card_said q k tb) y) e s
+pub with_lines : (x : State) (c : Call) (y : State) (p : Result ℕ Refusal) (n k : ℕ) (tb : List ℕ) → p ≡ Ok n → Serves x c (card_said p k tb) y → Serves x c (said none 0 n k tb) y
+with_lines x c y p n k tb e s = subst (λ (q : Result ℕ Refusal). Serves x c (card_said q k tb) y) e s
 
-pub with_refusal : (x : State) (c : Call) (y : State) (p : Printed) (m k : ℕ) (tb : List ℕ) → p ≡ printed.Refused m → Serves x c (card_said p k tb) y → Serves x c (said (some m) 0 0 k tb) y
-with_refusal x c y p m k tb e s = subst (λ (q : Printed). Serves x c (card_said q k tb) y) e s
+pub with_refusal : (x : State) (c : Call) (y : State) (p : Result ℕ Refusal) (m : Refusal) (k : ℕ) (tb : List ℕ) → p ≡ Err m → Serves x c (card_said p k tb) y → Serves x c (said (some (number_of m)) 0 0 k tb) y
+with_refusal x c y p m k tb e s = subst (λ (q : Result ℕ Refusal). Serves x c (card_said q k tb) y) e s
 
 -- ---- from the reading of the arguments
 module _ (x : State) (v : valid x ≡ true) {on off : List Literal} {ok full : Bool} {values : List ℕ} (read : QueryRead (prefix_in x) on off ok full values) where

@@ -1,22 +1,22 @@
--- What the answer of the call for the closest reading says, in the paper's numbers. Paper 02, wish 9.
-use Rattle.std.specs.Prelude.{ℕ, ◌-◌, List, [], ◌++◌, map, length}
+-- What the answer of the call for the closest reading says, in numbers.
+use Rattle.std.specs.Prelude.{ℕ, ◌-◌, List, [], ◌++◌, map, length, Result, Ok, Err}
 use Rattle.std.proofs.Math.Option.{Option, none, some}
 use Rattle.qbf.specs.Formula.{most_free}
 use Rattle.qbf.specs.Card.{byte_of, zero_table}
 use Rattle.qbf.specs.Closest.{Found}
 use Rattle.serving.specs.Serves.{Said, said, said_with}
-use Rattle.closest_call.specs.declared.Told.{Told}
-use Rattle.closest_call.specs.declared.Told.TheVariants.{Reading, Refused}
+use Rattle.refusal.specs.declared.Refusal.{Refusal}
+use Rattle.refusal.specs.Refusal.{number_of}
 
 -- with the count of the lines, the visits, the bytes of the table and those of the reading, which a refusal does not return
-abbrev pub nearest_said : Told → ℕ → ℕ → List ℕ → List ℕ → Said
-nearest_said (Reading d) n k tb bytes = said_with none 0 n k tb bytes d
-nearest_said (Refused m) n k tb bytes = said (some m) 0 n k tb
+abbrev pub nearest_said : Result ℕ Refusal → ℕ → ℕ → List ℕ → List ℕ → Said
+nearest_said (Ok d) n k tb bytes = said_with none 0 n k tb bytes d
+nearest_said (Err m) n k tb bytes = said (some (number_of m)) 0 n k tb
 
 -- the bytes of the reading that is returned
-abbrev pub returned : Told → List ℕ → List ℕ
-returned (Reading d) bytes = bytes
-returned (Refused m) bytes = []
+abbrev pub returned : Result ℕ Refusal → List ℕ → List ℕ
+returned (Ok d) bytes = bytes
+returned (Err m) bytes = []
 
 -- what is said by the closest reading of the n lines in a table: "a card with no line gives 35"
 abbrev pub found_said : Option Found → ℕ → ℕ → List ℕ → Said

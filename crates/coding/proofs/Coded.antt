@@ -16,7 +16,8 @@ use Rattle.theory.proofs.Basics.{le_or_lt}
 use Rattle.tables.specs.Views.{index_of}
 use Rattle.tables.proofs.Lists.{index_at, index_none}
 use Rattle.tables.specs.Codes.{code_of, codes, last_from, last_code}
-use Rattle.coding.specs.First.{no_code, FirstWith}
+use Rattle.std.specs.Prelude.{Some, None}
+use Rattle.coding.specs.First.{FirstWith}
 use Rattle.coding.proofs.Ends.{take_last, take_image, get_d_image}
 
 -- ---- the last code
@@ -51,21 +52,15 @@ module _ {t : List ℕ} {w : ℕ} {cs : List ℕ} {i : ℕ} (before : Without t 
       by j m (inr q) = before.none j q
 
   -- the next has it
-  pub first_here : i < length cs → get_or t (get_or cs i 0) 0 ≡ w → {r : ℕ} → r ≡ get_or cs i 0 → r < no_code → FirstWith (λ (c : ℕ). eqb (get_or t c 0) w) cs r
-  first_here low h {r} e small =
+  pub first_here : i < length cs → get_or t (get_or cs i 0) 0 ≡ w → {r : ℕ} → r ≡ get_or cs i 0 → FirstWith (λ (c : ℕ). eqb (get_or t c 0) w) cs (Some r)
+  first_here low h {r} e =
       let is : index_of (λ (c : ℕ). eqb (get_or t c 0) w) cs ≡ i =
       index_at (λ (c : ℕ). eqb (get_or t c 0) w) 0 cs i low before.none (eq-eqb (get_or t (get_or cs i 0) 0) w h) in
-      record {
-        found = λ q. (omega (arith, is), e ∙ ap (λ (j : ℕ). get_or cs j 0) (sym is));
-        none = λ q. absurd (omega arith);
-      }
+      (omega (arith, is), e ∙ ap (λ (j : ℕ). get_or cs j 0) (sym is))
 
   -- there is no next
-  pub first_none : length cs ≤ i → FirstWith (λ (c : ℕ). eqb (get_or t c 0) w) cs no_code
-  first_none high = record {
-    found = λ q. absurd (omega arith);
-    none = λ q. index_none (λ (c : ℕ). eqb (get_or t c 0) w) 0 cs (λ j m. before.none j (omega arith));
-  }
+  pub first_none : length cs ≤ i → FirstWith (λ (c : ℕ). eqb (get_or t c 0) w) cs None
+  first_none high = index_none (λ (c : ℕ). eqb (get_or t c 0) w) 0 cs (λ j m. before.none j (omega arith))
 
 -- ---- the first n cells are the codes of e
 module _ (D : Prefix) (e : Constraint) (cs : List ℕ) (n : ℕ) (within : n ≤ length cs) (coded : take n cs ≡ codes D e) where

@@ -16,6 +16,7 @@ pub fn place_of(code: u16) -> usize
 }
 
 // A cell of a table by code; 0 where the code is of no place that a variable can have.
+// stays (no plainer): 0 is open or free there, as a place with no variable is
 pub fn cell<'a>(table: &'a [u8; tables::CODES], code: u16) -> u8
     ensures { result ≡ get_or table.now code 0 }
 {
@@ -38,7 +39,7 @@ pub fn code_of<'a>(places: &'a [u16], lit: i16) -> u16
 }
 
 // The codes of a list of literals, in the first cells.
-pub fn encode<'a>(cells: &mut [u16], lits: &'a [i16], places: &'a [u16])
+pub fn encode(cells: &mut [u16], lits: &[i16], places: &[u16])
     requires { length lits.now ≤ length cells.old }
     ensures { (length cells.new ≡ length cells.old)
         × ((n : ℕ) → n ≤ length lits.now → last_code (take n cells.new) < code_count)
@@ -47,10 +48,8 @@ pub fn encode<'a>(cells: &mut [u16], lits: &'a [i16], places: &'a [u16])
         → length D ≤ paper.numbers
         → take (length lits.now) cells.new ≡ codes D lits.now) }
 {
-    let mut i: usize = 0;
-    while i < lits.len() {
-        cells[i] = code_of(places, lits[i]);
-        i += 1;
+    for (i, lit) in lits.iter().enumerate() {
+        cells[i] = code_of(places, *lit);
     }
 }
 

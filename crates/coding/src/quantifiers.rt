@@ -40,9 +40,8 @@ pub fn quantifiers_of<'a>(numbers: &'a [u16], kinds: &'a [u16]) -> [u8; tables::
     let count = cell_at(numbers, 0) as usize;
     let mut table = [tables::END; tables::CODES];
     put(&mut table, 0, tables::FREE as u8); // no variable's place
-    let mut place: usize = 0;
-    while place < count {
-        place += 1;
+    for i in 0..count {
+        let place = i + 1;
         let kind = kind_at(numbers, kinds, place);
         put(&mut table, place, kind);
     }

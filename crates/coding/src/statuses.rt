@@ -62,9 +62,8 @@ pub fn statuses_of<'a>(numbers: &'a [u16], values: &'a [u8], at: usize) -> [u8; 
         → Statuses s result }
 {
     let mut statuses = [tables::OPEN; tables::CODES];
-    let mut place: usize = 0;
-    while place < at {
-        place += 1;
+    for i in 0..at {
+        let place = i + 1;
         let value = value_at(numbers, values, place);
         give(&mut statuses, place, value);
     }

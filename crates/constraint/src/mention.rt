@@ -6,13 +6,11 @@ ghost use Rattle.tables.specs.Views.{Places};
 
 use literal::literal_place;
 
-pub fn last_place<'a>(lits: &'a [i16], places: &'a [u16]) -> usize
+pub fn last_place(lits: &[i16], places: &[u16]) -> usize
     ensures { (D : Prefix) → Places D places.now → result ≡ last_place D lits.now }
 {
-    let n = lits.len();
-    if n == 0 {
-        return 0;
+    match lits.last() {
+        Some(last) => literal_place(places, *last),
+        None => 0,
     }
-    let last = lits[n - 1];
-    literal_place(places, last)
 }

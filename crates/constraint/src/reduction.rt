@@ -8,7 +8,8 @@ ghost use Rattle.tables.specs.Views.{Kinds, quantifier_code};
 use literal::literal_kind;
 
 // Whether reduction drops a literal whose variable has the quantifier of this code.
-fn drops(kind: u16, cube: bool) -> bool
+// stays (no plainer): the polarity is a value, and what is dropped is its opposite quantifier
+pub fn drops(kind: u16, cube: bool) -> bool
     ensures { (κ : Quantifier) → kind ≡ quantifier_code κ → result ≡ dropped cube κ }
 {
     if cube {
@@ -18,33 +19,30 @@ fn drops(kind: u16, cube: bool) -> bool
     }
 }
 
-fn is_dropped<'a>(lit: i16, kinds: &'a [u16], cube: bool) -> bool
+fn is_dropped(lit: i16, kinds: &[u16], cube: bool) -> bool
     ensures { (D : Prefix) → Kinds D kinds.now → result ≡ dropped cube (quantifier_at D (place D lit)) }
 {
     drops(literal_kind(kinds, lit), cube)
 }
 
 // How many of the first n literals are left.
-pub fn reduced_first<'a>(lits: &'a [i16], n: usize, kinds: &'a [u16], cube: bool) -> usize
+pub fn reduced_first(lits: &[i16], n: usize, kinds: &[u16], cube: bool) -> usize
     requires { n ≤ length lits.now }
     ensures { (result ≤ n)
         × ((D : Prefix)
         → Kinds D kinds.now
         → take result lits.now ≡ reduce D cube (take n lits.now)) }
 {
-    let mut left = n;
-    while 0 < left {
-        let last = lits[left - 1];
-        if !is_dropped(last, kinds, cube) {
-            return left;
+    for i in (0..n).rev() {
+        if !is_dropped(lits[i], kinds, cube) {
+            return i + 1;
         }
-        left -= 1;
     }
-    left
+    0
 }
 
 // How many of all the literals are left.
-pub fn reduced_len<'a>(lits: &'a [i16], kinds: &'a [u16], cube: bool) -> usize
+pub fn reduced_len(lits: &[i16], kinds: &[u16], cube: bool) -> usize
     ensures { (result ≤ length lits.now)
         × ((D : Prefix) → Kinds D kinds.now → take result lits.now ≡ reduce D cube lits.now) }
 {

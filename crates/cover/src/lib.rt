@@ -13,11 +13,7 @@ ghost use Rattle.cover.specs.Cover.{Covers, first_bytes};
 pub fn clear(table: &mut [u8])
     ensures { table.new ≡ zero_table (length table.old) }
 {
-    let mut at: usize = 0;
-    while at < table.len() {
-        table[at] = tables::OPEN;
-        at += 1;
-    }
+    table.fill(tables::OPEN);
 }
 
 // "The table holds its length divided by f, rounded down; with f = 0 a line is empty and always fits." The product could be too
@@ -33,25 +29,23 @@ pub fn fits(size: usize, free: usize, lines: usize) -> bool
 
 // "A line is f bytes in place order": the statuses of the positive literals of the first k places are their bytes, then comes the value of the
 // next. The later places are open, and the free row has zeros there.
-fn write_line<'a>(row: &mut [u8], statuses: &'a [u8; tables::CODES], k: usize, value: u8)
+fn write_line(row: &mut [u8], statuses: &[u8; tables::CODES], k: usize, value: u8)
     requires k_in_bounds { k < length row.old }
     requires k_lt_numbers { k < paper.numbers }
     ensures { row.new ≡ first_bytes statuses.now k ++ (value ∷ drop (suc k) row.old) }
 {
-    let mut i: usize = 0;
-    while i < k {
+    for i in 0..k {
         row[i] = statuses[i * 2 + 3];
-        i += 1;
     }
     row[k] = value;
 }
 
 // One line more: the node of k places whose statuses are given, and the value of the next place.
-pub fn push_line<'a>(
+pub fn push_line(
     table: &mut [u8],
     lines: usize,
     free: usize,
-    statuses: &'a [u8; tables::CODES],
+    statuses: &[u8; tables::CODES],
     k: usize,
     value: u8,
 )

@@ -4,37 +4,13 @@ use mathlib.Core.Path.{◌≡◌, refl}
 use mathlib.Core.Bool.{Bool, true, false, cond, ◌&&◌, ◌||◌, beq}
 use mathlib.Core.List.{List}
 use mathlib.Core.Option.{Option, none, some}
-use borrow.Author.Tests.{ne_eqb}
 use lib.Dec.{eqb}
 use lib.IntN.{pos, negsuc}
-use lib.ListN.{get_or}
 use Rattle.qbf.specs.Formula.{is_forall, Prefix, Literal, Clause, Node, number_of, positive, place, quantifier_at, value_at, equals, is_open, has, all, dead}
-use Rattle.tables.specs.Views.{value_code, Kinds, Values, signed, status}
+use Rattle.tables.specs.Views.{value_code, Kinds, Values, signed}
 use Rattle.tables.proofs.Laws.{kinds_dropped}
 use Rattle.tables.proofs.Lists.{all_same}
-
--- not true, and forall where it is open
-unfoldable pub lost : List ℕ → List ℕ → Literal → Bool
-lost ks vs l = cond (eqb (status vs l) 2) false (cond (eqb (status vs l) 0) (eqb (get_or ks (number_of l) 0) 2) true)
-
--- ---- by the tests of a literal's status and of its kind
-module _ (ks vs : List ℕ) (l : Literal) {v : ℕ} (is : v ≡ status vs l) where
-  pub lost_not_true : v ≡ 2 → lost ks vs l ≡ false
-  unfolding lost
-  lost_not_true h = rw (← is, h)
-
-  pub lost_not_false : (v ≡ 2 → ⊥) → (v ≡ 0 → ⊥) → lost ks vs l ≡ true
-  unfolding lost
-  lost_not_false h e = rw (← is, ne_eqb v 2 h, ne_eqb v 0 e)
-
-  module _ {k : ℕ} (kind : k ≡ get_or ks (number_of l) 0) (unset : v ≡ 0) where
-    pub lost_not_hope : (k ≡ 2 → ⊥) → lost ks vs l ≡ false
-    unfolding lost
-    lost_not_hope h = rw (← is, unset, ← kind, ne_eqb k 2 h)
-
-    pub lost_forall : k ≡ 2 → lost ks vs l ≡ true
-    unfolding lost
-    lost_forall h = rw (← is, unset, ← kind, h)
+use Rattle.dead_clauses.specs.Dead.{lost}
 
 -- ---- what the tables show
 cases : (l : Literal) (o : Option Bool) (b : Bool)
@@ -48,7 +24,6 @@ cases (negsuc n) (some false) b = refl
 
 module _ (D : Prefix) (s : Node) {ks vs : List ℕ} (kinds : Kinds D ks) (values : Values D s vs) where
   lost_is : (l : Literal) → lost ks vs l ≡ (has D false s l || (is_open (value_at s (place D l)) && is_forall (quantifier_at D (place D l))))
-  unfolding lost
   lost_is l = rw (values.at (number_of l), kinds_dropped D ks kinds false l) (cases l (value_at s (place D l)) (is_forall (quantifier_at D (place D l))))
 
   pub lost_dead : (c : Clause) → all (lost ks vs) c ≡ dead D s c

@@ -2,68 +2,54 @@
 #![tactic(auto)]
 
 ghost use Rattle.std.specs.Prelude.{◌≡◌, ◌≤◌, get_or};
-ghost use Rattle.qbf.specs.Formula.{paper, Prefix, Node, any, dead};
-ghost use Rattle.tables.specs.Views.{Kinds, Values, Standing, rows_of};
-ghost use Rattle.dead_clauses.specs.Dead.{NextDead};
+ghost use Rattle.qbf.specs.Formula.{Prefix, Node, any, dead};
+ghost use Rattle.tables.specs.Views.{Kinds, Values, rows_of};
+ghost use Rattle.dead_clauses.specs.Dead.{lost, NextDead};
 
-use literal::{TRUE, cell_at, kind_of, number_of, status_of};
+use lent_rows::LentRows;
+use literal::{TRUE, literal_kind, status_of};
 
-// The index of the first dead clause from `from` on; the count of the clauses where none is. A true literal leaves its clause by the label,
-// and so does an open one that is not forall: "In this test a flag counts as exists."
-pub fn next_dead<'a>(
-    clauses: &'a [i16],
-    sizes: &'a [u16],
-    kinds: &'a [u16],
-    values: &'a [u8],
-    from: usize,
-) -> usize
-    requires { Standing paper.literals clauses.now sizes.now × (from ≤ get_or sizes.now 0 0) }
+// Whether a literal keeps no hope: not true, and forall where it is open. "In this test a flag counts as exists."
+fn is_lost(lit: i16, kinds: &[u16], values: &[u8]) -> bool
+    ensures { result ≡ lost kinds.now values.now lit }
+{
+    match status_of(values, lit) {
+        TRUE => false,
+        tables::OPEN => literal_kind(kinds, lit) == tables::FORALL,
+        _ => true,
+    }
+}
+
+// The index of the first dead clause from `from` on. A literal that is not lost leaves its clause by the label.
+pub fn next_dead(clauses: LentRows, kinds: &[u16], values: &[u8], from: usize) -> Option<usize>
+    requires { from ≤ get_or clauses.sizes.now 0 0 }
     ensures { NextDead
-        clauses.now
-        sizes.now
+        clauses.entry.width
+        clauses.entry.cells.now
+        clauses.entry.sizes.now
         kinds.now
         values.now
         from
         result }
 {
-    let count = cell_at(sizes, 0) as usize;
-    'clauses: for k in from..count {
-        let size = cell_at(sizes, k + 1) as usize;
-        for i in 0..size {
-            let lit = clauses[k * tables::LITERALS + i];
-            let status = status_of(values, lit);
-            if status == TRUE {
+    'clauses: for k in from..clauses.count() {
+        for lit in clauses.row(k) {
+            if !is_lost(*lit, kinds, values) {
                 continue 'clauses;
             }
-            if status == tables::OPEN {
-                let kind = kind_of(kinds, number_of(lit));
-                let hope = kind != tables::FORALL;
-                if hope {
-                    continue 'clauses;
-                }
-            }
         }
-        return k;
+        return Some(k);
     }
-    count
+    None
 }
 
 // Whether a clause is dead, at whatever node the values show.
-pub fn any_dead<'a>(
-    clauses: &'a [i16],
-    sizes: &'a [u16],
-    kinds: &'a [u16],
-    values: &'a [u8],
-) -> bool
-    requires { Standing paper.literals clauses.now sizes.now }
+pub fn any_dead(clauses: LentRows, kinds: &[u16], values: &[u8]) -> bool
     ensures { (D : Prefix) (s : Node)
         → Kinds D kinds.now
         → Values D s values.now
-        → result ≡ any (dead D s) (rows_of paper.literals clauses.now sizes.now) }
+        → result
+        ≡ any (dead D s) (rows_of clauses.entry.width clauses.entry.cells.now clauses.entry.sizes.now) }
 {
-    let count = cell_at(sizes, 0) as usize;
-    if next_dead(clauses, sizes, kinds, values, 0) < count {
-        return true;
-    }
-    false
+    next_dead(clauses, kinds, values, 0).is_some()
 }

@@ -1,5 +1,7 @@
 -- What a conversion answers.
-use Rattle.std.specs.Prelude.{ℕ, zero, suc, ◌≡◌}
+use Rattle.std.specs.Prelude.{ℕ, zero, suc, ◌≤◌, ◌≡◌, length, take, Result, Ok, Err}
+use Rattle.refusal.specs.Refusal.{number_of}
+use Rattle.opening.specs.declared.text.RefusedAt.{RefusedAt}
 use Rattle.layout.specs.Words.{Bytes}
 use Rattle.editions.specs.Converting.{Converted, converted, refused, length_of, table_of}
 use Rattle.edition_conversion.specs.declared.Converted.{Converted as Answer}
@@ -19,6 +21,13 @@ pub record ConvertedAs (size : ℕ) (c : Converted) (r : Answer) (table : Bytes)
   pub line : r.line ≡ line_of c
   pub count : r.length ≡ length_of c
   pub stands : table ≡ table_of size c
+
+-- the text in the first bytes of its table, and their count; or the refusal with its line
+abbrev pub WrittenAs : Converted → Result ℕ RefusedAt → Bytes → Type 0
+WrittenAs (converted t) (Ok n) d = (n ≡ length t) × (n ≤ length d) × (take n d ≡ t)
+WrittenAs (converted t) (Err r) d = ⊥
+WrittenAs (refused k l) (Ok n) d = ⊥
+WrittenAs (refused k l) (Err r) d = (number_of r.refusal ≡ k) × (r.line ≡ l)
 
 -- no refusal is 0, so that the number tells whether the text was converted
 abbrev pub Numbered : Converted → Type 0

@@ -1,12 +1,12 @@
 -- An exactly-one form on the state that stands, by the call for it.
 use Prim.Native.Nat.{ℕ}
 use mathlib.Core.Path.{◌≡◌, refl, sym, ap, subst, ◌∙◌}
-use mathlib.Core.Bool.{Bool, true, false, not}
+use mathlib.Core.Bool.{Bool, true}
 use mathlib.Core.List.{List}
 use mathlib.Core.Option.{Option, none, some}
 use native.Mathlib.Omega.{arith}
 use lib.IntN.{ℤ}
-use Rattle.qbf.specs.Formula.{Formula}
+use Rattle.qbf.specs.Formula.{Literal, Formula}
 use Rattle.qbf.specs.Learning.{empty_store}
 use Rattle.qbf.specs.Calls.{State as Read, one as one_call, answer, rule_reply, one_fault, with_one, store_after_rule, well_formed, guarded}
 use Rattle.qbf.specs.Runs.{fresh}
@@ -15,40 +15,56 @@ use Rattle.theory.proofs.OneAdded.{one_formed}
 use Rattle.layout_laws.proofs.Opened.{fresh_formed}
 use Rattle.state.specs.declared.State.{State}
 use Rattle.state.specs.Reading.{read_state, formula_in}
-use Rattle.serving.specs.Serves.{Said, said_of, number, fault_of, out_of, next_of, Serves}
-use Rattle.serving.proofs.Numbered.{served_told}
+use Rattle.std.specs.Prelude.{Result, Ok, Err}
+use Rattle.refusal.specs.declared.Refusal.{Refusal}
+use Rattle.refusal.specs.Refusal.{fault_in}
+use Rattle.serving.specs.Serves.{Said, said_of, number, out_of, next_of, Serves}
 use Rattle.layout.specs.Opening.{allowed}
 use Rattle.editions.specs.Lines.{one}
+use Rattle.editions.specs.Opening.{line_fault}
+use Rattle.opening.specs.declared.stage.Stage.TheVariants as stages
+use Rattle.opening.specs.Stages.{rank_of, placed}
+use Rattle.rules.specs.Rules.{change_said}
 use Rattle.opening.specs.Opened.{Standing}
 use Rattle.opening.proofs.Taking.{read_is}
-use Rattle.edition_opening.specs.declared.line.Step.{Step}
-use Rattle.edition_opening.specs.Lines.{OneTook}
-use Rattle.edition_opening.proofs.Taking.{misplaced, placed_fault}
+use Rattle.edition_opening.specs.declared.book.EditionBook.{EditionBook}
+use Rattle.edition_opening.specs.Editions.{accepted, edition_of}
+use Rattle.edition_opening.specs.Lines.{Stood, OneTook}
+use Rattle.edition_opening.proofs.Taking.{refused_line, misplaced, placed_fault}
 
-module _ {stage : ℕ} {x : State} (s : Standing stage x) (e : ℕ) (lits : List ℤ) {t : Bool} (v : t ≡ allowed stage 3) where
-  pub one_misplaced : not t ≡ true → {r : Step} → r.refusal ≡ 1 → OneTook stage e x lits r
-  one_misplaced g {r} h = λ a ls p q. misplaced a e stage (formula_in x) (one ls) v g {r = r} h
+module _ (z : EditionBook) (s : Stood z) (lits : List ℤ) where
+  abbrev x : State
+  x = z.book.state
 
-  -- the call was answered by a and left x'; n is the number of its refusal
-  module _ (g : not t ≡ false) {a : Said} {n : ℕ} {x' : State} (w : Serves x (one_call lits) a x') (is : n ≡ number a.refusal) where
+  pub one_misplaced : {q : Refusal} → Err q ≡ placed (allowed (rank_of z.book.stage) 3) → OneTook z lits (Err q)
+  one_misplaced v = λ ls p q. misplaced (accepted z.accepts) (edition_of z.edition) (rank_of z.book.stage) (formula_in x) (one ls) v
+
+  -- the call was answered by r and left x'
+  module _ {u : Unit {0}} (v : Ok u ≡ placed (allowed (rank_of z.book.stage) 3)) (r : Result (Unit {0}) Refusal) {x' : State} (w : Serves x (one_call lits) (change_said r) x') where
     formed : well_formed (fresh (formula_in x)) ≡ true
     formed = fresh_formed (formula_in x) s.reached.facts
 
-    fault_is : one_fault (formula_in x) lits ≡ fault_of n
-    fault_is = sym refused ∙ sym (ap (λ (q : Said). q.refusal) (served_told w)) ∙ ap fault_of (sym is)
+    fault_is : one_fault (formula_in x) lits ≡ fault_in r
+    fault_is = sym refused
       where
         reply : (o : Option ℕ) → (said_of (answer (rule_reply o) 0)).refusal ≡ o
         reply none = refl
         reply (some k) = refl
 
-        refused : a.refusal ≡ one_fault (formula_in x) lits
+        refused : fault_in r ≡ one_fault (formula_in x) lits
         refused =
             ap (λ (q : Said). q.refusal) w.answered ∙ ap (λ (o : Option Read). (said_of (out_of o (one_call lits))).refusal) s.read
             ∙ ap (λ (u : Bool). (said_of (guarded u (fresh (formula_in x)) (one_call lits)).out).refusal) formed ∙ reply (one_fault (formula_in x) lits)
 
-    module _ (z : n ≡ 0) where
+    judged : (ls : List Literal) → one_fault (formula_in x) lits ≡ one_fault (formula_in x) ls → line_fault (accepted z.accepts) (edition_of z.edition) (rank_of z.book.stage) (formula_in x) (one ls) ≡ fault_in r
+    judged ls p = placed_fault (accepted z.accepts) (edition_of z.edition) (rank_of z.book.stage) (formula_in x) (one ls) v refl ∙ sym p ∙ fault_is
+
+    pub one_refused : {q : Refusal} → Err q ≡ r → OneTook z lits (Err q)
+    one_refused e = λ ls p q. refused_line (accepted z.accepts) (edition_of z.edition) (rank_of z.book.stage) (formula_in x) (one ls) (judged ls p ∙ sym (ap fault_in e))
+
+    module _ {u' : Unit {0}} (e : Ok u' ≡ r) where
       fine : one_fault (formula_in x) lits ≡ none
-      fine = fault_is ∙ ap fault_of z
+      fine = fault_is ∙ sym (ap fault_in e)
 
       next_read : read_state x' ≡ some (fresh (with_one none (formula_in x) lits))
       next_read =
@@ -70,14 +86,9 @@ module _ {stage : ℕ} {x : State} (s : Standing stage x) (e : ℕ) (lits : List
             };
           }
 
-    pub one_taken : OneTook stage e x lits (record { refusal = n; stage = 3; edition = e; state = x' })
-    one_taken = λ c ls p q.
-        record {
-          fault = placed_fault c e stage (formula_in x) (one ls) v g refl ∙ sym p ∙ fault_is;
-          advanced = λ z. record {
-            formula = formula_after z ∙ ap (with_one none (formula_in x)) (q (sym p ∙ fine z));
-            stage = refl;
-            edition = refl;
-            stands = stands z;
-          };
-        }
+      pub one_taken : OneTook z lits (Ok (record { accepts = z.accepts; edition = z.edition; book = record { stage = stages.Rule; state = x' } }))
+      one_taken = λ ls p q.
+          record {
+            fault = judged ls p ∙ sym (ap fault_in e);
+            advanced = record { formula = formula_after ∙ ap (with_one none (formula_in x)) (q (sym p ∙ fine)); stage = refl; edition = refl; accepts = refl; stands = stands };
+          }

@@ -2,30 +2,32 @@
 use Prim.Native.Nat.{ℕ, suc, ◌≤◌, min}
 use mathlib.Core.Path.{◌≡◌, refl, sym, ap, subst, ◌∙◌}
 use mathlib.Core.List.{List, [], ◌∷◌}
-use mathlib.Core.Option.{Option, none, some}
+use mathlib.Core.Option.{Option, some}
 use lib.IntN.{ℤ, pos}
 use lib.ListN.{length, get_or, take}
 use native.Mathlib.Omega.{arith}
 use Rattle.qbf.specs.Formula.{paper, number_of}
-use Rattle.state.specs.declared.State.{State}
 use Rattle.state.specs.Reading.{formula_in}
 use Rattle.layout.specs.Forms.{book, block, clause, end}
 use Rattle.reader.specs.Items.{narrow, Kept}
 use Rattle.reader.proofs.Judged.{rule_cut, rule_cut_same}
 use Rattle.editions.specs.Lines.{says}
 use Rattle.editions.specs.Lines as form
-use Rattle.editions.specs.Opening.{Editions}
-use Rattle.edition_reader.specs.Lines.{LineRead}
+use Rattle.edition_reader.specs.Lines.{LineIs}
 use Rattle.edition_reader.specs.declared.line.Line.TheVariants as line
-use Rattle.opening.specs.declared.line.Taken.{Taken}
-use Rattle.opening.specs.Opened.{Standing, TookForm, BlockTook}
-use Rattle.opening.proofs.Lines as own
-use Rattle.edition_opening.specs.declared.line.Step.{Step}
-use Rattle.edition_opening.specs.Lines.{step_of, TookLine, Took, PlainTook, TaggedTook, OneTook}
+use Rattle.std.specs.Prelude.{Result}
+use Rattle.refusal.specs.declared.Refusal.{Refusal}
+use Rattle.opening.specs.declared.book.Book.{Book}
+use Rattle.opening.specs.Stages.{rank_of}
+use Rattle.opening.specs.Opened.{TookForm, BlockTook}
+use Rattle.opening.proofs.Judging as own
+use Rattle.edition_opening.specs.declared.book.EditionBook.{EditionBook}
+use Rattle.edition_opening.specs.Editions.{accepted, edition_of}
+use Rattle.edition_opening.specs.Lines.{Stood, kept_with, TookOn, Took, PlainTook, TaggedTook, OneTook}
 use Rattle.edition_opening.proofs.Taking.{block_kept}
 use Rattle.edition_opening.proofs.Judged.{one_cut, one_cut_same}
 
-pub block_code : {o : Option form.Line} {κ n : ℕ} {out : List ℤ} → LineRead o (line.Block κ n) out → κ ≤ 2
+pub block_code : {o : Option form.Line} {κ n : ℕ} {out : List ℤ} → LineIs o (line.Block κ n) out → κ ≤ 2
 block_code (q, c, (ns, f, k)) = own.block_code {o = some (block q ns)} (q, c, (ns, refl, k))
 
 -- the first item of a table that keeps one
@@ -33,35 +35,35 @@ first_kept : (out : List ℤ) (e : ℕ) → length out ≡ suc paper.numbers →
 first_kept [] e room k = absurd (omega (arith, room))
 first_kept (z ∷ out) e room k = ap (λ (l : List ℤ). get_or l 0 (pos 0)) k.first
 
-module _ (a : Editions) (e : ℕ) {stage : ℕ} {x : State} (s : Standing stage x) {o : Option form.Line} where
-  pub line_none : (r : Step) → o ≡ none → r.refusal ≡ 1 → Took a e stage (formula_in x) o r
-  line_none r q h = subst (λ (p : Option form.Line). Took a e stage (formula_in x) p r) (sym q) h
+abbrev pub TookHere : EditionBook → Option form.Line → Result EditionBook Refusal → Type 0
+TookHere z o r = Took (accepted z.accepts) (edition_of z.edition) (rank_of z.book.stage) (formula_in z.book.state) o r
 
-  line_some : (r : Step) (f : form.Line) → o ≡ some f → TookLine a e stage (formula_in x) f r → Took a e stage (formula_in x) o r
-  line_some r f q h = subst (λ (p : Option form.Line). Took a e stage (formula_in x) p r) (sym q) h
+module _ (z : EditionBook) (s : Stood z) {o : Option form.Line} where
+  line_some : (r : Result EditionBook Refusal) (f : form.Line) → o ≡ some f → TookOn z f r → TookHere z o r
+  line_some r f q h = subst (λ (p : Option form.Line). Took (accepted z.accepts) (edition_of z.edition) (rank_of z.book.stage) (formula_in z.book.state) p r) (sym q) h
 
-  pub line_end : (t : Taken) → o ≡ some (says end) → TookForm stage (formula_in x) end t → Took a e stage (formula_in x) o (step_of e t)
-  line_end t q h = line_some (step_of e t) (says end) q (block_kept a e stage (formula_in x) end h refl refl)
+  pub line_end : (t : Result Book Refusal) → o ≡ some (says end) → TookForm (rank_of z.book.stage) (formula_in z.book.state) end t → TookHere z o (kept_with z t)
+  line_end t q h = line_some (kept_with z t) (says end) q (block_kept z end t h refl refl)
 
   module _ (out : List ℤ) (room : length out ≡ suc paper.numbers) where
-    pub line_book : (r : Step) → LineRead o line.Book out → {z : ℤ} → z ≡ get_or out 0 (pos 0) → {m : ℕ} → m ≡ number_of z → ((n : ℕ) → m ≡ narrow n → TookLine a e stage (formula_in x) (says (book n)) r) → Took a e stage (formula_in x) o r
+    pub line_book : (r : Result EditionBook Refusal) → LineIs o line.Book out → {i : ℤ} → i ≡ get_or out 0 (pos 0) → {m : ℕ} → m ≡ number_of i → ((n : ℕ) → m ≡ narrow n → TookOn z (says (book n)) r) → TookHere z o r
     line_book r (n, h, k) p q w = line_some r (says (book n)) h (w n (q ∙ ap number_of (p ∙ first_kept out n room k)))
 
-    pub line_block : (t : Taken) (κ n : ℕ) {m : ℕ} → m ≡ min n (suc paper.numbers) → LineRead o (line.Block κ n) out → BlockTook stage x κ (take m out) t → Took a e stage (formula_in x) o (step_of e t)
+    pub line_block : (t : Result Book Refusal) (κ n : ℕ) {m : ℕ} → m ≡ min n (suc paper.numbers) → LineIs o (line.Block κ n) out → BlockTook (rank_of z.book.stage) z.book.state κ (take m out) t → TookHere z o (kept_with z t)
     line_block t κ n p (q, c, (ns, h, k)) w =
-        line_some (step_of e t) (says (block q ns)) h (block_kept a e stage (formula_in x) (block q ns) (own.line_block s {o = some (block q ns)} {out = out} {r = t} room κ n p (q, c, (ns, refl, k)) w) refl refl)
+        line_some (kept_with z t) (says (block q ns)) h (block_kept z (block q ns) t (own.line_block s {o = some (block q ns)} {out = out} {r = t} room κ n p (q, c, (ns, refl, k)) w) refl refl)
 
-    pub line_rule : (r : Step) (n : ℕ) {m : ℕ} → m ≡ min n (suc paper.numbers) → LineRead o (line.Rule n) out → PlainTook stage e x (take m out) r → Took a e stage (formula_in x) o r
+    pub line_rule : (r : Result EditionBook Refusal) (n : ℕ) {m : ℕ} → m ≡ min n (suc paper.numbers) → LineIs o (line.Rule n) out → PlainTook z (take m out) r → TookHere z o r
     line_rule r n p (ls, h, k) w =
         line_some r (says (clause ls)) h
-        (subst (λ (m : ℕ). PlainTook stage e x (take m out) r) p w a ls (rule_cut (formula_in x) refl n out ls room k) (rule_cut_same (formula_in x) refl n out ls room k))
+        (subst (λ (m : ℕ). PlainTook z (take m out) r) p w ls (rule_cut (formula_in z.book.state) refl n out ls room k) (rule_cut_same (formula_in z.book.state) refl n out ls room k))
 
-    pub line_tagged : (r : Step) (j n : ℕ) {m : ℕ} → m ≡ min n (suc paper.numbers) → LineRead o (line.Tagged j n) out → TaggedTook stage e x j (take m out) r → Took a e stage (formula_in x) o r
+    pub line_tagged : (r : Result EditionBook Refusal) (j n : ℕ) {m : ℕ} → m ≡ min n (suc paper.numbers) → LineIs o (line.Tagged j n) out → TaggedTook z j (take m out) r → TookHere z o r
     line_tagged r j n p (ls, h, k) w =
         line_some r (form.tagged j ls) h
-        (subst (λ (m : ℕ). TaggedTook stage e x j (take m out) r) p w a ls (rule_cut (formula_in x) refl n out ls room k) (rule_cut_same (formula_in x) refl n out ls room k))
+        (subst (λ (m : ℕ). TaggedTook z j (take m out) r) p w ls (rule_cut (formula_in z.book.state) refl n out ls room k) (rule_cut_same (formula_in z.book.state) refl n out ls room k))
 
-    pub line_one : (r : Step) (n : ℕ) {m : ℕ} → m ≡ min n (suc paper.numbers) → LineRead o (line.One n) out → OneTook stage e x (take m out) r → Took a e stage (formula_in x) o r
+    pub line_one : (r : Result EditionBook Refusal) (n : ℕ) {m : ℕ} → m ≡ min n (suc paper.numbers) → LineIs o (line.One n) out → OneTook z (take m out) r → TookHere z o r
     line_one r n p (ls, h, k) w =
         line_some r (form.one ls) h
-        (subst (λ (m : ℕ). OneTook stage e x (take m out) r) p w a ls (one_cut (formula_in x) refl n out ls room k) (one_cut_same (formula_in x) refl n out ls room k))
+        (subst (λ (m : ℕ). OneTook z (take m out) r) p w ls (one_cut (formula_in z.book.state) refl n out ls room k) (one_cut_same (formula_in z.book.state) refl n out ls room k))

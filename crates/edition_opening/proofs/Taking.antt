@@ -1,79 +1,77 @@
 -- The lines of either edition, each on the state that stands.
-use Prim.Native.Nat.{ℕ, suc, ◌≤◌, ◌<◌}
+use Prim.Native.Nat.{ℕ, ◌≤◌, ◌<◌}
 use mathlib.Core.Path.{◌≡◌, refl, sym, ap, subst, ◌∙◌}
-use mathlib.Core.Bool.{Bool, true, false, not, ◌||◌, true≢false, false≢true}
+use mathlib.Core.Bool.{Bool, true, false, not, ◌||◌, true≢false}
 use mathlib.Core.List.{List, []}
-use mathlib.Core.Option.{none, some}
+use mathlib.Core.Option.{some}
 use native.Mathlib.Omega.{arith}
-use borrow.Author.Tests.{eq-eqb, ne_eqb, eqb-true}
+use borrow.Author.Tests.{eqb-true}
 use lib.Dec.{eqb, leb, ltb}
 use lib.IntN.{ℤ}
 use lib.ListN.{length}
 use Rattle.qbf.specs.Formula.{Formula, Literal}
 use Rattle.qbf.specs.Calls.{given, rule_fault, literal_fault, ◌or_else◌}
-use Rattle.state.specs.declared.State.{State}
 use Rattle.state.specs.Reading.{formula_in}
-use Rattle.serving.specs.Serves.{fault_of}
+use Rattle.std.specs.Prelude.{Some, Result, Ok, Err}
+use Rattle.refusal.specs.declared.Refusal.{Refusal}
+use Rattle.refusal.specs.declared.Refusal.TheVariants as refusal
+use Rattle.refusal.specs.Refusal.{number_of, fault_in}
 use Rattle.layout.specs.Forms.{Form, book, clause}
 use Rattle.layout.specs.Opening.{rank, allowed, stage_after, form_fault}
 use Rattle.layout.specs.Opening as own
 use Rattle.layout_laws.proofs.Opened.{allowed_is}
 use Rattle.reader.specs.Items.{narrow}
 use Rattle.editions.specs.Lines.{Line, says, tagged}
-use Rattle.editions.specs.Opening.{Editions, rank_of, tags_fit, said_fault, line_fault, with_line, edition_after}
-use Rattle.opening.specs.declared.line.Taken.{Taken}
+use Rattle.editions.specs.Opening.{Editions, rank_of, tags_fit, said_fault, line_fault, edition_after}
+use Rattle.opening.specs.declared.book.Book.{Book}
+use Rattle.opening.specs.declared.stage.Stage.TheVariants as stages
+use Rattle.opening.specs.Stages as stage_ranks
+use Rattle.opening.specs.Stages.{placed}
 use Rattle.opening.specs.Opened.{Standing, TookForm, RuleTook}
-use Rattle.edition_opening.specs.declared.line.Step.{Step}
+use Rattle.edition_opening.specs.declared.Edition.{Edition}
+use Rattle.edition_opening.specs.declared.book.EditionBook.{EditionBook}
 use Rattle.edition_opening.specs.declared.Editions.{Editions as Accepted}
 use Rattle.edition_opening.specs.declared.Editions.TheVariants.{First, Second, Both}
-use Rattle.edition_opening.specs.Editions.{accepted}
-use Rattle.edition_opening.specs.Lines.{step_of, TookLine, PlainTook, TaggedTook, out_of_range}
+use Rattle.edition_opening.specs.Editions.{accepted, edition_of, EditionRead}
+use Rattle.edition_opening.specs.Lines.{Stood, kept_with, TookLine, TookOn, PlainTook, TaggedTook, out_of_range}
 
 -- ---- refusals
-pub not_none : (n : ℕ) (r : Step) → r.refusal ≡ suc n → r.refusal ≡ 0 → ⊥
-not_none n r e z = let y : ◌≡◌ {A = ℕ} 0 (suc n) = sym z ∙ e in omega (arith, y)
-
 module _ (a : Editions) (e stage : ℕ) (b : Formula) (f : Line) where
-  pub refused_line : (n : ℕ) {r : Step} → line_fault a e stage b f ≡ some (suc n) → r.refusal ≡ suc n → TookLine a e stage b f r
-  refused_line n {r} q h = record { fault = q ∙ sym (ap fault_of h); advanced = λ z. absurd (not_none n r h z) }
+  pub refused_line : {q : Refusal} → line_fault a e stage b f ≡ some (number_of q) → TookLine a e stage b f (Err q)
+  refused_line k = record { fault = k; advanced = tt }
 
   -- a line that may not stand here
-  pub misplaced : {t : Bool} → t ≡ allowed stage (rank_of f) → not t ≡ true → {r : Step} → r.refusal ≡ 1 → TookLine a e stage b f r
-  misplaced {t} q g {r} h = refused_line 0 {r = r} (out t q g) h
+  pub misplaced : {q : Refusal} → Err q ≡ placed (allowed stage (rank_of f)) → TookLine a e stage b f (Err q)
+  misplaced {q} g = by (allowed stage (rank_of f)) refl g
     where
-      out : (t : Bool) → t ≡ allowed stage (rank_of f) → not t ≡ true → line_fault a e stage b f ≡ some 1
-      out true q g = absurd (false≢true g)
-      out false q g = ap (λ (x : Bool). given (not x) 1 or_else given (not (tags_fit e f)) 1 or_else said_fault a b f) (sym q)
+      by : (t : Bool) → t ≡ allowed stage (rank_of f) → Err q ≡ placed t → TookLine a e stage b f (Err q)
+      by true k g = cc
+      by false k g = refused_line (ap (λ (x : Bool). given (not x) 1 or_else given (not (tags_fit e f)) 1 or_else said_fault a b f) (sym k) ∙ sym (ap fault_in g))
 
   -- a rule without the tag that its edition asks for, or with one
-  pub untagged : tags_fit e f ≡ false → {r : Step} → r.refusal ≡ 1 → TookLine a e stage b f r
-  untagged q {r} h = refused_line 0 {r = r} (ap (λ (x : Bool). given (not (allowed stage (rank_of f))) 1 or_else given (not x) 1 or_else said_fault a b f) q ∙ by (not (allowed stage (rank_of f)))) h
+  pub untagged : tags_fit e f ≡ false → TookLine a e stage b f (Err refusal.NotInLayout)
+  untagged q = refused_line (ap (λ (x : Bool). given (not (allowed stage (rank_of f))) 1 or_else given (not x) 1 or_else said_fault a b f) q ∙ by (not (allowed stage (rank_of f))))
     where
       by : (x : Bool) → (given x 1 or_else given true 1 or_else said_fault a b f) ≡ some 1
       by true = refl
       by false = refl
 
   -- one that may stand, with or without its tag as it should be: its own faults
-  pub placed_fault : {t : Bool} → t ≡ allowed stage (rank_of f) → not t ≡ false → tags_fit e f ≡ true → line_fault a e stage b f ≡ said_fault a b f
-  placed_fault {t} q g s =
-      ap (λ (x : Bool). given (not x) 1 or_else given (not (tags_fit e f)) 1 or_else said_fault a b f) (sym q)
-      ∙ ap (λ (x : Bool). given x 1 or_else given (not (tags_fit e f)) 1 or_else said_fault a b f) g
-      ∙ ap (λ (x : Bool). given (not x) 1 or_else said_fault a b f) s
+  pub placed_fault : {u : Unit {0}} → Ok u ≡ placed (allowed stage (rank_of f)) → tags_fit e f ≡ true → line_fault a e stage b f ≡ said_fault a b f
+  placed_fault {u} q s = by (allowed stage (rank_of f)) refl q ∙ ap (λ (x : Bool). given (not x) 1 or_else said_fault a b f) s
+    where
+      by : (t : Bool) → t ≡ allowed stage (rank_of f) → Ok u ≡ placed t → line_fault a e stage b f ≡ (given (not (tags_fit e f)) 1 or_else said_fault a b f)
+      by true k g = ap (λ (x : Bool). given (not x) 1 or_else given (not (tags_fit e f)) 1 or_else said_fault a b f) (sym k)
+      by false k g = cc
 
 -- ---- forms of the first edition
-module _ (a : Editions) (e stage : ℕ) (b : Formula) {t : Taken} where
-  pub block_kept : (f : Form) → TookForm stage b f t → line_fault a e stage b (says f) ≡ own.line_fault stage b f → edition_after e (says f) ≡ e → TookLine a e stage b (says f) (step_of e t)
-  block_kept f w q s =
-      record {
-        fault = q ∙ w.fault;
-        advanced = λ z. let v = w.advanced z in record { formula = by f v.formula; stage = by_stage f v.stage; edition = sym s; stands = v.stands };
-      }
-    where
-      by : (f : Form) → formula_in t.state ≡ own.with_form b f → formula_in t.state ≡ with_line b (says f)
-      by f h = h
-
-      by_stage : (f : Form) → t.stage ≡ stage_after (rank f) → t.stage ≡ stage_after (rank_of (says f))
-      by_stage f h = h
+module _ (z : EditionBook) (f : Form) where
+  pub block_kept : (r : Result Book Refusal) → TookForm (stage_ranks.rank_of z.book.stage) (formula_in z.book.state) f r
+      → line_fault (accepted z.accepts) (edition_of z.edition) (stage_ranks.rank_of z.book.stage) (formula_in z.book.state) (says f) ≡ own.line_fault (stage_ranks.rank_of z.book.stage) (formula_in z.book.state) f
+      → edition_after (edition_of z.edition) (says f) ≡ edition_of z.edition → TookOn z (says f) (kept_with z r)
+  block_kept (Err q) w k s = record { fault = k ∙ w.fault; advanced = tt }
+  block_kept (Ok y) w k s =
+      record { fault = k ∙ w.fault; advanced = record { formula = w.advanced.formula; stage = w.advanced.stage; edition = sym s; accepts = refl; stands = w.advanced.stands } }
 
 -- ---- the book's line
 either : (a : Accepted) (e : ℕ) → accepted a e ≡ true → e ≤ 2
@@ -110,88 +108,90 @@ same_taken a e = by (accepted a (narrow e)) refl
             small = omega (arith, either a e p)
         more false p = q ∙ sym p
 
-module _ (a : Accepted) {stage : ℕ} {x : State} (s : Standing stage x) (edition : ℕ) {t : Bool} (q : t ≡ allowed stage 0) where
-  pub book_misplaced : not t ≡ true → (e : ℕ) {r : Step} → r.refusal ≡ 1 → TookLine (accepted a) edition stage (formula_in x) (says (book e)) r
-  book_misplaced g e {r} h = misplaced (accepted a) edition stage (formula_in x) (says (book e)) q g {r = r} h
+module _ (z : EditionBook) (s : Stood z) where
+  pub book_misplaced : {q : Refusal} → Err q ≡ placed (allowed (stage_ranks.rank_of z.book.stage) 0) → (e : ℕ) → TookOn z (says (book e)) (Err q)
+  book_misplaced k e = misplaced (accepted z.accepts) (edition_of z.edition) (stage_ranks.rank_of z.book.stage) (formula_in z.book.state) (says (book e)) k
 
-  module _ (g : not t ≡ false) (e : ℕ) {m : ℕ} (p : m ≡ narrow e) {u : Bool} (k : u ≡ accepted a m) where
-    taken_is : u ≡ accepted a e
-    taken_is = k ∙ ap (accepted a) p ∙ same_taken a e
+  module _ {u : Unit {0}} (k : Ok u ≡ placed (allowed (stage_ranks.rank_of z.book.stage) 0)) (e : ℕ) {m : ℕ} (p : m ≡ narrow e) where
+    fault_is : line_fault (accepted z.accepts) (edition_of z.edition) (stage_ranks.rank_of z.book.stage) (formula_in z.book.state) (says (book e)) ≡ given (not (accepted z.accepts m)) 2
+    fault_is =
+        placed_fault (accepted z.accepts) (edition_of z.edition) (stage_ranks.rank_of z.book.stage) (formula_in z.book.state) (says (book e)) k refl
+        ∙ ap (λ (y : Bool). given (not y) 2) (sym (ap (accepted z.accepts) p ∙ same_taken z.accepts e))
 
-    fault_is : line_fault (accepted a) edition stage (formula_in x) (says (book e)) ≡ given (not u) 2
-    fault_is = placed_fault (accepted a) edition stage (formula_in x) (says (book e)) q g refl ∙ ap (λ (y : Bool). given (not y) 2) (sym taken_is)
+    pub book_refused : {q : Refusal} → EditionRead (accepted z.accepts) m (Err q) → TookOn z (says (book e)) (Err q)
+    book_refused w =
+        refused_line (accepted z.accepts) (edition_of z.edition) (stage_ranks.rank_of z.book.stage) (formula_in z.book.state) (says (book e))
+        (fault_is ∙ ap (λ (y : Bool). given (not y) 2) w.1 ∙ ap (λ (r : Refusal). some (number_of r)) (sym w.0))
 
-    pub book_refused : not u ≡ true → {r : Step} → r.refusal ≡ 2 → TookLine (accepted a) edition stage (formula_in x) (says (book e)) r
-    book_refused h {r} w = refused_line (accepted a) edition stage (formula_in x) (says (book e)) 1 {r = r} (fault_is ∙ ap (λ (y : Bool). given y 2) h) w
-
-    pub book_taken : not u ≡ false → TookLine (accepted a) edition stage (formula_in x) (says (book e)) (record { refusal = 0; stage = 1; edition = m; state = x })
-    book_taken h =
+    pub book_taken : {d : Edition} → EditionRead (accepted z.accepts) m (Ok d)
+        → TookOn z (says (book e)) (Ok (record { accepts = z.accepts; edition = Some d; book = record { stage = stages.Flags; state = z.book.state } }))
+    book_taken {d} w =
         record {
-          fault = fault_is ∙ ap (λ (y : Bool). given y 2) h;
-          advanced = λ z. record { formula = refl; stage = refl; edition = p ∙ narrow_small e (subst (λ (n : ℕ). n ≤ 2) p (either a m (sym k ∙ not_false u h))); stands = stands };
+          fault = fault_is ∙ ap (λ (y : Bool). given (not y) 2) w.1;
+          advanced = record { formula = refl; stage = refl; edition = w.0 ∙ p ∙ narrow_small e (subst (λ (n : ℕ). n ≤ 2) p (either z.accepts m w.1)); accepts = refl; stands = stands };
         }
       where
-        not_false : (y : Bool) → not y ≡ false → y ≡ true
-        not_false true r = refl
-        not_false false r = absurd (true≢false r)
+        at_book : stage_ranks.rank_of z.book.stage ≡ 0
+        at_book = by (allowed (stage_ranks.rank_of z.book.stage) 0) refl k
+          where
+            by : (t : Bool) → allowed (stage_ranks.rank_of z.book.stage) 0 ≡ t → Ok u ≡ placed t → stage_ranks.rank_of z.book.stage ≡ 0
+            by true q g = let w = allowed_is (stage_ranks.rank_of z.book.stage) 0 q in omega (arith, w.0)
+            by false q g = cc
 
-        at_book_lem : stage ≡ 0
-        at_book_lem = let w = allowed_is stage 0 (sym q ∙ not_false t g) in omega (arith, w.0)
-
-        stands : Standing 1 x
-        stands = record { read = s.read; reached = record { few = s.reached.few; facts = s.reached.facts; no_variables = λ w. s.reached.no_variables (omega (arith, at_book_lem)); no_clauses = λ w. s.reached.no_clauses (omega (arith, at_book_lem)) } }
+        stands : Standing 1 z.book.state
+        stands = record { read = s.read; reached = record { few = s.reached.few; facts = s.reached.facts; no_variables = λ w. s.reached.no_variables (omega (arith, at_book)); no_clauses = λ w. s.reached.no_clauses (omega (arith, at_book)) } }
 
 -- ---- rules
-module _ (stage e : ℕ) (x : State) (lits : List ℤ) where
-  pub plain_untagged : (e ≡ 1 → ⊥) → {r : Step} → r.refusal ≡ 1 → PlainTook stage e x lits r
-  plain_untagged h {r} w = λ a ls p q. untagged a e stage (formula_in x) (says (clause ls)) (ne_eqb e 1 h) {r = r} w
+module _ (z : EditionBook) (lits : List ℤ) where
+  pub plain_untagged : eqb (edition_of z.edition) 1 ≡ false → PlainTook z lits (Err refusal.NotInLayout)
+  plain_untagged h = λ ls p q. untagged (accepted z.accepts) (edition_of z.edition) (stage_ranks.rank_of z.book.stage) (formula_in z.book.state) (says (clause ls)) h
 
-  pub plain_taken : e ≡ 1 → {t : Taken} → RuleTook stage x lits t → PlainTook stage e x lits (step_of e t)
-  plain_taken h {t} w = λ a ls p q. block_kept a e stage (formula_in x) (clause ls) (w ls p q) (fault a ls) refl
-    where
-      fault : (a : Editions) (ls : List Literal) → line_fault a e stage (formula_in x) (says (clause ls)) ≡ own.line_fault stage (formula_in x) (clause ls)
-      fault a ls = ap (λ (k : ℕ). line_fault a k stage (formula_in x) (says (clause ls))) h
+  pub plain_taken : eqb (edition_of z.edition) 1 ≡ true → (r : Result Book Refusal) → RuleTook (stage_ranks.rank_of z.book.stage) z.book.state lits r → PlainTook z lits (kept_with z r)
+  plain_taken h r w = λ ls p q.
+      block_kept z (clause ls) r (w ls p q)
+      (ap (λ (k : ℕ). line_fault (accepted z.accepts) k (stage_ranks.rank_of z.book.stage) (formula_in z.book.state) (says (clause ls))) (eqb-true (edition_of z.edition) 1 h)) refl
 
   module _ (k : ℕ) where
-    pub tag_unfit : (e ≡ 2 → ⊥) → {r : Step} → r.refusal ≡ 1 → TaggedTook stage e x k lits r
-    tag_unfit h {r} w = λ a ls p q. untagged a e stage (formula_in x) (tagged k ls) (ne_eqb e 2 h) {r = r} w
+    pub tag_unfit : eqb (edition_of z.edition) 2 ≡ false → TaggedTook z k lits (Err refusal.NotInLayout)
+    tag_unfit h = λ ls p q. untagged (accepted z.accepts) (edition_of z.edition) (stage_ranks.rank_of z.book.stage) (formula_in z.book.state) (tagged k ls) h
 
-    pub tag_misplaced : {t : Bool} → t ≡ allowed stage 3 → not t ≡ true → {r : Step} → r.refusal ≡ 1 → TaggedTook stage e x k lits r
-    tag_misplaced v g {r} w = λ a ls p q. misplaced a e stage (formula_in x) (tagged k ls) v g {r = r} w
+    pub tag_misplaced : {q : Refusal} → Err q ≡ placed (allowed (stage_ranks.rank_of z.book.stage) 3) → TaggedTook z k lits (Err q)
+    tag_misplaced v = λ ls p q. misplaced (accepted z.accepts) (edition_of z.edition) (stage_ranks.rank_of z.book.stage) (formula_in z.book.state) (tagged k ls) v
 
-    module _ (h : e ≡ 2) {t : Bool} (v : t ≡ allowed stage 3) (g : not t ≡ false) where
-      tag_fits : eqb e 2 ≡ true
-      tag_fits = eq-eqb e 2 h
+    module _ (h : eqb (edition_of z.edition) 2 ≡ true) {u : Unit {0}} (v : Ok u ≡ placed (allowed (stage_ranks.rank_of z.book.stage) 3)) where
+      full : Bool
+      full = leb (formula_in z.book.state).limits.clauses (length (formula_in z.book.state).clauses)
 
-      pub tag_refused : out_of_range k ≡ true → {r : Step} → fault_of r.refusal ≡ (given (leb (formula_in x).limits.clauses (length (formula_in x).clauses)) 20 or_else some 39) → TaggedTook stage e x k lits r
-      unfolding out_of_range
-      tag_refused o {r} w = λ a ls p q.
-          record {
-            fault = placed_fault a e stage (formula_in x) (tagged k ls) v g tag_fits ∙ ap (λ (y : Bool). given (leb (formula_in x).limits.clauses (length (formula_in x).clauses)) 20 or_else given y 39 or_else rule_fault (formula_in x) ls) o ∙ sym w;
-            advanced = λ z. absurd (never (leb (formula_in x).limits.clauses (length (formula_in x).clauses)) (sym w ∙ ap fault_of z));
-          }
+      tag_fault_is : (ls : List Literal) → line_fault (accepted z.accepts) (edition_of z.edition) (stage_ranks.rank_of z.book.stage) (formula_in z.book.state) (tagged k ls)
+          ≡ (given full 20 or_else given (out_of_range k) 39 or_else rule_fault (formula_in z.book.state) ls)
+      unfolding full out_of_range
+      tag_fault_is ls = placed_fault (accepted z.accepts) (edition_of z.edition) (stage_ranks.rank_of z.book.stage) (formula_in z.book.state) (tagged k ls) v h
+
+      pub tag_refused : out_of_range k ≡ true → {r : Refusal} → some (number_of r) ≡ (given (leb (formula_in z.book.state).limits.clauses (length (formula_in z.book.state).clauses)) 20 or_else some 39) → TaggedTook z k lits (Err r)
+      unfolding full
+      tag_refused o w = λ ls p q.
+          refused_line (accepted z.accepts) (edition_of z.edition) (stage_ranks.rank_of z.book.stage) (formula_in z.book.state) (tagged k ls)
+          (tag_fault_is ls ∙ ap (λ (y : Bool). given full 20 or_else given y 39 or_else rule_fault (formula_in z.book.state) ls) o ∙ sym w)
+
+      pub tag_taken : out_of_range k ≡ false → (r : Result Book Refusal) → RuleTook (stage_ranks.rank_of z.book.stage) z.book.state lits r → TaggedTook z k lits (kept_with z r)
+      unfolding full
+      tag_taken o r w = λ ls p q. by r ls (w ls p q)
         where
-          never : (y : Bool) → (given y 20 or_else some 39) ≡ none → ⊥
-          never true z = let u : ◌≡◌ {A = ℕ} 0 1 = cc in omega (arith, u)
-          never false z = let u : ◌≡◌ {A = ℕ} 0 1 = cc in omega (arith, u)
-
-      pub tag_taken : out_of_range k ≡ false → {t' : Taken} → RuleTook stage x lits t' → TaggedTook stage e x k lits (step_of e t')
-      unfolding out_of_range
-      tag_taken o {t'} w = λ a ls p q.
-          let u = w ls p q in
-          record {
-            fault = placed_fault a e stage (formula_in x) (tagged k ls) v g tag_fits ∙ ap (λ (y : Bool). given (leb (formula_in x).limits.clauses (length (formula_in x).clauses)) 20 or_else given y 39 or_else rule_fault (formula_in x) ls) o
-                ∙ twice (leb (formula_in x).limits.clauses (length (formula_in x).clauses)) ls refl ∙ sym (own_fault ls) ∙ u.fault;
-            advanced = λ z. let n = u.advanced z in record { formula = n.formula; stage = n.stage; edition = refl; stands = n.stands };
-          }
-        where
-          own_fault : (ls : List Literal) → own.line_fault stage (formula_in x) (clause ls) ≡ rule_fault (formula_in x) ls
-          own_fault ls = ap (λ (y : Bool). given (not y) 1 or_else rule_fault (formula_in x) ls) (sym v) ∙ ap (λ (y : Bool). given y 1 or_else rule_fault (formula_in x) ls) g
-
-          full : Bool
-          full = leb (formula_in x).limits.clauses (length (formula_in x).clauses)
+          own_fault : (ls : List Literal) → own.line_fault (stage_ranks.rank_of z.book.stage) (formula_in z.book.state) (clause ls) ≡ rule_fault (formula_in z.book.state) ls
+          own_fault ls = by (allowed (stage_ranks.rank_of z.book.stage) 3) refl v
+            where
+              by : (t : Bool) → t ≡ allowed (stage_ranks.rank_of z.book.stage) 3 → Ok u ≡ placed t → own.line_fault (stage_ranks.rank_of z.book.stage) (formula_in z.book.state) (clause ls) ≡ rule_fault (formula_in z.book.state) ls
+              by true k g = ap (λ (y : Bool). given (not y) 1 or_else rule_fault (formula_in z.book.state) ls) (sym k)
+              by false k g = cc
 
           -- "after 20": the rule asks for it again
-          twice : (y : Bool) (ls : List Literal) → full ≡ y → (given y 20 or_else rule_fault (formula_in x) ls) ≡ rule_fault (formula_in x) ls
-          twice true ls r = sym (ap (λ (z : Bool). given z 20 or_else given (eqb (length ls) 0 || ltb (formula_in x).limits.literals (length ls)) 7 or_else literal_fault (formula_in x).limits (formula_in x).prefix [] ls) r)
+          twice : (y : Bool) (ls : List Literal) → full ≡ y → (given y 20 or_else rule_fault (formula_in z.book.state) ls) ≡ rule_fault (formula_in z.book.state) ls
+          twice true ls r = sym (ap (λ (z' : Bool). given z' 20 or_else given (eqb (length ls) 0 || ltb (formula_in z.book.state).limits.literals (length ls)) 7 or_else literal_fault (formula_in z.book.state).limits (formula_in z.book.state).prefix [] ls) r)
           twice false ls r = refl
+
+          judged : (ls : List Literal) → line_fault (accepted z.accepts) (edition_of z.edition) (stage_ranks.rank_of z.book.stage) (formula_in z.book.state) (tagged k ls) ≡ own.line_fault (stage_ranks.rank_of z.book.stage) (formula_in z.book.state) (clause ls)
+          judged ls = tag_fault_is ls ∙ ap (λ (y : Bool). given full 20 or_else given y 39 or_else rule_fault (formula_in z.book.state) ls) o ∙ twice full ls refl ∙ sym (own_fault ls)
+
+          by : (r : Result Book Refusal) (ls : List Literal) → TookForm (stage_ranks.rank_of z.book.stage) (formula_in z.book.state) (clause ls) r → TookOn z (tagged k ls) (kept_with z r)
+          by (Err q) ls w = record { fault = judged ls ∙ w.fault; advanced = tt }
+          by (Ok y) ls w = record { fault = judged ls ∙ w.fault; advanced = record { formula = w.advanced.formula; stage = w.advanced.stage; edition = refl; accepts = refl; stands = w.advanced.stands } }

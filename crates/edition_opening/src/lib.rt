@@ -4,18 +4,24 @@
 ghost use Rattle.std.specs.Prelude.{◌≡◌};
 ghost use Rattle.qbf.specs.Formula.{paper};
 ghost use Rattle.editions.specs.Opening.{open_editions};
+ghost use Rattle.opening.specs.Lines.{ReadAs};
 ghost use Rattle.opening.specs.Opened.{OpenedAs};
-ghost use Rattle.edition_opening.specs.Editions.{accepted};
+ghost use Rattle.edition_opening.specs.Editions.{accepted, number_of, EditionRead};
 
-use opening::{MISSING, NO_LINE, NONE, Opened, TOO_LONG, ended, refuse, stage};
+use book::EditionBook;
+use opening::Opened;
+use opening::text::{RefusedAt, read_text};
+use refusal::Refusal;
+use state::State;
 
-mod line;
-mod one;
+mod book;
 mod rule;
 
-pub const FIRST: usize = 1;
-
-pub const SECOND: usize = 2;
+#[derive(Clone, Copy, PartialEq, Eq)]
+pub enum Edition {
+    First,
+    Second,
+}
 
 // The editions that a reader takes.
 #[derive(Clone, Copy)]
@@ -25,49 +31,42 @@ pub enum Editions {
     Both,
 }
 
-// "A reader of edition 1 given edition 2 .. gives 2"; "The new reader .. reads both"
-fn takes(a: Editions, edition: usize) -> bool
-    ensures { result ≡ accepted a edition }
-{
-    match a {
-        Editions::First => edition == FIRST,
-        Editions::Second => edition == SECOND,
-        Editions::Both => if edition == FIRST {
-            true
-        } else {
-            edition == SECOND
-        },
+impl Editions {
+    // "A reader of edition 1 given edition 2 .. gives 2"; "The new reader .. reads both"
+    fn takes(self, edition: Edition) -> bool
+        ensures { result ≡ accepted self (number_of edition) }
+    {
+        match self {
+            Editions::First => edition == Edition::First,
+            Editions::Second => edition == Edition::Second,
+            Editions::Both => true,
+        }
     }
+
+    fn edition(self, number: usize) -> Result<Edition, Refusal>
+        ensures { EditionRead (accepted self) number result }
+    {
+        let edition = match number {
+            1 => Edition::First,
+            2 => Edition::Second,
+            _ => return Err(Refusal::Edition),
+        };
+        if self.takes(edition) {
+            Ok(edition)
+        } else {
+            Err(Refusal::Edition)
+        }
+    }
+}
+
+pub fn read_editions(accepts: Editions, text: &[u8]) -> Result<State, RefusedAt>
+    ensures { ReadAs (open_editions (accepted accepts) paper text.now) result }
+{
+    read_text(EditionBook::empty(accepts), text)
 }
 
 pub fn open_editions(a: Editions, text: &[u8]) -> Opened
     ensures { OpenedAs (open_editions (accepted a) paper text.now) result }
 {
-    if text.len() > reader::text::TEXT {
-        return refuse(TOO_LONG, NO_LINE);
-    }
-    let mut x = state::empty();
-    let mut stage = stage::BOOK;
-    let mut edition: usize = 0;
-    let mut at: usize = 0;
-    let mut number: usize = 1;
-    while at < text.len() {
-        let end = reader::text::line_end(text, at);
-        if text.len() <= end {
-            return refuse(MISSING, number);
-        }
-        let taken = line::take_line(a, x, stage, edition, &text[at..end]);
-        if taken.refusal != NONE {
-            return refuse(taken.refusal, number);
-        }
-        at = end + 1;
-        number += 1;
-        stage = taken.stage;
-        edition = taken.edition;
-        x = taken.state;
-        if stage == stage::END {
-            return ended(x, text.len() - at, number);
-        }
-    }
-    refuse(MISSING, number)
+    Opened::from(read_editions(a, text))
 }

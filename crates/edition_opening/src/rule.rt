@@ -4,21 +4,18 @@ ghost use Rattle.std.proofs.Math.Option.{some};
 ghost use Rattle.qbf.specs.Formula.{paper};
 ghost use Rattle.qbf.specs.Calls.{given, ◌or_else◌};
 ghost use Rattle.state.specs.Reading.{formula_in};
-ghost use Rattle.serving.specs.Serves.{fault_of};
-ghost use Rattle.opening.specs.Opened.{Standing};
-ghost use Rattle.edition_opening.specs.Lines.{out_of_range, PlainTook, TaggedTook};
+ghost use Rattle.refusal.specs.Refusal as refusal_numbers;
+ghost use Rattle.edition_opening.specs.Lines.{Stood, out_of_range, PlainTook, TaggedTook, OneTook};
 
-use crate::line::{NOT_IN_LAYOUT, Step, keep, refuse};
-use crate::{FIRST, SECOND};
+use crate::Edition;
+use crate::book::EditionBook;
 use literal::cell_at;
-use opening::line::take_rule;
-use opening::stage;
+use opening::book::Book;
+use opening::stage::Stage;
+use refusal::Refusal;
+use rules::in_place;
+use rules::lent::Adding;
 use state::State;
-
-// "a tag out of range is 39, after 20 and before 7"
-const TAG: u16 = 39;
-
-const FULL: u16 = 20;
 
 const LAST_TAG: u32 = 65535;
 
@@ -32,45 +29,69 @@ fn rules_in(x: State) -> usize
 fn out_of_range(tag: u32) -> bool
     ensures { result ≡ out_of_range tag }
 {
-    if tag == 0 {
-        return true;
-    }
-    LAST_TAG < tag
+    tag == 0 || LAST_TAG < tag
 }
 
-// The refusal of a tag out of range where so many rules stand.
-fn tag_fault(rules: usize) -> u16
-    ensures { fault_of result ≡ (given (leb paper.clauses rules) 20 or_else some 39) }
+// "a tag out of range is 39, after 20 and before 7": its refusal where so many rules stand.
+fn tag_fault(rules: usize) -> Refusal
+    ensures { some (refusal_numbers.number_of result) ≡ (given (leb paper.clauses rules) 20 or_else some 39) }
 {
     if tables::CLAUSES <= rules {
-        return FULL;
+        return Refusal::RulesFull;
     }
-    TAG
+    Refusal::TagRange
 }
 
-pub fn take_plain(x: State, stage: usize, edition: usize, lits: &[i16]) -> Step
-    requires { Standing stage x }
-    ensures { PlainTook stage edition x lits.now result }
-{
-    if edition != FIRST {
-        return refuse(x, NOT_IN_LAYOUT);
+impl EditionBook {
+    pub fn take_plain(self, lits: &[i16]) -> Result<EditionBook, Refusal>
+        requires { Stood self }
+        ensures { PlainTook self lits.now result }
+    {
+        if !self.is_of(Edition::First) {
+            return Err(Refusal::NotInLayout);
+        }
+        self.keep(self.book.take_rule(lits))
     }
-    keep(take_rule(x, stage, lits), edition)
-}
 
-pub fn take_tagged(x: State, stage: usize, edition: usize, tag: u32, lits: &[i16]) -> Step
-    requires { Standing stage x }
-    ensures { TaggedTook stage edition x tag lits.now result }
-{
-    if edition != SECOND {
-        return refuse(x, NOT_IN_LAYOUT);
+    pub fn take_tagged(self, tag: u32, lits: &[i16]) -> Result<EditionBook, Refusal>
+        requires { Stood self }
+        ensures { TaggedTook self tag lits.now result }
+    {
+        if !self.is_of(Edition::Second) {
+            return Err(Refusal::NotInLayout);
+        }
+        self.book.stage.place(Stage::Rule)?;
+        if out_of_range(tag) {
+            return Err(tag_fault(rules_in(self.book.state)));
+        }
+        self.keep(self.book.take_rule(lits))
     }
-    if !stage::may_stand(stage, stage::RULE) {
-        return refuse(x, NOT_IN_LAYOUT);
+
+    // An exactly-one form, by the call for it: all of its rules are added, or none.
+    pub fn take_one(self, lits: &[i16]) -> Result<EditionBook, Refusal>
+        requires { Stood self }
+        ensures { OneTook self lits.now result }
+    {
+        self.book.stage.place(Stage::Rule)?;
+        let mut state = self.book.state;
+        let mut tables = Adding {
+            numbers: &state.numbers,
+            levels: &state.levels,
+            kinds: &state.kinds,
+            clauses: &mut state.clauses,
+            clause_sizes: &mut state.clause_sizes,
+            learned_clauses: &state.learned_clauses,
+            learned_clause_sizes: &state.learned_clause_sizes,
+            learned_cubes: &state.learned_cubes,
+            learned_cube_sizes: &mut state.learned_cube_sizes,
+        };
+        in_place::one(&mut tables, lits)?;
+        Ok(EditionBook {
+            book: Book {
+                stage: Stage::Rule,
+                state,
+            },
+            ..self
+        })
     }
-    if out_of_range(tag) {
-        let fault = tag_fault(rules_in(x));
-        return refuse(x, fault);
-    }
-    keep(take_rule(x, stage, lits), edition)
 }

@@ -7,6 +7,7 @@ use mathlib.Core.Option.{Option, none, some}
 use lib.IntN.{ℤ}
 use lib.ListN.{length, take, drop}
 use lib.Seq.{take-nil}
+use Rattle.std.specs.Prelude.{Option as Answer, Some}
 use Rattle.qbf.specs.Formula.{Literal}
 use Rattle.layout.specs.Words.{Bytes, split, space, same, number, digits, closed, inside}
 use Rattle.layout.specs.Forms.{then, items, consed, Form, rule_word, form_from, one_word}
@@ -15,7 +16,6 @@ use Rattle.editions.specs.Lines as form
 use Rattle.reader.specs.Pieces.{pieces_from, Piece}
 use Rattle.reader.specs.Items.{Filled}
 use Rattle.reader.specs.Lines as old
-use Rattle.reader.specs.declared.items.Count.TheVariants.{Items}
 use Rattle.reader.specs.declared.keyword.Line.{Line as FormLine}
 use Rattle.reader.specs.declared.keyword.Line.TheVariants as first
 use Rattle.reader.proofs.Words.{same_true}
@@ -41,11 +41,11 @@ module _ {s : Bytes} {b f : ℕ} (p : Piece space s b f) where
   pub tag_no_items : {k : ℕ} → then (closed (take (f - b) (drop b s))) number ≡ some k → items true (pieces_from space s (f + 1)) ≡ none → tag_from (pieces_from space s b) ≡ none
   tag_no_items {k} e i = tag_is ∙ ap (λ (o : Option ℕ). tagged_line o (items true (pieces_from space s (f + 1)))) e ∙ ap (tagged_line (some k)) i
 
-  pub tag_read : (k n : ℕ) {out : List ℤ} → then (closed (take (f - b) (drop b s))) number ≡ some k → Filled (items true (pieces_from space s (f + 1))) (Items n) out → LineRead (tag_from (pieces_from space s b)) (line.Tagged k n) out
+  pub tag_read : (k n : ℕ) {out : List ℤ} → then (closed (take (f - b) (drop b s))) number ≡ some k → Filled (items true (pieces_from space s (f + 1))) (Some n) out → LineRead (tag_from (pieces_from space s b)) (Some (line.Tagged k n)) out
   tag_read k n e (ls, i, kept) = (ls, tag_is ∙ ap (λ (o : Option ℕ). tagged_line o (items true (pieces_from space s (f + 1)))) e ∙ ap (tagged_line (some k)) i, kept)
 
 -- ---- after `rule`
-pub rule_empty : (s : Bytes) (e : ℕ) (out : List ℤ) → length s ≤ e → LineRead (rule_from (pieces_from space s (e + 1))) (line.Rule 0) out
+pub rule_empty : (s : Bytes) (e : ℕ) (out : List ℤ) → length s ≤ e → LineRead (rule_from (pieces_from space s (e + 1))) (Some (line.Rule 0)) out
 unfolding rule_from
 rule_empty s e out h = ([], ap rule_from (past s e h), record { count = refl; first = sym (take-nil (length out)) })
 
@@ -60,7 +60,7 @@ plain_word w [] e = refl
 plain_word w (v ∷ ws) e = ap (λ (t : Bool). cond t (tagged_line (then (closed v) number) (items true ws)) (then (items true (w ∷ v ∷ ws)) rule_line)) e
 
 module _ {s : Bytes} {b f : ℕ} (p : Piece space s b f) where
-  pub rule_tagged : (r : Line) (out : List ℤ) → same (take (f - b) (drop b s)) tag_word ≡ true → LineRead (tag_from (pieces_from space s (f + 1))) r out → LineRead (rule_from (pieces_from space s b)) r out
+  pub rule_tagged : (r : Answer Line) (out : List ℤ) → same (take (f - b) (drop b s)) tag_word ≡ true → LineRead (tag_from (pieces_from space s (f + 1))) r out → LineRead (rule_from (pieces_from space s b)) r out
   rule_tagged r out e h =
       subst (λ (o : Option form.Line). LineRead o r out)
       (sym (ap rule_from p.is ∙ ap (λ (w : Bytes). rule_from (w ∷ pieces_from space s (f + 1))) (same_true (take (f - b) (drop b s)) tag_word e) ∙ tag_word_lem (pieces_from space s (f + 1)))) h
@@ -72,25 +72,27 @@ module _ {s : Bytes} {b f : ℕ} (p : Piece space s b f) where
   pub rule_unread : same (take (f - b) (drop b s)) tag_word ≡ false → items true (pieces_from space s b) ≡ none → rule_from (pieces_from space s b) ≡ none
   rule_unread e i = plain_is e ∙ ap (λ (o : Option (List Literal)). then o rule_line) i
 
-  pub rule_read : (n : ℕ) {out : List ℤ} → same (take (f - b) (drop b s)) tag_word ≡ false → Filled (items true (pieces_from space s b)) (Items n) out → LineRead (rule_from (pieces_from space s b)) (line.Rule n) out
+  pub rule_read : (n : ℕ) {out : List ℤ} → same (take (f - b) (drop b s)) tag_word ≡ false → Filled (items true (pieces_from space s b)) (Some n) out → LineRead (rule_from (pieces_from space s b)) (Some (line.Rule n)) out
   rule_read n e (ls, i, kept) = (ls, plain_is e ∙ ap (λ (o : Option (List Literal)). then o rule_line) i, kept)
 
 -- ---- after `one`
 pub one_unread : (s : Bytes) (e : ℕ) → items true (pieces_from space s (e + 1)) ≡ none → then (items true (pieces_from space s (e + 1))) exactly_one_line ≡ none
 one_unread s e i = ap (λ (o : Option (List Literal)). then o exactly_one_line) i
 
-pub one_read : (s : Bytes) (e n : ℕ) {out : List ℤ} → Filled (items true (pieces_from space s (e + 1))) (Items n) out → LineRead (then (items true (pieces_from space s (e + 1))) exactly_one_line) (line.One n) out
+pub one_read : (s : Bytes) (e n : ℕ) {out : List ℤ} → Filled (items true (pieces_from space s (e + 1))) (Some n) out → LineRead (then (items true (pieces_from space s (e + 1))) exactly_one_line) (Some (line.One n)) out
 one_read s e n (ls, i, kept) = (ls, ap (λ (o : Option (List Literal)). then o exactly_one_line) i, kept)
 
 -- ---- the first word
-pub form_read : (o : Option Form) (l : FormLine) (out : List ℤ) → old.LineRead o l out → LineRead (then o said) (form_line l) out
-form_read o first.NotLine out h = ap (λ (x : Option Form). then x said) h
+pub form_unread : (o : Option Form) → o ≡ none → then o said ≡ none
+form_unread o h = ap (λ (x : Option Form). then x said) h
+
+pub form_read : (o : Option Form) (l : FormLine) (out : List ℤ) → old.LineIs o l out → LineRead (then o said) (Some (form_line l)) out
 form_read o first.Book out (e, h, k) = (e, ap (λ (x : Option Form). then x said) h, k)
 form_read o (first.Block κ n) out (q, c, (ns, h, k)) = (q, c, (ns, ap (λ (x : Option Form). then x said) h, k))
 form_read o (first.Rule n) out (ls, h, k) = (ls, ap (λ (x : Option Form). then x said) h, k)
 form_read o first.End out h = ap (λ (x : Option Form). then x said) h
 
-module _ {s : Bytes} {e : ℕ} (p : Piece space s 0 e) (r : Line) (out : List ℤ) where
+module _ {s : Bytes} {e : ℕ} (p : Piece space s 0 e) (r : Answer Line) (out : List ℤ) where
   words_are : (o : Option form.Line) → line_from (split space s) ≡ o → LineRead o r out → LineRead (line_from (split space s)) r out
   words_are o q h = subst (λ (x : Option form.Line). LineRead x r out) (sym q) h
 

@@ -3,7 +3,7 @@ use Prim.Native.Nat.{ℕ, suc, ◌+◌, ◌*◌, ◌-◌, ◌<◌, ◌≤◌, ze
 use mathlib.Core.Path.{◌≡◌, refl, sym, ap, ◌∙◌}
 use mathlib.Core.Bool.{Bool, true, false, cond, not, ◌&&◌}
 use mathlib.Core.List.{List, [], ◌∷◌, ◌++◌, append_assoc, append-nil}
-use mathlib.Core.Option.{some}
+use mathlib.Core.Option.{none, some}
 use native.Mathlib.Omega.{arith}
 use native.Mathlib.Numerals.{add-one}
 use borrow.Author.Tests.{lt-leb}
@@ -15,7 +15,7 @@ use Rattle.reader.specs.Pieces.{pieces_from, Piece}
 use Rattle.reader.proofs.Texts.{pieces_at}
 use Rattle.edition_tags.specs.declared.To.{To}
 use Rattle.edition_tags.specs.declared.To.TheVariants.{First, Second}
-use Rattle.edition_tags.specs.Appended.{Appended, most_bytes, most_tag, most_number, line_to, heading_to, text_to, line_or0}
+use Rattle.edition_tags.specs.Appended.{Appended, most_bytes, most_tag, most_number, line_to, heading_to, text_to}
 use Rattle.edition_tags.proofs.Appending.{appended_none, appended_then, appended_as}
 use Rattle.edition_tags.proofs.Tags.{line_most, next_most}
 
@@ -122,9 +122,9 @@ pub lose_first : (s : Bytes) {e : ℕ} → (0 ≤ length s → Piece newline s 0
 lose_first s {e} at = let p : Piece newline s 0 e = at zero-le in record { low = omega arith; few = omega arith; numbered = omega arith; is = ap lost_line (lines s p) }
 
 module _ {s : Bytes} {at k number : ℕ} (i : Losing s at k number) where
-  pub lose_end : length s < at → 0 ≡ line_or0 (lost_line (split newline s))
+  pub lose_end : length s < at → none ≡ lost_line (split newline s)
   unfolding lost_from
-  lose_end h = sym (ap line_or0 (i.is ∙ ap (lost_from number k) (no_pieces s at h)))
+  lose_end h = sym (i.is ∙ ap (lost_from number k) (no_pieces s at h))
 
   module _ (short : length s ≤ text_bytes) (h : at ≤ length s) where
     pub lose_number : k ≤ most_number
@@ -137,8 +137,8 @@ module _ {s : Bytes} {at k number : ℕ} (i : Losing s at k number) where
           i.is ∙ ap (lost_from number k) (piece h).is
           ∙ ap (λ (b : Bool). cond b (some number) (lost_from (suc number) (next k (take (e - at) (drop at s))) (pieces_from newline s (e + 1)))) (sym q)
 
-      pub lose_found : t ≡ true → number ≡ line_or0 (lost_line (split newline s))
-      lose_found y = sym (ap line_or0 (onward ∙ ap (λ (b : Bool). cond b (some number) (lost_from (suc number) (next k (take (e - at) (drop at s))) (pieces_from newline s (e + 1)))) y))
+      pub lose_found : t ≡ true → some number ≡ lost_line (split newline s)
+      lose_found y = sym (onward ∙ ap (λ (b : Bool). cond b (some number) (lost_from (suc number) (next k (take (e - at) (drop at s))) (pieces_from newline s (e + 1)))) y)
 
       pub lose_more : t ≡ false → {j : ℕ} → j ≡ next k (take (e - at) (drop at s)) → Losing s (e + 1) j (number + 1)
       lose_more y {j} z =

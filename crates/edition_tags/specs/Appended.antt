@@ -1,6 +1,5 @@
 -- What is written of a converted text, whether it fits or not.
 use Rattle.std.specs.Prelude.{ℕ, ◌+◌, ◌≤◌, ◌≡◌, ◌++◌, length, take}
-use Rattle.std.proofs.Math.Option.{Option, none, some}
 use Rattle.layout.specs.Words.{Bytes, ascii}
 use Rattle.editions.specs.Converting.{tag_text, insert_tag, remove_tag, tag_line, untag_line, tagged_text, untagged_text}
 use Rattle.edition_tags.specs.declared.To.{To}
@@ -44,8 +43,3 @@ heading_to Second = ascii "(book 2)"
 abbrev pub text_to : To → Bytes → Bytes
 text_to First s = untagged_text s
 text_to Second s = tagged_text s
-
--- the number of a line; 0 is none
-abbrev pub line_or0 : Option ℕ → ℕ
-line_or0 none = 0
-line_or0 (some n) = n

@@ -4,7 +4,7 @@ ghost use Rattle.layout.specs.Words.{same};
 ghost use Rattle.edition_tags.specs.Appended.{Appended, most_bytes};
 
 use reader::word::same_word;
-use writer::bytes::put_word;
+use writer::Output;
 
 // What does not fit is not written.
 pub fn append(d: &mut [u8], at: usize, w: &[u8]) -> usize
@@ -13,7 +13,9 @@ pub fn append(d: &mut [u8], at: usize, w: &[u8]) -> usize
 {
     let end = at + w.len();
     if end <= d.len() {
-        return put_word(d, at, w);
+        let mut out = Output { bytes: d, at: at };
+        out.put_word(w);
+        return out.at;
     }
     end
 }

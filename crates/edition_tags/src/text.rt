@@ -3,15 +3,13 @@ ghost use Rattle.std.specs.Prelude.{◌≡◌, ◌≤◌, length};
 ghost use Rattle.layout.specs.Words.{newline, split};
 ghost use Rattle.layout.specs.Opening.{text_bytes};
 ghost use Rattle.editions.specs.Converting.{lost_line};
-ghost use Rattle.edition_tags.specs.Appended.{Appended, heading_to, text_to, line_or0};
+ghost use Rattle.reader.specs.Numbers.{num_of};
+ghost use Rattle.edition_tags.specs.Appended.{Appended, heading_to, text_to};
 
 use crate::To;
 use crate::bytes::append;
 use crate::line::{is_lost, next, put_line};
 use reader::text::line_end;
-
-// No tag would be lost.
-pub const NONE: usize = 0;
 
 fn put_heading(to: To, d: &mut [u8]) -> usize
     ensures { Appended d.old 0 (heading_to to) d.new result }
@@ -40,9 +38,9 @@ pub fn put_text(to: To, text: &[u8], d: &mut [u8]) -> usize
 }
 
 // The number of the first line whose tag would be lost.
-pub fn lost_line(text: &[u8]) -> usize
+pub fn lost_line(text: &[u8]) -> Option<usize>
     requires { length text.now ≤ text_bytes }
-    ensures { result ≡ line_or0 (lost_line (split newline text.now)) }
+    ensures { num_of result ≡ lost_line (split newline text.now) }
 {
     let mut at = line_end(text, 0) + 1;
     let mut k: usize = 1;
@@ -50,11 +48,11 @@ pub fn lost_line(text: &[u8]) -> usize
     while at <= text.len() {
         let end = line_end(text, at);
         if is_lost(&text[at..end], k) {
-            return number;
+            return Some(number);
         }
         k = next(&text[at..end], k);
         at = end + 1;
         number += 1;
     }
-    NONE
+    None
 }

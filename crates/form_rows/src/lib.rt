@@ -45,11 +45,9 @@ fn add_pairs_with<'a>(
         sizes.new }
 {
     let first = negation(lits[i]);
-    let mut j = i + 1;
-    while j < lits.len() {
+    for j in i + 1..lits.len() {
         let pair = [first, negation(lits[j])];
         add(cells, sizes, &pair, places);
-        j += 1;
     }
 }
 
@@ -70,10 +68,8 @@ fn add_pairs<'a>(
         cells.new
         sizes.new }
 {
-    let mut i: usize = 0;
-    while i < lits.len() {
+    for i in 0..lits.len() {
         add_pairs_with(cells, sizes, lits, i, places);
-        i += 1;
     }
 }
 

@@ -17,34 +17,34 @@ use Rattle.search_entry.specs.declared.Bounds.{Bounds}
 use Rattle.inner.specs.declared.Leaf.{Leaf}
 use Rattle.inner.specs.declared.Leaf.TheVariants.{No, Yes, Open}
 use Rattle.inner.specs.Inner.{FoundCoded, FoundBounded, LeafCoded, OpenKnown}
-use Rattle.inner.specs.declared.found.Found.{Found}
-use Rattle.inner.specs.declared.found.Found.TheVariants.{At, Nothing}
+use Rattle.std.specs.Prelude.{Some, None}
+use Rattle.std.specs.Prelude as code
 
 -- ---- steps 1 and 2: what was found first, then what else is asked for
-module _ (D : Prefix) (first next : Option Constraint) {x : Found} (cls cs area : List ℕ) (f : FoundCoded D x cls cs area first) where
-  pub dying_found : {b : Bounds} → x ≡ At b → FoundCoded D (At b) cls cs area (first_of first next)
+module _ (D : Prefix) (first next : Option Constraint) {x : code.Option Bounds} (cls cs area : List ℕ) (f : FoundCoded D x cls cs area first) where
+  pub dying_found : {b : Bounds} → x ≡ Some b → FoundCoded D (Some b) cls cs area (first_of first next)
   dying_found q =
-      let g = subst (λ (y : Found). FoundCoded D y cls cs area first) q f in
+      let g = subst (λ (y : code.Option Bounds). FoundCoded D y cls cs area first) q f in
       (g.0, ap (λ (o : Option Constraint). first_of o next) g.1, g.2)
 
-  pub dying_none : x ≡ Nothing → (y : Found) → FoundCoded D y cls cs area next → FoundCoded D y cls cs area (first_of first next)
+  pub dying_none : x ≡ None → (y : code.Option Bounds) → FoundCoded D y cls cs area next → FoundCoded D y cls cs area (first_of first next)
   dying_none q y g =
-      let e = subst (λ (z : Found). FoundCoded D z cls cs area first) q f in
+      let e = subst (λ (z : code.Option Bounds). FoundCoded D z cls cs area first) q f in
       subst (FoundCoded D y cls cs area) (sym (ap (λ (o : Option Constraint). first_of o next) e)) g
 
-pub found_bounded : {x : Found} {b : Bounds} → x ≡ At b → FoundBounded x → Bounded b
+pub found_bounded : {x : code.Option Bounds} {b : Bounds} → x ≡ Some b → FoundBounded x → Bounded b
 found_bounded q h = subst FoundBounded q h
 
 -- ---- step 4
-module _ (D : Prefix) (s : Node) (cubes : List Constraint) {x : Found} (cls cs qs area : List ℕ) (f : FoundCoded D x cls qs area (eligible_match D eqb true s cubes)) where
-  pub stored_yes : {b : Bounds} → x ≡ At b → LeafCoded D (Yes b) cls cs qs area (matched D eqb s cubes)
+module _ (D : Prefix) (s : Node) (cubes : List Constraint) {x : code.Option Bounds} (cls cs qs area : List ℕ) (f : FoundCoded D x cls qs area (eligible_match D eqb true s cubes)) where
+  pub stored_yes : {b : Bounds} → x ≡ Some b → LeafCoded D (Yes b) cls cs qs area (matched D eqb s cubes)
   stored_yes q =
-      let g = subst (λ (y : Found). FoundCoded D y cls qs area (eligible_match D eqb true s cubes)) q f in
+      let g = subst (λ (y : code.Option Bounds). FoundCoded D y cls qs area (eligible_match D eqb true s cubes)) q f in
       (g.0, ap (λ (o : Option Constraint). conclude_by true o none) g.1, g.2)
 
-  pub stored_open : x ≡ Nothing → LeafCoded D Open cls cs qs area (matched D eqb s cubes)
+  pub stored_open : x ≡ None → LeafCoded D Open cls cs qs area (matched D eqb s cubes)
   stored_open q =
-      let g = subst (λ (y : Found). FoundCoded D y cls qs area (eligible_match D eqb true s cubes)) q f in
+      let g = subst (λ (y : code.Option Bounds). FoundCoded D y cls qs area (eligible_match D eqb true s cubes)) q f in
       ap (λ (o : Option Constraint). conclude_by true o none) g
 
 -- ---- step 3: every clause is satisfied, or not
@@ -76,15 +76,15 @@ module _ (D : Prefix) (R : List Clause) (s : Node) (st : Store) where
       sym (first_then false (reduced_found D false (lowest_dead D s R)) (eligible_match D eqb false s st.clauses) after)
       ∙ ap (λ (c : Option Constraint). conclude_by false c after) e
 
-  module _ {x : Found} (cls cs qs area : List ℕ) (f : FoundCoded D x cls cs area conflict_of) where
-    pub conflict_no : {b : Bounds} → x ≡ At b → LeafCoded D (No b) cls cs qs area (leaf D R eqb s st)
+  module _ {x : code.Option Bounds} (cls cs qs area : List ℕ) (f : FoundCoded D x cls cs area conflict_of) where
+    pub conflict_no : {b : Bounds} → x ≡ Some b → LeafCoded D (No b) cls cs qs area (leaf D R eqb s st)
     conflict_no q =
-        let g = subst (λ (y : Found). FoundCoded D y cls cs area conflict_of) q f in
+        let g = subst (λ (y : code.Option Bounds). FoundCoded D y cls cs area conflict_of) q f in
         (g.0, in_order_lem (some g.0) g.1, g.2)
 
-    pub conflict_none : x ≡ Nothing → (y : Leaf) → LeafCoded D y cls cs qs area after → LeafCoded D y cls cs qs area (leaf D R eqb s st)
+    pub conflict_none : x ≡ None → (y : Leaf) → LeafCoded D y cls cs qs area after → LeafCoded D y cls cs qs area (leaf D R eqb s st)
     conflict_none q y h =
-        let g = subst (λ (z : Found). FoundCoded D z cls cs area conflict_of) q f in
+        let g = subst (λ (z : code.Option Bounds). FoundCoded D z cls cs area conflict_of) q f in
         subst (LeafCoded D y cls cs qs area) (sym (in_order_lem none g)) h
 
 -- ---- where the node is open its row and mark are known

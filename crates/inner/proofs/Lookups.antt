@@ -1,22 +1,21 @@
 -- The code that is looked up at an inner node, and what the lookup found.
-use Prim.Native.Nat.{ℕ, zero, suc, ◌+◌, ◌*◌, ◌-◌, ◌%◌, ◌≤◌, ◌<◌}
+use Prim.Native.Nat.{ℕ, zero, suc, ◌+◌, ◌*◌, ◌-◌, ◌%◌, ◌≤◌}
 use native.Mathlib.Omega.{arith}
 use native.Mathlib.Numerals.{add-one}
 use mathlib.Core.Path.{◌≡◌, refl, sym, ap, subst, ◌∙◌}
-use mathlib.Core.Bool.{Bool, true, false, cond, not, beq, true≢false, false≢true}
+use mathlib.Core.Bool.{Bool, true, false, not, beq, true≢false, false≢true}
 use mathlib.Core.List.{List, [], ◌∷◌, map}
 use mathlib.Core.Option.{Option, none, some}
-use borrow.Author.Tests.{lt-ltb, le-ltb}
 use lib.Dec.{eqb}
 use lib.ListN.{length, take, drop}
 use Rattle.qbf.specs.Formula.{paper, Prefix, Node, value_at}
 use Rattle.qbf.specs.Learning.{Constraint, eligible_match}
 use Rattle.tables.specs.Codes.{code_at, codes, wanted, Statuses}
-use Rattle.tables.specs.Shelves.{length_at, row_at, found_at, first_match}
+use Rattle.tables.specs.Shelves.{length_at, row_at, first_match}
 use Rattle.search_entry.specs.Entry.{entry_at}
 use Rattle.search_entry.specs.declared.Bounds.{Bounds}
 use Rattle.inner.specs.Inner.{FoundCoded, LastGiven}
-use Rattle.inner.specs.declared.found.Found.TheVariants.{At}
+use Rattle.std.specs.Prelude.{Some}
 use Rattle.inner.proofs.LastLiteral.{coded, last_literal}
 
 -- ---- the code of a literal and of its opposite
@@ -72,9 +71,9 @@ module _ {t : List ℕ} (v : Bool) {at code last want : ℕ} (last_is : (p : ℕ
 -- ---- by its bounds
 -- what was found, where bounds are those of its row
 pub found_part : (D : Prefix) (o : Option Constraint) {row : List ℕ} (cls cs area : List ℕ) {b : Bounds} (c : Bounds) → b ≡ c → entry_at c cls cs area ≡ row
-    → (e : Constraint) × (o ≡ some e) × (row ≡ codes D e) → FoundCoded D (At b) cls cs area o
+    → (e : Constraint) × (o ≡ some e) × (row ≡ codes D e) → FoundCoded D (Some b) cls cs area o
 found_part D o cls cs area c is part (e, h, k) =
-    subst (λ (x : Bounds). FoundCoded D (At x) cls cs area o) (sym is) (e, h, part ∙ k)
+    subst (λ (x : Bounds). FoundCoded D (Some x) cls cs area o) (sym is) (e, h, part ∙ k)
 
 -- as many cells as the first n have
 pub take_again : (n : ℕ) (xs : List ℕ) → take (length (take n xs)) xs ≡ take n xs
@@ -90,11 +89,3 @@ row_part cells slot row is =
     ∙ ap (λ (j : ℕ). take (length (row_at paper.numbers cells slot)) (drop j cells)) (add-one (slot * suc paper.numbers))
     ∙ take_again (length_at paper.numbers cells slot) (drop (suc (slot * suc paper.numbers)) cells)
     ∙ sym is
-
--- ---- what is in a slot
-module _ (stride slots : ℕ) (cells : List ℕ) (r : ℕ) where
-  pub slot_row : r < slots → {row : List ℕ} → row ≡ row_at stride cells r → found_at stride slots cells r ≡ some row
-  slot_row low is = ap (λ (b : Bool). cond b (some (row_at stride cells r)) none) (lt-ltb r slots low) ∙ ap some (sym is)
-
-  pub slot_none : slots ≤ r → found_at stride slots cells r ≡ none
-  slot_none high = ap (λ (b : Bool). cond b (some (row_at stride cells r)) none) (le-ltb r slots high)

@@ -11,21 +11,22 @@ use Rattle.tables.specs.Shelves.{code_count, StoreShown}
 use Rattle.tables.specs.Matrices.{MatrixShown, RowLength}
 use Rattle.tables.specs.Sets.{Descended, dying_row}
 use Rattle.search_entry.specs.Entry.{entry_at, Bounded}
+use Rattle.search_entry.specs.declared.Bounds.{Bounds}
 use Rattle.inner.specs.declared.Leaf.{Leaf}
 use Rattle.inner.specs.declared.Leaf.TheVariants.{No, Yes, Open}
-use Rattle.inner.specs.declared.found.Found.{Found}
-use Rattle.inner.specs.declared.found.Found.TheVariants.{At, Nothing}
+use Rattle.std.specs.Prelude.{Some, None}
+use Rattle.std.specs.Prelude as code
 
 -- ---- what is found
 -- the constraint that was looked up: its part of the clauses, of the learned constraints of its polarity, or of the area
-abbrev pub FoundCoded : Prefix → Found → List ℕ → List ℕ → List ℕ → Option Constraint → Type 0
-FoundCoded D (At b) clauses learned area o = (e : Constraint) × (o ≡ some e) × (entry_at b clauses learned area ≡ codes D e)
-FoundCoded D Nothing clauses learned area o = o ≡ none
+abbrev pub FoundCoded : Prefix → code.Option Bounds → List ℕ → List ℕ → List ℕ → Option Constraint → Type 0
+FoundCoded D (Some b) clauses learned area o = (e : Constraint) × (o ≡ some e) × (entry_at b clauses learned area ≡ codes D e)
+FoundCoded D None clauses learned area o = o ≡ none
 
 -- it lies within its table
-abbrev pub FoundBounded : Found → Type 0
-FoundBounded (At b) = Bounded b
-FoundBounded Nothing = Unit {0}
+abbrev pub FoundBounded : code.Option Bounds → Type 0
+FoundBounded (Some b) = Bounded b
+FoundBounded None = Unit {0}
 
 abbrev pub LeafCoded : Prefix → Leaf → List ℕ → List ℕ → List ℕ → List ℕ → Option (Outcome Constraint) → Type 0
 LeafCoded D (No b) clauses cs qs area o = (e : Constraint) × (o ≡ some (decided false e)) × (entry_at b clauses cs area ≡ codes D e)

@@ -37,11 +37,8 @@ fn marked_codes<'a>(
         → take result up.new ≡ marked_from 1 s marks.now) }
 {
     let mut n: usize = 0;
-    let mut i: usize = 0;
-    while i < at {
-        let code = true_at(statuses, i + 1);
-        n = put_marked(up, n, marks[i + 1], code);
-        i += 1;
+    for i in 0..at {
+        n = put_marked(up, n, marks[i + 1], true_at(statuses, i + 1));
     }
     n
 }

@@ -10,74 +10,68 @@ ghost use Rattle.tables.specs.Matrices.{MatrixShown, left_at, dying_at};
 ghost use Rattle.bitset.specs.Rows.{width, some_below};
 ghost use Rattle.inner.specs.Inner.{FoundCoded, FoundBounded, Inside, LastGiven, Entered, killing};
 
-use crate::found::Found;
+use crate::Given;
 use bitset::rows::{any_outside, first_outside};
-use search_entry::{Source, placed};
+use search_entry::{Bounds, Matrix, Source, placed};
 
 // How many codes universal reduction leaves of clause k.
-fn left_at<'a>(clauses: &'a [u16; tables::CLAUSE_ROWS], k: usize) -> u16
+fn left_at<'a>(rows: &'a [u16; tables::CLAUSE_ROWS], k: usize) -> u16
     requires { k < paper.clauses }
-    ensures { result ≡ left_at clauses.now k }
+    ensures { result ≡ left_at rows.now k }
 {
-    clauses[k * tables::CLAUSE_ROW]
+    rows[k * tables::CLAUSE_ROW]
 }
 
 // Clause k under universal reduction: its row, behind its length. Rows that are no clause's are free, and nothing is read there.
-fn clause_at<'a>(clauses: &'a [u16; tables::CLAUSE_ROWS], k: usize) -> Found
+fn clause_at<'a>(rows: &'a [u16; tables::CLAUSE_ROWS], k: usize) -> Option<Bounds>
     ensures found_bounded { FoundBounded result }
     ensures found_coded { (D : Prefix) (e : Constraint) (learned area : List ℕ)
         → k < paper.clauses
-        → left_at clauses.now k ≤ paper.literals
-        → dying_at clauses.now k ≡ codes D e
-        → FoundCoded D result clauses.now learned area (some e) }
+        → left_at rows.now k ≤ paper.literals
+        → dying_at rows.now k ≡ codes D e
+        → FoundCoded D result rows.now learned area (some e) }
 {
     if k < tables::CLAUSES {
-        let size = left_at(clauses, k) as usize;
+        let size = left_at(rows, k) as usize;
         if size <= tables::LITERALS {
-            return Found::At(placed(Source::Clauses, k * tables::CLAUSE_ROW + 1, size));
+            return Some(placed(Source::Clauses, k * tables::CLAUSE_ROW + 1, size));
         }
     }
-    Found::Nothing
+    None
 }
 
 // Whether a clause dies at an inner node: one that can die by the value given last, and that was not satisfied above.
 pub fn any_dies<'a>(
     sets: &'a [u64; tables::CLAUSE_SETS],
     sat: &'a [u64; tables::SATISFIED],
-    code: u16,
-    at: usize,
-    words: usize,
+    g: Given,
 ) -> bool
-    requires { Inside at code words }
-    ensures { result ≡ some_below (killing sets.now sat.now code at words) (words * width) }
+    requires { Inside g.at g.code g.words }
+    ensures { result ≡ some_below (killing sets.now sat.now g.code g.at g.words) (g.words * width) }
 {
-    let dying = code as usize * 2 * words + words;
-    let above = (at - 1) * words;
-    any_outside(sets, dying, sat, above, words)
+    let dying = g.code as usize * 2 * g.words + g.words;
+    let above = (g.at - 1) * g.words;
+    any_outside(sets, dying, sat, above, g.words)
 }
 
 // The clause that dies at an inner node, under universal reduction.
-pub fn dead<'a>(
-    clauses: &'a [u16; tables::CLAUSE_ROWS],
-    sets: &'a [u64; tables::CLAUSE_SETS],
-    sat: &'a [u64; tables::SATISFIED],
-    code: u16,
-    at: usize,
-    words: usize,
-) -> Found
-    requires { Inside at code words }
+pub fn dead<'a>(matrix: &'a Matrix, sat: &'a [u64; tables::SATISFIED], g: Given) -> Option<Bounds>
+    requires { Inside g.at g.code g.words }
     ensures found_bounded { FoundBounded result }
     ensures found_coded { (D : Prefix) (R : List Clause) (s : Node) (st : Store) (k : ℕ) (marks learned area : List ℕ)
-        → LastGiven s at code
-        → MatrixShown D R words clauses.now sets.now
+        → LastGiven s g.at g.code
+        → MatrixShown D R g.words matrix.now.rows matrix.now.sets
         → Formed D R st
-        → Entered D s R words sat.now marks k
-        → FoundCoded D result clauses.now learned area (reduced_found D false (lowest_dead D s R)) }
+        → Entered D s R g.words sat.now marks k
+        → FoundCoded D result matrix.now.rows learned area (reduced_found D false (lowest_dead D s R)) }
 {
-    if !any_dies(sets, sat, code, at, words) {
-        return Found::Nothing;
+    if !any_dies(&matrix.sets, sat, g) {
+        return None;
     }
-    let dying = code as usize * 2 * words + words;
-    let above = (at - 1) * words;
-    clause_at(clauses, first_outside(sets, dying, sat, above, words))
+    let dying = g.code as usize * 2 * g.words + g.words;
+    let above = (g.at - 1) * g.words;
+    clause_at(
+        &matrix.rows,
+        first_outside(&matrix.sets, dying, sat, above, g.words),
+    )
 }

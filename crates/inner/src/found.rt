@@ -6,18 +6,12 @@ ghost use Rattle.std.proofs.Math.Option.{some};
 ghost use Rattle.qbf.specs.Formula.{paper, Prefix, Node, value_at};
 ghost use Rattle.qbf.specs.Learning.{Constraint, eligible_match};
 ghost use Rattle.tables.specs.Codes.{code_at, codes, wanted, Statuses};
-ghost use Rattle.tables.specs.Shelves.{code_count, Entries, entries_of};
+ghost use Rattle.tables.specs.Shelves.{code_count};
+ghost use Rattle.shelf.specs.Standing.{Kept, rows};
 ghost use Rattle.inner.specs.Inner.{FoundCoded, FoundBounded, LastGiven};
 
 use search_entry::{Bounds, Source, placed};
-use shelf::find::{find, row_in};
-
-// Where a constraint lies, or none.
-#[derive(Clone, Copy)]
-pub enum Found {
-    At(Bounds),
-    Nothing,
-}
+use shelf::Shelf;
 
 // The code of the true literal of a place that has a value.
 pub fn true_at<'a>(statuses: &'a [u8; tables::CODES], place: usize) -> u16
@@ -64,34 +58,26 @@ fn wanted(cube: bool) -> u8
 // The oldest of the learned constraints of a polarity that is eligible at an inner node, whose last value makes the code's literal true, and
 // whose literals all have the truth value asked for.
 pub fn lookup<'a>(
-    cells: &'a [u16; tables::CONSTRAINT_CODES],
-    links: &'a [u64; tables::CONSTRAINT_LINKS],
+    shelf: &'a Shelf,
     statuses: &'a [u8; tables::CODES],
     code: u16,
     cube: bool,
-) -> Found
-    requires { Entries cells.now links.now × (code < code_count) }
+) -> Option<Bounds>
+    requires { Kept shelf.now × (code < code_count) }
     ensures found_bounded { FoundBounded result }
     ensures found_coded { (D : Prefix) (s : Node) (at : ℕ) (es : List Constraint) (clauses area : List ℕ)
         → Statuses s statuses.now
         → LastGiven s at code
         → 1 ≤ at
-        → entries_of cells.now links.now ≡ map (codes D) es
-        → FoundCoded D result clauses cells.now area (eligible_match D eqb cube s es) }
+        → rows shelf.now ≡ map (codes D) es
+        → FoundCoded D result clauses shelf.now.cells area (eligible_match D eqb cube s es) }
 {
-    let slot = find(
-        cells,
-        links,
-        tables::NUMBERS,
-        tables::CONSTRAINTS,
-        last_in(code, cube),
-        statuses,
-        wanted(cube),
-    );
-    if slot < tables::CONSTRAINTS {
-        let row = row_in(cells, links, tables::NUMBERS, tables::CONSTRAINTS, slot);
-        let start = slot * (tables::NUMBERS + 1) + 1;
-        return Found::At(placed(Source::Learned, start, row.len()));
+    match shelf.find(last_in(code, cube), statuses, wanted(cube)) {
+        Some(slot) => {
+            let row = shelf.row_in(slot);
+            let start = slot * (tables::NUMBERS + 1) + 1;
+            Some(placed(Source::Learned, start, row.len()))
+        }
+        None => None,
     }
-    Found::Nothing
 }

@@ -12,16 +12,20 @@ ghost use Rattle.qbf.specs.Formula.{paper, Prefix, Clause, Node, all, satisfied}
 ghost use Rattle.qbf.specs.Learning.{Constraint, Store, lowest_dead, reduced_found, eligible_match};
 ghost use Rattle.tables.specs.Formed.{Formed};
 ghost use Rattle.tables.specs.Codes.{codes, Statuses, Quantified};
-ghost use Rattle.tables.specs.Shelves.{code_count, Entries, entries_of, Shelves};
+ghost use Rattle.tables.specs.Shelves.{code_count};
 ghost use Rattle.tables.specs.Matrices.{MatrixShown, RowLength};
-ghost use Rattle.tables.specs.Sets.{MarkedSteps, RowsKept};
+ghost use Rattle.tables.specs.Sets.{ClauseSets, Descended, RowsKept};
+ghost use Rattle.shelf.specs.Standing.{Kept, rows};
+ghost use Rattle.search_entry.specs.Tables.{Stand};
 ghost use Rattle.inner.specs.Steps.{first_of, matched, satisfied_or};
 ghost use Rattle.inner.specs.Inner.{FoundCoded, FoundBounded, LeafCoded, LeafBounded, Inside, LastGiven, Entered, NodeShown, Concluded};
 
 use cube::cube;
 use dying::dead;
-use found::{Found, lookup, true_at};
-use search_entry::{Bounds, Source, placed};
+use found::{lookup, true_at};
+use node::Position;
+use search_entry::{Bounds, Learned, Matrix, Source, Trail, placed};
+use shelf::Shelf;
 use step_down::step_down;
 
 // What decides the node, with the constraint that goes up by its bounds, or that it is open.
@@ -32,176 +36,144 @@ pub enum Leaf {
     Open,
 }
 
+// The value given last: its place, the code of the literal that it makes true, and the words of a row of clauses.
+#[derive(Clone, Copy)]
+pub struct Given {
+    pub at: usize,
+    pub code: u16,
+    pub words: usize,
+}
+
 // Steps 1 and 2: the clause that dies at the node, or the learned clause that is false there.
 fn conflict<'a>(
-    clauses: &'a [u16; tables::CLAUSE_ROWS],
-    sets: &'a [u64; tables::CLAUSE_SETS],
+    matrix: &'a Matrix,
     sat: &'a [u64; tables::SATISFIED],
-    learned: &'a [u16; tables::CONSTRAINT_CODES],
-    learned_links: &'a [u64; tables::CONSTRAINT_LINKS],
+    learned: &'a Shelf,
     statuses: &'a [u8; tables::CODES],
-    code: u16,
-    at: usize,
-    words: usize,
-) -> Found
-    requires { Inside at code words × Entries learned.now learned_links.now }
+    g: Given,
+) -> Option<Bounds>
+    requires { Inside g.at g.code g.words × Kept learned.now }
     ensures found_bounded { FoundBounded result }
     ensures found_coded { (D : Prefix) (R : List Clause) (s : Node) (st : Store) (k : ℕ) (marks area : List ℕ)
         → Statuses s statuses.now
-        → LastGiven s at code
-        → MatrixShown D R words clauses.now sets.now
+        → LastGiven s g.at g.code
+        → MatrixShown D R g.words matrix.now.rows matrix.now.sets
         → Formed D R st
-        → Entered D s R words sat.now marks k
-        → entries_of learned.now learned_links.now ≡ map (codes D) st.clauses
+        → Entered D s R g.words sat.now marks k
+        → rows learned.now ≡ map (codes D) st.clauses
         → FoundCoded
         D
         result
-        clauses.now
-        learned.now
+        matrix.now.rows
+        learned.now.cells
         area
         (first_of (reduced_found D false (lowest_dead D s R)) (eligible_match D eqb false s st.clauses)) }
 {
-    let dead = dead(clauses, sets, sat, code, at, words);
-    match dead {
-        Found::At(b) => Found::At(b),
-        Found::Nothing => lookup(learned, learned_links, statuses, code, false),
+    match dead(matrix, sat, g) {
+        Some(b) => Some(b),
+        None => lookup(learned, statuses, g.code, false),
     }
 }
 
 // Step 4: the oldest eligible cube that is true.
-fn stored_cube<'a>(
-    statuses: &'a [u8; tables::CODES],
-    cubes: &'a [u16; tables::CONSTRAINT_CODES],
-    cube_links: &'a [u64; tables::CONSTRAINT_LINKS],
-    code: u16,
-) -> Leaf
-    requires { Entries cubes.now cube_links.now × (code < code_count) }
+fn stored_cube<'a>(statuses: &'a [u8; tables::CODES], cubes: &'a Shelf, code: u16) -> Leaf
+    requires { Kept cubes.now × (code < code_count) }
     ensures leaf_bounded { LeafBounded result }
     ensures leaf_coded { (D : Prefix) (s : Node) (at : ℕ) (qs : List Constraint) (clauses learned area : List ℕ)
         → Statuses s statuses.now
         → LastGiven s at code
         → 1 ≤ at
-        → entries_of cubes.now cube_links.now ≡ map (codes D) qs
-        → LeafCoded D result clauses learned cubes.now area (matched D eqb s qs) }
+        → rows cubes.now ≡ map (codes D) qs
+        → LeafCoded D result clauses learned cubes.now.cells area (matched D eqb s qs) }
 {
-    let found = lookup(cubes, cube_links, statuses, code, true);
-    match found {
-        Found::At(b) => Leaf::Yes(b),
-        Found::Nothing => Leaf::Open,
+    match lookup(cubes, statuses, code, true) {
+        Some(b) => Leaf::Yes(b),
+        None => Leaf::Open,
     }
 }
 
 // Steps 3 and 4: the cube of a node that satisfies all clauses, or a cube that is true there.
 fn solution<'a>(
-    every: bool,
-    marks: &'a [u8; tables::BY_NUMBER],
-    quantifiers: &'a [u8; tables::CODES],
+    matrix: &'a Matrix,
+    cubes: &'a Shelf,
     statuses: &'a [u8; tables::CODES],
-    cubes: &'a [u16; tables::CONSTRAINT_CODES],
-    cube_links: &'a [u64; tables::CONSTRAINT_LINKS],
-    up: &mut [u16; tables::AREA],
-    code: u16,
-    at: usize,
+    trail: &mut Trail,
+    g: Given,
 ) -> Leaf
-    requires { Entries cubes.now cube_links.now × (code < code_count) × (at ≤ paper.numbers) }
-    ensures leaf_bounded { LeafBounded result }
-    ensures leaf_coded { (D : Prefix) (R : List Clause) (s : Node) (st : Store) (clauses learned : List ℕ)
-        → Quantified D quantifiers.now
+    requires { Inside g.at g.code g.words × Kept cubes.now }
+    ensures leaf_bounded { LeafBounded result × RowsKept g.at g.words trail.old.sat trail.new.sat trail.old.marks trail.new.marks }
+    ensures leaf_coded { (D : Prefix) (R : List Clause) (s : Node) (st : Store) (k : ℕ) (clauses learned : List ℕ)
+        → Quantified D matrix.now.quantifiers
         → Statuses s statuses.now
         → Formed D R st
-        → LastGiven s at code
-        → 1 ≤ at
-        → entries_of cubes.now cube_links.now ≡ map (codes D) st.cubes
-        → MarkedSteps D s R marks.now at
-        → every ≡ all (satisfied D s) R
-        → LeafCoded D result clauses learned cubes.now up.new (satisfied_or D R s (matched D eqb s st.cubes)) }
+        → LastGiven s g.at g.code
+        → rows cubes.now ≡ map (codes D) st.cubes
+        → ClauseSets D R g.words matrix.now.sets
+        → Entered D s R g.words trail.old.sat trail.old.marks k
+        → Descended D s R g.words trail.new.sat trail.new.marks g.at
+        × LeafCoded D result clauses learned cubes.now.cells trail.new.cube (satisfied_or D R s (matched D eqb s st.cubes)) }
 {
-    if every {
-        let n = cube(marks, statuses, quantifiers, at, up);
+    if step_down(&matrix.sets, trail, g) {
+        let n = cube(
+            &trail.marks,
+            statuses,
+            &matrix.quantifiers,
+            g.at,
+            &mut trail.cube,
+        );
         return Leaf::Yes(placed(Source::Area, 0, n));
     }
-    stored_cube(statuses, cubes, cube_links, code)
+    stored_cube(statuses, cubes, g.code)
 }
 
 // The four steps in order, at a node that is not the start.
 pub fn conclude<'a>(
-    clauses: &'a [u16; tables::CLAUSE_ROWS],
-    sets: &'a [u64; tables::CLAUSE_SETS],
-    quantifiers: &'a [u8; tables::CODES],
+    matrix: &'a Matrix,
+    learned: &'a Learned,
     statuses: &'a [u8; tables::CODES],
-    learned: &'a [u16; tables::CONSTRAINT_CODES],
-    learned_links: &'a [u64; tables::CONSTRAINT_LINKS],
-    cubes: &'a [u16; tables::CONSTRAINT_CODES],
-    cube_links: &'a [u64; tables::CONSTRAINT_LINKS],
-    up: &mut [u16; tables::AREA],
-    sat: &mut [u64; tables::SATISFIED],
-    marks: &mut [u8; tables::BY_NUMBER],
-    at: usize,
-    words: usize,
+    trail: &mut Trail,
+    p: Position,
 ) -> Leaf
-    requires { Shelves learned.now learned_links.now cubes.now cube_links.now
-        × (1 ≤ at)
-        × (at ≤ paper.numbers)
-        × RowLength words }
-    ensures leaf_bounded { LeafBounded result × RowsKept at words sat.old sat.new marks.old marks.new }
+    requires { Stand learned.now × (1 ≤ p.at) × (p.at ≤ paper.numbers) × RowLength p.words }
+    ensures leaf_bounded { LeafBounded result × RowsKept p.at p.words trail.old.sat trail.new.sat trail.old.marks trail.new.marks }
     ensures concluded { (D : Prefix) (R : List Clause) (s : Node) (st : Store) (k : ℕ)
         → NodeShown
         D
         R
         s
         st
-        at
-        words
-        clauses.now
-        sets.now
-        quantifiers.now
+        p.at
+        p.words
+        matrix.now.rows
+        matrix.now.sets
+        matrix.now.quantifiers
         statuses.now
-        learned.now
-        learned_links.now
-        cubes.now
-        cube_links.now
-        → Entered D s R words sat.old marks.old k
+        learned.now.clauses.cells
+        learned.now.clauses.links
+        learned.now.cubes.cells
+        learned.now.cubes.links
+        → Entered D s R p.words trail.old.sat trail.old.marks k
         → Concluded
         D
         R
         s
         st
         result
-        words
-        clauses.now
-        learned.now
-        cubes.now
-        up.new
-        sat.new
-        marks.new }
+        p.words
+        matrix.now.rows
+        learned.now.clauses.cells
+        learned.now.cubes.cells
+        trail.new.cube
+        trail.new.sat
+        trail.new.marks }
 {
-    let code = true_at(statuses, at);
-    let conflict = conflict(
-        clauses,
-        sets,
-        sat,
-        learned,
-        learned_links,
-        statuses,
-        code,
-        at,
-        words,
-    );
-    match conflict {
-        Found::At(b) => Leaf::No(b),
-        Found::Nothing => {
-            let all = step_down(sets, sat, marks, code, at, words);
-            solution(
-                all,
-                marks,
-                quantifiers,
-                statuses,
-                cubes,
-                cube_links,
-                up,
-                code,
-                at,
-            )
-        }
+    let g = Given {
+        at: p.at,
+        code: true_at(statuses, p.at),
+        words: p.words,
+    };
+    match conflict(matrix, &trail.sat, &learned.clauses, statuses, g) {
+        Some(b) => Leaf::No(b),
+        None => solution(matrix, &learned.cubes, statuses, trail, g),
     }
 }

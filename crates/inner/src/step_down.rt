@@ -7,37 +7,30 @@ ghost use Rattle.tables.specs.Codes.{sign};
 ghost use Rattle.tables.specs.Sets.{ClauseSets, Descended, RowsKept, satisfying_row};
 ghost use Rattle.inner.specs.Inner.{Inside, LastGiven, Entered};
 
+use crate::Given;
 use bitset::rows::{United, unite};
+use search_entry::Trail;
 
-fn bit(fresh: bool) -> u8
-    ensures { result ≡ sign fresh }
-{
-    if fresh { 1 } else { 0 }
-}
-
-fn mark(marks: &mut [u8; tables::BY_NUMBER], at: usize, fresh: bool)
+pub fn mark(marks: &mut [u8; tables::BY_NUMBER], at: usize, fresh: bool)
     requires { at ≤ paper.numbers }
     ensures { (marks.new ≡ set marks.old at (sign fresh)) × (length marks.old ≡ suc paper.numbers) }
 {
-    let cells: &mut [u8] = marks;
-    cells[at] = bit(fresh);
+    marks[at] = fresh as u8;
 }
 
 // The node's row: its parent's, united with the clauses that the value given last satisfies.
 pub fn row_down<'a>(
     sets: &'a [u64; tables::CLAUSE_SETS],
     sat: &mut [u64; tables::SATISFIED],
-    code: u16,
-    at: usize,
-    words: usize,
+    g: Given,
 ) -> United
-    requires { Inside at code words }
+    requires { Inside g.at g.code g.words }
     ensures { Unites
-        ((at - 1) * words)
-        (at * words)
+        ((g.at - 1) * g.words)
+        (g.at * g.words)
         sets.now
-        (satisfying_row words code)
-        words
+        (satisfying_row g.words g.code)
+        g.words
         sat.old
         sat.new
         result.all
@@ -45,32 +38,25 @@ pub fn row_down<'a>(
 {
     unite(
         sat,
-        (at - 1) * words,
-        at * words,
+        (g.at - 1) * g.words,
+        g.at * g.words,
         sets,
-        code as usize * 2 * words,
-        words,
+        g.code as usize * 2 * g.words,
+        g.words,
     )
 }
 
 // The node's row and mark; whether every clause is satisfied there.
-pub fn step_down<'a>(
-    sets: &'a [u64; tables::CLAUSE_SETS],
-    sat: &mut [u64; tables::SATISFIED],
-    marks: &mut [u8; tables::BY_NUMBER],
-    code: u16,
-    at: usize,
-    words: usize,
-) -> bool
-    requires { Inside at code words }
-    ensures rows_kept { RowsKept at words sat.old sat.new marks.old marks.new }
+pub fn step_down<'a>(sets: &'a [u64; tables::CLAUSE_SETS], trail: &mut Trail, g: Given) -> bool
+    requires { Inside g.at g.code g.words }
+    ensures rows_kept { RowsKept g.at g.words trail.old.sat trail.new.sat trail.old.marks trail.new.marks }
     ensures descended { (D : Prefix) (R : List Clause) (s : Node) (k : ℕ)
-        → LastGiven s at code
-        → ClauseSets D R words sets.now
-        → Entered D s R words sat.old marks.old k
-        → Descended D s R words sat.new marks.new at × (result ≡ all (satisfied D s) R) }
+        → LastGiven s g.at g.code
+        → ClauseSets D R g.words sets.now
+        → Entered D s R g.words trail.old.sat trail.old.marks k
+        → Descended D s R g.words trail.new.sat trail.new.marks g.at × (result ≡ all (satisfied D s) R) }
 {
-    let step = row_down(sets, sat, code, at, words);
-    mark(marks, at, step.fresh);
+    let step = row_down(sets, &mut trail.sat, g);
+    mark(&mut trail.marks, g.at, step.fresh);
     step.all
 }

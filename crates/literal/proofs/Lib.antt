@@ -1,2 +1,2 @@
 pub mod Signed
-pub mod Status
+pub mod Chains

@@ -1,7 +1,7 @@
-// Literals: the number of a literal's variable, and what the tables by number say of it. -32768 is tested before any negation.
+// Literals: the number of a literal's variable, and what the tables by number say of it.
 #![tactic(auto)]
 
-ghost use Rattle.std.specs.Prelude.{◌≡◌, get_or};
+ghost use Rattle.std.specs.Prelude.{◌≡◌, cond, get_or};
 ghost use Rattle.qbf.specs.Formula.{Prefix, number_of, place};
 ghost use Rattle.tables.specs.Views.{Places, negated, status};
 
@@ -15,85 +15,92 @@ pub struct Place(pub usize);
 #[derive(Clone, Copy)]
 pub struct Level(pub usize);
 
-// The one literal whose negation is not a signed 16-bit number.
-const LEAST: i16 = -32768;
-
-const NUMBER_OF_LEAST: usize = 32768;
+// The tables by number that are lent together: the place and the quantifier of each number, and its value at a node.
+#[derive(Clone, Copy)]
+pub struct ByNumber<'a> {
+    pub places: &'a [u16],
+    pub kinds: &'a [u16],
+    pub values: &'a [u8],
+}
 
 // What a literal is at a node; an open one is tables::OPEN.
+// stays (C): the numbers of the lent tables' cells
 pub const FALSE: u8 = tables::OFF;
 
+// stays (C): likewise
 pub const TRUE: u8 = tables::ON;
 
 pub fn number_of(lit: i16) -> Number
     ensures { result.0 ≡ number_of lit }
 {
-    if lit == LEAST {
-        return Number(NUMBER_OF_LEAST);
-    }
-    if lit < 0 {
-        Number((-lit) as usize)
-    } else {
-        Number(lit as usize)
-    }
+    Number(lit.unsigned_abs() as usize)
 }
 
 // Off and on exchanged.
 pub fn negated(value: u8) -> u8
     ensures { result ≡ negated value }
 {
-    if value == tables::OPEN {
-        return tables::OPEN;
+    match value {
+        tables::OPEN => tables::OPEN,
+        tables::OFF => tables::ON,
+        _ => tables::OFF,
     }
-    if value == tables::OFF {
-        return tables::ON;
-    }
-    tables::OFF
 }
 
-// A cell of a table, 0 past its end.
-pub fn byte_at<'a>(table: &'a [u8], i: usize) -> u8
-    ensures { result ≡ get_or table.now i 0 }
+// The status of a literal that has the truth value of the polarity: true in a cube, false in a clause.
+// stays (no plainer): the polarity is a value, and the status is it
+pub fn wanted(cube: bool) -> u8
+    ensures { result ≡ cond cube 2 1 }
 {
-    if i < table.len() { table[i] } else { 0 }
+    if cube { TRUE } else { FALSE }
 }
 
-pub fn cell_at<'a>(table: &'a [u16], i: usize) -> u16
+// A cell of a table, `blank` past its end.
+pub fn cell_or<T: Copy>(table: &[T], i: usize, blank: T) -> T
+    ensures { result ≡ get_or table.now i blank }
+{
+    table.get(i).copied().unwrap_or(blank)
+}
+
+// .. 0 past its end.
+pub fn byte_at(table: &[u8], i: usize) -> u8
     ensures { result ≡ get_or table.now i 0 }
 {
-    if i < table.len() { table[i] } else { 0 }
+    cell_or(table, i, 0)
+}
+
+pub fn cell_at(table: &[u16], i: usize) -> u16
+    ensures { result ≡ get_or table.now i 0 }
+{
+    cell_or(table, i, 0)
 }
 
 // Whether a literal is open, false or true. A number past the table is open.
-pub fn status_of<'a>(values: &'a [u8], lit: i16) -> u8
+pub fn status_of(values: &[u8], lit: i16) -> u8
     ensures { result ≡ status values.now lit }
 {
-    let n = number_of(lit).0;
-    let value = byte_at(values, n);
-    if lit < 0 {
-        return negated(value);
-    }
-    value
+    let value = byte_at(values, number_of(lit).0);
+    if lit < 0 { negated(value) } else { value }
 }
 
 // 0 where the number is not declared.
-pub fn place_of<'a>(places: &'a [u16], n: Number) -> Place
+// stays (no plainer): the definitions' place of an undeclared number is 0 too, below every place
+pub fn place_of(places: &[u16], n: Number) -> Place
     ensures { result.0 ≡ get_or places.now n.0 0 }
 {
-    let i = n.0;
-    Place(cell_at(places, i) as usize)
+    Place(cell_at(places, n.0) as usize)
 }
 
 // A number that is not declared counts as free.
-pub fn kind_of<'a>(kinds: &'a [u16], n: Number) -> u16
+pub fn kind_of(kinds: &[u16], n: Number) -> u16
     ensures { result ≡ get_or kinds.now n.0 0 }
 {
-    let i = n.0;
-    cell_at(kinds, i)
+    cell_at(kinds, n.0)
 }
 
 // The place of a literal's variable, 0 where it is not declared.
-pub fn literal_place<'a>(places: &'a [u16], lit: i16) -> usize
+// stays (no plainer): likewise
+pub fn literal_place(places: &[u16], lit: i16) -> usize
     ensures { (result ≡ get_or places.now (number_of lit) 0)
         × ((D : Prefix) → Places D places.now → result ≡ place D lit) }
 {
@@ -101,7 +108,7 @@ pub fn literal_place<'a>(places: &'a [u16], lit: i16) -> usize
 }
 
 // The quantifier of a literal's variable.
-pub fn literal_kind<'a>(kinds: &'a [u16], lit: i16) -> u16
+pub fn literal_kind(kinds: &[u16], lit: i16) -> u16
     ensures { result ≡ get_or kinds.now (number_of lit) 0 }
 {
     kind_of(kinds, number_of(lit))

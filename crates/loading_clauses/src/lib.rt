@@ -15,6 +15,7 @@ ghost use Rattle.loading_clauses.specs.Coded.{Low, Coded, Opposite, SetsFor, Sat
 use bitset::rows::{clear, insert};
 use coding::code::encode;
 use coding::list::{last_code, reduced_first};
+use search_entry::Matrix;
 
 // The words of a row of so many clauses.
 pub fn words_of(count: usize) -> usize
@@ -58,11 +59,8 @@ fn add_satisfying<'a>(sets: &mut [u64], words: usize, row: &'a [u16], k: usize)
     requires { SetsFor words k sets.old × Low row.now }
     ensures { Satisfying words row.now k sets.old sets.new }
 {
-    let mut i: usize = 0;
-    while i < row.len() {
-        let code = row[i] as usize;
-        insert(sets, code * 2 * words, k);
-        i += 1;
+    for code in row {
+        insert(sets, *code as usize * 2 * words, k);
     }
 }
 
@@ -76,7 +74,7 @@ fn add_clause<'a>(sets: &mut [u64], words: usize, row: &'a [u16], left: usize, k
     insert(sets, code * 2 * words + words, k);
 }
 
-// Clause k: its row, and its number in the sets.
+// Clause k: its row, and its number in the sets. Eight parameters: stays (proof): of one struct a part of the rows cannot be lent beside the sets.
 fn load_clause<'a>(
     clauses: &'a [i16],
     sizes: &'a [u16],
@@ -115,57 +113,59 @@ fn add_clauses<'a>(
     clauses: &'a [i16],
     sizes: &'a [u16],
     places: &'a [u16],
-    quantifiers: &'a [u8; tables::CODES],
-    rows: &mut [u16],
-    sets: &mut [u64],
+    matrix: &mut Matrix,
     words: usize,
 )
     requires { Held paper.literals paper.clauses clauses.now sizes.now
-        × (length rows.old ≡ paper.clauses * clause_row)
-        × SetsFor words (get_or sizes.now 0 0) sets.old }
-    ensures { (length rows.new ≡ length rows.old)
-        × (length sets.new ≡ length sets.old)
+        × (length matrix.old.rows ≡ paper.clauses * clause_row)
+        × SetsFor words (get_or sizes.now 0 0) matrix.old.sets }
+    ensures { (matrix.new.quantifiers ≡ matrix.old.quantifiers)
         × ((D : Prefix)
         → Places D places.now
-        → Quantified D quantifiers.now
+        → Quantified D matrix.old.quantifiers
         → length D ≤ paper.numbers
-        → ClauseSets D [] words sets.old
-        → MatrixShown D (clauses_of clauses.now sizes.now) words rows.new sets.new) }
+        → ClauseSets D [] words matrix.old.sets
+        → MatrixShown D (clauses_of clauses.now sizes.now) words matrix.new.rows matrix.new.sets) }
 {
-    let count = sizes[0] as usize;
-    let mut k: usize = 0;
-    while k < count {
-        load_clause(clauses, sizes, places, quantifiers, rows, sets, words, k);
-        k += 1;
+    for k in 0..sizes[0] as usize {
+        load_clause(
+            clauses,
+            sizes,
+            places,
+            &matrix.quantifiers,
+            &mut matrix.rows,
+            &mut matrix.sets,
+            words,
+            k,
+        );
     }
 }
 
-// The rows and the sets of the clauses, where no place is above `last`. Their content before is free: of the sets the rows of the places' codes
-// are cleared first.
+// The rows and the sets of the clauses, where no place is above `last` and the quantifiers are there. Their content before is free: of the sets the rows
+// of the places' codes are cleared first.
 pub fn load_lent<'a>(
     clauses: &'a [i16],
     sizes: &'a [u16],
     places: &'a [u16],
-    quantifiers: &'a [u8; tables::CODES],
     last: usize,
-    rows: &mut [u16; tables::CLAUSE_ROWS],
-    sets: &mut [u64; tables::CLAUSE_SETS],
+    matrix: &mut Matrix,
 )
     requires { Held paper.literals paper.clauses clauses.now sizes.now × (last ≤ paper.numbers) }
-    ensures { (D : Prefix)
+    ensures { (matrix.new.quantifiers ≡ matrix.old.quantifiers)
+        × ((D : Prefix)
         → Places D places.now
-        → Quantified D quantifiers.now
+        → Quantified D matrix.old.quantifiers
         → length D ≤ last
         → MatrixShown
         D
         (clauses_of clauses.now sizes.now)
         (words_of (get_or sizes.now 0 0))
-        rows.new
-        sets.new }
+        matrix.new.rows
+        matrix.new.sets) }
 {
     let words = words_of(sizes[0] as usize);
-    clear(sets, 0, (last + 1) * 2 * 2 * words);
-    add_clauses(clauses, sizes, places, quantifiers, rows, sets, words);
+    clear(&mut matrix.sets, 0, (last + 1) * 2 * 2 * words);
+    add_clauses(clauses, sizes, places, matrix, words);
 }
 
 // .. of a state in arrays.
@@ -173,22 +173,21 @@ pub fn load_clauses<'a>(
     clauses: &'a [i16; tables::CLAUSE_CELLS],
     sizes: &'a [u16; tables::CLAUSE_SIZES],
     places: &'a [u16],
-    quantifiers: &'a [u8; tables::CODES],
     last: usize,
-    rows: &mut [u16; tables::CLAUSE_ROWS],
-    sets: &mut [u64; tables::CLAUSE_SETS],
+    matrix: &mut Matrix,
 )
     requires { Clauses clauses.now sizes.now × (last ≤ paper.numbers) }
-    ensures { (D : Prefix)
+    ensures { (matrix.new.quantifiers ≡ matrix.old.quantifiers)
+        × ((D : Prefix)
         → Places D places.now
-        → Quantified D quantifiers.now
+        → Quantified D matrix.old.quantifiers
         → length D ≤ last
         → MatrixShown
         D
         (clauses_of clauses.now sizes.now)
         (words_of (get_or sizes.now 0 0))
-        rows.new
-        sets.new }
+        matrix.new.rows
+        matrix.new.sets) }
 {
-    load_lent(clauses, sizes, places, quantifiers, last, rows, sets);
+    load_lent(clauses, sizes, places, last, matrix);
 }

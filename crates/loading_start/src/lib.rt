@@ -4,13 +4,15 @@
 
 ghost use Rattle.std.specs.Prelude.{List, ◌≡◌, ℕ, ◌-◌, ◌≤◌, length};
 ghost use Rattle.qbf.specs.Formula.{paper, Prefix, Clause, Node};
-ghost use Rattle.tables.specs.Codes.{sign};
 ghost use Rattle.tables.specs.Matrices.{RowLength};
 ghost use Rattle.tables.specs.Sets.{Descended};
 ghost use Rattle.loading_start.specs.Started.{FirstRow, StartShown};
 
-use bitset::rows::{clear, insert, unite};
+use bitset::rows::{clear, insert};
+use inner::Given;
 use inner::found::true_at;
+use inner::step_down::{mark, row_down};
+use search_entry::Trail;
 
 // Before the first place: the row has every number that is no clause's.
 pub fn first_row(sat: &mut [u64], words: usize, count: usize)
@@ -18,18 +20,9 @@ pub fn first_row(sat: &mut [u64], words: usize, count: usize)
     ensures { FirstRow count words sat.old sat.new }
 {
     clear(sat, 0, words);
-    let end = words * bitset::rows::WIDTH;
-    let mut i = count;
-    while i < end {
+    for i in count..words * bitset::rows::WIDTH {
         insert(sat, 0, i);
-        i += 1;
     }
-}
-
-fn bit(fresh: bool) -> u8
-    ensures { result ≡ sign fresh }
-{
-    if fresh { 1 } else { 0 }
 }
 
 // The row and the mark of place p.
@@ -38,27 +31,22 @@ fn step<'a>(
     statuses: &'a [u8; tables::CODES],
     words: usize,
     p: usize,
-    sat: &mut [u64; tables::SATISFIED],
-    marks: &mut [u8; tables::BY_NUMBER],
+    trail: &mut Trail,
 )
     requires { (1 ≤ p) × (p ≤ paper.numbers) × RowLength words }
     ensures { (D : Prefix) (R : List Clause) (s : Node) (at : ℕ)
         → StartShown D R s words at sets.now statuses.now
         → p ≤ at
-        → Descended D s R words sat.old marks.old (p - 1)
-        → Descended D s R words sat.new marks.new p }
+        → Descended D s R words trail.old.sat trail.old.marks (p - 1)
+        → Descended D s R words trail.new.sat trail.new.marks p }
 {
-    let code = true_at(statuses, p) as usize;
-    let step = unite(
-        sat,
-        (p - 1) * words,
-        p * words,
-        sets,
-        code * 2 * words,
+    let given = Given {
+        at: p,
+        code: true_at(statuses, p),
         words,
-    );
-    let cells: &mut [u8] = marks;
-    cells[p] = bit(step.fresh);
+    };
+    let step = row_down(sets, &mut trail.sat, given);
+    mark(&mut trail.marks, p, step.fresh);
 }
 
 // The rows and the marks of the first `at` places, where there are `count` clauses.
@@ -68,19 +56,16 @@ pub fn start_rows<'a>(
     words: usize,
     count: usize,
     at: usize,
-    sat: &mut [u64; tables::SATISFIED],
-    marks: &mut [u8; tables::BY_NUMBER],
+    trail: &mut Trail,
 )
     requires { RowLength words × (at ≤ paper.numbers) }
     ensures { (D : Prefix) (R : List Clause) (s : Node)
         → StartShown D R s words at sets.now statuses.now
         → length R ≡ count
-        → Descended D s R words sat.new marks.new (length s) }
+        → Descended D s R words trail.new.sat trail.new.marks (length s) }
 {
-    first_row(sat, words, count);
-    let mut p: usize = 0;
-    while p < at {
-        p += 1;
-        step(sets, statuses, words, p, sat, marks);
+    first_row(&mut trail.sat, words, count);
+    for p in 0..at {
+        step(sets, statuses, words, p + 1, trail);
     }
 }

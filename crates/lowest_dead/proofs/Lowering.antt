@@ -6,137 +6,120 @@ use mathlib.Core.Path.{◌≡◌, refl, sym, ap, subst, ◌∙◌}
 use mathlib.Core.Bool.{Bool, true, false, cond}
 use mathlib.Core.List.{List, [], ◌∷◌}
 use mathlib.Core.Option.{Option, none, some}
-use borrow.Author.Tests.{eq-eqb, ne_eqb, lt-ltb, le-ltb}
-use lib.Dec.{eqb, ltb}
+use borrow.Author.Tests.{le-leb, lt-leb, lt-ltb, le-ltb}
+use mathlib.Core.Logic.{◌⊎◌, inl, inr}
+use Rattle.theory.proofs.Basics.{le_or_lt}
+use lib.Dec.{leb, ltb}
 use lib.IntN.{ℤ}
 use lib.ListN.{get_or}
-use Rattle.qbf.specs.Formula.{paper, Prefix, Clause, Node, dead}
+use Rattle.std.specs.Prelude.{Some, None, IfSome, option_map}
+use Rattle.std.specs.Prelude.{Option as Maybe}
+use Rattle.qbf.specs.Formula.{Prefix, Clause, Node, dead}
 use Rattle.qbf.specs.Learning.{reach, lower, lowest_dead}
 use Rattle.theory.proofs.Lowest.{lowest_append}
-use Rattle.tables.specs.Views.{Places, Kinds, Values, rows}
+use Rattle.tables.specs.Views.{Places, Kinds, Values, row, rows}
 use Rattle.tables.proofs.Laws.{rows_suc, rows_zero}
-use Rattle.dead_clauses.specs.Dead.{clause_at, NextDead}
-use Rattle.lowest_dead.specs.Found.{clause_found, FoundLowest, lower_of}
+use Rattle.dead_clauses.specs.Dead.{Alive, FirstDead}
+use Rattle.lowest_dead.specs.Found.{clause_in, LowestIn, lower_of}
 use Rattle.lowest_dead.specs.declared.Lowest.{Lowest}
 
 -- ---- one clause more
-module _ (D : Prefix) (s : Node) (flat : List ℤ) (sizes : List ℕ) where
+module _ (D : Prefix) (s : Node) (w : ℕ) (flat : List ℤ) (sizes : List ℕ) where
   abbrev up_to : ℕ → List Clause
-  up_to n = rows paper.literals flat sizes n
+  up_to n = rows w flat sizes n
 
-  one_more : (n : ℕ) (b : Bool) → dead D s (clause_at flat sizes n) ≡ b → lowest_dead D s (up_to (suc n)) ≡ lower D b (lowest_dead D s (up_to n)) (clause_at flat sizes n)
+  one_more : (n : ℕ) (b : Bool) → dead D s (row w flat sizes n) ≡ b → lowest_dead D s (up_to (suc n)) ≡ lower D b (lowest_dead D s (up_to n)) (row w flat sizes n)
   one_more n b e =
-      ap (lowest_dead D s) (rows_suc paper.literals flat sizes n)
-      ∙ lowest_append D s none (up_to n) (clause_at flat sizes n ∷ [])
-      ∙ ap (λ (x : Bool). lower D x (lowest_dead D s (up_to n)) (clause_at flat sizes n)) e
+      ap (lowest_dead D s) (rows_suc w flat sizes n)
+      ∙ lowest_append D s none (up_to n) (row w flat sizes n ∷ [])
+      ∙ ap (λ (x : Bool). lower D x (lowest_dead D s (up_to n)) (row w flat sizes n)) e
 
   -- clauses that are not dead
-  skipped : (m k : ℕ) → ((j : ℕ) → m ≤ j → j < m + k → dead D s (clause_at flat sizes j) ≡ false) → lowest_dead D s (up_to (m + k)) ≡ lowest_dead D s (up_to m)
+  skipped : (m k : ℕ) → ((j : ℕ) → m ≤ j → j < m + k → dead D s (row w flat sizes j) ≡ false) → lowest_dead D s (up_to (m + k)) ≡ lowest_dead D s (up_to m)
   skipped m zero h = ap (λ (n : ℕ). lowest_dead D s (up_to n)) (let e : m + 0 ≡ m = omega arith in e)
   skipped m (suc k) h =
       ap (λ (n : ℕ). lowest_dead D s (up_to n)) (let e : m + suc k ≡ suc (m + k) = omega arith in e)
       ∙ one_more (m + k) false (h (m + k) (omega arith) (omega arith))
       ∙ skipped m k (λ j a b. h j a (omega arith))
 
-  pub skip : (m n : ℕ) → m ≤ n → ((j : ℕ) → m ≤ j → j < n → dead D s (clause_at flat sizes j) ≡ false) → lowest_dead D s (up_to n) ≡ lowest_dead D s (up_to m)
+  pub skip : (m n : ℕ) → m ≤ n → ((j : ℕ) → m ≤ j → j < n → dead D s (row w flat sizes j) ≡ false) → lowest_dead D s (up_to n) ≡ lowest_dead D s (up_to m)
   skip m n h k =
       let e : m + (n - m) ≡ n = omega arith in
       ap (λ (i : ℕ). lowest_dead D s (up_to i)) (sym e) ∙ skipped m (n - m) (λ j a b. k j a (omega (arith, e)))
 
--- ---- the loop: `best` is the lowest dead clause before k, and clause k is dead, or there is none any more
+-- ---- the loop: `best` is the lowest dead clause before `from`
 -- a dead clause by its index, and how far it reaches
-abbrev pub Known : Prefix → List ℤ → List ℕ → ℕ → Lowest → Option Clause → Type 0
-Known D flat sizes count best none = best.at ≡ count
-Known D flat sizes count best (some c) = (best.at < count) × (c ≡ clause_at flat sizes best.at) × (best.reach ≡ reach D c)
+abbrev pub Known : Prefix → ℕ → List ℤ → List ℕ → Maybe Lowest → Option Clause → Type 0
+Known D w flat sizes None none = Unit {0}
+Known D w flat sizes None (some c) = ⊥
+Known D w flat sizes (Some best) none = ⊥
+Known D w flat sizes (Some best) (some c) = (c ≡ row w flat sizes best.at) × (best.reach ≡ reach D c)
 
-pub record Lowering (flat : List ℤ) (sizes places kinds values : List ℕ) (count : ℕ) (best : Lowest) (k : ℕ) : Type 0 where
-  pub counted : count ≡ get_or sizes 0 0
-  pub within : k ≤ count
-  pub known : (D : Prefix) (s : Node) → Places D places → Kinds D kinds → Values D s values → Known D flat sizes count best (lowest_dead D s (rows paper.literals flat sizes k))
-  pub is_dead : k < count → (D : Prefix) (s : Node) → Kinds D kinds → Values D s values → dead D s (clause_at flat sizes k) ≡ true
-  pub bounded : best.at ≤ count
+pub record Lowering (w : ℕ) (flat : List ℤ) (sizes places kinds values : List ℕ) (best : Maybe Lowest) (from : ℕ) : Type 0 where
+  pub within : from ≤ get_or sizes 0 0
+  pub bounded : IfSome best (λ b. b.at < get_or sizes 0 0)
+  pub known : (D : Prefix) (s : Node) → Places D places → Kinds D kinds → Values D s values → Known D w flat sizes best (lowest_dead D s (rows w flat sizes from))
 
--- the clause k beside the lowest one before it
-module _ (D : Prefix) (flat : List ℤ) (sizes : List ℕ) (count k far : ℕ) (low : k < count) (is : far ≡ reach D (clause_at flat sizes k)) where
-  known_lower : (best : Lowest) (o : Option Clause) → Known D flat sizes count best o → Known D flat sizes count (lower_of best count k far) (lower D true o (clause_at flat sizes k))
-  known_lower best none e = subst (λ (b : Bool). Known D flat sizes count (cond b (record { at = k; reach = far }) (cond (ltb far best.reach) (record { at = k; reach = far }) best)) (some (clause_at flat sizes k))) (sym (eq-eqb best.at count e)) (low, refl, is)
-  known_lower best (some c) q =
-      subst (λ (b : Bool). Known D flat sizes count (cond b (record { at = k; reach = far }) (cond (ltb far best.reach) (record { at = k; reach = far }) best)) (lower D true (some c) (clause_at flat sizes k)))
-      (sym (ne_eqb best.at count (λ e. omega (arith, e, q.0))))
-      (by (ltb far best.reach) (ap (λ (n : ℕ). ltb n (reach D c)) (sym is) ∙ ap (ltb far) (sym q.2)))
+-- the dead clause k beside the lowest one before it
+module _ (D : Prefix) (w : ℕ) (flat : List ℤ) (sizes : List ℕ) (k far : ℕ) (is : far ≡ reach D (row w flat sizes k)) where
+  known_lower : (best : Maybe Lowest) (o : Option Clause) → Known D w flat sizes best o → Known D w flat sizes (Some (lower_of best (record { at = k; reach = far }))) (lower D true o (row w flat sizes k))
+  known_lower None none e = (refl, is)
+  known_lower None (some c) e = absurd e
+  known_lower (Some best) none e = absurd e
+  known_lower (Some best) (some c) (e, q) = by (le_or_lt best.reach far)
     where
-      by : (b : Bool) → ltb (reach D (clause_at flat sizes k)) (reach D c) ≡ b
-          → Known D flat sizes count (cond b (record { at = k; reach = far }) best) (cond (ltb (reach D (clause_at flat sizes k)) (reach D c)) (some (clause_at flat sizes k)) (some c))
-      by true e = subst (λ (x : Bool). Known D flat sizes count (record { at = k; reach = far }) (cond x (some (clause_at flat sizes k)) (some c))) (sym e) (low, refl, is)
-      by false e = subst (λ (x : Bool). Known D flat sizes count best (cond x (some (clause_at flat sizes k)) (some c))) (sym e) q
+      same : ltb (reach D (row w flat sizes k)) (reach D c) ≡ ltb far best.reach
+      same = ap (λ (n : ℕ). ltb n (reach D c)) (sym is) ∙ ap (ltb far) (sym q)
 
-lower_bounded : (best : Lowest) (count k far : ℕ) (a b : Bool) → best.at ≤ count → k < count
-    → (cond a (record { at = k; reach = far }) (cond b (record { at = k; reach = far }) best)).at ≤ count
-lower_bounded best count k far true b h l = omega (arith, l)
-lower_bounded best count k far false true h l = omega (arith, l)
-lower_bounded best count k far false false h l = h
+      by : (best.reach ≤ far) ⊎ (far < best.reach)
+          → Known D w flat sizes (Some (cond (leb best.reach far) best (record { at = k; reach = far }))) (cond (ltb (reach D (row w flat sizes k)) (reach D c)) (some (row w flat sizes k)) (some c))
+      by (inl h) = simp (le-leb best.reach far h, same, le-ltb far best.reach h) (e, q)
+      by (inr h) = simp (lt-leb best.reach far h, same, lt-ltb far best.reach h) (refl, is)
 
-module _ {flat : List ℤ} {sizes places kinds values : List ℕ} where
-  pub lowering_start : {count r : ℕ} → count ≡ get_or sizes 0 0 → NextDead flat sizes kinds values 0 r → Lowering flat sizes places kinds values count (record { at = count; reach = 0 }) r
-  lowering_start {count} {r} e n =
-      record {
-        counted = e;
-        within = omega (arith, n.within, e);
-        known = λ D s p k v. subst (Known D flat sizes count (record { at = count; reach = 0 })) (sym (skip D s flat sizes 0 r n.after (n.alive D s k v) ∙ ap (lowest_dead D s) (rows_zero paper.literals flat sizes))) refl;
-        is_dead = λ h D s k v. n.is_dead (omega (arith, h, e)) D s k v;
-        bounded = omega arith;
-      }
+-- the lower of two clauses that stand
+lower_within : {n : ℕ} (best : Maybe Lowest) (next : Lowest) → IfSome best (λ b. b.at < n) → next.at < n → (lower_of best next).at < n
+lower_within None next h l = l
+lower_within {n} (Some best) next h l = by (leb best.reach next.reach)
+  where
+    by : (b : Bool) → (cond b best next).at < n
+    by true = h
+    by false = l
 
-  pub lowering_more : {count : ℕ} {best : Lowest} {k far next : ℕ} → Lowering flat sizes places kinds values count best k → k < count
-      → ((D : Prefix) → Places D places → Kinds D kinds → far ≡ reach D (clause_at flat sizes k)) → NextDead flat sizes kinds values (k + 1) next
-      → Lowering flat sizes places kinds values count (lower_of best count k far) next
-  lowering_more {count} {best} {k} {far} {next} inv low is n =
-      record {
-        counted = inv.counted;
-        within = omega (arith, n.within, inv.counted);
-        known = λ D s p q v.
-            subst (Known D flat sizes count (lower_of best count k far))
-            (sym
-            (skip D s flat sizes (k + 1) next n.after (n.alive D s q v)
-            ∙ ap (λ (m : ℕ). lowest_dead D s (rows paper.literals flat sizes m)) (add-one k)
-            ∙ one_more D s flat sizes k true (inv.is_dead low D s q v)))
-            (known_lower D flat sizes count k far low (is D p q) best (lowest_dead D s (rows paper.literals flat sizes k)) (inv.known D s p q v));
-        is_dead = λ h D s q v. n.is_dead (omega (arith, h, inv.counted)) D s q v;
-        bounded = lower_bounded best count k far (eqb best.at count) (ltb far best.reach) inv.bounded low;
-      }
+module _ {w : ℕ} {flat : List ℤ} {sizes places kinds values : List ℕ} where
+  pub lowering_start : Lowering w flat sizes places kinds values None 0
+  lowering_start = record {
+    within = omega arith;
+    bounded = tt;
+    known = λ D s p k v. subst (Known D w flat sizes None) (sym (ap (lowest_dead D s) (rows_zero w flat sizes))) tt;
+  }
 
-  -- the best as another function gives it
-  pub lowered : {count : ℕ} {best best' : Lowest} {k : ℕ} → Lowering flat sizes places kinds values count best k → best' ≡ best → Lowering flat sizes places kinds values count best' k
-  lowered {count} {best} {best'} {k} inv e = subst (λ (b : Lowest). Lowering flat sizes places kinds values count b k) (sym e) inv
+  module _ {best : Maybe Lowest} {from : ℕ} (inv : Lowering w flat sizes places kinds values best from) where
+    pub lowering_more : {k far : ℕ} → FirstDead w flat sizes kinds values from k → ((D : Prefix) → Places D places → Kinds D kinds → far ≡ reach D (row w flat sizes k))
+        → Lowering w flat sizes places kinds values (Some (lower_of best (record { at = k; reach = far }))) (k + 1)
+    lowering_more {k} {far} f is = record {
+      within = omega (arith, f.within);
+      bounded = lower_within best (record { at = k; reach = far }) inv.bounded f.within;
+      known = λ D s p q v.
+          subst (Known D w flat sizes (Some (lower_of best (record { at = k; reach = far }))))
+          (sym
+          (ap (λ (m : ℕ). lowest_dead D s (rows w flat sizes m)) (add-one k)
+          ∙ one_more D s w flat sizes k true (f.is_dead D s q v)
+          ∙ ap (λ (o : Option Clause). lower D true o (row w flat sizes k)) (skip D s w flat sizes from k f.after (f.alive D s q v))))
+          (known_lower D w flat sizes k far (is D p q) best (lowest_dead D s (rows w flat sizes from)) (inv.known D s p q v));
+    }
 
-  pub lowering_end : {count : ℕ} {best : Lowest} {k : ℕ} → Lowering flat sizes places kinds values count best k → count ≤ k → FoundLowest flat sizes places kinds values best.at
-  lowering_end {count} {best} {k} inv h =
-      record {
-        within = omega (arith, inv.bounded, inv.counted);
-        is = λ D s p q v.
-            found D (lowest_dead D s (rows paper.literals flat sizes k)) (inv.known D s p q v)
-            ∙ ap (λ (m : ℕ). lowest_dead D s (rows paper.literals flat sizes m)) (let e : k ≡ get_or sizes 0 0 = omega (arith, inv.counted, inv.within) in e);
-      }
-    where
-      of : (r : ℕ) (b : Bool) → ltb r (get_or sizes 0 0) ≡ b → clause_found flat sizes r ≡ cond b (some (clause_at flat sizes r)) none
-      of r b e = ap (λ (x : Bool). cond x (some (clause_at flat sizes r)) none) e
+    pub lowering_end : Alive w flat sizes kinds values from (get_or sizes 0 0) → LowestIn w flat sizes places kinds values (option_map (λ b. b.at) best)
+    lowering_end h = record {
+      within = bound best inv.bounded;
+      is = λ D s p q v. found D best (lowest_dead D s (rows w flat sizes from)) (inv.known D s p q v) ∙ sym (skip D s w flat sizes from (get_or sizes 0 0) inv.within (h D s q v));
+    }
+      where
+        bound : (best : Maybe Lowest) → IfSome best (λ b. b.at < get_or sizes 0 0) → IfSome (option_map (λ b. b.at) best) (λ k. k < get_or sizes 0 0)
+        bound None h = h
+        bound (Some b) h = h
 
-      found : (D : Prefix) (o : Option Clause) → Known D flat sizes count best o → clause_found flat sizes best.at ≡ o
-      found D none e = of best.at false (le-ltb best.at (get_or sizes 0 0) (omega (arith, e, inv.counted)))
-      found D (some c) q = of best.at true (lt-ltb best.at (get_or sizes 0 0) (omega (arith, q.0, inv.counted))) ∙ ap some (sym q.1)
-
--- ---- as the code compares them
-module _ (best : Lowest) (count k far : ℕ) where
-  pub lower_none : best.at ≡ count → record { at = k; reach = far } ≡ lower_of best count k far
-  lower_none e = ap (λ (b : Bool). cond b (record { at = k; reach = far }) (cond (ltb far best.reach) (record { at = k; reach = far }) best)) (sym (eq-eqb best.at count e))
-
-  module _ (some : best.at ≡ count → ⊥) where
-    pub lower_takes : far < best.reach → record { at = k; reach = far } ≡ lower_of best count k far
-    lower_takes h =
-        ap (λ (b : Bool). cond b (record { at = k; reach = far }) best) (sym (lt-ltb far best.reach h))
-        ∙ ap (λ (b : Bool). cond b (record { at = k; reach = far }) (cond (ltb far best.reach) (record { at = k; reach = far }) best)) (sym (ne_eqb best.at count some))
-
-    pub lower_stays : best.reach ≤ far → best ≡ lower_of best count k far
-    lower_stays h =
-        ap (λ (b : Bool). cond b (record { at = k; reach = far }) best) (sym (le-ltb far best.reach h))
-        ∙ ap (λ (b : Bool). cond b (record { at = k; reach = far }) (cond (ltb far best.reach) (record { at = k; reach = far }) best)) (sym (ne_eqb best.at count some))
+        found : (D : Prefix) (best : Maybe Lowest) (o : Option Clause) → Known D w flat sizes best o → clause_in w flat sizes (option_map (λ b. b.at) best) ≡ o
+        found D None none e = refl
+        found D None (some c) e = absurd e
+        found D (Some b) none e = absurd e
+        found D (Some b) (some c) (e, q) = ap some (sym e)

@@ -1,9 +1,10 @@
 -- What the finder of step 1 says of a flat table of clauses, for every prefix and node that the tables by number show.
-use Rattle.std.specs.Prelude.{ℕ, ◌≤◌, ◌≡◌, cond, List, eqb, ltb, ℤ, get_or}
+use Rattle.std.specs.Prelude.{ℕ, ◌≤◌, ◌<◌, ◌≡◌, cond, List, leb, ltb, ℤ, get_or, Some, None, IfSome}
+use Rattle.std.specs.Prelude.{Option as Maybe}
 use Rattle.std.proofs.Math.Option.{Option, none, some}
 use Rattle.qbf.specs.Formula.{paper, Prefix, Clause, Node}
 use Rattle.qbf.specs.Learning.{lowest_dead}
-use Rattle.tables.specs.Views.{Places, Kinds, Values, rows_of}
+use Rattle.tables.specs.Views.{Places, Kinds, Values, row, rows_of}
 use Rattle.dead_clauses.specs.Dead.{clause_at}
 use Rattle.lowest_dead.specs.declared.Lowest.{Lowest}
 
@@ -17,6 +18,17 @@ pub record FoundLowest (flat : List ℤ) (sizes places kinds values : List ℕ) 
   pub is : (D : Prefix) (s : Node) → Places D places → Kinds D kinds → Values D s values
       → clause_found flat sizes r ≡ lowest_dead D s (rows_of paper.literals flat sizes)
 
--- the dead clause k, which reaches so far, beside the lowest one before it; `count` is the index of none
-abbrev pub lower_of : Lowest → ℕ → ℕ → ℕ → Lowest
-lower_of best count k reach = cond (eqb best.at count) (record { at = k; reach = reach }) (cond (ltb reach best.reach) (record { at = k; reach = reach }) best)
+-- ---- the same by an index or none, in rows of any width
+abbrev pub clause_in : ℕ → List ℤ → List ℕ → Maybe ℕ → Option Clause
+clause_in w flat sizes None = none
+clause_in w flat sizes (Some k) = some (row w flat sizes k)
+
+pub record LowestIn (w : ℕ) (flat : List ℤ) (sizes places kinds values : List ℕ) (r : Maybe ℕ) : Type 0 where
+  pub within : IfSome r (λ k. k < get_or sizes 0 0)
+  pub is : (D : Prefix) (s : Node) → Places D places → Kinds D kinds → Values D s values
+      → clause_in w flat sizes r ≡ lowest_dead D s (rows_of w flat sizes)
+
+-- a dead clause beside the lowest one before it
+abbrev pub lower_of : Maybe Lowest → Lowest → Lowest
+lower_of None next = next
+lower_of (Some best) next = cond (leb best.reach next.reach) best next

@@ -2,18 +2,18 @@
 #![tactic(auto)]
 
 ghost use Rattle.std.specs.Prelude.{◌≡◌};
-ghost use Rattle.qbf.specs.Formula.{paper, Prefix};
+ghost use Rattle.qbf.specs.Formula.{Prefix};
 ghost use Rattle.qbf.specs.Learning.{reach};
-ghost use Rattle.tables.specs.Views.{Places, Kinds, Standing};
-ghost use Rattle.lowest_dead.specs.Found.{lower_of, FoundLowest};
+ghost use Rattle.tables.specs.Views.{Places, Kinds};
+ghost use Rattle.lowest_dead.specs.Found.{lower_of, LowestIn};
 
 use constraint::mention::last_place;
 use constraint::reduction::reduced_len;
 use dead_clauses::next_dead;
-use lent_rows::row;
-use literal::cell_at;
+use lent_rows::LentRows;
+use literal::ByNumber;
 
-// A dead clause, by its index, and how far it reaches; the index of no clause where none is found.
+// A dead clause, by its index, and how far it reaches.
 #[derive(Clone, Copy)]
 pub struct Lowest {
     pub at: usize,
@@ -21,59 +21,41 @@ pub struct Lowest {
 }
 
 // How far a clause reaches: the last place of its reduced form.
-fn reach_of<'a>(lits: &'a [i16], places: &'a [u16], kinds: &'a [u16]) -> usize
+fn reach_of(lits: &[i16], places: &[u16], kinds: &[u16]) -> usize
     ensures { (D : Prefix) → Places D places.now → Kinds D kinds.now → result ≡ reach D lits.now }
 {
     let n = reduced_len(lits, kinds, false);
     last_place(&lits[..n], places)
 }
 
-// The dead clause k, which reaches so far, beside the lowest one before it: the later of two equals does not count.
-fn lower(best: Lowest, count: usize, k: usize, reach: usize) -> Lowest
-    ensures { result ≡ lower_of best count k reach }
+// A dead clause beside the lowest one before it: the later of two equals does not count.
+fn lower(best: Option<Lowest>, next: Lowest) -> Lowest
+    ensures { result ≡ lower_of best next }
 {
-    if best.at == count {
-        return Lowest {
-            at: k,
-            reach: reach,
-        };
+    match best {
+        Some(best) if best.reach <= next.reach => best,
+        _ => next,
     }
-    if reach < best.reach {
-        return Lowest {
-            at: k,
-            reach: reach,
-        };
-    }
-    best
 }
 
-// The index of the clause that step 1 takes, at whatever node the values show; the count of the clauses where none is dead.
-pub fn lowest_dead<'a>(
-    clauses: &'a [i16],
-    sizes: &'a [u16],
-    places: &'a [u16],
-    kinds: &'a [u16],
-    values: &'a [u8],
-) -> usize
-    requires { Standing paper.literals clauses.now sizes.now }
-    ensures { FoundLowest
-        clauses.now
-        sizes.now
-        places.now
-        kinds.now
-        values.now
+// The index of the clause that step 1 takes, at whatever node the values show; none where no clause is dead.
+pub fn lowest_dead(clauses: LentRows, shown: ByNumber) -> Option<usize>
+    ensures { LowestIn
+        clauses.entry.width
+        clauses.entry.cells.now
+        clauses.entry.sizes.now
+        shown.entry.places.now
+        shown.entry.kinds.now
+        shown.entry.values.now
         result }
 {
-    let count = cell_at(sizes, 0) as usize;
-    let mut best = Lowest {
-        at: count,
-        reach: 0,
-    };
-    let mut k = next_dead(clauses, sizes, kinds, values, 0);
-    while k < count {
-        let reach = reach_of(row(clauses, sizes, tables::LITERALS, k), places, kinds);
-        best = lower(best, count, k, reach);
-        k = next_dead(clauses, sizes, kinds, values, k + 1);
+    let mut best: Option<Lowest> = None;
+    let mut from = 0;
+    // stays (no plainer): each search goes on behind the clause that the last one found
+    while let Some(k) = next_dead(clauses, shown.kinds, shown.values, from) {
+        let reach = reach_of(clauses.row(k), shown.places, shown.kinds);
+        best = Some(lower(best, Lowest { at: k, reach }));
+        from = k + 1;
     }
-    best.at
+    best.map(|lowest| lowest.at)
 }

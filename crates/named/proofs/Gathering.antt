@@ -7,14 +7,13 @@ use mathlib.Core.Bool.{Bool, true, false, cond, beq}
 use mathlib.Core.List.{List, ◌∷◌}
 use mathlib.Core.Option.{Option, some}
 use lib.IntN.{ℤ, pos}
-use lib.ListN.{length, get_or, drop, drop_of_length-le}
+use lib.ListN.{length, get_or, set, drop, drop_of_length-le}
 use lib.Seq.{drop-cons}
 use Rattle.qbf.specs.Formula.{Literal, number_of, positive}
 use Rattle.layout.specs.Forms.{consed}
 use Rattle.layout.specs.Session.{named}
 use Rattle.reader.specs.Items.{narrow, all_narrowed, Kept}
 use Rattle.reader.proofs.Literals.{Gathered, gathered_none, gathered_more, gathered_all}
-use Rattle.named.specs.Named.{NamedIf, NamedOne}
 
 abbrev left : Bool → List Literal → Option (List Literal)
 left v ls = some (named v ls)
@@ -37,39 +36,29 @@ module _ {v : Bool} {lits : List Literal} {out₀ out : List ℤ} {n i : ℕ} (p
     here : drop i lits ≡ l ∷ drop (i + 1) lits
     here = drop-cons lits i (pos 0) inside ∙ ap (λ (k : ℕ). get_or lits i (pos 0) ∷ drop k lits) (sym (add-one i)) ∙ ap (λ (x : Literal). x ∷ drop (i + 1) lits) (sym is)
 
-    pub naming_more : (r : ℕ) (new : List ℤ) → NamedOne v l n out r new → Naming v lits out₀ new (n + r) (i + 1)
-    naming_more r new = by (beq v (positive l)) refl
-      where
-        by : (t : Bool) → beq v (positive l) ≡ t → NamedIf t l n out r new → Naming v lits out₀ new (n + r) (i + 1)
-        by true e (one, w) =
-            record {
-              low = omega (arith, p.low, one);
-              high = omega (arith, inside);
-              gathered =
-                  subst (λ (k : ℕ). Gathered (left v lits) (left v (drop (i + 1) lits)) out₀ new (n + k)) (sym one)
-                  (gathered_more p.gathered (pos (narrow (number_of l)))
-                  (ap (λ (ls : List Literal). all_narrowed (left v ls)) here ∙ ap (λ (t : Bool). all_narrowed (some (cond t (pos (number_of l) ∷ named v (drop (i + 1) lits)) (named v (drop (i + 1) lits))))) e
-                  ∙ narrowed_more (number_of l) (named v (drop (i + 1) lits)))
-                  w);
-            }
-        by false e (none_stored, w) =
-            record {
-              low = omega (arith, p.low, none_stored);
-              high = omega (arith, inside);
-              gathered =
-                  subst (λ (k : ℕ). Gathered (left v lits) (left v (drop (i + 1) lits)) out₀ new k) (let z : n ≡ n + r = omega (arith, none_stored) in z)
-                  (subst (λ (d : List ℤ). Gathered (left v lits) (left v (drop (i + 1) lits)) out₀ d n) (sym w)
-                  (subst (λ (o : Option (List Literal)). Gathered (left v lits) o out₀ out n)
-                  (ap (left v) here ∙ ap (λ (t : Bool). some (cond t (pos (number_of l) ∷ named v (drop (i + 1) lits)) (named v (drop (i + 1) lits)))) e) p.gathered));
-            }
+    -- a literal of the sign, whose number is stored
+    pub naming_more : {t : Bool} → t ≡ beq v (positive l) → t ≡ true → {new : List ℤ} → new ≡ set out n (pos (narrow (number_of l))) → Naming v lits out₀ new (n + 1) (i + 1)
+    naming_more {t} s e {new} w =
+        record {
+          low = omega (arith, p.low);
+          high = omega (arith, inside);
+          gathered =
+              gathered_more p.gathered (pos (narrow (number_of l)))
+              (ap (λ (ls : List Literal). all_narrowed (left v ls)) here ∙ ap (λ (t : Bool). all_narrowed (some (cond t (pos (number_of l) ∷ named v (drop (i + 1) lits)) (named v (drop (i + 1) lits))))) (sym s ∙ e)
+              ∙ narrowed_more (number_of l) (named v (drop (i + 1) lits)))
+              w;
+        }
 
-    -- at most one number is stored
-    pub naming_fits : (r : ℕ) (new : List ℤ) → NamedOne v l n out r new → n + r ≤ length lits
-    naming_fits r new = by (beq v (positive l))
-      where
-        by : (t : Bool) → NamedIf t l n out r new → n + r ≤ length lits
-        by true q = omega (arith, q.0, p.low, inside)
-        by false q = omega (arith, q.0, p.low, inside)
+    -- one of the other
+    pub naming_past : {t : Bool} → t ≡ beq v (positive l) → t ≡ false → Naming v lits out₀ out n (i + 1)
+    naming_past {t} s e =
+        record {
+          low = omega (arith, p.low);
+          high = omega (arith, inside);
+          gathered =
+              subst (λ (o : Option (List Literal)). Gathered (left v lits) o out₀ out n)
+              (ap (left v) here ∙ ap (λ (t : Bool). some (cond t (pos (number_of l) ∷ named v (drop (i + 1) lits)) (named v (drop (i + 1) lits)))) (sym s ∙ e)) p.gathered;
+        }
 
   pub naming_end : length lits ≤ i → Kept n out (named v lits)
   naming_end h =

@@ -1,7 +1,7 @@
 // What a visit hands up and where it stands; and of step 5, what the off side gives.
 #![tactic(auto)]
 
-ghost use Rattle.std.specs.Prelude.{◌≡◌, true, suc, ◌+◌, ◌-◌, ◌≤◌, ◌<◌, length, take};
+ghost use Rattle.std.specs.Prelude.{◌≡◌, true, false, suc, ◌+◌, ◌-◌, ◌*◌, ◌≤◌, ◌<◌, length, take, drop};
 ghost use Rattle.qbf.specs.Formula.{paper, Quantifier, Prefix};
 ghost use Rattle.qbf.specs.Truth.{Outcome};
 ghost use Rattle.qbf.specs.Learning.{Constraint};
@@ -11,7 +11,7 @@ ghost use Rattle.node.specs.Node.{bounds_of, entry_of, Reads, Ended, goes_up_of,
 
 use coding::list::{wide, write};
 use resolution::ends_next;
-use search_entry::{Bounds, Source, entry, placed};
+use search_entry::{ASIDE, Bounds, Learned, Matrix, Source, entry, placed};
 
 pub mod side; // what the verdict of one side says
 
@@ -47,7 +47,16 @@ pub struct Position {
     pub yes: bool,
 }
 
+// A node of `at` places that has visited its off side: the quantifier of its next variable, and what came up from that side.
+#[derive(Clone, Copy)]
+pub struct OffSide {
+    pub at: usize,
+    pub kind: u16,
+    pub answer: Answer,
+}
+
 // The quantifier of the next place; END where none is left.
+// stays (no plainer): it hands on the cell itself, also one that is no quantifier's code, which an Option could not.
 pub fn next_kind<'a>(quantifiers: &'a [u8; tables::CODES], at: usize) -> u16
     ensures { NextKind quantifiers.now at result }
 {
@@ -61,115 +70,111 @@ pub fn next_kind<'a>(quantifiers: &'a [u8; tables::CODES], at: usize) -> u16
 pub fn bounds_of(a: Answer) -> Bounds
     ensures { result ≡ bounds_of a }
 {
-    let source = a.source;
-    placed(source, a.start, a.len)
+    placed(a.source, a.start, a.len)
 }
 
 // The codes of the constraint: that part of the clauses, of the learned constraints of its polarity, or of the area.
-fn entry_of<'a>(
+pub fn entry_of<'a>(
     a: Answer,
-    clauses: &'a [u16; tables::CLAUSE_ROWS],
-    learned: &'a [u16; tables::CONSTRAINT_CODES],
-    cubes: &'a [u16; tables::CONSTRAINT_CODES],
+    matrix: &'a Matrix,
+    learned: &'a Learned,
     area: &'a [u16; tables::AREA],
 ) -> &'a [u16]
     requires { Bounded (bounds_of a) }
-    ensures { (result.now ≡ entry_of a clauses.now learned.now cubes.now area.now)
+    ensures { (result.now ≡ entry_of a matrix.now.rows learned.now.clauses.cells learned.now.cubes.cells area.now)
         × (length result.now ≡ a.len) }
 {
-    let v = a.verdict;
-    entry(clauses, side::stored(v, learned, cubes), area, bounds_of(a))
+    entry(matrix, side::stored(a.verdict, learned), area, bounds_of(a))
 }
 
-// Whether the off side's outcome goes up without a further visit. A stop does.
-pub fn goes_up<'a>(
-    off: Answer,
-    kind: u16,
-    clauses: &'a [u16; tables::CLAUSE_ROWS],
-    learned: &'a [u16; tables::CONSTRAINT_CODES],
-    cubes: &'a [u16; tables::CONSTRAINT_CODES],
-    area: &'a [u16; tables::AREA],
-    at: usize,
-) -> bool
-    requires { Bounded (bounds_of off) × (at < suc paper.numbers) }
+// Whether the off side's outcome, with the constraint of that row, goes up without a further visit. A stop does.
+pub fn goes_up<'a>(off: Answer, row: &'a [u16], kind: u16, at: usize) -> bool
+    requires { at < suc paper.numbers }
     ensures { ((D : Prefix) (κ : Quantifier) (o : Outcome Constraint)
         → quantifier_code κ ≡ kind
-        → Reads
-        D
-        off.verdict
-        (entry_of off clauses.now learned.now cubes.now area.now)
-        o
+        → Reads D off.verdict row.now o
         → Ended D (suc at) o
         → 1 ≤ off.budget
         → result ≡ goes_up_of D κ (suc at) o)
         × (off.verdict ≡ Verdict.Mixed → off.budget ≡ 0 → result ≡ true) }
 {
-    let v = off.verdict;
-    if side::is_mixed(v) {
+    if side::is_mixed(off.verdict) {
         return off.budget == 0;
     }
-    if side::is_enough(v, kind) {
-        return true;
-    }
-    let row = entry_of(off, clauses, learned, cubes, area);
-    !ends_next(row, row.len(), at)
+    side::is_enough(off.verdict, kind) || !ends_next(row, at)
 }
 
-// Puts the off side's constraint aside, so that it survives what is stored while the on side is visited.
-pub fn put_aside<'a>(
-    saved: &mut [u16],
-    off: Answer,
-    clauses: &'a [u16; tables::CLAUSE_ROWS],
-    learned: &'a [u16; tables::CONSTRAINT_CODES],
-    cubes: &'a [u16; tables::CONSTRAINT_CODES],
-    area: &'a [u16; tables::AREA],
-)
-    requires { Bounded (bounds_of off) × (off.len ≤ length saved.old) }
-    ensures { (length saved.new ≡ length saved.old)
-        × (take off.len saved.new
-        ≡ entry_of off clauses.now learned.now cubes.now area.now) }
+// Puts the off side's constraint aside, so that it survives what is stored while the on side is visited. The rows of the nodes above stay.
+pub fn put_aside<'a>(aside: &mut [u16; ASIDE], at: usize, row: &'a [u16])
+    requires { (at < paper.numbers) × (length row.now ≤ paper.numbers) }
+    ensures { (take (at * paper.numbers) aside.new ≡ take (at * paper.numbers) aside.old)
+        × (take (length row.now) (drop (at * paper.numbers) aside.new) ≡ row.now) }
 {
-    write(saved, entry_of(off, clauses, learned, cubes, area));
+    write(&mut aside[at * tables::NUMBERS..], row);
+}
+
+// Whether the off side's outcome goes up; else its constraint is put aside.
+pub fn up_or_aside<'a>(
+    off: OffSide,
+    matrix: &'a Matrix,
+    learned: &'a Learned,
+    area: &'a [u16; tables::AREA],
+    aside: &mut [u16; ASIDE],
+) -> bool
+    requires { Bounded (bounds_of off.answer) × (off.at < paper.numbers) }
+    ensures up { ((D : Prefix) (κ : Quantifier) (o : Outcome Constraint)
+        → quantifier_code κ ≡ off.kind
+        → Reads D off.answer.verdict (entry_of off.answer matrix.now.rows learned.now.clauses.cells learned.now.cubes.cells area.now) o
+        → Ended D (suc off.at) o
+        → 1 ≤ off.answer.budget
+        → result ≡ goes_up_of D κ (suc off.at) o)
+        × (off.answer.verdict ≡ Verdict.Mixed → off.answer.budget ≡ 0 → result ≡ true) }
+    ensures size { length aside.new ≡ length aside.old }
+    ensures put { (take (off.at * paper.numbers) aside.new ≡ take (off.at * paper.numbers) aside.old)
+        × (result ≡ false
+        → take off.answer.len (drop (off.at * paper.numbers) aside.new)
+        ≡ entry_of off.answer matrix.now.rows learned.now.clauses.cells learned.now.cubes.cells area.now) }
+{
+    let row = entry_of(off.answer, matrix, learned, area);
+    if goes_up(off.answer, row, off.kind, off.at) {
+        return true;
+    }
+    put_aside(aside, off.at, row);
+    false
 }
 
 // The position of the off side, where this visit is counted, and of the on side.
 pub fn to_off(p: Position) -> Position
     requires { (p.at < suc paper.numbers) × (1 ≤ p.budget) }
-    ensures { result ≡ record { at = p.at + 1; free = p.free; budget = p.budget - 1; lines = p.lines; words = p.words; yes = p.yes } }
+    ensures { result ≡ record p { at = p.at + 1; budget = p.budget - 1 } }
 {
     Position {
         at: p.at + 1,
-        free: p.free,
         budget: p.budget - 1,
-        lines: p.lines,
-        words: p.words,
-        yes: p.yes,
+        ..p
     }
 }
 
 pub fn to_on(p: Position, budget: u64, lines: usize) -> Position
     requires { p.at < suc paper.numbers }
-    ensures { result ≡ record { at = p.at + 1; free = p.free; budget = budget; lines = lines; words = p.words; yes = p.yes } }
+    ensures { result ≡ record p { at = p.at + 1; budget = budget; lines = lines } }
 {
     Position {
         at: p.at + 1,
-        free: p.free,
-        budget: budget,
-        lines: lines,
-        words: p.words,
-        yes: p.yes,
+        budget,
+        lines,
+        ..p
     }
 }
 
 // The answer of a visit that does not branch.
-pub fn settled(v: Verdict, b: Bounds, p: Position) -> Answer
+pub fn settled(verdict: Verdict, b: Bounds, p: Position) -> Answer
     requires { 1 ≤ p.budget }
-    ensures { result ≡ record { verdict = v; source = b.source; start = b.start; len = b.len; budget = p.budget - 1; lines = p.lines } }
+    ensures { result ≡ record { verdict = verdict; source = b.source; start = b.start; len = b.len; budget = p.budget - 1; lines = p.lines } }
 {
-    let source = b.source;
     Answer {
-        verdict: v,
-        source: source,
+        verdict,
+        source: b.source,
         start: b.start,
         len: b.len,
         budget: p.budget - 1,
@@ -192,16 +197,7 @@ pub fn stopped(p: Position) -> Answer
 }
 
 pub fn with_lines(a: Answer, lines: usize) -> Answer
-    ensures { result ≡ record { verdict = a.verdict; source = a.source; start = a.start; len = a.len; budget = a.budget; lines = lines } }
+    ensures { result ≡ record a { lines = lines } }
 {
-    let v = a.verdict;
-    let source = a.source;
-    Answer {
-        verdict: v,
-        source: source,
-        start: a.start,
-        len: a.len,
-        budget: a.budget,
-        lines: lines,
-    }
+    Answer { lines, ..a }
 }

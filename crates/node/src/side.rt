@@ -6,6 +6,8 @@ ghost use Rattle.node.specs.Node.{is_of, is_mixed, stored_by};
 ghost use Rattle.node.specs.Step.{alone};
 
 use super::Verdict;
+use search_entry::Learned;
+use shelf::Shelf;
 
 // Whether the verdict is Yes, or where `yes` is false whether it is No.
 pub fn is_of(v: Verdict, yes: bool) -> bool
@@ -21,25 +23,16 @@ pub fn is_of(v: Verdict, yes: bool) -> bool
 pub fn is_mixed(v: Verdict) -> bool
     ensures { result ≡ is_mixed v }
 {
-    match v {
-        Verdict::Yes => false,
-        Verdict::No => false,
-        Verdict::Mixed => true,
-    }
+    matches!(v, Verdict::Mixed)
 }
 
 // The learned constraints of the verdict's polarity: clauses for No, cubes for Yes.
-pub fn stored<'a>(
-    v: Verdict,
-    learned: &'a [u16; tables::CONSTRAINT_CODES],
-    cubes: &'a [u16; tables::CONSTRAINT_CODES],
-) -> &'a [u16; tables::CONSTRAINT_CODES]
-    ensures { result.now ≡ stored_by v learned.now cubes.now }
+pub fn stored<'a>(v: Verdict, learned: &'a Learned) -> &'a Shelf
+    ensures { result.now.cells ≡ stored_by v learned.now.clauses.cells learned.now.cubes.cells }
 {
     match v {
-        Verdict::Yes => cubes,
-        Verdict::No => learned,
-        Verdict::Mixed => learned,
+        Verdict::Yes => &learned.cubes,
+        Verdict::No | Verdict::Mixed => &learned.clauses,
     }
 }
 

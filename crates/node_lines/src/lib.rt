@@ -16,35 +16,35 @@ mod line; // one line more
 pub fn lined(v: Verdict, kind: u16, yes: bool) -> bool
     ensures { result ≡ lined_of kind yes v }
 {
-    if kind == tables::FREE {
+    let free = kind == tables::FREE;
+    if free {
         return is_of(v, yes);
     }
     false
 }
 
-// A line more where the side with that value is one.
+// A line more where the side with that value is one. The position says how many there are.
 pub fn line_if<'a>(
     one: bool,
     value: u8,
     table: &mut [u8],
-    lines: usize,
     p: Position,
     statuses: &'a [u8; tables::CODES],
 ) -> usize
-    requires { (p.free ≤ paper.numbers) × (lines < 2 ^ 63) }
+    requires { (p.free ≤ paper.numbers) × (p.lines < 2 ^ 63) }
     ensures table_len_unchanged { (length table.new ≡ length table.old)
-        × (result ≡ cond one (lines + 1) lines)
+        × (result ≡ cond one (p.lines + 1) p.lines)
         × (one ≡ false → table.new ≡ table.old) }
     ensures covers { (s : Node) (b : Bool) (ls : List Node)
-        → LineTask s ls statuses.now table.old p lines
+        → LineTask s ls statuses.now table.old p p.lines
         → value ≡ byte_of b
         → Covers p.free table.new (ls ++ cond one ((s ▹ b) ∷ []) []) }
 {
     if !one {
-        return lines;
+        return p.lines;
     }
-    line::add_line(table, value, lines, p, statuses);
-    lines + 1
+    line::add_line(table, value, p, statuses);
+    p.lines + 1
 }
 
 // After both sides: two lines are one line above, so the off side's line is taken back; else the on side's line is added where it is one.
@@ -52,25 +52,23 @@ pub fn settle_lines<'a>(
     first: bool,
     second: bool,
     table: &mut [u8],
-    lines: usize,
     p: Position,
     statuses: &'a [u8; tables::CODES],
 ) -> usize
-    requires { (p.free ≤ paper.numbers) × (lines < 2 ^ 63) × (first ≡ true → second ≡ true → 1 ≤ lines) }
+    requires { (p.free ≤ paper.numbers) × (p.lines < 2 ^ 63) × (first ≡ true → second ≡ true → 1 ≤ p.lines) }
     ensures table_len_unchanged { (length table.new ≡ length table.old)
-        × (result ≡ settled_lines first second lines)
+        × (result ≡ settled_lines first second p.lines)
         × (second ≡ false → table.new ≡ table.old) }
     ensures settled_to { (s : Node) (ls : List Node)
-        → LineTask s ls statuses.now table.old p lines
+        → LineTask s ls statuses.now table.old p p.lines
         → SettledTo first second s ls p.free table.new }
 {
     if !second {
-        return lines;
+        return p.lines;
     }
     if first {
-        let free = p.free;
-        cover::pop_line(table, lines, free);
-        return lines - 1;
+        cover::pop_line(table, p.lines, p.free);
+        return p.lines - 1;
     }
-    line_if(second, tables::ON, table, lines, p, statuses)
+    line_if(second, tables::ON, table, p, statuses)
 }

@@ -8,24 +8,15 @@ ghost use Rattle.node.specs.Node.{LineTask};
 use node::Position;
 
 // A line is of a node among the flags; where the next place is none, there is nothing to write.
-pub fn add_line<'a>(
-    table: &mut [u8],
-    value: u8,
-    lines: usize,
-    p: Position,
-    statuses: &'a [u8; tables::CODES],
-)
+pub fn add_line<'a>(table: &mut [u8], value: u8, p: Position, statuses: &'a [u8; tables::CODES])
     requires { p.free ≤ paper.numbers }
     ensures { (length table.new ≡ length table.old)
         × ((s : Node) (b : Bool) (ls : List Node)
-        → LineTask s ls statuses.now table.old p lines
+        → LineTask s ls statuses.now table.old p p.lines
         → value ≡ byte_of b
         → Covers p.free table.new (ls ++ ((s ▹ b) ∷ []))) }
 {
-    let at = p.at;
-    let free = p.free;
-    if free <= at {
-        return;
+    if p.at < p.free {
+        cover::push_line(table, p.lines, p.free, statuses, p.at, value);
     }
-    cover::push_line(table, lines, free, statuses, at, value);
 }

@@ -1,1 +1,2 @@
 pub mod OpenRun
+pub mod Asked

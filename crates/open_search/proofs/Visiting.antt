@@ -90,7 +90,7 @@ module _ {D : Prefix} {R : List Clause} {os : Reading} {wc : ℕ} {sets kd rec :
 
   pub enter_open : (n : ℕ) (r : Finding) (v : ℕ) → k < length D → v ≡ get_or rec (suc k) 0 → v ≡ 0 → Found (plain_branch free (search_at D R os (k + 1)) s) n r
       → Found (enter (get_or os k none) (search_at D R os (k + 1)) s) n r
-  enter_open n r v in_d e zero h = found_as (ap (λ (o : Option Bool). enter o (search_at D R os (k + 1)) s) (by (get_or os k none) (sym (recorded v in_d e) ∙ zero))) h
+  enter_open n r v in_d e is_open h = found_as (ap (λ (o : Option Bool). enter o (search_at D R os (k + 1)) s) (by (get_or os k none) (sym (recorded v in_d e) ∙ is_open))) h
     where
       by : (o : Option Bool) → value_code o ≡ 0 → o ≡ none
       by none q = refl

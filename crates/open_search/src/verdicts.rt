@@ -2,7 +2,7 @@
 ghost use Rattle.std.specs.Prelude.{◌≡◌, ◌-◌, ◌≤◌};
 ghost use Rattle.qbf.specs.Formula.{Quantifier};
 ghost use Rattle.tables.specs.Views.{quantifier_code};
-ghost use Rattle.open_search.specs.Verdicts.{after_yes, after_no, agreed, joined_of};
+ghost use Rattle.open_search.specs.Verdicts.{agreed, joined_of};
 
 use node::Verdict;
 
@@ -17,10 +17,7 @@ pub struct Finding {
 pub fn found(verdict: Verdict, budget: u64) -> Finding
     ensures { result ≡ record { verdict = verdict; budget = budget } }
 {
-    Finding {
-        verdict: verdict,
-        budget: budget,
-    }
+    Finding { verdict, budget }
 }
 
 // "A visit counts one."
@@ -31,34 +28,14 @@ pub fn counted(budget: u64) -> u64
     budget - 1
 }
 
-fn after_yes(second: Verdict) -> Verdict
-    ensures { result ≡ after_yes second }
-{
-    match second {
-        Verdict::Yes => Verdict::Yes,
-        Verdict::No => Verdict::Mixed,
-        Verdict::Mixed => Verdict::Mixed,
-    }
-}
-
-fn after_no(second: Verdict) -> Verdict
-    ensures { result ≡ after_no second }
-{
-    match second {
-        Verdict::Yes => Verdict::Mixed,
-        Verdict::No => Verdict::No,
-        Verdict::Mixed => Verdict::Mixed,
-    }
-}
-
 // "two Yes give Yes, two No give No, anything else Mixed"
 fn agreed(first: Verdict, second: Verdict) -> Verdict
     ensures { result ≡ agreed first second }
 {
-    match first {
-        Verdict::Yes => after_yes(second),
-        Verdict::No => after_no(second),
-        Verdict::Mixed => Verdict::Mixed,
+    match (first, second) {
+        (Verdict::Yes, Verdict::Yes) => Verdict::Yes,
+        (Verdict::No, Verdict::No) => Verdict::No,
+        _ => Verdict::Mixed,
     }
 }
 
@@ -66,7 +43,8 @@ fn agreed(first: Verdict, second: Verdict) -> Verdict
 pub fn joined(kind: u16, first: Verdict, second: Verdict) -> Verdict
     ensures { (κ : Quantifier) → quantifier_code κ ≡ kind → result ≡ joined_of κ first second }
 {
-    if kind == tables::FREE {
+    let free = kind == tables::FREE;
+    if free {
         return agreed(first, second);
     }
     second

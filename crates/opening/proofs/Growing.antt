@@ -1,5 +1,5 @@
 -- The variables of a block, declared from the left.
-use Prim.Native.Nat.{ℕ, zero, suc, ◌+◌, ◌<◌, ◌≤◌}
+use Prim.Native.Nat.{ℕ, ◌+◌, ◌<◌, ◌≤◌}
 use mathlib.Core.Path.{◌≡◌, refl, sym, ap, subst, ◌∙◌}
 use mathlib.Core.Bool.{Bool, true, false, not, ◌||◌}
 use mathlib.Core.List.{List, [], ◌∷◌, ◌++◌, map, append_assoc, append-nil}
@@ -15,10 +15,14 @@ use Rattle.constraint.proofs.Lists.{drop_more, drop_end}
 use Rattle.state.specs.Reading.{quantifier_of, prefix_of}
 use Rattle.state.specs.Declare.{variable_fault, with_variable, refusal_of, Declarable, Declared}
 use Rattle.state.proofs.SoundPrefix.{sound_free_first}
-use Rattle.serving.specs.Serves.{fault_of}
+use Rattle.std.specs.Prelude.{Ok, Err}
+use Rattle.refusal.specs.declared.Refusal.{Refusal}
+use Rattle.refusal.specs.Refusal.{fault_in}
+use Rattle.refusal.specs.Refusal.{number_of as refusal_number}
 use Rattle.layout.specs.Opening.{variable, declare_fault}
 use Rattle.layout_laws.proofs.Blocks.{Before, before_more, in_range, prefix_more}
 use Rattle.opening.specs.Blocks.{Growable, Grown, with_variables}
+use Rattle.opening.specs.Told.{told_by}
 
 -- ---- one variable
 module _ {ns ls ks : List ℕ} {kind : ℕ} (g : Growable ns ls ks kind) where
@@ -42,30 +46,15 @@ module _ {ns ls ks : List ℕ} {kind : ℕ} (g : Growable ns ls ks kind) where
   first_variable n rest false true p q = (λ e. absurd (let z : ◌≡◌ {A = ℕ} 0 1 = cc in omega arith), λ k e. e)
   first_variable n rest false false p q = (λ e. (refl, refl), λ k e. absurd (let z : ◌≡◌ {A = ℕ} 0 1 = cc in omega arith))
 
-  module _ (n : ℕ) {r : ℕ} {ns' ls' ks' : List ℕ} (d : Declared ns ls ks n kind r ns' ls' ks') where
-    abbrev fault : Option ℕ
-    fault = variable_fault paper D n
-
-    numbered_fault : fault ≡ fault_of r
-    numbered_fault = by (eqb n 0 || ltb paper.numbers n) (not (eqb (place_of D n) 0)) d.refusal
-      where
-        by : (x y : Bool) → r ≡ refusal_of (given x 3 or_else given y 4) → (given x 3 or_else given y 4) ≡ fault_of r
-        by true y e = sym (ap fault_of e)
-        by false true e = sym (ap fault_of e)
-        by false false e = sym (ap fault_of e)
-
+  module _ (n : ℕ) {o : Option ℕ} {ns' ls' ks' : List ℕ} (d : Declared ns ls ks n kind o ns' ls' ks') where
     -- refused: the block is
-    pub refused_here : (rest : List ℕ) → (r ≡ 0 → ⊥) → declare_fault paper κ D (n ∷ rest) ≡ fault_of r
-    refused_here rest h = (first_variable n rest (eqb n 0 || ltb paper.numbers n) (not (eqb (place_of D n) 0)) refl refl).1 r (numbered_fault ∙ some_fault r h) ∙ sym (some_fault r h)
-      where
-        some_fault : (k : ℕ) → (k ≡ 0 → ⊥) → fault_of k ≡ some k
-        some_fault zero e = absurd (e refl)
-        some_fault (suc k) e = refl
+    pub refused_here : (rest : List ℕ) (k : ℕ) → o ≡ some k → declare_fault paper κ D (n ∷ rest) ≡ some k
+    refused_here rest k q = (first_variable n rest (eqb n 0 || ltb paper.numbers n) (not (eqb (place_of D n) 0)) refl refl).1 k (sym d.refusal ∙ q)
 
     -- declared: the rest of the block stands on one variable more
-    module _ (e : r ≡ 0) where
-      fine : fault ≡ none
-      fine = numbered_fault ∙ ap fault_of e
+    module _ (e : o ≡ none) where
+      fine : variable_fault paper D n ≡ none
+      fine = sym d.refusal ∙ e
 
       pub one_more : prefix_of ns' ls' ks' ≡ D ++ (variable κ n ∷ [])
       one_more = d.prefix ∙ ap (λ (o : Option ℕ). with_variable o D κ n) fine
@@ -98,27 +87,27 @@ left_all lits g = record { growable = g; same_fault = refl; same_prefix = refl }
 
 module _ {ns₀ ls₀ ks₀ : List ℕ} {lits : List ℤ} {kind : ℕ} {ns ls ks : List ℕ} {i : ℕ} (h : Left ns₀ ls₀ ks₀ lits kind ns ls ks i) where
   -- all are declared
-  pub left_none : length lits ≤ i → Grown ns₀ ls₀ ks₀ lits kind 0 ns ls ks
+  pub left_none : length lits ≤ i → Grown ns₀ ls₀ ks₀ lits kind (Ok tt) ns ls ks
   left_none e =
       record {
         fault = h.same_fault ∙ ap (λ (l : List ℤ). declare_fault paper (quantifier_of kind) (prefix_of ns ls ks) (map number_of l)) (drop_end lits i e);
-        prefix = λ z. sym (h.same_prefix ∙ ap (with_variables (prefix_of ns ls ks) (quantifier_of kind)) (drop_end lits i e) ∙ append-nil (prefix_of ns ls ks));
-        sound = λ z. h.growable.sound;
+        prefix = sym (h.same_prefix ∙ ap (with_variables (prefix_of ns ls ks) (quantifier_of kind)) (drop_end lits i e) ∙ append-nil (prefix_of ns ls ks));
+        sound = h.growable.sound;
       }
 
-  module _ (inside : i < length lits) {l : ℤ} (at : l ≡ get_or lits i (pos 0)) {n : ℕ} (is : n ≡ number_of l) {r : ℕ} {ns' ls' ks' : List ℕ} (d : Declared ns ls ks n kind r ns' ls' ks') where
+  module _ (inside : i < length lits) {l : ℤ} (at : l ≡ get_or lits i (pos 0)) {n : ℕ} (is : n ≡ number_of l) {o : Option ℕ} {ns' ls' ks' : List ℕ} (d : Declared ns ls ks n kind o ns' ls' ks') where
     first : map number_of (drop i lits) ≡ n ∷ map number_of (drop (i + 1) lits)
     first = ap (map number_of) (drop_more lits i (pos 0) inside) ∙ ap (λ (m : ℕ). m ∷ map number_of (drop (i + 1) lits)) (sym (is ∙ ap number_of at))
 
-    pub left_refused : (r ≡ 0 → ⊥) → Grown ns₀ ls₀ ks₀ lits kind r ns' ls' ks'
-    left_refused z =
+    pub left_refused : {q : Refusal} → o ≡ some (refusal_number q) → Grown ns₀ ls₀ ks₀ lits kind (Err q) ns' ls' ks'
+    left_refused {q} z =
         record {
-          fault = h.same_fault ∙ ap (declare_fault paper (quantifier_of kind) (prefix_of ns ls ks)) first ∙ refused_here h.growable n d (map number_of (drop (i + 1) lits)) z;
-          prefix = λ e. absurd (z e);
-          sound = λ e. absurd (z e);
+          fault = h.same_fault ∙ ap (declare_fault paper (quantifier_of kind) (prefix_of ns ls ks)) first ∙ refused_here h.growable n d (map number_of (drop (i + 1) lits)) (refusal_number q) z;
+          prefix = tt;
+          sound = tt;
         }
 
-    pub left_more : r ≡ 0 → Left ns₀ ls₀ ks₀ lits kind ns' ls' ks' (i + 1)
+    pub left_more : o ≡ none → Left ns₀ ls₀ ks₀ lits kind ns' ls' ks' (i + 1)
     left_more z =
         record {
           growable = growable_more h.growable n d z;

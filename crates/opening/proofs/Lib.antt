@@ -1,8 +1,10 @@
 pub mod Numbered
 pub mod Standing
 pub mod Growing
+pub mod Told
 pub mod Taking
-pub mod Lines
+pub mod Judging
 pub mod Turns
+pub mod Reading
 pub mod Closed
 pub mod Apart

@@ -1,9 +1,8 @@
 -- States that stand while a text is read, and a form judged at its stage.
 use Prim.Native.Nat.{ℕ}
-use mathlib.Core.Path.{◌≡◌, sym, ap, subst, ◌∙◌}
+use mathlib.Core.Path.{◌≡◌, refl, sym, ap, subst, ◌∙◌}
 use mathlib.Core.Bool.{Bool, true, false, not}
 use mathlib.Core.Option.{Option, none, some}
-use native.Mathlib.Omega.{arith}
 use Rattle.qbf.specs.Formula.{Formula}
 use Rattle.qbf.specs.Learning.{Store, empty_store}
 use Rattle.qbf.specs.Calls.{given, State as Read, ◌or_else◌}
@@ -11,11 +10,14 @@ use Rattle.qbf.specs.Runs.{fresh}
 use Rattle.state.specs.declared.State.{State}
 use Rattle.state.specs.Reading.{read_state, formula_in, store_in, state_in, well_formed_read, valid}
 use Rattle.state.proofs.Valid.{valid_facts}
-use Rattle.serving.specs.Serves.{fault_of}
+use Rattle.std.specs.Prelude.{Ok, Err}
+use Rattle.refusal.specs.declared.Refusal.{Refusal}
+use Rattle.refusal.specs.Refusal.{number_of, fault_in}
 use Rattle.layout.specs.Forms.{Form}
 use Rattle.layout.specs.Opening.{rank, allowed, stage_after, form_fault, line_fault, with_form}
 use Rattle.layout_laws.proofs.Opened.{Reached, line_reached, fresh_formed}
-use Rattle.opening.specs.declared.line.Taken.{Taken}
+use Rattle.opening.specs.declared.book.Book.{Book}
+use Rattle.opening.specs.Stages.{rank_of, placed}
 use Rattle.opening.specs.Opened.{Standing, TookForm}
 
 -- ---- what stands
@@ -41,32 +43,38 @@ fresh_read x v e = (valid_facts x v).read ∙ ap (λ (st : Store). some (record 
 -- ---- a form at a stage
 module _ (stage : ℕ) (b : Formula) (f : Form) where
   -- a form that may not stand here
-  pub misplaced : {t : Bool} → t ≡ allowed stage (rank f) → not t ≡ true → {r : Taken} → r.refusal ≡ 1 → TookForm stage b f r
-  misplaced {t} e g {r} h = record { fault = out t e g ∙ sym (ap fault_of h); advanced = λ z. absurd (let y : ◌≡◌ {A = ℕ} 0 1 = sym z ∙ h in omega (arith, y)) }
+  pub misplaced : {q : Refusal} → Err q ≡ placed (allowed stage (rank f)) → TookForm stage b f (Err q)
+  misplaced {q} e = by (allowed stage (rank f)) refl e
     where
-      out : (t : Bool) → t ≡ allowed stage (rank f) → not t ≡ true → line_fault stage b f ≡ some 1
-      out true e g = absurd (let y : ◌≡◌ {A = ℕ} 0 1 = ap number g in omega (arith, y))
-        where
-          number : Bool → ℕ
-          number false = 0
-          number true = 1
-      out false e g = ap (λ (q : Bool). given (not q) 1 or_else form_fault b f) (sym e)
+      by : (t : Bool) → t ≡ allowed stage (rank f) → Err q ≡ placed t → TookForm stage b f (Err q)
+      by true a e = cc
+      by false a e = record { fault = ap (λ (t : Bool). given (not t) 1 or_else form_fault b f) (sym a) ∙ sym (ap fault_in e); advanced = tt }
 
-  module _ {t : Bool} (e : t ≡ allowed stage (rank f)) (g : not t ≡ false) where
+  -- one that may, judged by its own faults
+  module _ {u : Unit {0}} (p : Ok u ≡ placed (allowed stage (rank f))) where
     standing_fault : line_fault stage b f ≡ form_fault b f
-    standing_fault = ap (λ (q : Bool). given (not q) 1 or_else form_fault b f) (sym e) ∙ ap (λ (q : Bool). given q 1 or_else form_fault b f) g
-
-    -- one that may, judged by its own faults
-    pub judged : Reached stage b → {r : Taken} → form_fault b f ≡ fault_of r.refusal
-        → (r.refusal ≡ 0 → (formula_in r.state ≡ with_form b f) × (r.stage ≡ stage_after (rank f)) × (read_state r.state ≡ some (fresh (formula_in r.state))))
-        → TookForm stage b f r
-    judged i {r} q next =
-        record {
-          fault = standing_fault ∙ q;
-          advanced = λ z. let n = next z in record { formula = n.0; stage = n.1; stands = record { read = n.2; reached = reached z n } };
-        }
+    standing_fault = by (allowed stage (rank f)) refl p
       where
-        reached : r.refusal ≡ 0 → (formula_in r.state ≡ with_form b f) × (r.stage ≡ stage_after (rank f)) × (read_state r.state ≡ some (fresh (formula_in r.state))) → Reached r.stage (formula_in r.state)
-        reached z n =
-            subst (λ (k : ℕ). Reached k (formula_in r.state)) (sym n.1)
-            (subst (Reached (stage_after (rank f))) (sym n.0) (line_reached stage b f i (standing_fault ∙ q ∙ ap fault_of z)))
+        by : (t : Bool) → t ≡ allowed stage (rank f) → Ok u ≡ placed t → line_fault stage b f ≡ form_fault b f
+        by true a e = ap (λ (t : Bool). given (not t) 1 or_else form_fault b f) (sym a)
+        by false a e = cc
+
+    pub refused_form : {q : Refusal} → form_fault b f ≡ some (number_of q) → TookForm stage b f (Err q)
+    refused_form k = record { fault = standing_fault ∙ k; advanced = tt }
+
+    pub taken_form : Reached stage b → form_fault b f ≡ none → {y : Book} → formula_in y.state ≡ with_form b f → rank_of y.stage ≡ stage_after (rank f) → read_state y.state ≡ some (fresh (formula_in y.state))
+        → TookForm stage b f (Ok y)
+    taken_form i k {y} g h r =
+        record {
+          fault = standing_fault ∙ k;
+          advanced = record {
+            formula = g;
+            stage = h;
+            stands = record {
+              read = r;
+              reached =
+                  subst (λ (k : ℕ). Reached k (formula_in y.state)) (sym h)
+                  (subst (Reached (stage_after (rank f))) (sym g) (line_reached stage b f i (standing_fault ∙ k)));
+            };
+          };
+        }

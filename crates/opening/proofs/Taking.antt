@@ -6,7 +6,7 @@ use mathlib.Core.List.{List, [], ◌++◌, map}
 use mathlib.Core.Option.{Option, none, some}
 use lib.ListN.{get_or}
 use native.Mathlib.Omega.{arith}
-use borrow.Author.Tests.{ne_eqb, not-false}
+use borrow.Author.Tests.{ne_eqb}
 use lib.Dec.{eqb}
 use lib.IntN.{ℤ}
 use Rattle.qbf.specs.Formula.{paper, Prefix, quantifiers, Literal, all, is_free}
@@ -20,40 +20,42 @@ use Rattle.state.specs.Reading.{at_most, quantifier_of, rows_fit, prefix_of, pre
 use Rattle.state.proofs.Valid.{valid_facts}
 use Rattle.state.specs.Declare.{Sound}
 use Rattle.state.proofs.SoundPrefix.{valid_sound, sound_valid}
-use Rattle.serving.specs.Serves.{Said, said_of, number, fault_of, out_of, next_of, Serves}
-use Rattle.serving.proofs.Numbered.{numbered_is}
+use Rattle.serving.specs.Serves.{Said, said_of, number, out_of, next_of, Serves}
+use Rattle.std.specs.Prelude.{Result, Ok, Err}
+use Rattle.refusal.specs.declared.Refusal.{Refusal}
+use Rattle.refusal.specs.declared.Refusal.TheVariants.{Edition}
+use Rattle.refusal.specs.Refusal.{fault_in}
 use Rattle.layout.specs.Forms.{book, block, clause, end}
 use Rattle.layout.specs.Opening.{rank, allowed, stage_after, variable}
 use Rattle.layout_laws.proofs.Blocks.{Before}
 use Rattle.layout_laws.proofs.Opened.{allowed_is, fresh_formed}
 use Rattle.reader.specs.Items.{narrow}
 use Rattle.opening.specs.Blocks.{block_rank, Growable, Grown}
-use Rattle.opening.specs.declared.line.Taken.{Taken}
+use Rattle.opening.specs.declared.book.Book.{Book}
+use Rattle.opening.specs.declared.stage.Stage.TheVariants as stages
+use Rattle.opening.specs.declared.stage.Stage.{Stage}
+use Rattle.opening.specs.Stages.{placed}
+use Rattle.rules.specs.Rules.{change_said}
 use Rattle.opening.specs.Opened.{Standing, TookForm, BlockTook, RuleTook}
-use Rattle.opening.proofs.Numbered.{rule_numbered}
-use Rattle.opening.proofs.Standing.{standing_valid, nothing_stored, fresh_read, misplaced, judged}
+use Rattle.opening.proofs.Standing.{standing_valid, nothing_stored, fresh_read, misplaced, refused_form, taken_form}
 
-abbrev taken : ℕ → ℕ → State → Taken
-taken n stage x = record { refusal = n; stage = stage; state = x }
+abbrev book_at : Stage → State → Book
+book_at s x = record { stage = s; state = x }
 
 -- ---- the book's line and the end's: the state stays
 one_only : (e : ℕ) {k : ℕ} → k ≡ narrow e → k ≡ 1 → e ≡ 1
 one_only e p q = omega (arith, p, q)
 
-module _ {stage : ℕ} {x : State} (s : Standing stage x) {t : Bool} where
-  pub edition_refused : t ≡ allowed stage 0 → not t ≡ false → (e : ℕ) {m : ℕ} → m ≡ narrow e → (m ≡ 1 → ⊥) → {r : Taken} → r.refusal ≡ 2 → TookForm stage (formula_in x) (book e) r
-  edition_refused a g e {m} p h {r} k =
-      judged stage (formula_in x) (book e) a g s.reached (ap (λ (q : Bool). given (not q) 2) (ne_eqb e 1 other) ∙ sym (ap fault_of k)) (λ w. absurd (let v : ◌≡◌ {A = ℕ} 0 2 = sym w ∙ k in omega (arith, v)))
-    where
-      other : e ≡ 1 → ⊥
-      other w = h (p ∙ ap narrow w)
+module _ {stage : ℕ} {x : State} (s : Standing stage x) {u : Unit {0}} where
+  module _ (a : Ok u ≡ placed (allowed stage 0)) (e : ℕ) {m : ℕ} (p : m ≡ narrow e) where
+    pub edition_refused : (m ≡ 1 → ⊥) → TookForm stage (formula_in x) (book e) (Err Edition)
+    edition_refused h = refused_form stage (formula_in x) (book e) a (ap (λ (q : Bool). given (not q) 2) (ne_eqb e 1 (λ w. h (p ∙ ap narrow w))))
 
-  pub book_taken : t ≡ allowed stage 0 → not t ≡ false → (e : ℕ) {m : ℕ} → m ≡ narrow e → m ≡ 1 → TookForm stage (formula_in x) (book e) (taken 0 1 x)
-  book_taken a g e p q =
-      judged stage (formula_in x) (book e) a g s.reached (ap (λ (m : ℕ). given (not (eqb m 1)) 2) (one_only e p q)) (λ w. (refl, refl, s.read))
+    pub book_taken : m ≡ 1 → TookForm stage (formula_in x) (book e) (Ok (book_at stages.Flags x))
+    book_taken q = taken_form stage (formula_in x) (book e) a s.reached (ap (λ (m : ℕ). given (not (eqb m 1)) 2) (one_only e p q)) refl refl s.read
 
-  pub end_taken : t ≡ allowed stage 4 → not t ≡ false → TookForm stage (formula_in x) end (taken 0 4 x)
-  end_taken a g = judged stage (formula_in x) end a g s.reached refl (λ w. (refl, refl, s.read))
+  pub end_taken : Ok u ≡ placed (allowed stage 4) → TookForm stage (formula_in x) end (Ok (book_at stages.End x))
+  end_taken a = taken_form stage (formula_in x) end a s.reached refl refl refl s.read
 
 -- ---- a block
 rank_is : (kind : ℕ) (ns : List ℕ) → block_rank kind ≡ rank (block (quantifier_of kind) ns)
@@ -114,36 +116,41 @@ module _ {stage : ℕ} {x : State} (s : Standing stage x) (no_clauses : (formula
       formed : well_formed (fresh (formula_in y)) ≡ true
       formed = ap well_formed_read (sym grown_read) ∙ grown_valid
 
-module _ {stage : ℕ} {x : State} (s : Standing stage x) (kind : ℕ) {t : Bool} (a : t ≡ allowed stage (block_rank kind)) where
-  pub block_misplaced : not t ≡ true → (lits : List ℤ) {r : Taken} → r.refusal ≡ 1 → BlockTook stage x kind lits r
-  block_misplaced g lits k = λ ns p q. misplaced stage (formula_in x) (block (quantifier_of kind) ns) (a ∙ ap (allowed stage) (rank_is kind ns)) g k
+module _ {stage : ℕ} {x : State} (s : Standing stage x) (kind : ℕ) {k : ℕ} (of : k ≡ block_rank kind) where
+  pub block_misplaced : {q : Refusal} → Err q ≡ placed (allowed stage k) → (lits : List ℤ) → BlockTook stage x kind lits (Err q)
+  block_misplaced a lits = λ ns p q. misplaced stage (formula_in x) (block (quantifier_of kind) ns) (a ∙ ap (λ (r : ℕ). placed (allowed stage r)) (of ∙ rank_is kind ns))
 
-  module _ (g : not t ≡ false) where
-    placed : (stage ≤ block_rank kind) × (block_rank kind < 2 → stage ≡ block_rank kind)
-    placed = allowed_is stage (block_rank kind) (sym a ∙ not-false t g)
+  module _ {u : Unit {0}} (a : Ok u ≡ placed (allowed stage k)) where
+    stands_here : (stage ≤ block_rank kind) × (block_rank kind < 2 → stage ≡ block_rank kind)
+    stands_here = allowed_is stage (block_rank kind) (by (allowed stage (block_rank kind)) (a ∙ ap (λ (r : ℕ). placed (allowed stage r)) of))
+      where
+        by : (t : Bool) → Ok u ≡ placed t → t ≡ true
+        by true e = refl
+        by false e = cc
 
     pub block_growable : kind ≤ 2 → Growable x.numbers x.levels x.kinds kind
     unfolding Before
-    block_growable h = record { sound = valid_sound x (standing_valid s); code = h; before = before kind placed }
+    block_growable h = record { sound = valid_sound x (standing_valid s); code = h; before = before kind stands_here }
       where
         before : (k : ℕ) → (stage ≤ block_rank k) × (block_rank k < 2 → stage ≡ block_rank k) → Before (quantifier_of k) (quantifiers (prefix_in x))
         before zero p = subst (λ (E : Prefix). all is_free (quantifiers E) ≡ true) (sym (s.reached.no_variables p.0)) refl
         before (suc zero) p = tt
         before (suc (suc k)) p = tt
 
-    module _ {lits : List ℤ} {r : ℕ} {ns' ls' ks' : List ℕ} (w : Grown x.numbers x.levels x.kinds lits kind r ns' ls' ks') where
-      no_clauses : (formula_in x).clauses ≡ []
-      no_clauses = s.reached.no_clauses (omega (arith, placed.0, rank_most kind))
+    here : (ns : List ℕ) → Ok u ≡ placed (allowed stage (rank (block (quantifier_of kind) ns)))
+    here ns = a ∙ ap (λ (r : ℕ). placed (allowed stage r)) (of ∙ rank_is kind ns)
 
-      pub block_taken : BlockTook stage x kind lits (taken r 2 (grown_state x ns' ls' ks'))
-      block_taken = λ ns p q.
-          judged stage (formula_in x) (block (quantifier_of kind) ns) (a ∙ ap (allowed stage) (rank_is kind ns)) g s.reached (sym p ∙ w.fault)
-          (λ z. (
-            ap (λ (D : Prefix). record { limits = paper; prefix = D; clauses = (formula_in x).clauses })
-                (w.prefix z ∙ ap (λ (ms : List ℕ). prefix_in x ++ map (variable (quantifier_of kind)) ms) (q (sym p ∙ w.fault ∙ ap fault_of z))),
-            stage_is kind ns,
-            grown_read s no_clauses (w.sound z),
-          ))
+    module _ {lits : List ℤ} {ns' ls' ks' : List ℕ} where
+      pub block_refused : {q : Refusal} → Grown x.numbers x.levels x.kinds lits kind (Err q) ns' ls' ks' → BlockTook stage x kind lits (Err q)
+      block_refused w = λ ns p q. refused_form stage (formula_in x) (block (quantifier_of kind) ns) (here ns) (sym p ∙ w.fault)
+
+      pub block_taken : {v : Unit {0}} → Grown x.numbers x.levels x.kinds lits kind (Ok v) ns' ls' ks' → BlockTook stage x kind lits (Ok (book_at stages.Block (grown_state x ns' ls' ks')))
+      block_taken w = λ ns p q.
+          taken_form stage (formula_in x) (block (quantifier_of kind) ns) (here ns) s.reached (sym p ∙ w.fault)
+          (ap (λ (D : Prefix). record { limits = paper; prefix = D; clauses = (formula_in x).clauses })
+          (w.prefix ∙ ap (λ (ms : List ℕ). prefix_in x ++ map (variable (quantifier_of kind)) ms) (q (sym p ∙ w.fault))))
+          (stage_is kind ns)
+          (grown_read s (s.reached.no_clauses (omega (arith, stands_here.0, rank_most kind))) w.sound)
 
 -- ---- a rule
 pub read_is : (x : State) (y : Read) → read_state x ≡ some y → state_in x ≡ y
@@ -158,41 +165,44 @@ read_is x y e = by (fits x) e
         inner (some z) = z
     by false q = absurd (let z : ◌≡◌ {A = ℕ} 0 1 = cc in omega (arith, z))
 
-module _ {stage : ℕ} {x : State} (s : Standing stage x) {t : Bool} (a : t ≡ allowed stage 3) (lits : List ℤ) where
-  pub rule_misplaced : not t ≡ true → {r : Taken} → r.refusal ≡ 1 → RuleTook stage x lits r
-  rule_misplaced g k = λ ls p q. misplaced stage (formula_in x) (clause ls) a g k
+module _ {stage : ℕ} {x : State} (s : Standing stage x) (lits : List ℤ) where
+  pub rule_misplaced : {q : Refusal} → Err q ≡ placed (allowed stage 3) → RuleTook stage x lits (Err q)
+  rule_misplaced a = λ ls p q. misplaced stage (formula_in x) (clause ls) a
 
-  module _ (g : not t ≡ false) {v : Said} {n : ℕ} {x' : State} (w : Serves x (rule lits) v x') (told : n ≡ number v.refusal) where
+  module _ {u : Unit {0}} (a : Ok u ≡ placed (allowed stage 3)) (r : Result (Unit {0}) Refusal) {x' : State} (w : Serves x (rule lits) (change_said r) x') where
     formed : well_formed (fresh (formula_in x)) ≡ true
     formed = fresh_formed (formula_in x) s.reached.facts
 
-    fault_is : rule_fault (formula_in x) lits ≡ fault_of n
-    fault_is = sym (ap fault_of (told ∙ ap number refused) ∙ numbered_is (rule_fault (formula_in x) lits) (rule_numbered (formula_in x) lits))
+    fault_is : rule_fault (formula_in x) lits ≡ fault_in r
+    fault_is = sym refused
       where
         reply : (o : Option ℕ) → (said_of (answer (rule_reply o) 0)).refusal ≡ o
         reply none = refl
         reply (some k) = refl
 
-        refused : v.refusal ≡ rule_fault (formula_in x) lits
+        refused : fault_in r ≡ rule_fault (formula_in x) lits
         refused =
             ap (λ (q : Said). q.refusal) w.answered ∙ ap (λ (o : Option Read). (said_of (out_of o (rule lits))).refusal) s.read
             ∙ ap (λ (u : Bool). (said_of (guarded u (fresh (formula_in x)) (rule lits)).out).refusal) formed ∙ reply (rule_fault (formula_in x) lits)
 
-    pub rule_taken : RuleTook stage x lits (taken n 3 x')
-    rule_taken = λ ls p q.
-        judged stage (formula_in x) (clause ls) a g s.reached (sym p ∙ fault_is)
-        (λ z. (ap (λ (y : Read). y.formula) (reads z ls p q), refl, w.next ∙ sym (read_same z)))
+    pub rule_refused : {q : Refusal} → Err q ≡ r → RuleTook stage x lits (Err q)
+    rule_refused e = λ ls p q. refused_form stage (formula_in x) (clause ls) a (sym p ∙ fault_is ∙ sym (ap fault_in e))
+
+    pub rule_taken : {v : Unit {0}} → Ok v ≡ r → RuleTook stage x lits (Ok (book_at stages.Rule x'))
+    rule_taken e = λ ls p q.
+        taken_form stage (formula_in x) (clause ls) a s.reached (sym p ∙ fine)
+        (ap (λ (y : Read). y.formula) (reads ls p q)) refl (w.next ∙ sym read_same)
       where
-        fine : n ≡ 0 → rule_fault (formula_in x) lits ≡ none
-        fine e = fault_is ∙ ap fault_of e
+        fine : rule_fault (formula_in x) lits ≡ none
+        fine = fault_is ∙ sym (ap fault_in e)
 
-        next_read : n ≡ 0 → read_state x' ≡ some (fresh (with_rule none (formula_in x) lits))
-        next_read e =
+        next_read : read_state x' ≡ some (fresh (with_rule none (formula_in x) lits))
+        next_read =
             w.next ∙ ap (λ (o : Option Read). next_of o (rule lits)) s.read ∙ ap (λ (u : Bool). some (guarded u (fresh (formula_in x)) (rule lits)).state) formed
-            ∙ ap (λ (o : Option ℕ). some (record { formula = with_rule o (formula_in x) lits; store = store_after_rule o empty_store })) (fine e)
+            ∙ ap (λ (o : Option ℕ). some (record { formula = with_rule o (formula_in x) lits; store = store_after_rule o empty_store })) fine
 
-        reads : n ≡ 0 → (ls : List Literal) → rule_fault (formula_in x) lits ≡ rule_fault (formula_in x) ls → (rule_fault (formula_in x) ls ≡ none → lits ≡ ls) → state_in x' ≡ fresh (with_rule none (formula_in x) ls)
-        reads e ls p q = read_is x' (fresh (with_rule none (formula_in x) lits)) (next_read e) ∙ ap (λ (r : List Literal). fresh (with_rule none (formula_in x) r)) (q (sym p ∙ fine e))
+        reads : (ls : List Literal) → rule_fault (formula_in x) lits ≡ rule_fault (formula_in x) ls → (rule_fault (formula_in x) ls ≡ none → lits ≡ ls) → state_in x' ≡ fresh (with_rule none (formula_in x) ls)
+        reads ls p q = read_is x' (fresh (with_rule none (formula_in x) lits)) next_read ∙ ap (λ (r : List Literal). fresh (with_rule none (formula_in x) r)) (q (sym p ∙ fine))
 
-        read_same : n ≡ 0 → some (fresh (formula_in x')) ≡ next_of (read_state x) (rule lits)
-        read_same e = ap (λ (y : Read). some (fresh y.formula)) (read_is x' (fresh (with_rule none (formula_in x) lits)) (next_read e)) ∙ sym (next_read e) ∙ w.next
+        read_same : some (fresh (formula_in x')) ≡ next_of (read_state x) (rule lits)
+        read_same = ap (λ (y : Read). some (fresh y.formula)) (read_is x' (fresh (with_rule none (formula_in x) lits)) next_read) ∙ sym next_read ∙ w.next

@@ -1,129 +1,127 @@
--- The loop over a text's lines: the lines left, on the state that stands, open what the text opens.
-use Prim.Native.Nat.{ℕ, zero, suc, ◌+◌, ◌-◌, ◌<◌, ◌≤◌, zero-le}
+-- A book's lines: each leaves what the lines after it open, and the driver's loop over the pieces of a text.
+use Prim.Native.Nat.{ℕ, suc}
 use mathlib.Core.Path.{◌≡◌, refl, sym, ap, subst, ◌∙◌}
-use mathlib.Core.Bool.{Bool, cond}
-use mathlib.Core.List.{[], ◌∷◌}
+use mathlib.Core.Bool.{Bool, true, false, cond, not}
+use mathlib.Core.List.{List, [], ◌∷◌}
 use mathlib.Core.Option.{Option, none, some}
 use native.Mathlib.Omega.{arith}
-use native.Mathlib.Numerals.{add-one}
-use borrow.Author.Tests.{eq-eqb, ne_eqb, le-leb, le-ltb}
+use borrow.Author.Tests.{eq-eqb, ne_eqb}
 use lib.Dec.{eqb}
-use lib.ListN.{length, take, drop, drop_of_length-le}
-use Rattle.qbf.specs.Formula.{Formula, paper}
+use Rattle.std.specs.Prelude.{Result, Ok, Err}
+use Rattle.qbf.specs.Formula.{free, exists, forall, Formula, paper}
 use Rattle.qbf.specs.Calls.{State as Read}
 use Rattle.qbf.specs.Runs.{fresh}
 use Rattle.state.specs.declared.State.{State}
 use Rattle.state.specs.Reading.{read_state, formula_in, empty_state}
-use Rattle.serving.specs.Serves.{fault_of}
+use Rattle.refusal.specs.declared.Refusal.{Refusal}
+use Rattle.refusal.specs.declared.Refusal.TheVariants.{NotInLayout}
+use Rattle.refusal.specs.Refusal.{number_of}
 use Rattle.layout.specs.Words.{Bytes, newline, split}
-use Rattle.layout.specs.Forms.{Form, form_of}
-use Rattle.layout.specs.Opening.{text_bytes, rank, stage_after, with_form, Opened, refused, opened, refused_or, read_line, at_end, is_end, read_lines, empty_formula, open_text}
+use Rattle.layout.specs.Forms.{Form, book, block, clause, end, form_of}
+use Rattle.layout.specs.Opening.{rank, stage_after, with_form, Opened, refused, opened, refused_or, read_line, at_end, is_end, read_lines, empty_formula, open_text}
 use Rattle.layout_laws.proofs.Opened.{Reached, reached_none}
-use Rattle.reader.specs.Pieces.{pieces_from, Piece}
-use Rattle.reader.proofs.Texts.{open_start, open_missing, open_line, open_end}
-use Rattle.opening.specs.declared.line.Taken.{Taken}
+use denote.Enum.Bare.{sameb}
+use Rattle.opening.specs.contracts.stage.Stage.{the_type}
+use Rattle.opening.specs.declared.stage.Stage.{Stage}
+use Rattle.opening.specs.declared.stage.Stage.TheVariants as stages
+use Rattle.opening.specs.declared.book.Book.{Book}
 use Rattle.opening.specs.declared.Opened.{Opened as Answer}
-use Rattle.opening.specs.Opened.{Standing, Advanced, Took, OpenedAs}
+use Rattle.opening.specs.declared.text.RefusedAt.{RefusedAt}
+use Rattle.opening.specs.Lines.{Takes, Ends, ReadAs, within_text}
+use Rattle.opening.specs.Stages.{rank_of}
+use Rattle.opening.specs.Opened.{Stood, Empty, Took, lines_open, book_opens, OpenedAs, AnsweredAs}
 use Rattle.opening.proofs.Taking.{read_is}
 
-pub record Turn (s : Bytes) (x : State) (stage at number : ℕ) : Type 0 where
-  pub within : at ≤ length s
-  pub counted : number ≤ at + 1
-  pub stands : Standing stage x
-  pub same : read_lines number stage (formula_in x) (pieces_from newline s at) ≡ open_text paper s
-
 -- ---- before the first line
-pub turn_first : (s : Bytes) (x : State) → length s ≤ text_bytes → read_state x ≡ some empty_state → Turn s x 0 0 1
-turn_first s x h e =
-    record {
-      within = zero-le;
-      counted = omega arith;
-      stands = record { read = e ∙ ap (λ (b : Formula). some (fresh b)) (sym empty); reached = subst (Reached 0) (sym empty) (reached_none paper refl) };
-      same = ap (λ (b : Formula). read_lines 1 0 b (pieces_from newline s 0)) empty ∙ sym (open_start paper s h);
-    }
-  where
-    empty : formula_in x ≡ empty_formula paper
-    empty = ap (λ (y : Read). y.formula) (read_is x empty_state e)
+module _ {y : Book} (e : Empty y) where
+  pub empty_formed : formula_in y.state ≡ empty_formula paper
+  empty_formed = ap (λ (z : Read). z.formula) (read_is y.state empty_state e.read)
+
+  pub empty_stood : Stood y
+  empty_stood =
+      record {
+        read = e.read ∙ ap (λ (b : Formula). some (fresh b)) (sym empty_formed);
+        reached = subst (λ (k : ℕ). Reached k (formula_in y.state)) (sym e.first) (subst (Reached 0) (sym empty_formed) (reached_none paper refl));
+      }
+
+  pub empty_opens : (s : Bytes) → within_text s (book_opens y 1 (split newline s)) ≡ open_text paper s
+  unfolding open_text
+  empty_opens s = rw (e.first, empty_formed)
 
 -- ---- one line
+pub not_end : (s : Stage) {t : Bool} → t ≡ not (sameb the_type s stages.End) → t ≡ true → rank_of s ≡ 4 → ⊥
+not_end stages.Book p q e = omega (arith, e)
+not_end stages.Flags p q e = omega (arith, e)
+not_end stages.Block p q e = omega (arith, e)
+not_end stages.Rule p q e = omega (arith, e)
+not_end stages.End p q e = cc
+
 -- the rank of a form is the end's where its stage is
-stage_end : (r : ℕ) → stage_after r ≡ 4 → r ≡ 4
-stage_end zero e = absurd (let z : 1 ≡ 4 = e in omega (arith, z))
-stage_end (suc zero) e = absurd (let z : 2 ≡ 4 = e in omega (arith, z))
-stage_end (suc (suc r)) e = sym (ap (λ (t : Bool). cond t (suc (suc (suc r))) (suc (suc r))) (le-ltb (suc (suc r)) 2 (omega arith))) ∙ e
+end_same : (f : Form) → eqb (rank f) 4 ≡ eqb (stage_after (rank f)) 4
+end_same (book e) = refl
+end_same (block free ns) = refl
+end_same (block exists ns) = refl
+end_same (block forall ns) = refl
+end_same (clause ls) = refl
+end_same end = refl
 
--- what follows a line of number n that ends at e
-onward_from : Bytes → ℕ → ℕ → Form → Formula → Opened
-onward_from s n e f b = cond (is_end f) (at_end (suc n) b (pieces_from newline s (e + 1))) (read_lines (suc n) (stage_after (rank f)) b (pieces_from newline s (e + 1)))
+-- what follows a line
+onward : ℕ → Bytes → List Bytes → Form → Formula → Opened
+onward n m ls f b = cond (is_end f) (at_end (suc n) b (m ∷ ls)) (read_lines (suc n) (stage_after (rank f)) b (m ∷ ls))
 
-module _ {s : Bytes} {x : State} {stage at number : ℕ} (t : Turn s x stage at number) where
-  -- the text ends where a line would start
-  pub turn_over : length s ≤ at → open_text paper s ≡ refused 1 number
-  unfolding pieces_from read_lines split
-  turn_over h = sym t.same ∙ ap (read_lines number stage (formula_in x)) nothing
+module _ (y : Book) (going : rank_of y.stage ≡ 4 → ⊥) (l : Bytes) where
+  line_opens : (n : ℕ) (m : Bytes) (ls : List Bytes) → book_opens y n (l ∷ m ∷ ls) ≡ read_line n (rank_of y.stage) (formula_in y.state) (form_of l) (onward n m ls)
+  unfolding read_lines onward
+  line_opens n m ls = rw (ne_eqb (rank_of y.stage) 4 going)
+
+  pub book_takes : (r : Result Book Refusal) → Took (rank_of y.stage) (formula_in y.state) (form_of l) r → Takes Stood book_opens y l r
+  unfolding onward
+  book_takes r w = by (form_of l) refl r w
     where
-      here : at ≡ length s
-      here = omega (arith, h, t.within)
+      by : (o : Option Form) → form_of l ≡ o → (r : Result Book Refusal) → Took (rank_of y.stage) (formula_in y.state) o r → Takes Stood book_opens y l r
+      by none e (Ok z) w = cc
+      by none e (Err q) w = λ n m ls.
+          line_opens n m ls ∙ ap (λ (o : Option Form). read_line n (rank_of y.stage) (formula_in y.state) o (onward n m ls)) e ∙ ap (λ (k : Refusal). refused (number_of k) n) (let z : NotInLayout ≡ q = cc in z)
+      by (some f) e (Err q) w = λ n m ls.
+          line_opens n m ls ∙ ap (λ (o : Option Form). read_line n (rank_of y.stage) (formula_in y.state) o (onward n m ls)) e
+          ∙ ap (λ (o : Option ℕ). refused_or n o (onward n m ls f (with_form (formula_in y.state) f))) w.fault
+      by (some f) e (Ok z) w = (
+        w.advanced.stands,
+        λ n m ls.
+            line_opens n m ls ∙ ap (λ (o : Option Form). read_line n (rank_of y.stage) (formula_in y.state) o (onward n m ls)) e
+            ∙ ap (λ (o : Option ℕ). refused_or n o (onward n m ls f (with_form (formula_in y.state) f))) w.fault
+            ∙ ap (onward n m ls f) (sym w.advanced.formula)
+            ∙ ap (λ (t : Bool). cond t (at_end (suc n) (formula_in z.state) (m ∷ ls)) (read_lines (suc n) (stage_after (rank f)) (formula_in z.state) (m ∷ ls))) (end_same f)
+            ∙ ap (λ (k : ℕ). lines_open k (formula_in z.state) (suc n) (m ∷ ls)) (sym w.advanced.stage),
+      )
 
-      nothing : pieces_from newline s at ≡ [] ∷ []
-      nothing = rw (le-leb at (length s) t.within) (ap (split newline) (drop_of_length-le s h))
+-- ---- the end
+module _ (y : Book) where
+  -- after the end's line nothing may stand
+  pub over_takes : rank_of y.stage ≡ 4 → (l : Bytes) → Takes Stood book_opens y l (Err NotInLayout)
+  over_takes e [] = λ n m ls. rw (eq-eqb (rank_of y.stage) 4 e)
+  over_takes e (c ∷ l) = λ n m ls. rw (eq-eqb (rank_of y.stage) 4 e)
 
-  module _ {e : ℕ} (lines : at ≤ length s → Piece newline s at e) where
-    piece : Piece newline s at e
-    piece = lines t.within
+  pub over_ends : rank_of y.stage ≡ 4 → Stood y → Ends (book_opens y) (Ok y.state)
+  over_ends e s = λ n. rw (eq-eqb (rank_of y.stage) 4 e) s.read
 
-    -- its line has no byte 10
-    pub turn_missing : length s ≤ e → open_text paper s ≡ refused 1 number
-    turn_missing h = sym t.same ∙ open_missing piece number stage (formula_in x) h
+  pub going_ends : (rank_of y.stage ≡ 4 → ⊥) → Ends (book_opens y) (Err NotInLayout)
+  unfolding read_lines
+  going_ends g = λ n. rw (ne_eqb (rank_of y.stage) 4 g)
 
-    module _ (h : e < length s) (r : Taken) (took : Took stage (formula_in x) (form_of (take (e - at) (drop at s))) r) where
-      opens : open_text paper s ≡ read_line number stage (formula_in x) (form_of (take (e - at) (drop at s))) (onward_from s number e)
-      unfolding onward_from
-      opens = sym t.same ∙ open_line piece number stage (formula_in x) h
+-- ---- by the test of the stage
+pub told_going : (y : Book) {t : Bool} → t ≡ not (sameb the_type y.stage stages.End) → t ≡ true → Ends (book_opens y) (Err NotInLayout)
+told_going y p q = going_ends y (not_end y.stage p q)
 
-      pub turn_refused : (r.refusal ≡ 0 → ⊥) → open_text paper s ≡ refused r.refusal number
-      turn_refused z = opens ∙ by (form_of (take (e - at) (drop at s))) took
-        where
-          fault : (k : ℕ) → (k ≡ 0 → ⊥) → (o : Opened) → refused_or number (fault_of k) o ≡ refused k number
-          fault zero q o = absurd (q refl)
-          fault (suc k) q o = refl
+pub told_takes : (y : Book) {t : Bool} → t ≡ sameb the_type y.stage stages.End → t ≡ false → (l : Bytes) (r : Result Book Refusal) → Took (rank_of y.stage) (formula_in y.state) (form_of l) r → Takes Stood book_opens y l r
+told_takes y p q = book_takes y (not_end y.stage refl (sym (ap not p) ∙ ap not q))
 
-          by : (o : Option Form) → Took stage (formula_in x) o r → read_line number stage (formula_in x) o (onward_from s number e) ≡ refused r.refusal number
-          by none w = ap (λ (k : ℕ). refused k number) (sym w)
-          by (some f) w = ap (λ (o : Option ℕ). refused_or number o (onward_from s number e f (with_form (formula_in x) f))) w.fault ∙ fault r.refusal z (onward_from s number e f (with_form (formula_in x) f))
+-- ---- the answer
+pub answered_as : (o : Opened) (r : Result State RefusedAt) (a : Answer) → ReadAs o r → AnsweredAs r a → OpenedAs o a
+answered_as (refused k n) (Ok x) a h w = absurd h
+answered_as (refused k n) (Err q) a h w = (w.0 ∙ h.0, w.1 ∙ h.1, w.2)
+answered_as (opened b) (Ok x) a h w = (w.0, w.1, ap read_state w.2 ∙ h)
+answered_as (opened b) (Err q) a h w = absurd h
 
-      module _ (z : r.refusal ≡ 0) where
-        -- the form of a line that is not refused, and what follows it
-        formed : (f : Form) × Advanced (formula_in x) f r × (open_text paper s ≡ onward_from s number e f (formula_in r.state))
-        formed = by (form_of (take (e - at) (drop at s))) took opens
-          where
-            by : (o : Option Form) → Took stage (formula_in x) o r → open_text paper s ≡ read_line number stage (formula_in x) o (onward_from s number e) → (f : Form) × Advanced (formula_in x) f r × (open_text paper s ≡ onward_from s number e f (formula_in r.state))
-            by none w q = absurd (let v : ◌≡◌ {A = ℕ} 0 1 = sym z ∙ w in omega (arith, v))
-            by (some f) w q = (
-              f,
-              w.advanced z,
-              q
-                  ∙ ap (λ (o : Option ℕ). refused_or number o (onward_from s number e f (with_form (formula_in x) f))) (w.fault ∙ ap fault_of z)
-                  ∙ ap (onward_from s number e f) (sym (w.advanced z).formula),
-            )
-
-        pub turn_more : (r.stage ≡ 4 → ⊥) → Turn s r.state r.stage (e + 1) (number + 1)
-        unfolding onward_from
-        turn_more q =
-            let f = formed in
-            record {
-              within = omega (arith, h);
-              counted = omega (arith, t.counted, piece.low);
-              stands = f.1.stands;
-              same =
-                  ap (λ (n : ℕ). read_lines n r.stage (formula_in r.state) (pieces_from newline s (e + 1))) (add-one number)
-                  ∙ ap (λ (k : ℕ). read_lines (suc number) k (formula_in r.state) (pieces_from newline s (e + 1))) f.1.stage
-                  ∙ sym (f.2 ∙ ap (λ (c : Bool). cond c (at_end (suc number) (formula_in r.state) (pieces_from newline s (e + 1))) (read_lines (suc number) (stage_after (rank f.0)) (formula_in r.state) (pieces_from newline s (e + 1)))) (ne_eqb (rank f.0) 4 (λ g. q (f.1.stage ∙ ap stage_after g))));
-            }
-
-        pub turn_end : r.stage ≡ 4 → (a : Answer) → ((b : Formula) → read_state r.state ≡ some (fresh b) → OpenedAs (cond (eqb (length s - (e + 1)) 0) (opened b) (refused 1 (number + 1))) a) → OpenedAs (open_text paper s) a
-        unfolding onward_from
-        turn_end q a w =
-            let f = formed in
-            subst (λ (o : Opened). OpenedAs o a) (sym (f.2 ∙ ap (λ (c : Bool). cond c (at_end (suc number) (formula_in r.state) (pieces_from newline s (e + 1))) (read_lines (suc number) (stage_after (rank f.0)) (formula_in r.state) (pieces_from newline s (e + 1)))) (eq-eqb (rank f.0) 4 (stage_end (rank f.0) (sym f.1.stage ∙ q))) ∙ open_end s e (suc number) (formula_in r.state) h))
-            (subst (λ (n : ℕ). OpenedAs (cond (eqb (length s - (e + 1)) 0) (opened (formula_in r.state)) (refused 1 n)) a) (add-one number) (w (formula_in r.state) f.1.stands.read))
+pub empty_opened : {y : Book} (e : Empty y) (s : Bytes) (r : Result State RefusedAt) (a : Answer) → ReadAs (within_text s (book_opens y 1 (split newline s))) r → AnsweredAs r a → OpenedAs (open_text paper s) a
+empty_opened {y} e s r a h w = answered_as (open_text paper s) r a (subst (λ (o : Opened). ReadAs o r) (empty_opens e s) h) w

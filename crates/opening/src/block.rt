@@ -2,7 +2,8 @@
 ghost use Rattle.opening.specs.Blocks.{Growable, Grown};
 
 use literal::number_of;
-use state::declare::{ACCEPTED, declare};
+use refusal::Refusal;
+use state::declare::declare;
 
 // The first fault from the left, or all are declared.
 pub fn declare_all(
@@ -11,7 +12,7 @@ pub fn declare_all(
     kinds: &mut [u16; tables::BY_NUMBER],
     lits: &[i16],
     kind: u16,
-) -> u16
+) -> Result<(), Refusal>
     requires { Growable numbers.old levels.old kinds.old kind }
     ensures { Grown
         numbers.old
@@ -24,14 +25,8 @@ pub fn declare_all(
         levels.new
         kinds.new }
 {
-    let mut i: usize = 0;
-    while i < lits.len() {
-        let number = number_of(lits[i]);
-        let fault = declare(numbers, levels, kinds, number, kind);
-        if fault != ACCEPTED {
-            return fault;
-        }
-        i += 1;
+    for lit in lits {
+        declare(numbers, levels, kinds, number_of(*lit), kind)?;
     }
-    ACCEPTED
+    Ok(())
 }

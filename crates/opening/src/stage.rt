@@ -2,33 +2,48 @@
 ghost use Rattle.std.specs.Prelude.{◌≡◌};
 ghost use Rattle.layout.specs.Opening.{allowed};
 ghost use Rattle.opening.specs.Blocks.{block_rank};
+ghost use Rattle.opening.specs.Stages.{rank_of, placed};
 
-// The ranks of the forms; a stage is the least rank that may stand next, and up to the flags' the only one.
-pub const BOOK: usize = 0;
+use refusal::Refusal;
 
-pub const FLAGS: usize = 1;
+// The forms in their order. As where a text stands: the book's line and the flags' must stand there, and of the others any that is no earlier.
+#[derive(Clone, Copy, PartialEq, Eq, PartialOrd, Ord)]
+pub enum Stage {
+    Book,
+    Flags,
+    Block,
+    Rule,
+    End,
+}
 
-pub const BLOCK: usize = 2;
-
-pub const RULE: usize = 3;
-
-pub const END: usize = 4;
-
-pub fn may_stand(stage: usize, rank: usize) -> bool
-    ensures { result ≡ allowed stage rank }
-{
-    if stage < BLOCK {
-        return rank == stage;
+impl Stage {
+    fn allows(self, form: Stage) -> bool
+        ensures { result ≡ allowed (rank_of self) (rank_of form) }
+    {
+        match self {
+            Stage::Book | Stage::Flags => form == self,
+            Stage::Block | Stage::Rule | Stage::End => self <= form,
+        }
     }
-    stage <= rank
+
+    // "1 not in the layout", where the form may not stand.
+    pub fn place(self, form: Stage) -> Result<(), Refusal>
+        ensures { result ≡ placed (allowed (rank_of self) (rank_of form)) }
+    {
+        if self.allows(form) {
+            Ok(())
+        } else {
+            Err(Refusal::NotInLayout)
+        }
+    }
 }
 
 // Free variables stand on the flags' line, quantified ones in blocks.
-pub fn block_rank(kind: u16) -> usize
-    ensures { result ≡ block_rank kind }
+pub fn of_block(kind: u16) -> Stage
+    ensures { rank_of result ≡ block_rank kind }
 {
     if kind == tables::FREE {
-        return FLAGS;
+        return Stage::Flags;
     }
-    BLOCK
+    Stage::Block
 }

@@ -1,40 +1,22 @@
 -- Refusal 36, test by test.
 use Prim.Native.Nat.{ℕ, zero, suc, ◌+◌, ◌*◌, ◌-◌, ◌/◌, ◌≤◌, ◌<◌}
 use native.Mathlib.Omega.{arith}
-use mathlib.Core.Path.{◌≡◌, sym, ap, ◌∙◌}
+use mathlib.Core.Path.{◌≡◌, refl, sym, ap, ◌∙◌}
 use mathlib.Core.Bool.{Bool, true, false, cond, ◌||◌}
-use lib.ListN.{length, get_or, take}
-use lib.Seq.{get_or-take, length-take-le}
+use mathlib.Core.List.{List, [], ◌∷◌}
+use lib.ListN.{length, take}
 use lib.Dec.{eqb, ltb, eqb-suc-zero}
 use borrow.Author.Tests.{eq-eqb, ne_eqb, eqb-false, lt-ltb, le-ltb, ltb-false}
+use Rattle.std.specs.List.{list_any}
 use Rattle.qbf.specs.Formula.{any}
 use Rattle.layout.specs.Words.{Bytes}
 use Rattle.layout.specs.Page.{page_lines, most_lines, pages, no_card, no_page}
-use Rattle.tables.proofs.Lists.{index_at, index_none, any_index}
 use Rattle.theory.proofs.Basics.{or_left, or_right, or_false_left, or_false_right}
 
 -- ---- a byte above 2
--- the first i bytes have none
-abbrev pub Passed : Bytes → ℕ → Type 0
-Passed table i = (k : ℕ) → k < i → get_or table k 0 ≤ 2
-
-module _ (table : Bytes) (n i : ℕ) (fits : n ≤ length table) (passed : Passed table i) where
-  not_above : (k : ℕ) → k < i → k < n → ltb 2 (get_or (take n table) k 0) ≡ false
-  not_above k h l = ap (ltb 2) (get_or-take n table k 0 l) ∙ le-ltb 2 (get_or table k 0) (passed k h)
-
-  pub above_at : i < n → 2 < get_or table i 0 → true ≡ any (ltb 2) (take n table)
-  above_at h e =
-      let t = take n table in
-      let long : length t ≡ n = length-take-le n table fits in
-      let there = index_at (ltb 2) 0 t i (omega (arith, long)) (λ k l. not_above k l (omega arith)) (ap (ltb 2) (get_or-take n table i 0 h) ∙ lt-ltb 2 (get_or table i 0) e) in
-      sym (lt-ltb i (length t) (omega (arith, long))) ∙ ap (λ (k : ℕ). ltb k (length t)) (sym there) ∙ any_index (ltb 2) 0 t
-
-  pub above_none : n ≤ i → false ≡ any (ltb 2) (take n table)
-  above_none h =
-      let t = take n table in
-      let long : length t ≡ n = length-take-le n table fits in
-      let nowhere = index_none (ltb 2) 0 t (λ k l. not_above k (omega (arith, long)) (omega (arith, long))) in
-      sym (le-ltb (length t) (length t) (omega arith)) ∙ ap (λ (k : ℕ). ltb k (length t)) (sym nowhere) ∙ any_index (ltb 2) 0 t
+pub any_listed : (p : ℕ → Bool) (xs : List ℕ) → list_any p xs ≡ any p xs
+any_listed p [] = refl
+any_listed p (x ∷ xs) = ap (λ (b : Bool). p x || b) (any_listed p xs)
 
 -- ---- the tests one after the other
 module _ (table : Bytes) (lines f number : ℕ) where

@@ -4,4 +4,3 @@ pub mod Lines
 pub mod Faults
 pub mod Apart
 pub mod Cards
-pub mod Rowed

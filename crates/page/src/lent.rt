@@ -1,58 +1,71 @@
 // A page in a lent table, its rows one after another.
 ghost use Rattle.std.specs.Prelude.{◌≡◌, ◌+◌, ◌≤◌, length};
 ghost use Rattle.layout.specs.Words.{joined};
-ghost use Rattle.layout.specs.Page.{page_rows, page_columns, page_bytes};
+ghost use Rattle.layout.specs.Page.{page_bytes};
 ghost use Rattle.writer.specs.Wrote.{Wrote};
+ghost use Rattle.writer.specs.Appended.{Appended};
+ghost use Rattle.refusal.specs.Refusal.{number_if};
 ghost use Rattle.page.specs.Lent.{PageLent};
 
-use crate::{COLUMNS, NONE, ROWS};
+use crate::{COLUMNS, ROWS};
 use cover::clear;
-use writer::bytes::put_word;
+use refusal::{Refusal, number_if};
+use writer::Output;
 
 pub const BYTES: usize = ROWS * COLUMNS;
 
-// "A table too short is 31"
-const SHORT: u16 = 31;
-
-fn put_row(d: &mut [u8], at: usize, row: [u8; COLUMNS]) -> usize
-    requires { at + page_columns ≤ length d.old }
-    ensures wrote { Wrote d.old at row d.new result }
-    ensures value { result ≡ at + page_columns }
+pub fn put_page(out: &mut Output<'_>, p: [[u8; COLUMNS]; ROWS])
+    requires { out.old.at + page_bytes ≤ length out.old.bytes.now }
+    ensures wrote { Appended out.old (joined p) out.new }
+    ensures value { out.new.at ≡ out.old.at + page_bytes }
 {
-    put_word(d, at, &row)
+    for row in &p {
+        out.put_word(row);
+    }
 }
 
-pub fn put_page(d: &mut [u8], at: usize, p: [[u8; COLUMNS]; ROWS]) -> usize
-    requires p_len { length p ≡ page_rows }
-    requires page_bytes_in_bounds { at + page_bytes ≤ length d.old }
-    ensures wrote { Wrote d.old at (joined p) d.new result }
-    ensures value { result ≡ at + page_bytes }
+// The page at the start of a table that holds it.
+pub fn put_first(table: &mut [u8], p: [[u8; COLUMNS]; ROWS]) -> usize
+    requires { page_bytes ≤ length table.old }
+    ensures wrote { Wrote table.old 0 (joined p) table.new result }
+    ensures value { result ≡ page_bytes }
 {
-    let mut q = at;
-    let mut r: usize = 0;
-    while r < ROWS {
-        let row = p[r];
-        q = put_row(d, q, row);
-        r += 1;
-    }
-    q
+    let mut out = Output {
+        bytes: table,
+        at: 0,
+    };
+    put_page(&mut out, p);
+    out.at
 }
 
 // The page, and zeros behind it; refused, zeros alone.
-pub fn page_into<'a>(out: &mut [u8], table: &'a [u8], lines: usize, f: usize, number: usize) -> u16
-    ensures { PageLent table.now lines f number out.old result out.new }
+fn write_page(
+    out: &mut [u8],
+    table: &[u8],
+    lines: usize,
+    f: usize,
+    number: usize,
+) -> Option<Refusal>
+    ensures { PageLent table.now lines f number out.old (number_if result) out.new }
 {
-    let refusal = crate::refusal(table, lines, f, number);
-    if refusal != NONE {
+    let refused = crate::refusal(table, lines, f, number);
+    if refused.is_some() {
         clear(out);
-        return refusal;
+        return refused;
     }
     if out.len() < BYTES {
         clear(out);
-        return SHORT;
+        return Some(Refusal::TableTooShort);
     }
     let p = crate::page(table, lines, f, number);
-    let n = put_page(out, 0, p);
+    let n = put_first(out, p);
     clear(&mut out[n..]);
-    NONE
+    None
+}
+
+// .. with the number that other languages read.
+pub fn page_into(out: &mut [u8], table: &[u8], lines: usize, f: usize, number: usize) -> u16
+    ensures { PageLent table.now lines f number out.old result out.new }
+{
+    number_if(write_page(out, table, lines, f, number))
 }

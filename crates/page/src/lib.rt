@@ -3,8 +3,10 @@
 
 ghost use Rattle.std.specs.Prelude.{◌≡◌};
 ghost use Rattle.layout.specs.Page.{pages as pagesOf, printed, page_refusal};
+ghost use Rattle.refusal.specs.Refusal.{number_if};
 
 use fault::refused;
+use refusal::Refusal;
 use row::page_row;
 
 mod fault; // 36
@@ -22,10 +24,6 @@ pub const LINES: usize = ROWS - 2;
 // "more than 99,999 lines"
 pub const MOST_LINES: usize = 99999;
 
-const NO_PAGE: u16 = 36;
-
-pub const NONE: u16 = 0;
-
 // "A card without lines is one page."
 pub fn pages(lines: usize) -> usize
     ensures { result ≡ pagesOf lines }
@@ -38,29 +36,26 @@ pub fn pages(lines: usize) -> usize
 }
 
 // "A page the card does not have, more than 99,999 lines or than the table holds, or a byte above 2 in any line is 36"
-pub fn refusal<'a>(table: &'a [u8], lines: usize, f: usize, number: usize) -> u16
-    ensures { result ≡ page_refusal table.now lines f number }
+pub fn refusal(table: &[u8], lines: usize, f: usize, number: usize) -> Option<Refusal>
+    ensures { number_if result ≡ page_refusal table.now lines f number }
 {
     if refused(table, lines, f, number) {
-        NO_PAGE
+        Some(Refusal::NoPage)
     } else {
-        NONE
+        None
     }
 }
 
 // A page of a card, or "a page of zero bytes".
-pub fn page<'a>(table: &'a [u8], lines: usize, f: usize, number: usize) -> [[u8; COLUMNS]; ROWS]
+pub fn page(table: &[u8], lines: usize, f: usize, number: usize) -> [[u8; COLUMNS]; ROWS]
     ensures { result ≡ printed table.now lines f number }
 {
     let mut p = [[0u8; COLUMNS]; ROWS];
     if refused(table, lines, f, number) {
         return p;
     }
-    let mut r: usize = 0;
-    while r < ROWS {
-        let row = page_row(table, lines, f, number, r);
-        p[r] = row;
-        r += 1;
+    for (r, row) in p.iter_mut().enumerate() {
+        *row = page_row(table, lines, f, number, r);
     }
     p
 }

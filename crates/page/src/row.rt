@@ -79,23 +79,15 @@ fn line_row(number: usize, line: &[u8]) -> [u8; COLUMNS]
     row[3] = digit(number / 10);
     row[4] = digit(number);
     row[END] = b'\n';
-    let width = shown(line.len());
-    let mut i: usize = 0;
-    while i < width {
-        row[FLAG + i] = sign(line[i]);
-        i += 1;
+    let flags = &line[..shown(line.len())];
+    for (i, flag) in flags.iter().enumerate() {
+        row[FLAG + i] = sign(*flag);
     }
     row
 }
 
 // Row r, from 0, of a page that the card has.
-pub fn page_row<'a>(
-    table: &'a [u8],
-    lines: usize,
-    f: usize,
-    number: usize,
-    r: usize,
-) -> [u8; COLUMNS]
+pub fn page_row(table: &[u8], lines: usize, f: usize, number: usize, r: usize) -> [u8; COLUMNS]
     requires f_in_bounds { (lines * f ≤ length table.now) × (lines ≤ most_lines) }
     requires le_number { (1 ≤ number) × (number ≤ most_lines) }
     requires r_lt_page_rows { r < page_rows }

@@ -28,7 +28,8 @@ use Rattle.state.specs.Derived.{Quantified}
 use Rattle.state.proofs.Valid.{valid_facts, valid_numbers, valid_quantified}
 use Rattle.serving.specs.Serves.{Said, said, said_reply, said_of, number, out_of, Serves}
 use Rattle.replies.specs.Replies.{card_said}
-use Rattle.replies.specs.declared.Printed.{Printed}
+use Rattle.std.specs.Prelude.{Result}
+use Rattle.refusal.specs.declared.Refusal.{Refusal}
 use Rattle.replies.proofs.Told.{card_said_lem}
 use Rattle.serve.specs.Line.{prefix_read}
 use Rattle.serve.proofs.FreeLines.{card_lines}
@@ -51,7 +52,7 @@ module _ (x : State) (b : Formula) (e : read_state x ≡ some (fresh b)) (ok : f
       h (prefix_in x) (valid_numbers x is_valid) (valid_quantified x is_valid)
       ∙ ap (λ (o : Option Read). free_variables (prefix_read o)) (sym (valid_facts x is_valid).read ∙ e)
 
-  module _ (size : ℕ) (p : Printed) (k : ℕ) (tb : Bytes) (x' : State) (s : Serves x (card highest_ceiling size) (card_said p k tb) x') where
+  module _ (size : ℕ) (p : Result ℕ Refusal) (k : ℕ) (tb : Bytes) (x' : State) (s : Serves x (card highest_ceiling size) (card_said p k tb) x') where
     abbrev a : Answer
     a = (learning_card true b empty_store highest_ceiling size).out
 

@@ -13,9 +13,9 @@ ghost use Rattle.writer.specs.Wrote.{Wrote};
 ghost use Rattle.printer.specs.Making.{CardMade, MakesCard};
 
 use edition_opening::{Editions, open_editions};
-use replies::{lines_of, refusal_of};
+use refusal::number_if;
 use state::State;
-use writer::answer;
+use writer::Output;
 
 // The lines that stand in the table, and the count of free variables; or the refusal with its line, which is 0 for a card.
 #[derive(Clone, Copy)]
@@ -35,29 +35,17 @@ fn card_of(x: State, table: &mut [u8]) -> Made
     let numbers = x.numbers;
     let levels = x.levels;
     let kinds = x.kinds;
-    let free = state::kinds::free_count(&numbers, &levels, &kinds);
-    let mut learned_clauses = x.learned_clauses;
-    let mut learned_clause_sizes = x.learned_clause_sizes;
-    let mut learned_cubes = x.learned_cubes;
-    let mut learned_cube_sizes = x.learned_cube_sizes;
-    let shown = answers::in_place::card(
-        &x.numbers,
-        &x.levels,
-        &x.kinds,
-        &x.clauses,
-        &x.clause_sizes,
-        &mut learned_clauses,
-        &mut learned_clause_sizes,
-        &mut learned_cubes,
-        &mut learned_cube_sizes,
-        table,
-        tables::HIGHEST_CEILING,
-    );
-    let printed = shown.printed;
+    let free = state::kinds::free_count(state::prefix::Variables {
+        numbers: &numbers,
+        levels: &levels,
+        kinds: &kinds,
+    });
+    let mut next = x;
+    let shown = answers::on_state::card_of(&mut next, table, true, tables::HIGHEST_CEILING);
     Made {
-        refusal: refusal_of(printed),
+        refusal: number_if(shown.lines.err()),
         line: NO_LINE,
-        lines: lines_of(printed),
+        lines: shown.lines.unwrap_or(0),
         free: free,
     }
 }
@@ -84,5 +72,7 @@ pub fn make_card(text: &[u8], table: &mut [u8]) -> Made
 pub fn put_refusal(out: &mut [u8; page::lent::BYTES], refusal: u16, line: usize) -> usize
     ensures { Wrote out.old 0 (refusal_text refusal line) out.new result }
 {
-    answer::put_refusal(out, 0, refusal as u64, line as u64)
+    let mut text = Output { bytes: out, at: 0 };
+    text.put_refusal(refusal as u64, line as u64);
+    text.at
 }

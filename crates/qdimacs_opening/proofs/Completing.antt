@@ -23,7 +23,7 @@ use Rattle.qdimacs_form.specs.Opening.{flag_variables, completed, whole}
 use Rattle.qdimacs_laws.proofs.Flags.{completed_numbers}
 use Rattle.qdimacs_opening.specs.declared.head.Head.{Head}
 use Rattle.qdimacs_opening.specs.Completed.{Flagged, Joinable, Joined}
-use Rattle.qdimacs_opening.specs.Lines.{own_stage, reading_of, Grouped, Stands, Whole}
+use Rattle.qdimacs_opening.specs.Lines.{part_of, own_stage, reading_of, Grouped, Stands, Whole}
 
 -- ---- no variable yet
 abbrev empty : List ℕ
@@ -59,15 +59,15 @@ module _ {x : State} (g : Grouped x) {v : ℕ} (few : v ≤ paper.numbers) where
 
 -- ---- at each stage
 module _ {h : Head} {x : State} (s : Stands h x) where
-  pub groups_stand : h.stage ≡ 1 → Grouped x
+  pub groups_stand : part_of h.part ≡ 1 → Grouped x
   groups_stand e = record { stands = subst (λ (k : ℕ). Standing (own_stage k) x) e s.stands; none_free = s.none_free (omega (arith, e)) }
 
-  pub whole_completed : h.stage ≡ 1 → {y : State} → Whole (completed h.variables (formula_in x)) y → Whole (whole (reading_of h x)) y
-  whole_completed e {y} = subst (λ (t : Bool). Whole (cond t (completed h.variables (formula_in x)) (formula_in x)) y) (sym (eq-eqb h.stage 1 e))
+  pub whole_completed : part_of h.part ≡ 1 → {y : State} → Whole (completed h.variables (formula_in x)) y → Whole (whole (reading_of h x)) y
+  whole_completed e {y} = subst (λ (t : Bool). Whole (cond t (completed h.variables (formula_in x)) (formula_in x)) y) (sym (eq-eqb (part_of h.part) 1 e))
 
-  pub whole_standing : (h.stage ≡ 1 → ⊥) → Whole (whole (reading_of h x)) x
+  pub whole_standing : (part_of h.part ≡ 1 → ⊥) → Whole (whole (reading_of h x)) x
   whole_standing e =
-      subst (λ (t : Bool). Whole (cond t (completed h.variables (formula_in x)) (formula_in x)) x) (sym (ne_eqb h.stage 1 e))
+      subst (λ (t : Bool). Whole (cond t (completed h.variables (formula_in x)) (formula_in x)) x) (sym (ne_eqb (part_of h.part) 1 e))
       (record {
         formula = refl;
         stands =

@@ -13,7 +13,6 @@ use Rattle.qbf.specs.Formula.{paper, Quantifier, Prefix, number_of, place_of}
 use Rattle.qbf.specs.Calls.{given, ◌or_else◌}
 use Rattle.theory.proofs.Basics.{or_false_right}
 use Rattle.constraint.proofs.Lists.{drop_more, drop_end}
-use Rattle.serving.specs.Serves.{fault_of}
 use Rattle.layout.specs.Opening.{variable, declare_fault}
 use Rattle.qdimacs_form.specs.Opening.{group_fault}
 use Rattle.qdimacs_opening.specs.Lines.{above, counted}
@@ -72,11 +71,6 @@ counted_most v (n ∷ ns) = by (above v n) (counted_most v ns)
 -- of a slice so long
 pub counted_part : (v : ℕ) (lits : List ℤ) {n : ℕ} → n ≡ counted v (map number_of lits) → n ≡ length (take n lits)
 counted_part v lits {n} e = omega (arith, e, counted_most v (map number_of lits), length-map lits number_of, length-take n lits)
-
--- a fault that is there comes before another
-pub fault_first : (k : ℕ) (o : Option ℕ) → (k ≡ 0 → ⊥) → fault_of k ≡ (fault_of k or_else o)
-fault_first zero o h = absurd (h refl)
-fault_first (suc k) o h = refl
 
 -- a number that is no variable's is not above the count
 outside : (v n : ℕ) → (eqb n 0 || ltb paper.numbers n) ≡ true → above v n ≡ false

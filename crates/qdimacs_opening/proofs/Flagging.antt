@@ -29,7 +29,7 @@ module _ {ns ls ks : List ℕ} (g : Growable ns ls ks (quantifier_code free)) wh
   P = prefix_of ns ls ks
 
   -- free variables may follow whatever is answered
-  still : {n r : ℕ} {ns' ls' ks' : List ℕ} → Declared ns ls ks n (quantifier_code free) r ns' ls' ks' → Growable ns' ls' ks' (quantifier_code free)
+  still : {n : ℕ} {o : Option ℕ} {ns' ls' ks' : List ℕ} → Declared ns ls ks n (quantifier_code free) o ns' ls' ks' → Growable ns' ls' ks' (quantifier_code free)
   still {n} d = record { sound = d.sound; code = g.code; before = subst (λ (E : Prefix). Before free (quantifiers E)) (sym d.prefix) (by (variable_fault paper P n)) }
     where
       by : (o : Option ℕ) → Before free (quantifiers (with_variable o P free n))
@@ -38,7 +38,7 @@ module _ {ns ls ks : List ℕ} (g : Growable ns ls ks (quantifier_code free)) wh
 
   module _ {n : ℕ} (places : List ℕ) where
     -- no group declares it: it is declared
-    pub flag_declared : n ≤ paper.numbers → get_or places n 0 ≡ 0 → {r : ℕ} {ns' ls' ks' : List ℕ} → Declared ns ls ks n (quantifier_code free) r ns' ls' ks' → FlagDeclared ns ls ks places n ns' ls' ks'
+    pub flag_declared : n ≤ paper.numbers → get_or places n 0 ≡ 0 → {o : Option ℕ} {ns' ls' ks' : List ℕ} → Declared ns ls ks n (quantifier_code free) o ns' ls' ks' → FlagDeclared ns ls ks places n ns' ls' ks'
     flag_declared most z {ns' = ns'} {ls'} {ks'} d = record { growable = still d; prefix = grown }
       where
         grown : (D : Prefix) (m : ℕ) → Places D places → n ≡ suc m → P ≡ flag_variables D m → prefix_of ns' ls' ks' ≡ flag_variables D n

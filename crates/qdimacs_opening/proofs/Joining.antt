@@ -107,7 +107,7 @@ module _ {m ml mk : List ℕ} (s : Sound m ml mk) where
           })
 
       -- the variables of the flags and of one place more
-      pub join_prefix : prefix_of ns ls ks ≡ F ++ take i E → {r : ℕ} {ns' ls' ks' : List ℕ} → Declared ns ls ks n kind r ns' ls' ks' → prefix_of ns' ls' ks' ≡ F ++ take (i + 1) E
+      pub join_prefix : prefix_of ns ls ks ≡ F ++ take i E → {o : Option ℕ} {ns' ls' ks' : List ℕ} → Declared ns ls ks n kind o ns' ls' ks' → prefix_of ns' ls' ks' ≡ F ++ take (i + 1) E
       unfolding x
       join_prefix e d =
           d.prefix
@@ -124,7 +124,7 @@ pub record Joining (F : Prefix) (m ml mk ns ls ks : List ℕ) (i : ℕ) : Type 0
   pub prefix : prefix_of ns ls ks ≡ F ++ take i (prefix_of m ml mk)
 
 pub join_more : {F : Prefix} {m ml mk ns ls ks : List ℕ} {i : ℕ} → Sound m ml mk → Joinable F (prefix_of m ml mk) → Joining F m ml mk ns ls ks i → i < get_or m 0 0
-    → {kind : ℕ} → kind ≡ code_for ml mk (i + 1) → {n : ℕ} → n ≡ entry_at m i → {r : ℕ} {ns' ls' ks' : List ℕ} → Declared ns ls ks n kind r ns' ls' ks' → Joining F m ml mk ns' ls' ks' (i + 1)
+    → {kind : ℕ} → kind ≡ code_for ml mk (i + 1) → {n : ℕ} → n ≡ entry_at m i → {o : Option ℕ} {ns' ls' ks' : List ℕ} → Declared ns ls ks n kind o ns' ls' ks' → Joining F m ml mk ns' ls' ks' (i + 1)
 join_more s j h q coded is d = record { most = omega (arith, q); sound = d.sound; prefix = join_prefix s j q coded is h.sound h.prefix d }
 
 pub join_none : (m ml mk : List ℕ) {ns ls ks : List ℕ} → Sound ns ls ks → Joining (prefix_of ns ls ks) m ml mk ns ls ks 0

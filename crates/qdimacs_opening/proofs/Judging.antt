@@ -20,10 +20,12 @@ use Rattle.reader.proofs.Judged.{cut_same, rule_cut, rule_cut_same}
 use Rattle.qdimacs_form.specs.Lines.{Line, group}
 use Rattle.qdimacs_form.specs.Opening.{Reading, group_fault, whole}
 use Rattle.qdimacs_laws.proofs.Judged.{Narrows, group_declares, group_narrowed, group_numbers, group_first}
-use Rattle.qdimacs_reader.specs.Lines.{LineRead}
+use Rattle.qdimacs_reader.specs.Lines.{LineIs}
 use Rattle.qdimacs_reader.specs.declared.line.Line.TheVariants as line
 use Rattle.qdimacs_opening.specs.declared.head.Head.{Head}
-use Rattle.qdimacs_opening.specs.declared.line.Taken.{Taken}
+use Rattle.std.specs.Prelude.{Result}
+use Rattle.refusal.specs.declared.Refusal.{Refusal}
+use Rattle.qdimacs_opening.specs.declared.problem.Problem.{Problem}
 use Rattle.qdimacs_opening.specs.Lines.{reading_of, Stands, TookLine, GroupTook, ClauseTook, Took}
 use Rattle.qdimacs_opening.proofs.Taking.{whole_limits}
 
@@ -65,7 +67,7 @@ code_back free = refl
 code_back exists = refl
 code_back forall = refl
 
-pub group_code : {o : Option Line} {κ n : ℕ} {out : List ℤ} → LineRead o (line.Group κ n) out → (0 < κ) × (κ ≤ quantifier_code forall)
+pub group_code : {o : Option Line} {κ n : ℕ} {out : List ℤ} → LineIs o (line.Group κ n) out → (0 < κ) × (κ ≤ quantifier_code forall)
 group_code (q, c, f, r) = subst (λ (k : ℕ). (0 < k) × (k ≤ quantifier_code forall)) (sym c) (by q f)
   where
     by : (q : Quantifier) → is_free q ≡ false → (0 < quantifier_code q) × (quantifier_code q ≤ quantifier_code forall)
@@ -73,17 +75,17 @@ group_code (q, c, f, r) = subst (λ (k : ℕ). (0 < k) × (k ≤ quantifier_code
     by exists e = (omega arith, omega arith)
     by forall e = (omega arith, omega arith)
 
-pub line_is : (s : Reading) (r : Taken) {o p : Option Line} → o ≡ p → Took s p r → Took s o r
+pub line_is : (s : Reading) (r : Result Problem Refusal) {o p : Option Line} → o ≡ p → Took s p r → Took s o r
 line_is s r e = subst (λ (q : Option Line). Took s q r) (sym e)
 
-module _ {h : Head} {x : State} (s : Stands h x) {o : Option Line} {out : List ℤ} (r : Taken) (room : length out ≡ suc paper.numbers) where
-  pub line_clause : (n : ℕ) {m : ℕ} → m ≡ min n (suc paper.numbers) → LineRead o (line.Clause n) out → ClauseTook (reading_of h x) (take m out) r → Took (reading_of h x) o r
+module _ {h : Head} {x : State} (s : Stands h x) {o : Option Line} {out : List ℤ} (r : Result Problem Refusal) (room : length out ≡ suc paper.numbers) where
+  pub line_clause : (n : ℕ) {m : ℕ} → m ≡ min n (suc paper.numbers) → LineIs o (line.Clause n) out → ClauseTook (reading_of h x) (take m out) r → Took (reading_of h x) o r
   line_clause n e (ls, f, k) w =
       let b : Formula = whole (reading_of h x) in
       let is_paper = whole_limits (reading_of h x) refl in
       line_is (reading_of h x) r f (subst (λ (m : ℕ). ClauseTook (reading_of h x) (take m out) r) e w ls (rule_cut b is_paper n out ls room k) (rule_cut_same b is_paper n out ls room k))
 
-  pub line_group : (κ n : ℕ) {m : ℕ} → m ≡ min n (suc paper.numbers) → LineRead o (line.Group κ n) out → GroupTook (reading_of h x) κ (take m out) r → Took (reading_of h x) o r
+  pub line_group : (κ n : ℕ) {m : ℕ} → m ≡ min n (suc paper.numbers) → LineIs o (line.Group κ n) out → GroupTook (reading_of h x) κ (take m out) r → Took (reading_of h x) o r
   line_group κ n e (q, c, f, (ls, g, k)) w =
       line_is (reading_of h x) r g
       (subst (λ (u : Quantifier). TookLine (reading_of h x) (group u (map number_of ls)) r) (ap quantifier_of c ∙ code_back q)

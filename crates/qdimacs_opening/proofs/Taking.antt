@@ -5,61 +5,68 @@ use mathlib.Core.Bool.{Bool, true, false, cond, not}
 use mathlib.Core.List.{List, [], ◌∷◌, ◌++◌, map}
 use mathlib.Core.Option.{Option, none, some}
 use native.Mathlib.Omega.{arith}
-use borrow.Author.Tests.{eq-eqb, ne_eqb, eqb-true, lt-ltb, le-ltb}
+use borrow.Author.Tests.{eq-eqb, ne_eqb, lt-ltb, le-ltb}
 use lib.IntN.{ℤ}
-use lib.ListN.{length, take, length-map}
+use lib.ListN.{length, take, length-map, length-take}
 use lib.Seq.{take-length}
 use lib.Dec.{eqb, ltb}
-use Rattle.qbf.specs.Formula.{paper, Quantifier, is_free, Prefix, quantifiers, number_of, Formula}
+use Rattle.qbf.specs.Formula.{paper, Quantifier, is_free, Prefix, quantifiers, Literal, number_of, Formula}
 use Rattle.qbf.specs.Calls.{given, no_free, rule_fault, with_rule, ◌or_else◌}
 use Rattle.theory.proofs.Basics.{and_left, and_right, and_both}
 use Rattle.state.specs.declared.State.{State}
 use Rattle.state.specs.Reading.{quantifier_of, prefix_in, formula_in}
-use Rattle.serving.specs.Serves.{fault_of}
+use Rattle.std.specs.Prelude.{Result, Ok, Err}
+use Rattle.refusal.specs.declared.Refusal.{Refusal}
+use Rattle.refusal.specs.declared.Refusal.TheVariants as refusal
+use Rattle.refusal.specs.Refusal.{fault_in}
+use Rattle.refusal.specs.Refusal as numbers
 use Rattle.layout.specs.Forms.{block}
+use Rattle.layout.specs.Forms.{clause as own_clause}
 use Rattle.layout.specs.Opening.{rank, variable, declare_fault, with_block}
 use Rattle.layout.specs.Opening as ours
-use Rattle.opening.specs.declared.line.Taken.{Taken as OwnTaken}
+use Rattle.opening.specs.declared.book.Book.{Book}
 use Rattle.opening.specs.Opened.{Standing, TookForm, BlockTook, RuleTook}
 use Rattle.opening.specs.Opened as own
 use Rattle.qdimacs_form.specs.Lines.{Line, comment, header, group, clause}
 use Rattle.qdimacs_form.specs.Opening.{completed, Reading, group_fault, whole, line_fault}
 use Rattle.qdimacs_opening.specs.declared.head.Head.{Head}
-use Rattle.qdimacs_opening.specs.declared.line.Taken.{Taken}
-use Rattle.qdimacs_opening.specs.Lines.{counted, own_stage, reading_of, Stands, Whole, Advanced, TookLine, GroupTook, ClauseTook}
-use Rattle.qdimacs_opening.proofs.Counting.{group_cut}
+use Rattle.qdimacs_opening.specs.declared.head.Part.{Part}
+use Rattle.qdimacs_opening.specs.declared.head.Part.TheVariants as part
+use Rattle.qdimacs_opening.specs.declared.problem.Problem.{Problem}
+use Rattle.qdimacs_opening.specs.Lines.{counted, part_of, own_stage, reading_of, Stands, Whole, Advanced, TookLine, GroupTook, ClauseTook}
+use Rattle.qdimacs_opening.proofs.Counting.{group_cut, counted_part}
 
-abbrev pub head_of : ℕ → ℕ → ℕ → Head
-head_of s v c = record { stage = s; variables = v; clauses = c }
+abbrev pub head_of : Part → ℕ → ℕ → Head
+head_of s v c = record { part = s; variables = v; clauses = c }
 
-abbrev taken : ℕ → Head → State → Taken
-taken n h x = record { refusal = n; head = h; state = x }
+abbrev taken : Head → State → Problem
+taken h x = record { head = h; state = x }
 
 -- a line that is refused
-pub refused_line : (s : Reading) (f : Line) {k : ℕ} → line_fault s f ≡ some (suc k) → {r : Taken} → r.refusal ≡ suc k → TookLine s f r
-refused_line s f e h = record { fault = e ∙ sym (ap fault_of h); advanced = λ z. absurd (omega (arith, z, h)) }
+pub refused_line : (s : Reading) (f : Line) {q : Refusal} → line_fault s f ≡ some (numbers.number_of q) → TookLine s f (Err q)
+refused_line s f e = record { fault = e; advanced = tt }
 
 -- ---- a comment, the header
 module _ {h : Head} {x : State} (s : Stands h x) where
-  pub comment_taken : TookLine (reading_of h x) comment (taken 0 h x)
-  comment_taken = record { fault = refl; advanced = λ _. record { reading = refl; stands = s } }
+  pub comment_taken : TookLine (reading_of h x) comment (Ok (taken h x))
+  comment_taken = record { fault = refl; advanced = record { reading = refl; stands = s } }
 
   module _ (v c : ℕ) where
-    pub header_misplaced : (h.stage ≡ 0 → ⊥) → line_fault (reading_of h x) (header v c) ≡ some 1
-    header_misplaced e = rw (ne_eqb h.stage 0 e)
+    pub header_misplaced : (part_of h.part ≡ 0 → ⊥) → line_fault (reading_of h x) (header v c) ≡ some 1
+    header_misplaced e = rw (ne_eqb (part_of h.part) 0 e)
 
-    module _ (e : h.stage ≡ 0) where
+    module _ (e : part_of h.part ≡ 0) where
       first : line_fault (reading_of h x) (header v c) ≡ given (ltb paper.numbers v) 3
-      first = rw (eq-eqb h.stage 0 e)
+      first = rw (eq-eqb (part_of h.part) 0 e)
 
       pub header_large : paper.numbers < v → line_fault (reading_of h x) (header v c) ≡ some 3
       header_large q = first ∙ ap (λ (t : Bool). given t 3) (lt-ltb paper.numbers v q)
 
-      pub header_taken : v ≤ paper.numbers → TookLine (reading_of h x) (header v c) (taken 0 (head_of 1 v c) x)
+      pub header_taken : v ≤ paper.numbers → TookLine (reading_of h x) (header v c) (Ok (taken (head_of part.Groups v c) x))
       header_taken q =
           record {
             fault = first ∙ ap (λ (t : Bool). given t 3) (le-ltb paper.numbers v q);
-            advanced = λ _. record { reading = refl; stands = record { stands = start; few = q; none_free = λ _. s.none_free (omega (arith, e)) } };
+            advanced = record { reading = refl; stands = record { stands = start; few = q; none_free = λ _. s.none_free (omega (arith, e)) } };
           }
         where
           empty : Standing 0 x
@@ -95,24 +102,14 @@ kind_quantified zero h = absurd (omega (arith, h))
 kind_quantified (suc zero) h = refl
 kind_quantified (suc (suc k)) h = refl
 
--- two faults, neither of which is there
-neither : (o : Option ℕ) (t : Bool) → (o or_else given (not t) 5) ≡ none → (o ≡ none) × (t ≡ true)
-neither none true e = (refl, refl)
-neither none false e = absurd (let z : ◌≡◌ {A = ℕ} 0 1 = cc in omega (arith, z))
-neither (some k) t e = absurd (let z : ◌≡◌ {A = ℕ} 0 1 = cc in omega (arith, z))
-
-fault_none : (n : ℕ) → fault_of n ≡ none → n ≡ 0
-fault_none zero e = refl
-fault_none (suc n) e = absurd (let z : ◌≡◌ {A = ℕ} 0 1 = cc in omega (arith, z))
-
 module _ {h : Head} {x : State} (s : Stands h x) (kind : ℕ) (lits : List ℤ) where
   abbrev κ : Quantifier
   κ = quantifier_of kind
 
-  pub group_misplaced : (h.stage ≡ 1 → ⊥) → {r : Taken} → r.refusal ≡ 1 → GroupTook (reading_of h x) kind lits r
-  group_misplaced e k = λ ns p q. refused_line (reading_of h x) (group κ ns) (rw (ne_eqb h.stage 1 e)) k
+  pub group_misplaced : (part_of h.part ≡ 1 → ⊥) → GroupTook (reading_of h x) kind lits (Err refusal.NotInLayout)
+  group_misplaced e = λ ns p q. refused_line (reading_of h x) (group κ ns) (rw (ne_eqb (part_of h.part) 1 e))
 
-  module _ (e : h.stage ≡ 1) (quantifies : 0 < kind) {n : ℕ} (is : n ≡ counted h.variables (map number_of lits)) (t : OwnTaken) (took : BlockTook 2 x kind (take n lits) t) where
+  module _ (e : part_of h.part ≡ 1) (quantifies : 0 < kind) {n : ℕ} (is : n ≡ counted h.variables (map number_of lits)) (t : Result Book Refusal) (took : BlockTook 2 x kind (take n lits) t) where
     ms : List ℕ
     ms = map number_of (take n lits)
 
@@ -129,39 +126,56 @@ module _ {h : Head} {x : State} (s : Stands h x) (kind : ℕ) (lits : List ℤ) 
         map_take (suc k) [] = refl
         map_take (suc k) (l ∷ ls) = ap (λ (ns : List ℕ). number_of l ∷ ns) (map_take k ls)
 
-    judged : group_fault paper h.variables κ (prefix_in x) (map number_of lits) ≡ (fault_of t.refusal or_else given (not (eqb n (length lits))) 5)
+    judged : group_fault paper h.variables κ (prefix_in x) (map number_of lits) ≡ (fault_in t or_else given (not (eqb n (length lits))) 5)
     judged =
         group_cut h.variables κ (prefix_in x) (map number_of lits)
         ∙ ap (λ (ns : List ℕ). declare_fault paper κ (prefix_in x) ns or_else given (not (eqb (counted h.variables (map number_of lits)) (length (map number_of lits)))) 5) (sym cut)
         ∙ ap (λ (o : Option ℕ). o or_else given (not (eqb (counted h.variables (map number_of lits)) (length (map number_of lits)))) 5) (sym (block_rank_lem kind quantifies (formula_in x) ms) ∙ own_took.fault)
-        ∙ ap (λ (k : ℕ). fault_of t.refusal or_else given (not (eqb k (length (map number_of lits)))) 5) (sym is)
-        ∙ ap (λ (k : ℕ). fault_of t.refusal or_else given (not (eqb n k)) 5) (length-map lits number_of)
+        ∙ ap (λ (k : ℕ). fault_in t or_else given (not (eqb k (length (map number_of lits)))) 5) (sym is)
+        ∙ ap (λ (k : ℕ). fault_in t or_else given (not (eqb n k)) 5) (length-map lits number_of)
 
-    pub group_taken : {r : ℕ} → fault_of r ≡ (fault_of t.refusal or_else given (not (eqb n (length lits))) 5) → GroupTook (reading_of h x) kind lits (taken r h t.state)
-    unfolding ms
-    group_taken {r} f = λ ns p q.
-        record {
-          fault = ap (λ (b : Bool). given (not b) 1 or_else group_fault paper h.variables κ (prefix_in x) ns) (eq-eqb h.stage 1 e) ∙ sym p ∙ judged ∙ sym f;
-          advanced = λ z. next ns (q (sym p ∙ judged ∙ sym f ∙ ap fault_of z)) (neither (fault_of t.refusal) (eqb n (length lits)) (sym f ∙ ap fault_of z));
-        }
-      where
-        next : (ns : List ℕ) → map number_of lits ≡ ns → (fault_of t.refusal ≡ none) × (eqb n (length lits) ≡ true) → Advanced (reading_of h x) (group κ ns) (taken r h t.state)
-        next ns same (u, w) = record { reading = λ i. record { stage = e i; variables = h.variables; clauses = h.clauses; formula = read i }; stands = record { stands = stands; few = s.few; none_free = quantified } }
-          where
-            a : own.Advanced (formula_in x) (block κ ms) t
-            a = own_took.advanced (fault_none t.refusal u)
+    line_judged : (ns : List ℕ) → group_fault paper h.variables κ (prefix_in x) (map number_of lits) ≡ group_fault paper h.variables κ (prefix_in x) ns
+        → line_fault (reading_of h x) (group κ ns) ≡ (fault_in t or_else given (not (eqb n (length lits))) 5)
+    line_judged ns p = ap (λ (b : Bool). given (not b) 1 or_else group_fault paper h.variables κ (prefix_in x) ns) (eq-eqb (part_of h.part) 1 e) ∙ sym p ∙ judged
 
-            all : ms ≡ ns
-            all = ap (λ (k : ℕ). map number_of (take k lits)) (eqb-true n (length lits) w) ∙ ap (map number_of) (take-length lits) ∙ same
+    -- the block is refused
+    pub group_refused : {q : Refusal} → t ≡ Err q → GroupTook (reading_of h x) kind lits (Err q)
+    group_refused {q} k = λ ns p z. refused_line (reading_of h x) (group κ ns) (line_judged ns p ∙ ap (λ (r : Result Book Refusal). fault_in r or_else given (not (eqb n (length lits))) 5) k)
 
-            read : formula_in t.state ≡ with_block κ (formula_in x) ns
-            read = a.formula ∙ ap (with_block κ (formula_in x)) all
+    module _ (y : Book) (k : t ≡ Ok y) where
+      -- it is not, and a number is left
+      pub group_above : n < length lits → GroupTook (reading_of h x) kind lits (Err refusal.Undeclared)
+      group_above less = λ ns p z.
+          refused_line (reading_of h x) (group κ ns)
+          (line_judged ns p ∙ ap (λ (r : Result Book Refusal). fault_in r or_else given (not (eqb n (length lits))) 5) k ∙ ap (λ (b : Bool). given (not b) 5) (ne_eqb n (length lits) (λ g. omega (arith, g, less))))
 
-            stands : Standing (own_stage h.stage) t.state
-            stands = subst (λ (k : ℕ). Standing (own_stage k) t.state) (sym e) (subst (λ (k : ℕ). Standing k t.state) (a.stage ∙ block_stage kind quantifies ms) a.stands)
+      pub group_taken : length lits ≤ n → GroupTook (reading_of h x) kind lits (Ok (taken h y.state))
+      unfolding ms
+      group_taken more = λ ns p z. record { fault = fine ns p; advanced = next ns (z (sym p ∙ judged ∙ sym (line_judged ns p) ∙ fine ns p)) }
+        where
+          whole_line : n ≡ length lits
+          whole_line = let g = counted_part h.variables lits is in omega (arith, more, g, length-take n lits)
 
-            quantified : h.stage ≤ 1 → no_free (quantifiers (prefix_in t.state)) ≡ true
-            quantified q = subst (λ (b : Formula). no_free (quantifiers b.prefix) ≡ true) (sym a.formula) (none_free_more κ (kind_quantified kind quantifies) (prefix_in x) ms (s.none_free q))
+          fine : (ns : List ℕ) → group_fault paper h.variables κ (prefix_in x) (map number_of lits) ≡ group_fault paper h.variables κ (prefix_in x) ns → line_fault (reading_of h x) (group κ ns) ≡ none
+          fine ns p = line_judged ns p ∙ ap (λ (r : Result Book Refusal). fault_in r or_else given (not (eqb n (length lits))) 5) k ∙ ap (λ (b : Bool). given (not b) 5) (eq-eqb n (length lits) whole_line)
+
+          a : own.Advanced (formula_in x) (block κ ms) y
+          a = let w : TookForm 2 (formula_in x) (block κ ms) (Ok y) = subst (λ (r : Result Book Refusal). TookForm 2 (formula_in x) (block κ ms) r) k own_took in w.advanced
+
+          next : (ns : List ℕ) → map number_of lits ≡ ns → Advanced (reading_of h x) (group κ ns) (taken h y.state)
+          next ns same = record { reading = λ i. record { stage = e i; variables = h.variables; clauses = h.clauses; formula = read i }; stands = record { stands = stands; few = s.few; none_free = quantified } }
+            where
+              all : ms ≡ ns
+              all = ap (λ (k : ℕ). map number_of (take k lits)) whole_line ∙ ap (map number_of) (take-length lits) ∙ same
+
+              read : formula_in y.state ≡ with_block κ (formula_in x) ns
+              read = a.formula ∙ ap (with_block κ (formula_in x)) all
+
+              stands : Standing (own_stage (part_of h.part)) y.state
+              stands = subst (λ (k : ℕ). Standing (own_stage k) y.state) (sym e) (subst (λ (k : ℕ). Standing k y.state) (a.stage ∙ block_stage kind quantifies ms) a.stands)
+
+              quantified : part_of h.part ≤ 1 → no_free (quantifiers (prefix_in y.state)) ≡ true
+              quantified q = subst (λ (b : Formula). no_free (quantifiers b.prefix) ≡ true) (sym a.formula) (none_free_more κ (kind_quantified kind quantifies) (prefix_in x) ms (s.none_free q))
 
 -- ---- a clause
 pub whole_limits : (s : Reading) → s.formula.limits ≡ paper → (whole s).limits ≡ paper
@@ -172,22 +186,28 @@ whole_limits s e = by (eqb s.stage 1)
     by false = e
 
 module _ {h : Head} {x : State} (s : Stands h x) (lits : List ℤ) where
-  pub clause_misplaced : h.stage ≡ 0 → {r : Taken} → r.refusal ≡ 1 → ClauseTook (reading_of h x) lits r
-  clause_misplaced e k = λ ls p q. refused_line (reading_of h x) (clause ls) (rw (eq-eqb h.stage 0 e)) k
+  pub clause_misplaced : part_of h.part ≡ 0 → ClauseTook (reading_of h x) lits (Err refusal.NotInLayout)
+  clause_misplaced e = λ ls p q. refused_line (reading_of h x) (clause ls) (rw (eq-eqb (part_of h.part) 0 e))
 
-  pub clause_taken : (h.stage ≡ 0 → ⊥) → {y : State} → Whole (whole (reading_of h x)) y → (t : OwnTaken) → RuleTook 3 y lits t
-      → ClauseTook (reading_of h x) lits (taken t.refusal (head_of 2 h.variables h.clauses) t.state)
-  clause_taken e {y} w t took = λ ls p q.
-      let f = took ls (ap (λ (b : Formula). rule_fault b lits) w.formula ∙ p ∙ sym (ap (λ (b : Formula). rule_fault b ls) w.formula)) (λ z. q (sym (ap (λ (b : Formula). rule_fault b ls) w.formula) ∙ z)) in
-      record {
-        fault =
-            ap (λ (b : Bool). given b 1 or_else rule_fault (whole (reading_of h x)) ls) (ne_eqb h.stage 0 e)
-            ∙ sym (ap (λ (b : Formula). rule_fault b ls) w.formula)
-            ∙ f.fault;
-        advanced = λ z.
-            let a = f.advanced z in
-            record {
-              reading = ap (λ (b : Formula). record { stage = 2; variables = h.variables; clauses = h.clauses; formula = b }) (a.formula ∙ ap (λ (b : Formula). with_rule none b ls) w.formula);
-              stands = record { stands = subst (λ (k : ℕ). Standing k t.state) a.stage a.stands; few = s.few; none_free = λ q. absurd (omega (arith, q)) };
-            };
-      }
+  module _ (e : part_of h.part ≡ 0 → ⊥) {y : State} (w : Whole (whole (reading_of h x)) y) where
+    clause_took : (t : Result Book Refusal) → RuleTook 3 y lits t → (ls : List Literal) → rule_fault (whole (reading_of h x)) lits ≡ rule_fault (whole (reading_of h x)) ls
+        → (rule_fault (whole (reading_of h x)) ls ≡ none → lits ≡ ls) → TookForm 3 (formula_in y) (own_clause ls) t
+    clause_took t took ls p q = took ls (ap (λ (b : Formula). rule_fault b lits) w.formula ∙ p ∙ sym (ap (λ (b : Formula). rule_fault b ls) w.formula)) (λ z. q (sym (ap (λ (b : Formula). rule_fault b ls) w.formula) ∙ z))
+
+    clause_judged : (ls : List Literal) → line_fault (reading_of h x) (clause ls) ≡ rule_fault (formula_in y) ls
+    clause_judged ls = ap (λ (b : Bool). given b 1 or_else rule_fault (whole (reading_of h x)) ls) (ne_eqb (part_of h.part) 0 e) ∙ sym (ap (λ (b : Formula). rule_fault b ls) w.formula)
+
+    pub clause_refused : {q : Refusal} → RuleTook 3 y lits (Err q) → ClauseTook (reading_of h x) lits (Err q)
+    clause_refused {q} took = λ ls p z. refused_line (reading_of h x) (clause ls) (clause_judged ls ∙ (clause_took (Err q) took ls p z).fault)
+
+    pub clause_taken : {t : Book} → RuleTook 3 y lits (Ok t) → ClauseTook (reading_of h x) lits (Ok (taken (head_of part.Clauses h.variables h.clauses) t.state))
+    clause_taken {t} took = λ ls p z.
+        let f = clause_took (Ok t) took ls p z in
+        let a = f.advanced in
+        record {
+          fault = clause_judged ls ∙ f.fault;
+          advanced = record {
+            reading = ap (λ (b : Formula). record { stage = 2; variables = h.variables; clauses = h.clauses; formula = b }) (a.formula ∙ ap (λ (b : Formula). with_rule none b ls) w.formula);
+            stands = record { stands = subst (λ (k : ℕ). Standing k t.state) a.stage a.stands; few = s.few; none_free = λ q. absurd (omega (arith, q)) };
+          };
+        }

@@ -1,20 +1,32 @@
 -- What stands while the lines of a text are read, and what the answers of a line say.
-use Rattle.std.specs.Prelude.{ℕ, zero, suc, ◌≤◌, ◌≡◌, Bool, true, cond, ◌&&◌, List, [], ◌∷◌, map, ℤ, leb, ltb}
+use Rattle.std.specs.Prelude.{ℕ, zero, suc, ◌≤◌, ◌≡◌, Bool, true, cond, ◌&&◌, List, [], ◌∷◌, map, ℤ, leb, ltb, refl, Result, Err, IfOk}
 use Rattle.std.proofs.Math.Option.{Option, none, some}
 use Rattle.qbf.specs.Formula.{Formula, paper, quantifiers, Literal, number_of}
 use Rattle.qbf.specs.Calls.{no_free, rule_fault}
 use Rattle.state.specs.declared.State.{State}
-use Rattle.state.specs.Reading.{quantifier_of, prefix_in, formula_in}
-use Rattle.serving.specs.Serves.{fault_of}
+use Rattle.state.specs.Reading.{quantifier_of, read_state, empty_state, prefix_in, formula_in}
+use Rattle.refusal.specs.declared.Refusal.{Refusal}
+use Rattle.refusal.specs.declared.Refusal.TheVariants.{NotInLayout}
+use Rattle.refusal.specs.Refusal.{fault_in}
+use Rattle.layout.specs.Words.{Bytes}
+use Rattle.layout.specs.Opening.{refused}
+use Rattle.opening.specs.Lines.{Opens}
 use Rattle.opening.specs.Opened.{Standing}
 use Rattle.qdimacs_form.specs.Lines.{Line, group, clause}
-use Rattle.qdimacs_form.specs.Opening.{Reading, group_fault, whole, line_fault, after}
+use Rattle.qdimacs_form.specs.Opening.{Reading, group_fault, whole, line_fault, after, read_lines}
 use Rattle.qdimacs_opening.specs.declared.head.Head.{Head}
-use Rattle.qdimacs_opening.specs.declared.line.Taken.{Taken}
+use Rattle.qdimacs_opening.specs.declared.head.Part.{Part}
+use Rattle.qdimacs_opening.specs.declared.head.Part.TheVariants.{Start, Groups, Clauses}
+use Rattle.qdimacs_opening.specs.declared.problem.Problem.{Problem}
 
 -- ---- what stands
+abbrev pub part_of : Part → ℕ
+part_of Start = 0
+part_of Groups = 1
+part_of Clauses = 2
+
 abbrev pub reading_of : Head → State → Reading
-reading_of h x = record { stage = h.stage; variables = h.variables; clauses = h.clauses; formula = formula_in x }
+reading_of h x = record { stage = part_of h.part; variables = h.variables; clauses = h.clauses; formula = formula_in x }
 
 -- the stage of our own text at which the same may follow
 abbrev pub own_stage : ℕ → ℕ
@@ -28,9 +40,17 @@ pub record Grouped (x : State) : Type 0 where
   pub none_free : no_free (quantifiers (prefix_in x)) ≡ true
 
 pub record Stands (h : Head) (x : State) : Type 0 where
-  pub stands : Standing (own_stage h.stage) x
+  pub stands : Standing (own_stage (part_of h.part)) x
   pub few : h.variables ≤ paper.numbers
-  pub none_free : h.stage ≤ 1 → no_free (quantifiers (prefix_in x)) ≡ true
+  pub none_free : part_of h.part ≤ 1 → no_free (quantifiers (prefix_in x)) ≡ true
+
+abbrev pub Stood : Problem → Type 0
+Stood p = Stands p.head p.state
+
+-- before the first line
+pub record Begun (p : Problem) : Type 0 where
+  pub head : p.head ≡ record { part = Start; variables = 0; clauses = 0 }
+  pub read : read_state p.state ≡ some empty_state
 
 -- a state of this formula, to which clauses may be added
 pub record Whole (b : Formula) (y : State) : Type 0 where
@@ -48,24 +68,33 @@ counted v [] = 0
 counted v (n ∷ ns) = cond (above v n) 0 (suc (counted v ns))
 
 -- what is read with a line
-pub record Advanced (s : Reading) (f : Line) (r : Taken) : Type 0 where
-  pub reading : reading_of r.head r.state ≡ after s f
-  pub stands : Stands r.head r.state
+pub record Advanced (s : Reading) (f : Line) (p : Problem) : Type 0 where
+  pub reading : reading_of p.head p.state ≡ after s f
+  pub stands : Stood p
 
-pub record TookLine (s : Reading) (f : Line) (r : Taken) : Type 0 where
-  pub fault : line_fault s f ≡ fault_of r.refusal
-  pub advanced : r.refusal ≡ 0 → Advanced s f r
+pub record TookLine (s : Reading) (f : Line) (r : Result Problem Refusal) : Type 0 where
+  pub fault : line_fault s f ≡ fault_in r
+  pub advanced : IfOk r (Advanced s f)
 
 -- a quantifier line, judged by the numbers of these literals
-abbrev pub GroupTook : Reading → ℕ → List ℤ → Taken → Type 0
+abbrev pub GroupTook : Reading → ℕ → List ℤ → Result Problem Refusal → Type 0
 GroupTook s kind lits r = (ns : List ℕ) → group_fault paper s.variables (quantifier_of kind) s.formula.prefix (map number_of lits) ≡ group_fault paper s.variables (quantifier_of kind) s.formula.prefix ns
     → (group_fault paper s.variables (quantifier_of kind) s.formula.prefix ns ≡ none → map number_of lits ≡ ns) → TookLine s (group (quantifier_of kind) ns) r
 
 -- a clause, judged by these literals
-abbrev pub ClauseTook : Reading → List ℤ → Taken → Type 0
+abbrev pub ClauseTook : Reading → List ℤ → Result Problem Refusal → Type 0
 ClauseTook s lits r = (ls : List Literal) → rule_fault (whole s) lits ≡ rule_fault (whole s) ls → (rule_fault (whole s) ls ≡ none → lits ≡ ls) → TookLine s (clause ls) r
 
 -- a line by what it says
-abbrev pub Took : Reading → Option Line → Taken → Type 0
-Took s none r = r.refusal ≡ 1
+abbrev pub Took : Reading → Option Line → Result Problem Refusal → Type 0
+Took s none r = r ≡ Err NotInLayout
 Took s (some f) r = TookLine s f r
+
+-- what the pieces open, read after those lines
+abbrev pub problem_opens : Problem → Opens
+problem_opens p n ls = read_lines n (reading_of p.head p.state) ls
+
+-- a line that is not ended is missing
+pub problem_unended : (p : Problem) (n c : ℕ) (l : Bytes) → problem_opens p n ((c ∷ l) ∷ []) ≡ refused 1 n
+unfolding read_lines
+problem_unended p n c l = refl

@@ -28,7 +28,7 @@ fn declare_flag(
         kinds.new }
 {
     if places[n] == 0 {
-        declare(numbers, levels, kinds, Number(n), tables::FREE);
+        let _ = declare(numbers, levels, kinds, Number(n), tables::FREE);
     }
 }
 
@@ -50,9 +50,7 @@ pub fn declare_flags(
         levels.new
         kinds.new }
 {
-    let mut n: usize = 0;
-    while n < variables {
-        n += 1;
-        declare_flag(numbers, levels, kinds, places, n);
+    for n in 0..variables {
+        declare_flag(numbers, levels, kinds, places, n + 1);
     }
 }

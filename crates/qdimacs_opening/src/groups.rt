@@ -27,11 +27,8 @@ pub fn declare_groups<'a>(
         levels.new
         kinds.new }
 {
-    let last = count(more);
-    let mut i: usize = 0;
-    while i < last {
+    for i in 0..count(more) {
         let kind = kind_at(more_levels, more_kinds, Place(i + 1));
-        declare(numbers, levels, kinds, Number(entry(more, i)), kind);
-        i += 1;
+        let _ = declare(numbers, levels, kinds, Number(entry(more, i)), kind);
     }
 }

@@ -2,18 +2,16 @@
 ghost use Rattle.std.specs.Prelude.{◌≤◌};
 ghost use Rattle.qbf.specs.Formula.{paper};
 ghost use Rattle.state.specs.Reading.{formula_in};
-ghost use Rattle.qdimacs_form.specs.Opening.{completed, whole};
-ghost use Rattle.qdimacs_opening.specs.Lines.{reading_of, Grouped, Stands, Whole};
+ghost use Rattle.qdimacs_form.specs.Opening.{completed};
+ghost use Rattle.qdimacs_opening.specs.Lines.{Grouped, Whole};
 
 use crate::flags::declare_flags;
 use crate::groups::declare_groups;
-use crate::head;
-use crate::head::Head;
 use state::State;
 use state::numbers::places_of;
 
 // The flags stand before the groups, though they are found after them.
-fn complete(x: State, variables: usize) -> State
+pub fn complete(x: State, variables: usize) -> State
     requires { Grouped x × (variables ≤ paper.numbers) }
     ensures { Whole (completed variables (formula_in x)) result }
 {
@@ -30,20 +28,10 @@ fn complete(x: State, variables: usize) -> State
         &x.levels,
         &x.kinds,
     );
-    let mut y = x;
-    y.numbers = numbers;
-    y.levels = levels;
-    y.kinds = kinds;
-    y
-}
-
-// From the first clause on it stands.
-pub fn whole(x: State, head: Head) -> State
-    requires { Stands head x }
-    ensures { Whole (whole (reading_of head x)) result }
-{
-    if head.stage == head::GROUPS {
-        return complete(x, head.variables);
+    State {
+        numbers,
+        levels,
+        kinds,
+        ..x
     }
-    x
 }

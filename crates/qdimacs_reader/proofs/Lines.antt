@@ -8,18 +8,17 @@ use native.Mathlib.Omega.{arith}
 use lib.IntN.{ℤ}
 use lib.ListN.{length, get_or, take, drop}
 use lib.Dec.{eqb}
+use Rattle.std.specs.Prelude.{Option as Answer, Some, None}
 use Rattle.qbf.specs.Formula.{Quantifier, exists, forall, is_free, Literal}
 use Rattle.theory.proofs.Basics.{not_false, not_true}
 use Rattle.tables.specs.Views.{quantifier_code}
 use Rattle.layout.specs.Words.{Bytes, same, number}
 use Rattle.layout.specs.Forms.{then}
 use Rattle.reader.specs.Items.{Filled}
-use Rattle.reader.specs.declared.items.Count.{Count}
-use Rattle.reader.specs.declared.items.Count.TheVariants.{Items, NotItems}
 use Rattle.qdimacs_form.specs.Lines.{edged, literals, header_word, exists_word, forall_word, cnf_word, header_of, header_from, comment_byte}
 use Rattle.qdimacs_form.specs.Lines as form
 use Rattle.qdimacs_reader.specs.Words.{words_from, word_then, NextWord}
-use Rattle.qdimacs_reader.specs.Lines.{word_of, group_line, clause_line, LineRead}
+use Rattle.qdimacs_reader.specs.Lines.{word_of, group_line, LineRead}
 use Rattle.qdimacs_reader.specs.declared.line.Word.{Word}
 use Rattle.qdimacs_reader.specs.declared.line.Line.{Line}
 use Rattle.qdimacs_reader.specs.declared.line.Word.TheVariants as word
@@ -32,26 +31,21 @@ comment_none [] h = refl
 comment_none (b ∷ l) h = absurd (omega (arith, h))
 
 module _ (w : Bytes) where
-  pub word_1 : same w header_word ≡ true → word.Header ≡ word_of w
+  pub word_1 : same w header_word ≡ true → Some word.Header ≡ word_of w
   unfolding word_of
   word_1 e0 = rw e0
 
-  pub word_2 : same w header_word ≡ false → same w exists_word ≡ true → word.Exists ≡ word_of w
+  pub word_2 : same w header_word ≡ false → same w exists_word ≡ true → Some word.Exists ≡ word_of w
   unfolding word_of
   word_2 e0 e1 = rw (e0, e1)
 
-  pub word_3 : same w header_word ≡ false → same w exists_word ≡ false → same w forall_word ≡ true → word.Forall ≡ word_of w
+  pub word_3 : same w header_word ≡ false → same w exists_word ≡ false → same w forall_word ≡ true → Some word.Forall ≡ word_of w
   unfolding word_of
   word_3 e0 e1 e2 = rw (e0, e1, e2)
 
-  pub word_4 : same w header_word ≡ false → same w exists_word ≡ false → same w forall_word ≡ false → word.Item ≡ word_of w
+  pub word_4 : same w header_word ≡ false → same w exists_word ≡ false → same w forall_word ≡ false → None ≡ word_of w
   unfolding word_of
   word_4 e0 e1 e2 = rw (e0, e1, e2)
-
--- ---- the line of a count
-pub group_some : (κ n : ℕ) → (n ≡ 0 → ⊥) → line.Group κ n ≡ group_line κ (Items n)
-group_some κ zero h = absurd (h refl)
-group_some κ (suc n) h = refl
 
 -- ---- the header
 -- words that are told one after another: three and no more
@@ -128,11 +122,11 @@ module _ {l : Bytes} {at s₁ e₁ s₂ e₂ s₃ e₃ s₄ e₄ : ℕ} (k₁ : 
       header_read z c = counted ∙ ap (λ (x : Option ℕ). header_of true x (number (take (e₃ - s₃) (drop s₃ l)))) z ∙ ap (header_of true (some _)) (sym c)
 
 -- ---- a line by its first word
-line_with : Word → Bytes → List Bytes → Option form.Line
-line_with word.Header w ws = header_from ws
-line_with word.Exists w ws = then (literals false ws) (form.group_of exists)
-line_with word.Forall w ws = then (literals false ws) (form.group_of forall)
-line_with word.Item w ws = then (literals true (word_then w ws)) form.clause_of
+line_with : Answer Word → Bytes → List Bytes → Option form.Line
+line_with (Some word.Header) w ws = header_from ws
+line_with (Some word.Exists) w ws = then (literals false ws) (form.group_of exists)
+line_with (Some word.Forall) w ws = then (literals false ws) (form.group_of forall)
+line_with None w ws = then (literals true (word_then w ws)) form.clause_of
 
 by_word : (w : Bytes) (ws : List Bytes) → form.line_from (word_then w ws) ≡ line_with (word_of w) w ws
 unfolding line_with word_of form.line_from same literals
@@ -144,49 +138,65 @@ by_word (b ∷ w) ws = by (same (b ∷ w) header_word) (same (b ∷ w) exists_wo
         (cond e (then (literals false ws) (form.group_of exists))
         (cond a (then (literals false ws) (form.group_of forall))
         (then (literals true ((b ∷ w) ∷ ws)) form.clause_of)))
-        ≡ line_with (cond p word.Header (cond e word.Exists (cond a word.Forall word.Item))) (b ∷ w) ws
+        ≡ line_with (cond p (Some word.Header) (cond e (Some word.Exists) (cond a (Some word.Forall) None))) (b ∷ w) ws
     by true e a = refl
     by false true a = refl
     by false false true = refl
     by false false false = refl
 
--- what the items of a quantifier line and of a clause say
-group_read : (q : Quantifier) → is_free q ≡ false → (o : Option (List Literal)) (out : List ℤ) (n : Count) → Filled o n out → LineRead (then o (form.group_of q)) (group_line (quantifier_code q) n) out
-group_read q f o out NotItems e = ap (λ (x : Option (List Literal)). then x (form.group_of q)) e
-group_read q f o out (Items zero) ([], e, k) = ap (λ (x : Option (List Literal)). then x (form.group_of q)) e
-group_read q f o out (Items zero) (l ∷ ls, e, k) = absurd (omega (arith, k.count))
-group_read q f o out (Items (suc n)) ([], e, k) = absurd (omega (arith, k.count))
-group_read q f o out (Items (suc n)) (l ∷ ls, e, k) = (q, refl, f, (l ∷ ls, ap (λ (x : Option (List Literal)). then x (form.group_of q)) e, k))
+-- what the items of a quantifier line say
+group_read : (q : Quantifier) → is_free q ≡ false → (o : Option (List Literal)) (out : List ℤ) (n : ℕ) → Filled o (Some n) out → LineRead (then o (form.group_of q)) (group_line (quantifier_code q) n) out
+group_read q f o out zero ([], e, k) = ap (λ (x : Option (List Literal)). then x (form.group_of q)) e
+group_read q f o out zero (l ∷ ls, e, k) = absurd (omega (arith, k.count))
+group_read q f o out (suc n) ([], e, k) = absurd (omega (arith, k.count))
+group_read q f o out (suc n) (l ∷ ls, e, k) = (q, refl, f, (l ∷ ls, ap (λ (x : Option (List Literal)). then x (form.group_of q)) e, k))
 
-clause_read : (o : Option (List Literal)) (out : List ℤ) (n : Count) → Filled o n out → LineRead (then o form.clause_of) (clause_line n) out
-clause_read o out NotItems e = ap (λ (x : Option (List Literal)). then x form.clause_of) e
-clause_read o out (Items n) (ls, e, k) = (ls, ap (λ (x : Option (List Literal)). then x form.clause_of) e, k)
+module _ {l : Bytes} {s e : ℕ} (k : NextWord l 0 s e) {v : Answer Word} (is : v ≡ word_of (take (e - s) (drop s l))) where
+  first : (x : Answer Word) → v ≡ x → form.line_from (words_from l 0) ≡ line_with x (take (e - s) (drop s l)) (words_from l e)
+  first x q = ap form.line_from k.is ∙ by_word (take (e - s) (drop s l)) (words_from l e) ∙ ap (λ (y : Answer Word). line_with y (take (e - s) (drop s l)) (words_from l e)) (sym is ∙ q)
 
-module _ {l : Bytes} {s e : ℕ} (k : NextWord l 0 s e) {v : Word} (is : v ≡ word_of (take (e - s) (drop s l))) (r : Line) (out : List ℤ) where
-  first : (x : Word) → v ≡ x → form.line_from (words_from l 0) ≡ line_with x (take (e - s) (drop s l)) (words_from l e)
-  first x q = ap form.line_from k.is ∙ by_word (take (e - s) (drop s l)) (words_from l e) ∙ ap (λ (y : Word). line_with y (take (e - s) (drop s l)) (words_from l e)) (sym is ∙ q)
+  -- a quantifier line
+  group_first : (q : Quantifier) → form.line_from (words_from l 0) ≡ then (literals false (words_from l e)) (form.group_of q) → literals false (words_from l e) ≡ none → form.line_from (words_from l 0) ≡ none
+  group_first q w h = w ∙ ap (λ (o : Option (List Literal)). then o (form.group_of q)) h
 
-  same_line : {o p : Option form.Line} → o ≡ p → LineRead p r out → LineRead o r out
-  same_line q = subst (λ (x : Option form.Line). LineRead x r out) (sym q)
-
-  pub words_header : v ≡ word.Header → ((t : List ℤ) → LineRead (header_from (words_from l e)) r t) → LineRead (form.line_from (words_from l 0)) r out
+  pub exists_none : v ≡ Some word.Exists → literals false (words_from l e) ≡ none → form.line_from (words_from l 0) ≡ none
   unfolding line_with
-  words_header q h = same_line (first word.Header q) (h out)
+  exists_none q = group_first exists (first (Some word.Exists) q)
 
-  module _ (n : Count) where
-    pub words_exists : v ≡ word.Exists → Filled (literals false (words_from l e)) n out → r ≡ group_line (quantifier_code exists) n → LineRead (form.line_from (words_from l 0)) r out
-    unfolding line_with
-    words_exists q h z = same_line (first word.Exists q) (subst (λ (x : Line). LineRead (then (literals false (words_from l e)) (form.group_of exists)) x out) (sym z) (group_read exists refl (literals false (words_from l e)) out n h))
+  pub forall_none : v ≡ Some word.Forall → literals false (words_from l e) ≡ none → form.line_from (words_from l 0) ≡ none
+  unfolding line_with
+  forall_none q = group_first forall (first (Some word.Forall) q)
 
-    pub words_forall : v ≡ word.Forall → Filled (literals false (words_from l e)) n out → r ≡ group_line (quantifier_code forall) n → LineRead (form.line_from (words_from l 0)) r out
-    unfolding line_with
-    words_forall q h z = same_line (first word.Forall q) (subst (λ (x : Line). LineRead (then (literals false (words_from l e)) (form.group_of forall)) x out) (sym z) (group_read forall refl (literals false (words_from l e)) out n h))
+  clause_first : v ≡ None → form.line_from (words_from l 0) ≡ then (literals true (words_from l 0)) form.clause_of
+  unfolding line_with
+  clause_first q = first None q ∙ ap (λ (ws : List Bytes). then (literals true ws) form.clause_of) (sym k.is)
 
-    pub words_clause : v ≡ word.Item → Filled (literals true (words_from l 0)) n out → r ≡ clause_line n → LineRead (form.line_from (words_from l 0)) r out
+  pub clause_none : v ≡ None → literals true (words_from l 0) ≡ none → form.line_from (words_from l 0) ≡ none
+  clause_none q h = clause_first q ∙ ap (λ (o : Option (List Literal)). then o form.clause_of) h
+
+  pub words_clause : (out : List ℤ) (n : ℕ) → v ≡ None → Filled (literals true (words_from l 0)) (Some n) out → LineRead (form.line_from (words_from l 0)) (Some (line.Clause n)) out
+  words_clause out n q (ls, h, w) = (ls, clause_first q ∙ ap (λ (o : Option (List Literal)). then o form.clause_of) h, w)
+
+  module _ (r : Answer Line) (out : List ℤ) where
+    same_line : {o p : Option form.Line} → o ≡ p → LineRead p r out → LineRead o r out
+    same_line q = subst (λ (x : Option form.Line). LineRead x r out) (sym q)
+
+    pub words_header : v ≡ Some word.Header → ((t : List ℤ) → LineRead (header_from (words_from l e)) r t) → LineRead (form.line_from (words_from l 0)) r out
     unfolding line_with
-    words_clause q h z =
-        same_line (first word.Item q ∙ ap (λ (ws : List Bytes). then (literals true ws) form.clause_of) (sym k.is))
-        (subst (λ (x : Line). LineRead (then (literals true (words_from l 0)) form.clause_of) x out) (sym z) (clause_read (literals true (words_from l 0)) out n h))
+    words_header q h = same_line (first (Some word.Header) q) (h out)
+
+    module _ (n : ℕ) where
+      pub words_exists : v ≡ Some word.Exists → Filled (literals false (words_from l e)) (Some n) out → r ≡ group_line (quantifier_code exists) n → LineRead (form.line_from (words_from l 0)) r out
+      unfolding line_with
+      words_exists q h z =
+          same_line (first (Some word.Exists) q)
+          (subst (λ (x : Answer Line). LineRead (then (literals false (words_from l e)) (form.group_of exists)) x out) (sym z) (group_read exists refl (literals false (words_from l e)) out n h))
+
+      pub words_forall : v ≡ Some word.Forall → Filled (literals false (words_from l e)) (Some n) out → r ≡ group_line (quantifier_code forall) n → LineRead (form.line_from (words_from l 0)) r out
+      unfolding line_with
+      words_forall q h z =
+          same_line (first (Some word.Forall) q)
+          (subst (λ (x : Answer Line). LineRead (then (literals false (words_from l e)) (form.group_of forall)) x out) (sym z) (group_read forall refl (literals false (words_from l e)) out n h))
 
 -- ---- the line
 module _ (l : Bytes) {t : Bool} (first_byte : t ≡ eqb (get_or l 0 0) comment_byte) where

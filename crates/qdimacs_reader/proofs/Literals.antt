@@ -9,17 +9,17 @@ use lib.IntN.{ℤ, pos}
 use lib.ListN.{length, get_or, take, drop, set, length-drop}
 use lib.Seq.{take_all}
 use lib.Dec.{eqb}
+use Rattle.std.specs.Prelude.{Option as Answer, Some}
+use Rattle.std.specs.Bool.{then_some}
 use Rattle.qbf.specs.Formula.{Literal}
 use Rattle.theory.proofs.Basics.{and_right}
 use Rattle.layout.specs.Words.{Bytes, same, number}
 use Rattle.layout.specs.Forms.{consed, off}
 use Rattle.reader.specs.Items.{all_narrowed, Filled}
-use Rattle.reader.specs.declared.items.Count.{Count}
 use Rattle.reader.proofs.Literals.{narrowed_consed, Gathered, gathered_none, gathered_bad, gathered_more, gathered_all}
 use Rattle.qdimacs_form.specs.Lines.{minus, zero_word, literal_of, literal, literals}
 use Rattle.qdimacs_reader.specs.Words.{words_from, word_then, Within, NextWord}
-use Rattle.qdimacs_reader.specs.Items.{LiteralRead, terminated}
-use Rattle.qdimacs_reader.specs.declared.item.Item.TheVariants.{Lit}
+use Rattle.qdimacs_reader.specs.Items.{LiteralRead}
 use Rattle.qdimacs_reader.proofs.Words.{no_word, some_word}
 
 -- ---- a minus
@@ -91,14 +91,14 @@ module _ {g : Bool} {l : Bytes} {from : ℕ} {out₀ out : List Literal} {n s e 
     here = ap (literals g) (some_word p.within h (words_from l e) ∙ ap (λ (ws : List Bytes). take (e - s) (drop s l) ∷ ws) k.is)
 
     -- no word follows: it is the terminator, or the line has none
-    pub gather_last : t ≡ f → {r : Count} → r ≡ terminated (same (take (e - s) (drop s l)) zero_word) n → Filled (literals g (words_from l from)) r out
+    pub gather_last : t ≡ f → {r : Answer ℕ} → r ≡ then_some (same (take (e - s) (drop s l)) zero_word) n → Filled (literals g (words_from l from)) r out
     unfolding word literals
-    gather_last q {r} c = subst (λ (x : Count). Filled (literals g (words_from l from)) x out) (sym c) (by (same word zero_word) last)
+    gather_last q {r} c = subst (λ (x : Answer ℕ). Filled (literals g (words_from l from)) x out) (sym c) (by (same word zero_word) last)
       where
         last : literals g (word_then (take (e - s) (drop s l)) (words_from l e)) ≡ cond (same word zero_word) (some []) none
         last = here ∙ ap (λ (ws : List Bytes). literals g (word ∷ ws)) (no_word l t f (words_from l f) (omega (arith, q)))
 
-        by : (z : Bool) → literals g (word_then (take (e - s) (drop s l)) (words_from l e)) ≡ cond z (some []) none → Filled (literals g (words_from l from)) (terminated z n) out
+        by : (z : Bool) → literals g (word_then (take (e - s) (drop s l)) (words_from l e)) ≡ cond z (some []) none → Filled (literals g (words_from l from)) (then_some z n) out
         by true z = gathered_all p.gathered z
         by false z = gathered_bad p.gathered z
 
@@ -116,7 +116,7 @@ module _ {g : Bool} {l : Bytes} {from : ℕ} {out₀ out : List Literal} {n s e 
       unfolding word consed
       gather_bad z = gathered_bad p.gathered (onward ∙ ap (λ (o : Option Literal). consed (λ x. x) o (literals g (word_then (take (f - t) (drop t l)) (words_from l f)))) z)
 
-      pub gather_more : (x : ℤ) → LiteralRead (literal g (take (e - s) (drop s l))) (Lit x) → {new : List Literal} → new ≡ set out n x → Gathering g l from out₀ new (n + 1) t f
+      pub gather_more : (x : ℤ) → LiteralRead (literal g (take (e - s) (drop s l))) (Some x) → {new : List Literal} → new ≡ set out n x → Gathering g l from out₀ new (n + 1) t f
       unfolding word
       gather_more x r w = record { low = omega (arith, p.low, h, k.after); within = k.within; gathered = gathered_more p.gathered x step w }
         where

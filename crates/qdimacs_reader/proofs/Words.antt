@@ -1,17 +1,21 @@
 -- Words of a line: spaces are passed over, and the next space ends a word.
-use Prim.Native.Nat.{ℕ, ◌+◌, ◌≤◌, ◌<◌, ◌-◌}
-use mathlib.Core.Path.{◌≡◌, refl, sym, ap, ◌∙◌}
+use Prim.Native.Nat.{ℕ, zero, suc, ◌+◌, ◌≤◌, ◌<◌, ◌-◌}
+use mathlib.Core.Path.{◌≡◌, refl, sym, ap, subst, ◌∙◌}
 use mathlib.Core.Bool.{false, not}
 use mathlib.Core.List.{List, [], ◌∷◌}
 use native.Mathlib.Omega.{arith}
 use native.Mathlib.Numerals.{add-one}
 use native.Mathlib.Decide.{dec_lt}
-use borrow.Author.Tests.{eq-eqb, ne_eqb, le-leb, lt-leb}
+use borrow.Author.Tests.{eq-eqb, eqb-true, eqb-false, ne_eqb, le-leb, lt-leb}
 use lib.ListN.{length, get_or, take, drop, drop_of_length-le, length-take, length-drop}
-use lib.Seq.{drop-cons}
+use lib.Seq.{drop-cons, get_or-drop}
 use lib.Dec.{eqb}
+use Rattle.std.specs.Prelude.{position, Some, None}
+use Rattle.std.proofs.lemmas.List.Quantifiers.{position-Some}
+use Rattle.theory.proofs.Basics.{not_false, not_true}
 use Rattle.layout.specs.Words.{Bytes, space, split}
 use Rattle.reader.specs.Pieces.{pieces_from, Piece}
+use Rattle.reader.proofs.Pieces.{all_of, none_stands}
 use Rattle.qdimacs_form.specs.Lines.{filled, edged}
 use Rattle.qdimacs_reader.specs.Words.{words_from, word_then, Within, Skipped, NextWord}
 
@@ -31,18 +35,45 @@ pub record Passed (l : Bytes) (at i : ℕ) : Type 0 where
   pub high : i ≤ length l
   pub words : words_from l at ≡ words_from l i
 
-pub pass_none : (l : Bytes) (at : ℕ) → at ≤ length l → Passed l at at
+pass_none : (l : Bytes) (at : ℕ) → at ≤ length l → Passed l at at
 pass_none l at h = record { low = omega arith; high = h; words = refl }
 
 module _ {l : Bytes} {at i : ℕ} (p : Passed l at i) where
-  pub pass_more : i < length l → get_or l i 0 ≡ space → Passed l at (i + 1)
+  pass_more : i < length l → get_or l i 0 ≡ space → Passed l at (i + 1)
   pass_more h e = record { low = omega (arith, p.low); high = omega (arith, h); words = p.words ∙ words_space l i h e }
 
-  pub pass_word : (get_or l i 0 ≡ space → ⊥) → Skipped l at i
+  pass_word : (get_or l i 0 ≡ space → ⊥) → Skipped l at i
   pass_word h = record { low = p.low; high = p.high; words = p.words; word = λ _. h }
 
-  pub pass_all : length l ≤ i → Skipped l at i
+  pass_all : length l ≤ i → Skipped l at i
   pass_all h = record { low = p.low; high = p.high; words = p.words; word = λ k e. omega (arith, h, k) }
+
+-- the place that `position` gives
+module _ (l : Bytes) (at : ℕ) (low : at ≤ length l) where
+  pass_to : (n : ℕ) → at + n ≤ length l → ((k : ℕ) → k < n → get_or l (at + k) 0 ≡ space) → Passed l at (at + n)
+  pass_to zero h spaces = let e : at ≡ at + 0 = omega arith in subst (Passed l at) e (pass_none l at low)
+  pass_to (suc n) h spaces = let e : at + n + 1 ≡ at + suc n = omega arith in subst (Passed l at) e (pass_more (pass_to n (omega arith) (λ k lt. spaces k (omega arith))) (omega arith) (spaces n (omega arith)))
+
+  here : (k : ℕ) → get_or (take (length l - at) (drop at l)) k 0 ≡ get_or l (at + k) 0
+  here k = ap (λ (t : Bytes). get_or t k 0) (all_of l at) ∙ get_or-drop at l k 0
+
+  long : length (take (length l - at) (drop at l)) ≡ length l - at
+  long = ap length (all_of l at) ∙ length-drop at l
+
+  a_space : (k : ℕ) → not (eqb (get_or (take (length l - at) (drop at l)) k 0) space) ≡ false → get_or l (at + k) 0 ≡ space
+  a_space k e = sym (here k) ∙ eqb-true (get_or (take (length l - at) (drop at l)) k 0) space (not_false (eqb (get_or (take (length l - at) (drop at l)) k 0) space) e)
+
+  pub skipped_to : {n : ℕ} → position (λ b. not (eqb b space)) (take (length l - at) (drop at l)) ≡ Some n → Skipped l at (at + n)
+  skipped_to {n} e =
+      let w = position-Some (λ b. not (eqb b space)) (take (length l - at) (drop at l)) n 0 e in
+      pass_word (pass_to n (omega (arith, w.0, long)) (λ k lt. a_space k (w.2 k lt)))
+      (λ q. eqb-false (get_or (take (length l - at) (drop at l)) n 0) space (not_true (eqb (get_or (take (length l - at) (drop at l)) n 0) space) w.1) (here n ∙ q))
+
+  pub skipped_all : position (λ b. not (eqb b space)) (take (length l - at) (drop at l)) ≡ None → Skipped l at (length l)
+  skipped_all e =
+      let end : at + (length l - at) ≡ length l = omega arith in
+      subst (Skipped l at) end
+      (pass_all (pass_to (length l - at) (omega arith) (λ k lt. a_space k (none_stands (λ b. not (eqb b space)) (take (length l - at) (drop at l)) e k (omega (arith, long, lt))))) (omega arith))
 
 -- ---- the next word
 module _ {l : Bytes} {at s e : ℕ} (k : Skipped l at s) (p : Piece space l s e) where

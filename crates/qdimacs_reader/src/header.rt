@@ -8,7 +8,7 @@ ghost use Rattle.qdimacs_reader.specs.Lines.{LineRead};
 
 use crate::line::Line;
 use crate::word::{Span, next_word};
-use reader::number::{Num, read_number};
+use reader::number::read_number;
 use reader::word::same_word;
 
 fn is_cnf(l: &[u8], word: Span) -> bool
@@ -20,7 +20,7 @@ fn is_cnf(l: &[u8], word: Span) -> bool
     same_word(&l[start..end], b"cnf")
 }
 
-fn number_at(l: &[u8], word: Span) -> Num
+fn number_at(l: &[u8], word: Span) -> Option<u32>
     requires { Within l.now word.start word.end }
     ensures { num_of result ≡ number (take (word.end - word.start) (drop word.start l.now)) }
 {
@@ -30,7 +30,7 @@ fn number_at(l: &[u8], word: Span) -> Num
 }
 
 // Three words follow, and no fourth.
-pub fn read_header(l: &[u8], at: usize) -> Line
+pub fn read_header(l: &[u8], at: usize) -> Option<Line>
     requires { at ≤ length l.now }
     ensures { (out : List ℤ) → LineRead (header_from (words_from l.now at)) result out }
 {
@@ -39,16 +39,12 @@ pub fn read_header(l: &[u8], at: usize) -> Line
     let clauses = next_word(l, variables.end);
     let more = next_word(l, clauses.end);
     if more.start < more.end {
-        return Line::NotLine;
+        return None;
     }
     if !is_cnf(l, form) {
-        return Line::NotLine;
+        return None;
     }
-    let Num::Value(v) = number_at(l, variables) else {
-        return Line::NotLine;
-    };
-    let Num::Value(c) = number_at(l, clauses) else {
-        return Line::NotLine;
-    };
-    Line::Header(v, c)
+    let v = number_at(l, variables)?;
+    let c = number_at(l, clauses)?;
+    Some(Line::Header(v, c))
 }

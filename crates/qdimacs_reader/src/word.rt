@@ -1,5 +1,6 @@
 // Words of a line. "runs of spaces stand only between items"
-ghost use Rattle.std.specs.Prelude.{◌≡◌, ◌≤◌, length};
+ghost use Rattle.std.specs.Prelude.{◌≡◌, ◌==◌, ◌≤◌, length, not, position};
+ghost use Rattle.layout.specs.Words.{space};
 ghost use Rattle.qdimacs_form.specs.Lines.{edged};
 ghost use Rattle.qdimacs_reader.specs.Words.{Skipped, NextWord};
 
@@ -12,18 +13,21 @@ pub struct Span {
     pub end: usize,
 }
 
+// The first byte that is no space.
+fn first_item(l: &[u8]) -> Option<usize>
+    ensures { result ≡ position (λ b. not (b == space)) l.now }
+{
+    l.iter().position(|b| *b != SPACE)
+}
+
 fn skip(l: &[u8], at: usize) -> usize
     requires { at ≤ length l.now }
     ensures { Skipped l.now at result }
 {
-    let mut i = at;
-    while i < l.len() {
-        if l[i] != SPACE {
-            return i;
-        }
-        i += 1;
+    match first_item(&l[at..]) {
+        Some(n) => at + n,
+        None => l.len(),
     }
-    i
 }
 
 // The first word from `at` on.

@@ -1,14 +1,15 @@
 -- The book of a session's input: its lines up to the first `(end)`, found one after another; and lines counted.
-use Prim.Native.Nat.{ℕ, zero, suc, ◌+◌, ◌<◌, ◌≤◌, ◌-◌, zero-le}
-use mathlib.Core.Path.{◌≡◌, sym, ap, subst, ◌∙◌}
+use Prim.Native.Nat.{ℕ, suc, ◌+◌, ◌<◌, ◌≤◌, ◌-◌, zero-le}
+use mathlib.Core.Path.{◌≡◌, refl, sym, ap, ◌∙◌}
 use mathlib.Core.Bool.{Bool, true, false, cond}
 use mathlib.Core.List.{List, [], ◌∷◌, ◌++◌, append_assoc}
 use native.Mathlib.Omega.{arith}
-use native.Mathlib.Numerals.{add-one}
 use borrow.Author.Tests.{lt-leb}
 use lib.Dec.{eqb}
 use lib.ListN.{length, get_or, take, drop, drop_of_length-le, length-drop}
-use lib.Seq.{take-suc, take-add, drop-cons, get_or-drop}
+use lib.Seq.{take-suc, take-add, get_or-drop}
+use Rattle.std.specs.Prelude.{count_by, Some, None}
+use Rattle.std.proofs.lemmas.List.Recursion.{is_count_by}
 use Rattle.layout.specs.Words.{Bytes, newline, split, same}
 use Rattle.layout.specs.Session.{end_line, Parted, onto, parted}
 use Rattle.reader.specs.Pieces.{pieces_from, Piece}
@@ -46,7 +47,7 @@ seek_first s =
     record { within = zero-le; book = ap (λ (ws : List Bytes). (parted ws).book) (sym (pieces_at s 0 zero-le)); rest = ap (λ (ws : List Bytes). (parted ws).rest) (sym (pieces_at s 0 zero-le)) }
 
 module _ {s : Bytes} {at : ℕ} (k : Seeking s at) where
-  pub seek_over : length s ≤ at → BookEnd s 0
+  pub seek_over : length s ≤ at → BookEnd s None
   unfolding parted split
   seek_over h = k.rest ∙ ap (λ (ws : List Bytes). (parted ws).rest) (pieces_at s at k.within ∙ ap (split newline) (drop_of_length-le s h))
 
@@ -54,7 +55,7 @@ module _ {s : Bytes} {at : ℕ} (k : Seeking s at) where
     p : Piece newline s at e
     p = lines k.within
 
-    pub seek_missing : length s ≤ e → BookEnd s 0
+    pub seek_missing : length s ≤ e → BookEnd s None
     unfolding parted
     seek_missing h = k.rest ∙ ap (λ (ws : List Bytes). (parted ws).rest) (none_left p h)
 
@@ -75,11 +76,10 @@ module _ {s : Bytes} {at : ℕ} (k : Seeking s at) where
       unfolding l
       parts t q = ap parted p.is ∙ one t q
 
-      pub seek_found : {t : Bool} → t ≡ same (take (e - at) (drop at s)) end_line → t ≡ true → BookEnd s (e + 1)
+      pub seek_found : {t : Bool} → t ≡ same (take (e - at) (drop at s)) end_line → t ≡ true → BookEnd s (Some (e + 1))
       unfolding l
       seek_found {t} q z =
-          subst (BookEnd s) (sym (add-one e))
-          (omega (arith, h), sym (k.book ∙ ap (λ (x : Parted). take at s ++ x.book) is ∙ sym (whole p h) ∙ ap (λ (n : ℕ). take n s) (add-one e)), sym (k.rest ∙ ap (λ (x : Parted). x.rest) is ∙ pieces_at s (e + 1) (omega (arith, h)) ∙ ap (λ (n : ℕ). split newline (drop n s)) (add-one e)))
+          (omega (arith, h), sym (k.book ∙ ap (λ (x : Parted). take at s ++ x.book) is ∙ sym (whole p h)), sym (k.rest ∙ ap (λ (x : Parted). x.rest) is ∙ pieces_at s (e + 1) (omega (arith, h))), omega arith)
         where
           is : parted (pieces_from newline s at) ≡ record { book = take (e - at) (drop at s) ++ (newline ∷ []); count = 1; rest = pieces_from newline s (e + 1) }
           is = parts true (sym z ∙ q)
@@ -101,33 +101,14 @@ module _ {s : Bytes} {at : ℕ} (k : Seeking s at) where
           is = parts false (sym z ∙ q)
 
 -- ---- lines counted
-pub record Counting (s : Bytes) (i n : ℕ) : Type 0 where
-  pub few : n ≤ i
-  pub is : count_of_lines s ≡ n + count_of_lines (drop i s)
-
-pub count_none : (s : Bytes) → Counting s 0 0
-count_none s = record { few = zero-le; is = omega arith }
-
-pub few_lines : (t : Bool) {m : ℕ} → m ≡ cond t 1 0 → m ≤ 1
-few_lines true q = omega (arith, q)
-few_lines false q = omega (arith, q)
-
-module _ {s : Bytes} {i n : ℕ} (k : Counting s i n) where
-  pub count_all : length s ≤ i → n ≡ count_of_lines s
-  unfolding count_of_lines
-  count_all h = sym (k.is ∙ ap (λ (t : Bytes). n + count_of_lines t) (drop_of_length-le s h) ∙ (let z : n + 0 ≡ n = omega arith in z))
-
-  pub count_more : i < length s → {b : ℕ} → b ≡ get_or s i 0 → {m : ℕ} → m ≡ cond (eqb b newline) 1 0 → Counting s (i + 1) (n + m)
-  unfolding count_of_lines
-  count_more h {b} read {m} e = record { few = omega (arith, k.few, few_lines (eqb b newline) e); is = k.is ∙ ap (λ (x : ℕ). n + x) rest ∙ (let z : (a : ℕ) → n + (m + a) ≡ n + m + a = λ a. omega arith in z (count_of_lines (drop (i + 1) s))) }
-    where
-      rest : count_of_lines (drop i s) ≡ m + count_of_lines (drop (i + 1) s)
-      rest =
-          ap count_of_lines (drop-cons s i 0 h)
-          ∙ ap (λ (c : ℕ). cond (eqb c newline) 1 0 + count_of_lines (drop (suc i) s)) (sym read)
-          ∙ (λ j. sym e j + count_of_lines (drop (sym (add-one i) j) s))
+pub count_is : (s : Bytes) → count_of_lines s ≡ count_by (λ b. eqb b newline) s
+unfolding count_of_lines
+count_is s = is_count_by count_of_lines (λ b. eqb b newline) refl (λ b t. one (eqb b newline) (count_of_lines t)) s
+  where
+    one : (t : Bool) (n : ℕ) → cond t 1 0 + n ≡ cond t (1 + n) n
+    one true n = refl
+    one false n = omega arith
 
 -- ---- for callers
-pub book_within : (s : Bytes) (r : ℕ) → BookEnd s r → r ≤ length s
-book_within s zero h = zero-le
-book_within s (suc r) h = h.0
+pub book_within : (s : Bytes) (r : ℕ) → BookEnd s (Some r) → r ≤ length s
+book_within s r h = h.0

@@ -1,81 +1,80 @@
 -- Calls: the tests of the word in the order of the code, the size of a card's table, and the call of a line by its word.
-use Prim.Native.Nat.{ℕ, ◌+◌, ◌*◌, ◌<◌, ◌≤◌, ◌-◌}
+use Prim.Native.Nat.{ℕ, suc, ◌+◌, ◌*◌, ◌<◌, ◌≤◌, ◌-◌}
 use mathlib.Core.Path.{◌≡◌, refl, sym, ap, subst, ◌∙◌}
 use mathlib.Core.Bool.{Bool, true, false, cond, not, ◌&&◌, ◌||◌}
 use mathlib.Core.List.{List, [], ◌∷◌}
 use mathlib.Core.Logic.{◌⊎◌, inl, inr}
 use mathlib.Core.Option.{Option, none, some}
 use native.Mathlib.Omega.{arith}
-use borrow.Author.Tests.{le-ltb, lt-ltb, eqb-true}
+use borrow.Author.Tests.{ne_eqb, le-ltb, lt-ltb, eqb-true}
 use lib.Dec.{leb, eqb}
 use lib.IntN.{ℤ, pos}
 use lib.ListN.{length, get_or, take, drop}
+use Rattle.std.specs.Prelude.{Option as Answer, Some, None}
+use Rattle.std.specs.Bool.{then_some}
 use Rattle.qbf.specs.Formula.{Literal}
 use Rattle.qbf.specs.Ceiling.{highest_ceiling}
-use Rattle.qbf.specs.Calls.{Call, card_of, forget, withdraw}
-use Rattle.layout.specs.Words.{Bytes, same, on_first, split, space, is_digit, digits, number, inside}
+use Rattle.qbf.specs.Calls.{Call, card, keep_card, card_of, forget, withdraw}
+use Rattle.layout.specs.Words.{Bytes, same, on_first, split, space, is_digit, digits, number, number_within, inside}
 use Rattle.layout.specs.Forms.{then, consed, items, rule_word, one_word}
 use Rattle.layout.specs.Opening.{text_bytes}
+use Rattle.layout.specs.Endings.{within, number_up_to}
 use Rattle.layout.specs.Program.{table_bytes}
 use Rattle.layout.specs.Session.{query_word, card_word, keep_card_word, forget_word, withdraw_word, closest_word, sized_by, rule_call, one_call, query_call, closest_call, card_call, alone, call_from, ceiled_call, call_of}
 use Rattle.reader.specs.Pieces.{pieces_from, Piece}
 use Rattle.reader.specs.Numbers.{num_of}
 use Rattle.reader.specs.Items.{Filled}
-use Rattle.reader.specs.Calls.{call_word_of, call_signs, call_with, card_size, card_sized, card_line, CallRead}
-use Rattle.reader.specs.declared.items.Count.{Count}
-use Rattle.reader.specs.declared.items.Count.TheVariants.{Items, NotItems}
-use Rattle.reader.specs.declared.number.Num.{Num}
-use Rattle.reader.specs.declared.number.Num.TheVariants.{Value, NotNumber}
+use Rattle.reader.specs.Calls.{CallUnder, call_word_of, call_signs, call_with, card_size, CallRead}
 use Rattle.reader.specs.declared.call.CallWord.{CallWord}
 use Rattle.reader.specs.declared.call.CallLine.{CallLine}
 use Rattle.reader.specs.declared.call.CallWord.TheVariants as word
 use Rattle.reader.specs.declared.call.CallLine.TheVariants as line
 use Rattle.reader.proofs.Literals.{items_on, past}
-use Rattle.reader.proofs.Lines.{rest_bytes, rest_some, by_first}
-use Rattle.reader.proofs.Keywords.{then_none}
+use Rattle.reader.proofs.Lines.{rest_bytes, rest_some, made, by_first}
 
 -- ---- words
 module _ (w : Bytes) where
-  pub call_1 : same w rule_word ≡ true → word.Rule ≡ call_word_of w
+  pub call_1 : same w rule_word ≡ true → Some word.Rule ≡ call_word_of w
   unfolding call_word_of
   call_1 e0 = rw e0
 
-  pub call_2 : same w rule_word ≡ false → same w query_word ≡ true → word.Query ≡ call_word_of w
+  pub call_2 : same w rule_word ≡ false → same w query_word ≡ true → Some word.Query ≡ call_word_of w
   unfolding call_word_of
   call_2 e0 e1 = rw (e0, e1)
 
-  pub call_3 : same w rule_word ≡ false → same w query_word ≡ false → same w card_word ≡ true → word.Card ≡ call_word_of w
+  pub call_3 : same w rule_word ≡ false → same w query_word ≡ false → same w card_word ≡ true → Some word.Card ≡ call_word_of w
   unfolding call_word_of
   call_3 e0 e1 e2 = rw (e0, e1, e2)
 
-  pub call_4 : same w rule_word ≡ false → same w query_word ≡ false → same w card_word ≡ false → same w keep_card_word ≡ true → word.KeepCard ≡ call_word_of w
+  pub call_4 : same w rule_word ≡ false → same w query_word ≡ false → same w card_word ≡ false → same w keep_card_word ≡ true → Some word.KeepCard ≡ call_word_of w
   unfolding call_word_of
   call_4 e0 e1 e2 e3 = rw (e0, e1, e2, e3)
 
-  pub call_5 : same w rule_word ≡ false → same w query_word ≡ false → same w card_word ≡ false → same w keep_card_word ≡ false → same w forget_word ≡ true → word.Forget ≡ call_word_of w
+  pub call_5 : same w rule_word ≡ false → same w query_word ≡ false → same w card_word ≡ false → same w keep_card_word ≡ false → same w forget_word ≡ true → Some word.Forget ≡ call_word_of w
   unfolding call_word_of
   call_5 e0 e1 e2 e3 e4 = rw (e0, e1, e2, e3, e4)
 
-  pub call_6 : same w rule_word ≡ false → same w query_word ≡ false → same w card_word ≡ false → same w keep_card_word ≡ false → same w forget_word ≡ false → same w withdraw_word ≡ true → word.Withdraw ≡ call_word_of w
+  pub call_6 : same w rule_word ≡ false → same w query_word ≡ false → same w card_word ≡ false → same w keep_card_word ≡ false → same w forget_word ≡ false → same w withdraw_word ≡ true → Some word.Withdraw ≡ call_word_of w
   unfolding call_word_of
   call_6 e0 e1 e2 e3 e4 e5 = rw (e0, e1, e2, e3, e4, e5)
 
-  pub call_7 : same w rule_word ≡ false → same w query_word ≡ false → same w card_word ≡ false → same w keep_card_word ≡ false → same w forget_word ≡ false → same w withdraw_word ≡ false → same w one_word ≡ true → word.One ≡ call_word_of w
+  pub call_7 : same w rule_word ≡ false → same w query_word ≡ false → same w card_word ≡ false → same w keep_card_word ≡ false → same w forget_word ≡ false → same w withdraw_word ≡ false → same w one_word ≡ true → Some word.One ≡ call_word_of w
   unfolding call_word_of
   call_7 e0 e1 e2 e3 e4 e5 e6 = rw (e0, e1, e2, e3, e4, e5, e6)
 
-  pub call_8 : same w rule_word ≡ false → same w query_word ≡ false → same w card_word ≡ false → same w keep_card_word ≡ false → same w forget_word ≡ false → same w withdraw_word ≡ false → same w one_word ≡ false → same w closest_word ≡ true → word.Closest ≡ call_word_of w
+  pub call_8 : same w rule_word ≡ false → same w query_word ≡ false → same w card_word ≡ false → same w keep_card_word ≡ false → same w forget_word ≡ false → same w withdraw_word ≡ false → same w one_word ≡ false → same w closest_word ≡ true → Some word.Closest ≡ call_word_of w
   unfolding call_word_of
   call_8 e0 e1 e2 e3 e4 e5 e6 e7 = rw (e0, e1, e2, e3, e4, e5, e6, e7)
 
-  pub call_9 : same w rule_word ≡ false → same w query_word ≡ false → same w card_word ≡ false → same w keep_card_word ≡ false → same w forget_word ≡ false → same w withdraw_word ≡ false → same w one_word ≡ false → same w closest_word ≡ false → word.NotWord ≡ call_word_of w
+  pub call_9 : same w rule_word ≡ false → same w query_word ≡ false → same w card_word ≡ false → same w keep_card_word ≡ false → same w forget_word ≡ false → same w withdraw_word ≡ false → same w one_word ≡ false → same w closest_word ≡ false → None ≡ call_word_of w
   unfolding call_word_of
   call_9 e0 e1 e2 e3 e4 e5 e6 e7 = rw (e0, e1, e2, e3, e4, e5, e6, e7)
 
-chosen : Bool → Bool → Bool → Bool → Bool → Bool → Bool → Bool → CallWord
-chosen a b c d e f g h = cond a word.Rule (cond b word.Query (cond c word.Card (cond d word.KeepCard (cond e word.Forget (cond f word.Withdraw (cond g word.One (cond h word.Closest word.NotWord)))))))
+chosen : Bool → Bool → Bool → Bool → Bool → Bool → Bool → Bool → Answer CallWord
+chosen a b c d e f g h =
+    cond a (Some word.Rule) (cond b (Some word.Query) (cond c (Some word.Card) (cond d (Some word.KeepCard) (cond e (Some word.Forget) (cond f (Some word.Withdraw) (cond g (Some word.One) (cond h (Some word.Closest) None)))))))
 
-by_word : (w : Bytes) (ws : List Bytes) → call_from (w ∷ ws) ≡ then (items (call_signs (call_word_of w)) ws) (call_with (call_word_of w))
+by_word : (w : Bytes) (ws : List Bytes) → call_from (w ∷ ws) ≡ made call_signs call_with ws (call_word_of w)
 unfolding call_from call_word_of chosen
 by_word w ws = go (same w rule_word) (same w query_word) (same w card_word) (same w keep_card_word) (same w forget_word) (same w withdraw_word) (same w one_word) (same w closest_word)
   where
@@ -89,7 +88,7 @@ by_word w ws = go (same w rule_word) (same w query_word) (same w card_word) (sam
         (cond g (then (items true ws) one_call)
         (cond h (then (items true ws) closest_call)
         none)))))))
-        ≡ then (items (call_signs (chosen a b c d e f g h)) ws) (call_with (chosen a b c d e f g h))
+        ≡ made call_signs call_with ws (chosen a b c d e f g h)
     go true b c d e f g h = refl
     go false true c d e f g h = refl
     go false false true d e f g h = refl
@@ -98,7 +97,7 @@ by_word w ws = go (same w rule_word) (same w query_word) (same w card_word) (sam
     go false false false false false true g h = refl
     go false false false false false false true h = refl
     go false false false false false false false true = refl
-    go false false false false false false false false = then_none (items false ws)
+    go false false false false false false false false = refl
 
 -- ---- the size of a card's table
 cond_none : (x : Bool) (o : Option ℕ) → o ≡ none → cond x o none ≡ none
@@ -126,6 +125,10 @@ number_spaced : (t : Bytes) → digits 0 t ≡ none → number t ≡ none
 unfolding number
 number_spaced t e = cond_none (leb 1 (length t) && leb (length t) 5 && (eqb (length t) 1 || not (eqb (get_or t 0 0) 48))) (digits 0 t) e
 
+five : (w : Bytes) → number_within 5 w ≡ number w
+unfolding number
+five w = refl
+
 pub size_text : (t : Bytes) → number t ≡ card_size (split space t)
 unfolding OneWord
 size_text t = by (one_word_lem t)
@@ -134,11 +137,12 @@ size_text t = by (one_word_lem t)
     by (inl e) = sym (ap card_size e)
     by (inr e) = number_spaced t (e.4 0) ∙ sym (ap card_size e.3)
 
-pub size_whole : (s : Bytes) (e : ℕ) → length s ≤ e → some table_bytes ≡ card_size (pieces_from space s (e + 1))
-size_whole s e h = sym (ap card_size (past s e h))
+pub size_whole : (s : Bytes) (e : ℕ) → length s ≤ e → some table_bytes ≡ then (card_size (pieces_from space s (e + 1))) (within table_bytes)
+size_whole s e h = sym (ap (λ (ws : List Bytes). then (card_size ws) (within table_bytes)) (past s e h))
 
-pub size_read : (s : Bytes) (e : ℕ) → e < length s → number (take (length s - (e + 1)) (drop (e + 1) s)) ≡ card_size (pieces_from space s (e + 1))
-size_read s e h = ap number (rest_bytes s e h) ∙ size_text (drop (e + 1) s) ∙ ap card_size (rest_some s e h)
+pub size_read : (s : Bytes) (e : ℕ) → e < length s → number_up_to 5 table_bytes (take (length s - (e + 1)) (drop (e + 1) s)) ≡ then (card_size (pieces_from space s (e + 1))) (within table_bytes)
+unfolding number_up_to
+size_read s e h = ap (λ (o : Option ℕ). then o (within table_bytes)) (five (take (length s - (e + 1)) (drop (e + 1) s)) ∙ ap number (rest_bytes s e h) ∙ size_text (drop (e + 1) s) ∙ ap card_size (rest_some s e h))
 
 -- what a line says with a table of so many bytes
 unfoldable pub sized : {A : Type 0} → (ℕ → A) → ℕ → Option A
@@ -176,86 +180,81 @@ unfolding items sized
 card_is p [] = refl
 card_is p (w ∷ ws) = size_is (card_of p highest_ceiling table_bytes) (card_of p highest_ceiling) w ws
 
-sized_line_lem : (p : Bool) (z : Num) (out : List ℤ) → CallRead (then (num_of z) (sized (card_of p highest_ceiling))) (card_line p z) out
+-- .. which is within the largest
+pub sized_within : {A : Type 0} (part : ℕ → A) (o : Option ℕ) → then o (sized part) ≡ then (then o (within table_bytes)) (λ n. some (part n))
 unfolding sized
-sized_line_lem p NotNumber out = refl
-sized_line_lem p (Value n) out = by p (leb n table_bytes)
+sized_within part none = refl
+sized_within {A} part (some n) = by (leb n table_bytes)
   where
-    by : (p x : Bool) → CallRead (cond x (some (card_of p highest_ceiling n)) none) (cond x (card_sized p n) line.NotCall) out
-    by true true = refl
-    by false true = refl
-    by p false = refl
+    by : (t : Bool) → cond t (some (part n)) none ≡ then (cond t (some n) none) (λ n. some (part n))
+    by true = refl
+    by false = refl
 
 -- ---- the call of a word with its items
-no_items : (c : Call) (ls : List Literal) → length ls ≡ 0 → alone c ls ≡ some c
-no_items c [] e = refl
-no_items c (l ∷ ls) e = absurd (omega arith)
+-- a call that has no items
+alone_line : (v : CallLine) (c : Call) (out : List ℤ) → CallUnder highest_ceiling (some c) v out → (ls : List Literal) → CallRead (alone c ls) (then_some (eqb (length ls) 0) v) out
+alone_line v c out h [] = h
+alone_line v c out h (l ∷ ls) = subst (λ (x : Bool). CallRead none (then_some x v) out) (sym (ne_eqb (suc (length ls)) 0 (λ e. omega arith))) refl
 
-some_items : (c : Call) (ls : List Literal) → (length ls ≡ 0 → ⊥) → alone c ls ≡ none
-some_items c [] h = absurd (h refl)
-some_items c (l ∷ ls) h = refl
+module _ {s : Bytes} {e : ℕ} (p : Piece space s 0 e) {q : Answer CallWord} (is : q ≡ call_word_of (take e s)) where
+  -- another word than a call's
+  pub no_word : q ≡ None → call_from (split space s) ≡ none
+  no_word h = by_first call_from call_word_of call_signs call_with by_word p (sym h ∙ is)
 
-module _ {s : Bytes} {e : ℕ} (p : Piece space s 0 e) (w : CallWord) (g : Bool) (is_w : w ≡ call_word_of (take e s)) (is_g : g ≡ call_signs w) where
-  call_is : call_from (split space s) ≡ then (items g (pieces_from space s (e + 1))) (call_with w)
-  call_is = by_first call_from call_word_of call_signs call_with by_word p is_w is_g
+  module _ {w : CallWord} (named : q ≡ Some w) {g : Bool} (is_g : g ≡ call_signs w) where
+    call_is : call_from (split space s) ≡ then (items g (pieces_from space s (e + 1))) (call_with w)
+    call_is = by_first call_from call_word_of call_signs call_with by_word p (sym named ∙ is) ∙ ap (λ (x : Bool). then (items x (pieces_from space s (e + 1))) (call_with w)) (sym is_g)
 
-  -- no items
-  pub call_none : (r : Count) (out : List ℤ) → Filled (items g (pieces_from space s (e + 1))) r out → r ≡ NotItems → call_from (split space s) ≡ none
-  call_none r out f i = call_is ∙ ap (λ (o : Option (List Literal)). then o (call_with w)) (subst (λ (x : Count). Filled (items g (pieces_from space s (e + 1))) x out) i f)
+    -- no items
+    pub call_none : (r : Answer ℕ) (out : List ℤ) → Filled (items g (pieces_from space s (e + 1))) r out → r ≡ None → call_from (split space s) ≡ none
+    call_none r out f i = call_is ∙ ap (λ (o : Option (List Literal)). then o (call_with w)) (subst (λ (x : Answer ℕ). Filled (items g (pieces_from space s (e + 1))) x out) i f)
 
-  -- n items
-  module _ (r : Count) (out : List ℤ) {n : ℕ} (f : Filled (items g (pieces_from space s (e + 1))) r out) (i : r ≡ Items n) where
-    read : Filled (items g (pieces_from space s (e + 1))) (Items n) out
-    read = subst (λ (x : Count). Filled (items g (pieces_from space s (e + 1))) x out) i f
+    -- n items
+    module _ (r : Answer ℕ) (out : List ℤ) {n : ℕ} (f : Filled (items g (pieces_from space s (e + 1))) r out) (i : r ≡ Some n) where
+      read : Filled (items g (pieces_from space s (e + 1))) (Some n) out
+      read = subst (λ (x : Answer ℕ). Filled (items g (pieces_from space s (e + 1))) x out) i f
 
-    with_items : (v : CallWord) → w ≡ v → call_from (split space s) ≡ call_with v read.0
-    with_items v h = call_is ∙ ap (λ (o : Option (List Literal)). then o (call_with w)) read.1 ∙ ap (λ (u : CallWord). call_with u read.0) h
+      with_items : (v : CallWord) → w ≡ v → call_from (split space s) ≡ call_with v read.0
+      with_items v h = call_is ∙ ap (λ (o : Option (List Literal)). then o (call_with w)) read.1 ∙ ap (λ (u : CallWord). call_with u read.0) h
 
-    no_signs : (v : CallWord) → w ≡ v → call_signs v ≡ false → items false (pieces_from space s (e + 1)) ≡ some read.0
-    no_signs v h z = ap (λ (x : Bool). items x (pieces_from space s (e + 1))) (sym (is_g ∙ ap call_signs h ∙ z)) ∙ read.1
+      no_signs : (v : CallWord) → w ≡ v → call_signs v ≡ false → items false (pieces_from space s (e + 1)) ≡ some read.0
+      no_signs v h z = ap (λ (x : Bool). items x (pieces_from space s (e + 1))) (sym (is_g ∙ ap call_signs h ∙ z)) ∙ read.1
 
-    pub rule_read : w ≡ word.Rule → CallRead (call_from (split space s)) (line.Rule n) out
-    rule_read h = (read.0, with_items word.Rule h, read.2)
+      pub rule_read : w ≡ word.Rule → CallRead (call_from (split space s)) (Some (line.Rule n)) out
+      rule_read h = (read.0, with_items word.Rule h, read.2)
 
-    pub query_read : w ≡ word.Query → CallRead (call_from (split space s)) (line.Query n) out
-    query_read h = (read.0, with_items word.Query h, read.2)
+      pub query_read : w ≡ word.Query → CallRead (call_from (split space s)) (Some (line.Query n)) out
+      query_read h = (read.0, with_items word.Query h, read.2)
 
-    -- a card's word, by the verdict of its lines
-    sized_read : (q : Bool) → call_from (split space s) ≡ then (items false (pieces_from space s (e + 1))) (card_call q)
-        → (z : Num) → num_of z ≡ card_size (pieces_from space s (e + 1)) → {a : CallLine} → a ≡ card_line q z → CallRead (call_from (split space s)) a out
-    sized_read q h z t b =
-        subst (λ (x : CallLine). CallRead (call_from (split space s)) x out) (sym b)
-        (subst (λ (o : Option Call). CallRead o (card_line q z) out) (sym is) (sized_line_lem q z out))
-      where
-        is : call_from (split space s) ≡ then (num_of z) (sized (card_of q highest_ceiling))
-        is = h ∙ card_is q (pieces_from space s (e + 1)) ∙ ap (λ (o : Option ℕ). then o (sized (card_of q highest_ceiling))) (sym t)
+      -- a card's word, by the size of its table
+      sized_is : (p : Bool) → call_from (split space s) ≡ then (items false (pieces_from space s (e + 1))) (card_call p) → (z : Answer ℕ) → num_of z ≡ then (card_size (pieces_from space s (e + 1))) (within table_bytes)
+          → call_from (split space s) ≡ then (num_of z) (λ n. some (card_of p highest_ceiling n))
+      sized_is p h z k = h ∙ card_is p (pieces_from space s (e + 1)) ∙ sized_within (card_of p highest_ceiling) (card_size (pieces_from space s (e + 1))) ∙ ap (λ (o : Option ℕ). then o (λ n. some (card_of p highest_ceiling n))) (sym k)
 
-    pub card_read : w ≡ word.Card → (z : Num) → num_of z ≡ card_size (pieces_from space s (e + 1)) → {a : CallLine} → a ≡ card_line true z → CallRead (call_from (split space s)) a out
-    card_read h = sized_read true (with_items word.Card h ∙ ap (λ (o : Option (List Literal)). then o (card_call true)) (sym (no_signs word.Card h refl)))
+      pub card_read : w ≡ word.Card → (z : Answer ℕ) → num_of z ≡ then (card_size (pieces_from space s (e + 1))) (within table_bytes) → call_from (split space s) ≡ then (num_of z) (λ n. some (card highest_ceiling n))
+      card_read h = sized_is true (with_items word.Card h ∙ ap (λ (o : Option (List Literal)). then o (card_call true)) (sym (no_signs word.Card h refl)))
 
-    pub keep_card_read : w ≡ word.KeepCard → (z : Num) → num_of z ≡ card_size (pieces_from space s (e + 1)) → {a : CallLine} → a ≡ card_line false z → CallRead (call_from (split space s)) a out
-    keep_card_read h = sized_read false (with_items word.KeepCard h ∙ ap (λ (o : Option (List Literal)). then o (card_call false)) (sym (no_signs word.KeepCard h refl)))
+      pub keep_card_read : w ≡ word.KeepCard → (z : Answer ℕ) → num_of z ≡ then (card_size (pieces_from space s (e + 1))) (within table_bytes) → call_from (split space s) ≡ then (num_of z) (λ n. some (keep_card highest_ceiling n))
+      keep_card_read h = sized_is false (with_items word.KeepCard h ∙ ap (λ (o : Option (List Literal)). then o (card_call false)) (sym (no_signs word.KeepCard h refl)))
 
-    pub forget_read : w ≡ word.Forget → n ≡ 0 → call_from (split space s) ≡ some forget
-    forget_read h z = with_items word.Forget h ∙ no_items forget read.0 (sym read.2.count ∙ z)
+      alone_read : (v : CallWord) → w ≡ v → (u : CallLine) (c : Call) → ((ls : List Literal) → call_with v ls ≡ alone c ls) → CallUnder highest_ceiling (some c) u out
+          → {a : Answer CallLine} → a ≡ then_some (eqb n 0) u → CallRead (call_from (split space s)) a out
+      alone_read v h u c says k e =
+          subst (λ (x : Answer CallLine). CallRead (call_from (split space s)) x out) (sym e)
+          (subst (λ (o : Option Call). CallRead o (then_some (eqb n 0) u) out) (sym (with_items v h ∙ says read.0))
+          (subst (λ (m : ℕ). CallRead (alone c read.0) (then_some (eqb m 0) u) out) (sym read.2.count) (alone_line u c out k read.0)))
 
-    pub forget_none : w ≡ word.Forget → (n ≡ 0 → ⊥) → call_from (split space s) ≡ none
-    forget_none h z = with_items word.Forget h ∙ some_items forget read.0 (λ x. z (read.2.count ∙ x))
+      pub forget_read : w ≡ word.Forget → {a : Answer CallLine} → a ≡ then_some (eqb n 0) line.Forget → CallRead (call_from (split space s)) a out
+      forget_read h = alone_read word.Forget h line.Forget forget (λ ls. refl) refl
 
-    pub withdraw_read : w ≡ word.Withdraw → n ≡ 0 → call_from (split space s) ≡ some withdraw
-    withdraw_read h z = with_items word.Withdraw h ∙ no_items withdraw read.0 (sym read.2.count ∙ z)
+      pub withdraw_read : w ≡ word.Withdraw → {a : Answer CallLine} → a ≡ then_some (eqb n 0) line.Withdraw → CallRead (call_from (split space s)) a out
+      withdraw_read h = alone_read word.Withdraw h line.Withdraw withdraw (λ ls. refl) refl
 
-    pub withdraw_none : w ≡ word.Withdraw → (n ≡ 0 → ⊥) → call_from (split space s) ≡ none
-    withdraw_none h z = with_items word.Withdraw h ∙ some_items withdraw read.0 (λ x. z (read.2.count ∙ x))
+      pub one_read : w ≡ word.One → CallRead (call_from (split space s)) (Some (line.One n)) out
+      one_read h = (read.0, with_items word.One h, read.2)
 
-    pub one_read : w ≡ word.One → CallRead (call_from (split space s)) (line.One n) out
-    one_read h = (read.0, with_items word.One h, read.2)
-
-    pub closest_read : w ≡ word.Closest → CallRead (call_from (split space s)) (line.Closest n table_bytes) out
-    closest_read h = (read.0, with_items word.Closest h, read.2)
-
-    pub no_word : w ≡ word.NotWord → call_from (split space s) ≡ none
-    no_word h = with_items word.NotWord h
+      pub closest_read : w ≡ word.Closest → CallRead (call_from (split space s)) (Some (line.Closest n table_bytes)) out
+      closest_read h = (read.0, with_items word.Closest h, read.2)
 
 -- ---- the line
 module _ (l : Bytes) where

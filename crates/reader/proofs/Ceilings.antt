@@ -1,26 +1,26 @@
 -- The call of a line with the size of its table and its ceiling, by the answers of the two items.
-use Prim.Native.Nat.{ℕ, ◌≤◌}
-use mathlib.Core.Path.{◌≡◌, refl, sym, ap, subst}
+use Prim.Native.Nat.{ℕ}
+use mathlib.Core.Path.{◌≡◌, refl, sym, ap, subst, ◌∙◌}
 use mathlib.Core.Bool.{false}
 use mathlib.Core.List.{List, [], ◌∷◌}
-use mathlib.Core.Option.{Option, none}
+use mathlib.Core.Option.{Option, none, some}
 use lib.IntN.{ℤ}
-use lib.ListN.{length, take}
+use Rattle.std.specs.Prelude.{Option as Answer, Some, None}
 use Rattle.qbf.specs.Ceiling.{highest_ceiling}
 use Rattle.qbf.specs.Calls.{Call}
 use Rattle.layout.specs.Words.{Bytes, space, split, same}
 use Rattle.layout.specs.Forms.{then}
 use Rattle.layout.specs.Endings.{ended, ceiling_word, ceiling_number, bytes_word, bytes_number}
-use Rattle.layout.specs.Session.{call_from, under, into, sized_call, ceiled_call}
+use Rattle.layout.specs.Session.{call_from, under, into, takes_given, sized_call, ceiled_call}
 use Rattle.reader.specs.Calls.{CallUnder, CallRead}
 use Rattle.reader.specs.Endings.{EndedRead}
 use Rattle.reader.specs.Sized.{sized_line}
-use Rattle.reader.specs.Ceilings.{limited_call, limited_line, CeiledRead}
+use Rattle.reader.specs.Ceilings.{limited_line, CeiledRead}
 use Rattle.reader.specs.declared.call.CallLine.{CallLine}
 use Rattle.reader.specs.declared.call.CallLine.TheVariants as line
 use Rattle.reader.specs.declared.ceiling.CeiledLine.{CeiledLine}
 use Rattle.reader.specs.declared.ending.Ending.{Ending}
-use Rattle.reader.specs.declared.ending.Ending.TheVariants.{NoItem, Item, Outside}
+use Rattle.reader.specs.Numbers.{num_of}
 use Rattle.reader.proofs.Endings as ending
 
 no_call : call_from [] ≡ none
@@ -36,9 +36,12 @@ pub word_none : (w : Bytes) (ws : List Bytes) → same w ceiling_word ≡ false 
 unfolding ceiled_call sized_call
 word_none w ws h k f = ending.word_none ceiling_word ceiling_number under sized_call w ws h (λ vs. ending.word_none bytes_word bytes_number into call_from w vs k f)
 
+given_none : (takes : ℕ → Call → Option Call) (g : Option ℕ) → takes_given takes g none ≡ none
+given_none takes none = refl
+given_none takes (some n) = refl
+
 -- ---- the size of the table
-into_line : (n : ℕ) (o : Option Call) (l : CallLine) (out : List ℤ) → CallRead o l out → CallRead (then o (into n)) (sized_line l n) out
-into_line n o line.NotCall out h = ap (λ (x : Option Call). then x (into n)) h
+into_line : (n : ℕ) (o : Option Call) (l : CallLine) (out : List ℤ) → CallUnder highest_ceiling o l out → CallRead (then o (into n)) (sized_line l n) out
 into_line n o (line.Rule k) out h = ap (λ (x : Option Call). then x (into n)) h.1
 into_line n o (line.Query k) out h = ap (λ (x : Option Call). then x (into n)) h.1
 into_line n o (line.Card size) out h = ap (λ (x : Option Call). then x (into n)) h
@@ -48,27 +51,31 @@ into_line n o line.Withdraw out h = ap (λ (x : Option Call). then x (into n)) h
 into_line n o (line.One k) out h = ap (λ (x : Option Call). then x (into n)) h.1
 into_line n o (line.Closest k size) out h = (h.0, ap (λ (x : Option Call). then x (into n)) h.1, h.2)
 
-module _ (s : Bytes) (r : Ending) (read : EndedRead s (ended bytes_word bytes_number (split space s)) r) where
-  pub whole_read : r ≡ NoItem → (l : CallLine) (out : List ℤ) → CallRead (call_from (split space s)) l out → CallRead (sized_call (split space s)) l out
+module _ (s : Bytes) where
+  pub no_sized_call : EndedRead (ended bytes_word bytes_number (split space s)) None → sized_call (split space s) ≡ none
   unfolding sized_call
-  whole_read h l out c = subst (λ (o : Option Call). CallRead o l out) (sym (ending.without_item bytes_word s bytes_number into call_from r read h)) c
+  no_sized_call h = ending.outside_form bytes_word s bytes_number into call_from no_call h
 
-  pub size_inside : {k n : ℕ} → r ≡ Item k n → k ≤ length s
-  size_inside h = ending.item_inside bytes_word s bytes_number into call_from r read h
+  module _ (z : Ending) (read : EndedRead (ended bytes_word bytes_number (split space s)) (Some z)) where
+    pub sized_is : sized_call (split space s) ≡ takes_given into (num_of z.number) (call_from (split space z.words.now))
+    unfolding sized_call
+    sized_is = ending.ended_is bytes_word s bytes_number into call_from z read
 
-  pub sized_read : {k n : ℕ} → r ≡ Item k n → {z : CallLine} (l : CallLine) (out : List ℤ) → CallRead (call_from (split space (take k s))) l out → z ≡ sized_line l n → CallRead (sized_call (split space s)) z out
-  unfolding sized_call
-  sized_read {k} {n} h l out c e =
-      subst (λ (y : CallLine). CallRead (sized_call (split space s)) y out) (sym e)
-      (subst (λ (o : Option Call). CallRead o (sized_line l n) out) (sym (ending.with_item bytes_word s bytes_number into call_from r read h)) (into_line n (call_from (split space (take k s))) l out c))
+    pub none_sized : call_from (split space z.words.now) ≡ none → sized_call (split space s) ≡ none
+    none_sized h = sized_is ∙ ap (takes_given into (num_of z.number)) h ∙ given_none into (num_of z.number)
 
-  pub no_sized_call : r ≡ Outside → sized_call (split space s) ≡ none
-  unfolding sized_call
-  no_sized_call h = ending.outside_form bytes_word s bytes_number into call_from r read no_call h
+    -- without the item, and with it
+    pub whole_read : z.number ≡ None → (l : CallLine) (out : List ℤ) → CallRead (call_from (split space z.words.now)) (Some l) out → CallRead (sized_call (split space s)) (Some l) out
+    whole_read h l out c = subst (λ (o : Option Call). CallUnder highest_ceiling o l out) (sym (sized_is ∙ ap (λ (g : Answer ℕ). takes_given into (num_of g) (call_from (split space z.words.now))) h)) c
+
+    pub sized_read : {n : ℕ} → z.number ≡ Some n → (l : CallLine) (out : List ℤ) → CallRead (call_from (split space z.words.now)) (Some l) out
+        → {a : Answer CallLine} → a ≡ sized_line l n → CallRead (sized_call (split space s)) a out
+    sized_read {n} h l out c {a} e =
+        subst (λ (y : Answer CallLine). CallRead (sized_call (split space s)) y out) (sym e)
+        (subst (λ (o : Option Call). CallRead o (sized_line l n) out) (sym (sized_is ∙ ap (λ (g : Answer ℕ). takes_given into (num_of g) (call_from (split space z.words.now))) h)) (into_line n (call_from (split space z.words.now)) l out c))
 
 -- ---- the ceiling
-under_line : (n : ℕ) (o : Option Call) (l : CallLine) (out : List ℤ) → CallRead o l out → CallUnder n (then o (under n)) (limited_call l) out
-under_line n o line.NotCall out h = ap (λ (x : Option Call). then x (under n)) h
+under_line : (n : ℕ) (o : Option Call) (l : CallLine) (out : List ℤ) → CallUnder highest_ceiling o l out → CeiledRead (then o (under n)) (limited_line l n) out
 under_line n o (line.Rule k) out h = ap (λ (x : Option Call). then x (under n)) h.1
 under_line n o (line.Query k) out h = (h.0, ap (λ (x : Option Call). then x (under n)) h.1, h.2)
 under_line n o (line.Card size) out h = ap (λ (x : Option Call). then x (under n)) h
@@ -78,25 +85,28 @@ under_line n o line.Withdraw out h = ap (λ (x : Option Call). then x (under n))
 under_line n o (line.One k) out h = ap (λ (x : Option Call). then x (under n)) h.1
 under_line n o (line.Closest k size) out h = (h.0, ap (λ (x : Option Call). then x (under n)) h.1, h.2)
 
--- an answer under the highest ceiling
-pub unlimited_read : {o p : Option Call} {l : CallLine} {z : CeiledLine} (out : List ℤ) → z ≡ record { line = l; ceiling = highest_ceiling } → o ≡ p → CallRead p l out → CeiledRead o z out
-unlimited_read {o} {p} {l} {z} out h e c =
-    subst (λ (y : CeiledLine). CeiledRead o y out) (sym h) (subst (λ (q : Option Call). CallRead q l out) (sym e) c)
-
-module _ (s : Bytes) (r : Ending) (read : EndedRead s (ended ceiling_word ceiling_number (split space s)) r) where
-  pub no_ceiling : r ≡ NoItem → ceiled_call (split space s) ≡ sized_call (split space s)
+module _ (s : Bytes) where
+  pub no_ceiled_call : EndedRead (ended ceiling_word ceiling_number (split space s)) None → ceiled_call (split space s) ≡ none
   unfolding ceiled_call
-  no_ceiling h = ending.without_item ceiling_word s ceiling_number under sized_call r read h
+  no_ceiled_call h = ending.outside_form ceiling_word s ceiling_number under sized_call no_sized h
 
-  pub ceiling_inside : {k n : ℕ} → r ≡ Item k n → k ≤ length s
-  ceiling_inside h = ending.item_inside ceiling_word s ceiling_number under sized_call r read h
+  module _ (z : Ending) (read : EndedRead (ended ceiling_word ceiling_number (split space s)) (Some z)) where
+    pub ceiled_is : ceiled_call (split space s) ≡ takes_given under (num_of z.number) (sized_call (split space z.words.now))
+    unfolding ceiled_call
+    ceiled_is = ending.ended_is ceiling_word s ceiling_number under sized_call z read
 
-  pub limited_read : {k n : ℕ} → r ≡ Item k n → {z : CeiledLine} (l : CallLine) (out : List ℤ) → CallRead (sized_call (split space (take k s))) l out → z ≡ limited_line l n → CeiledRead (ceiled_call (split space s)) z out
-  unfolding ceiled_call
-  limited_read {k} {n} h l out c e =
-      subst (λ (y : CeiledLine). CeiledRead (ceiled_call (split space s)) y out) (sym e)
-      (subst (λ (o : Option Call). CallUnder n o (limited_call l) out) (sym (ending.with_item ceiling_word s ceiling_number under sized_call r read h)) (under_line n (sized_call (split space (take k s))) l out c))
+    pub none_ceiled : sized_call (split space z.words.now) ≡ none → ceiled_call (split space s) ≡ none
+    none_ceiled h = ceiled_is ∙ ap (takes_given under (num_of z.number)) h ∙ given_none under (num_of z.number)
 
-  pub no_ceiled_call : r ≡ Outside → ceiled_call (split space s) ≡ none
-  unfolding ceiled_call
-  no_ceiled_call h = ending.outside_form ceiling_word s ceiling_number under sized_call r read no_sized h
+    -- without the item, and with it
+    pub unlimited_read : z.number ≡ None → (l : CallLine) (out : List ℤ) → CallRead (sized_call (split space z.words.now)) (Some l) out
+        → {a : CeiledLine} → a ≡ record { line = l; ceiling = highest_ceiling } → CeiledRead (ceiled_call (split space s)) (Some a) out
+    unlimited_read h l out c {a} e =
+        subst (λ (y : CeiledLine). CeiledRead (ceiled_call (split space s)) (Some y) out) (sym e)
+        (subst (λ (o : Option Call). CallUnder highest_ceiling o l out) (sym (ceiled_is ∙ ap (λ (g : Answer ℕ). takes_given under (num_of g) (sized_call (split space z.words.now))) h)) c)
+
+    pub limited_read : {n : ℕ} → z.number ≡ Some n → (l : CallLine) (out : List ℤ) → CallRead (sized_call (split space z.words.now)) (Some l) out
+        → {a : Answer CeiledLine} → a ≡ limited_line l n → CeiledRead (ceiled_call (split space s)) a out
+    limited_read {n} h l out c {a} e =
+        subst (λ (y : Answer CeiledLine). CeiledRead (ceiled_call (split space s)) y out) (sym e)
+        (subst (λ (o : Option Call). CeiledRead o (limited_line l n) out) (sym (ceiled_is ∙ ap (λ (g : Answer ℕ). takes_given under (num_of g) (sized_call (split space z.words.now))) h)) (under_line n (sized_call (split space z.words.now)) l out c))

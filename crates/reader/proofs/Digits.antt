@@ -11,16 +11,15 @@ use borrow.Author.Tests.{eq-eqb, ne_eqb, le-leb, lt-leb, leb-true, leb-false}
 use lib.Dec.{leb, eqb}
 use lib.ListN.{length, get_or, take, drop, drop_of_length-le, get_or-eq_default}
 use lib.Seq.{drop-cons}
+use Rattle.std.specs.Prelude.{Option as Answer, Some, None, Result, Ok, Err}
+use Rattle.std.specs.Bool.{then_some}
+use Rattle.std.specs.Result.{OkIff, result_ok}
 use Rattle.qbf.specs.Ceiling.{highest_ceiling}
 use Rattle.theory.proofs.Basics.{and_left, and_right}
 use Rattle.layout.specs.Words.{Bytes, is_digit, digits, number, number_within, closed}
 use Rattle.layout.specs.Forms.{then}
 use Rattle.layout.specs.Endings.{within}
-use Rattle.reader.specs.Numbers.{num_of, UnclosedOf}
-use Rattle.reader.specs.declared.number.Num.{Num}
-use Rattle.reader.specs.declared.number.Num.TheVariants.{Value, NotNumber}
-use Rattle.reader.specs.declared.number.Unclosed.{Unclosed}
-use Rattle.reader.specs.declared.number.Unclosed.TheVariants.{Bytes as first, NotClosed}
+use Rattle.reader.specs.Numbers.{num_of}
 
 -- ---- digits
 ten_step : (v i d : ℕ) → v < 10 ^ i → d ≤ 9 → v * 10 + d < 10 ^ (i + 1)
@@ -39,38 +38,33 @@ module _ {w : Bytes} {i v : ℕ} (p : Valued w i v) where
   pub value_small : i ≤ 9 → v < 1000000000
   value_small k = let top : 10 ^ i ≤ 10 ^ 9 = pow-le-pow_right (zero-lt-suc 9) k in omega (arith, p.small)
 
-  pub value_more : i < length w → 48 ≤ get_or w i 0 → get_or w i 0 ≤ 57 → Valued w (i + 1) (v * 10 + (get_or w i 0 - 48))
+  pub value_more : i < length w → is_digit (get_or w i 0) ≡ true → Valued w (i + 1) (v * 10 + (get_or w i 0 - 48))
   unfolding digits
-  value_more h a b =
+  value_more h q =
       record {
         high = omega arith;
-        small = ten_step v i (get_or w i 0 - 48) p.small (omega arith);
-        is = p.is ∙ rw (add-one, drop-cons w i 0 h, le-leb 48 (get_or w i 0) a, le-leb (get_or w i 0) 57 b);
+        small = ten_step v i (get_or w i 0 - 48) p.small (omega (arith, leb-true (get_or w i 0) 57 (and_right (leb 48 (get_or w i 0)) (leb (get_or w i 0) 57) q)));
+        is = p.is ∙ rw (add-one, drop-cons w i 0 h, q);
       }
 
-  low : i < length w → get_or w i 0 < 48 → digits 0 w ≡ none
+  bad : i < length w → is_digit (get_or w i 0) ≡ false → digits 0 w ≡ none
   unfolding digits
-  low h a = p.is ∙ rw (drop-cons w i 0 h, lt-leb 48 (get_or w i 0) a)
+  bad h q = p.is ∙ rw (drop-cons w i 0 h, q)
 
-  high_byte : i < length w → 48 ≤ get_or w i 0 → 57 < get_or w i 0 → digits 0 w ≡ none
-  unfolding digits
-  high_byte h a b = p.is ∙ rw (drop-cons w i 0 h, le-leb 48 (get_or w i 0) a, lt-leb (get_or w i 0) 57 b)
+  pub value_bad : i < length w → is_digit (get_or w i 0) ≡ false → none ≡ then (digits 0 w) (within highest_ceiling)
+  value_bad h q = ap (λ (o : Option ℕ). then o (within highest_ceiling)) (sym (bad h q))
 
   all_read : length w ≤ i → digits 0 w ≡ some v
   unfolding digits
   all_read h = p.is ∙ rw (drop_of_length-le w h)
 
-  pub value_low : i < length w → get_or w i 0 < 48 → none ≡ then (digits 0 w) (within highest_ceiling)
-  value_low h a = ap (λ (o : Option ℕ). then o (within highest_ceiling)) (sym (low h a))
-
-  pub value_high : i < length w → 48 ≤ get_or w i 0 → 57 < get_or w i 0 → none ≡ then (digits 0 w) (within highest_ceiling)
-  value_high h a b = ap (λ (o : Option ℕ). then o (within highest_ceiling)) (sym (high_byte h a b))
-
-  pub value_over : length w ≤ i → highest_ceiling < v → none ≡ then (digits 0 w) (within highest_ceiling)
-  value_over h k = sym (rw (all_read h, lt-leb v highest_ceiling k))
-
-  pub value_end : length w ≤ i → v ≤ highest_ceiling → some v ≡ then (digits 0 w) (within highest_ceiling)
-  value_end h k = sym (rw (all_read h, le-leb v highest_ceiling k))
+  -- what fits 32 bits
+  pub value_all : {E : Type 0} (r : Result ℕ E) {o : Answer ℕ} → length w ≤ i → OkIff r (v < 4294967296) v → o ≡ result_ok r → num_of o ≡ then (digits 0 w) (within highest_ceiling)
+  value_all {E} r h k e = ap num_of e ∙ by r k ∙ sym (ap (λ (o : Option ℕ). then o (within highest_ceiling)) (all_read h))
+    where
+      by : (r : Result ℕ E) → OkIff r (v < 4294967296) v → num_of (result_ok r) ≡ within highest_ceiling v
+      by (Ok x) (lt, q) = ap some q ∙ sym (rw (le-leb v highest_ceiling (omega (arith, lt))))
+      by (Err d) over = let low : highest_ceiling < v = omega (arith, over) in sym (rw (lt-leb v highest_ceiling low))
 
 -- ---- numbers of at most m digits: the tests in the order of the code
 module _ (w : Bytes) (m : ℕ) where
@@ -130,7 +124,7 @@ number_fits w = by (leb 1 (length w) && leb (length w) 5 && (eqb (length w) 1 ||
         rw (le-leb n highest_ceiling (omega (arith, small, top)))
 
 -- ---- a number that is no higher than one which the highest ceiling is not below
-module _ (o : Option ℕ) {top : ℕ} (below : top ≤ highest_ceiling) (z : Num) (read : num_of z ≡ then o (within highest_ceiling)) where
+module _ (o : Option ℕ) {top : ℕ} (below : top ≤ highest_ceiling) (z : Answer ℕ) (read : num_of z ≡ then o (within highest_ceiling)) where
   narrower : then (num_of z) (within top) ≡ then o (within top)
   narrower = ap (λ (p : Option ℕ). then p (within top)) read ∙ twice o
     where
@@ -142,14 +136,15 @@ module _ (o : Option ℕ) {top : ℕ} (below : top ≤ highest_ceiling) (z : Num
           by true e = refl
           by false e = sym (rw (lt-leb n top (omega (arith, leb-false n highest_ceiling e, below))))
 
-  pub up_none : z ≡ NotNumber → none ≡ then o (within top)
-  up_none h = sym (ap (λ (y : Num). then (num_of y) (within top)) h) ∙ narrower
+  pub up_none : z ≡ None → none ≡ then o (within top)
+  up_none h = sym (ap (λ (y : Answer ℕ). then (num_of y) (within top)) h) ∙ narrower
 
-  pub up_over : {n : ℕ} → z ≡ Value n → top < n → none ≡ then o (within top)
-  up_over {n} h k = sym (ap (λ (y : Num). then (num_of y) (within top)) h ∙ rw (lt-leb n top k)) ∙ narrower
-
-  pub up_in : {n : ℕ} → z ≡ Value n → n ≤ top → some n ≡ then o (within top)
-  up_in {n} h k = sym (ap (λ (y : Num). then (num_of y) (within top)) h ∙ rw (le-leb n top k)) ∙ narrower
+  pub up_at : {n : ℕ} → z ≡ Some n → {y : Answer ℕ} → y ≡ then_some (leb n top) n → num_of y ≡ then o (within top)
+  up_at {n} h {y} e = ap num_of e ∙ by (leb n top) ∙ sym (ap (λ (x : Answer ℕ). then (num_of x) (within top)) h) ∙ narrower
+    where
+      by : (t : Bool) → num_of (then_some t n) ≡ cond t (some n) none
+      by true = refl
+      by false = refl
 
 -- ---- a word with a closing bracket
 module _ (w : Bytes) where
@@ -167,11 +162,3 @@ module _ (w : Bytes) where
   pub closed_is : get_or w (length w - 1) 0 ≡ 41 → closed w ≡ some (take (length w - 1) w)
   unfolding closed
   closed_is h = rw (eq-eqb (get_or w (length w - 1) 0) 41 h)
-
--- what the answer of `before_bracket` says, case by case
-module _ (w : Bytes) (r : Unclosed) (u : UnclosedOf w r) where
-  pub unclosed : {e : ℕ} → r ≡ first e → (e ≤ length w) × (closed w ≡ some (take e w))
-  unclosed {e} h = subst (UnclosedOf w) h u
-
-  pub not_closed : r ≡ NotClosed → closed w ≡ none
-  not_closed h = subst (UnclosedOf w) h u

@@ -11,6 +11,7 @@ use borrow.Author.Tests.{eq-eqb, lt-leb}
 use lib.Dec.{leb-zero, eqb}
 use lib.ListN.{length, get_or, take, drop, length-append}
 use lib.Seq.{take_all}
+use Rattle.std.specs.Prelude.{Option as Answer, Some, None}
 use Rattle.qbf.specs.Calls.{Call}
 use Rattle.theory.proofs.Basics.{le_or_lt}
 use Rattle.layout.specs.Words.{Bytes, space, on_first, split, same, closed}
@@ -19,11 +20,8 @@ use Rattle.layout.specs.Endings.{last_item, Ended, item, after, ended}
 use Rattle.layout.specs.Session.{takes_given, ended_call}
 use Rattle.reader.specs.Pieces.{pieces_from, Piece}
 use Rattle.reader.specs.Numbers.{num_of}
-use Rattle.reader.specs.Endings.{words_before, behind, WordAt, EndedRead}
-use Rattle.reader.specs.declared.number.Num.{Num}
-use Rattle.reader.specs.declared.number.Num.TheVariants.{Value, NotNumber}
+use Rattle.reader.specs.Endings.{words_before, behind, Begun, WordAt, EndedRead}
 use Rattle.reader.specs.declared.ending.Ending.{Ending}
-use Rattle.reader.specs.declared.ending.Ending.TheVariants.{NoItem, Item, Outside}
 use Rattle.reader.proofs.Literals.{past}
 use Rattle.reader.proofs.Texts.{split_some}
 use Rattle.reader.proofs.Lines.{rest_some}
@@ -138,11 +136,22 @@ module _ {word s : Bytes} {at : ℕ} (p : Scanned word s at) where
           ∙ sym (behind_one before w (ended word number rest))
           ∙ ap (λ (ws : List Bytes). behind ws (ended word number rest)) words
 
-  pub scan_found : {e : ℕ} → Piece space s at e → same (take (e - at) (drop at s)) word ≡ true → WordAt word s at
-  scan_found {e} q h = record { high = p.high; is = p.is; found = λ k. (e, q, h) }
+  pub scan_found : at ≤ length s → {e : ℕ} → Piece space s at e → same (take (e - at) (drop at s)) word ≡ true → WordAt word s (Some at)
+  scan_found j {e} q h = record { high = j; is = p.is; found = (e, q, h) }
 
-  pub scan_end : length s < at → WordAt word s at
-  scan_end k = record { high = p.high; is = p.is; found = λ j. absurd (omega (arith, j, k)) }
+  -- no item is given
+  pub scan_end : length s < at → WordAt word s None
+  scan_end h = λ number.
+      p.is number ∙ ap (λ (ws : List Bytes). behind (words_before s at) (ended word number ws)) (none_left s at h)
+      ∙ ap (behind (words_before s at)) (no_words word number)
+      ∙ behind_some (words_before s at) (record { words = []; last = none })
+      ∙ ap (λ (ws : List Bytes). some (record { words = ws; last = none })) (append_nil (words_before s at) ∙ all_before)
+    where
+      past_end : at ≡ suc (length s)
+      past_end = omega (arith, p.high, h)
+
+      all_before : words_before s at ≡ split space s
+      all_before = ap (words_before s) past_end ∙ ap (split space) (take_all (length s) s (omega arith))
 
 -- ---- the item
 module _ (number : Bytes → Option ℕ) where
@@ -160,25 +169,11 @@ module _ (number : Bytes → Option ℕ) where
     item_one h = sym (ap (last_item number) p.is ∙ ap (λ (vs : List Bytes). last_item number (take (f - b) (drop b s) ∷ vs)) (past s f h))
 
 -- ---- the answer
-module _ {word s : Bytes} {r : ℕ} (number : Bytes → Option ℕ) (p : WordAt word s r) where
-  -- no item is given
-  pub no_item : length s < r → EndedRead s (ended word number (split space s)) NoItem
-  no_item h =
-      p.is number ∙ ap (λ (ws : List Bytes). behind (words_before s r) (ended word number ws)) (none_left s r h)
-      ∙ ap (behind (words_before s r)) (no_words word number)
-      ∙ behind_some (words_before s r) (record { words = []; last = none })
-      ∙ ap (λ (ws : List Bytes). some (record { words = ws; last = none })) (append_nil (words_before s r) ∙ all_before)
-    where
-      past_end : r ≡ suc (length s)
-      past_end = omega (arith, p.high)
-
-      all_before : words_before s r ≡ split space s
-      all_before = ap (words_before s) past_end ∙ ap (split space) (take_all (length s) s (omega arith))
-
+module _ {word s : Bytes} {r : ℕ} (number : Bytes → Option ℕ) (p : Begun word s r) where
   -- the words from the item's on
-  module _ (inside : r ≤ length s) {e : ℕ} (q : Piece space s r e) where
+  module _ {e : ℕ} (q : Piece space s r e) where
     from_item : ended word number (pieces_from space s r) ≡ then (last_item number (pieces_from space s (e + 1))) item
-    from_item = by (p.found inside)
+    from_item = by p.found
       where
         by : ((d : ℕ) × Piece space s r d × (same (take (d - r) (drop r s)) word ≡ true)) → ended word number (pieces_from space s r) ≡ then (last_item number (pieces_from space s (e + 1))) item
         by (d, g, h) =
@@ -187,10 +182,10 @@ module _ {word s : Bytes} {r : ℕ} (number : Bytes → Option ℕ) (p : WordAt 
             ap (ended word number) q.is ∙ its_word word number (take (e - r) (drop r s)) (pieces_from space s (e + 1)) (subst (λ (w : Bytes). same w word ≡ true) first h)
 
     -- what follows its word is no item
-    pub no_number : (z : Num) → num_of z ≡ last_item number (pieces_from space s (e + 1)) → z ≡ NotNumber → EndedRead s (ended word number (split space s)) Outside
+    pub no_number : (z : Answer ℕ) → num_of z ≡ last_item number (pieces_from space s (e + 1)) → z ≡ None → EndedRead (ended word number (split space s)) None
     no_number z i h = inl (p.is number ∙ ap (behind (words_before s r)) (from_item ∙ ap (λ (o : Option ℕ). then o item) (sym i ∙ ap num_of h)) ∙ behind_none (words_before s r))
 
-    module _ (z : Num) {n : ℕ} (i : num_of z ≡ last_item number (pieces_from space s (e + 1))) (h : z ≡ Value n) where
+    module _ (z : Answer ℕ) {n : ℕ} (i : num_of z ≡ last_item number (pieces_from space s (e + 1))) (h : z ≡ Some n) where
       given : ended word number (split space s) ≡ some (record { words = words_before s r; last = some n })
       given =
           p.is number ∙ ap (behind (words_before s r)) (from_item ∙ ap (λ (o : Option ℕ). then o item) (sym i ∙ ap num_of h))
@@ -198,11 +193,11 @@ module _ {word s : Bytes} {r : ℕ} (number : Bytes → Option ℕ) (p : WordAt 
           ∙ ap (λ (ws : List Bytes). some (record { words = ws; last = some n })) (append_nil (words_before s r))
 
       -- nothing stands before it
-      pub none_before : r ≡ 0 → EndedRead s (ended word number (split space s)) Outside
+      pub none_before : r ≡ 0 → EndedRead (ended word number (split space s)) None
       none_before k = inr (n, given ∙ ap (λ (j : ℕ). some (record { words = words_before s j; last = some n })) k)
 
-      pub item_given : (r ≡ 0 → ⊥) → EndedRead s (ended word number (split space s)) (Item (r - 1) n)
-      item_given k = (omega (arith, inside), given ∙ ap (λ (ws : List Bytes). some (record { words = ws; last = some n })) (before r k))
+      pub item_given : (r ≡ 0 → ⊥) → ended word number (split space s) ≡ some (record { words = split space (take (r - 1) s); last = some n })
+      item_given k = given ∙ ap (λ (ws : List Bytes). some (record { words = ws; last = some n })) (before r k)
         where
           before : (k : ℕ) → (k ≡ 0 → ⊥) → words_before s k ≡ split space (take (k - 1) s)
           before zero h = absurd (h refl)
@@ -210,25 +205,16 @@ module _ {word s : Bytes} {r : ℕ} (number : Bytes → Option ℕ) (p : WordAt 
 
 -- ---- the call
 -- the call of a line's words, by the answer of its item
-module _ (word s : Bytes) (number : Bytes → Option ℕ) (takes : ℕ → Call → Option Call) (call : List Bytes → Option Call) (r : Ending) (read : EndedRead s (ended word number (split space s)) r) where
+module _ (word s : Bytes) (number : Bytes → Option ℕ) (takes : ℕ → Call → Option Call) (call : List Bytes → Option Call) where
   called : (o : Option Ended) → ended word number (split space s) ≡ o → ended_call word number takes call (split space s) ≡ then o (λ z. takes_given takes z.last (call z.words))
   called o e = rw e
 
-  pub without_item : r ≡ NoItem → ended_call word number takes call (split space s) ≡ call (split space s)
-  without_item h = called (some (record { words = split space s; last = none })) (subst (EndedRead s (ended word number (split space s))) h read)
+  pub ended_is : (z : Ending) → EndedRead (ended word number (split space s)) (Some z) → ended_call word number takes call (split space s) ≡ takes_given takes (num_of z.number) (call (split space z.words.now))
+  ended_is z e = called (some (record { words = split space z.words.now; last = num_of z.number })) e
 
-  pub item_inside : {k n : ℕ} → r ≡ Item k n → k ≤ length s
-  item_inside h = (subst (EndedRead s (ended word number (split space s))) h read).0
-
-  pub with_item : {k n : ℕ} → r ≡ Item k n → ended_call word number takes call (split space s) ≡ then (call (split space (take k s))) (takes n)
-  with_item {k} {n} h = called (some (record { words = split space (take k s); last = some n })) (subst (EndedRead s (ended word number (split space s))) h read).1
-
-  pub outside_form : call [] ≡ none → r ≡ Outside → ended_call word number takes call (split space s) ≡ none
-  outside_form nothing h = by (subst (EndedRead s (ended word number (split space s))) h read)
-    where
-      by : EndedRead s (ended word number (split space s)) Outside → ended_call word number takes call (split space s) ≡ none
-      by (inl e) = called none e
-      by (inr (n, e)) = called (some (record { words = []; last = some n })) e ∙ ap (λ (o : Option Call). then o (takes n)) nothing
+  pub outside_form : call [] ≡ none → EndedRead (ended word number (split space s)) None → ended_call word number takes call (split space s) ≡ none
+  outside_form nothing (inl e) = called none e
+  outside_form nothing (inr (n, e)) = called (some (record { words = []; last = some n })) e ∙ ap (λ (o : Option Call). then o (takes n)) nothing
 
 -- a word that makes no call with any words makes none with such an item
 pub word_none : (word : Bytes) (number : Bytes → Option ℕ) (takes : ℕ → Call → Option Call) (call : List Bytes → Option Call) (w : Bytes) (ws : List Bytes)

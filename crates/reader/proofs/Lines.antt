@@ -1,7 +1,7 @@
 -- A line: its first word, the words after it, and its brackets.
 use Prim.Native.Nat.{ℕ, ◌+◌, ◌<◌, ◌≤◌, ◌-◌}
 use mathlib.Core.Path.{◌≡◌, refl, sym, ap, subst, ◌∙◌}
-use mathlib.Core.Bool.{Bool, true, false, cond, not, false≢true}
+use mathlib.Core.Bool.{Bool, true, false, cond}
 use mathlib.Core.List.{List, [], ◌∷◌}
 use mathlib.Core.Option.{Option, none, some}
 use native.Mathlib.Omega.{arith}
@@ -9,18 +9,16 @@ use borrow.Author.Tests.{eq-eqb, ne_eqb, le-leb}
 use lib.Dec.{eqb, leb-zero}
 use lib.ListN.{length, get_or, take, drop, length-drop}
 use lib.Seq.{take_all, take-nil, get_or-drop}
+use Rattle.std.specs.Prelude.{Option as Answer, Some, None}
 use Rattle.qbf.specs.Formula.{Literal}
 use Rattle.layout.specs.Words.{Bytes, split, space, closed, inside}
 use Rattle.layout.specs.Forms.{then, items, form_from, form_of}
 use Rattle.reader.specs.Pieces.{pieces_from, Piece}
 use Rattle.reader.specs.Items.{Filled}
-use Rattle.reader.specs.Lines.{Bracketed}
-use Rattle.reader.specs.declared.items.Count.{Count}
-use Rattle.reader.specs.declared.items.Count.TheVariants.{Items}
 use Rattle.reader.proofs.Literals.{past}
 
 -- ---- the first word, and those after it
-pub rest_none : (g : Bool) (s : Bytes) (e : ℕ) (out : List Literal) → length s ≤ e → Filled (items g (pieces_from space s (e + 1))) (Items 0) out
+pub rest_none : (g : Bool) (s : Bytes) (e : ℕ) (out : List Literal) → length s ≤ e → Filled (items g (pieces_from space s (e + 1))) (Some 0) out
 unfolding items
 rest_none g s e out h = ([], ap (items g) (past s e h), record { count = refl; first = sym (take-nil (length out)) })
 
@@ -31,7 +29,7 @@ rest_some s e h = rw (le-leb (e + 1) (length s) (omega arith))
 pub rest_bytes : (s : Bytes) (e : ℕ) → e < length s → take (length s - (e + 1)) (drop (e + 1) s) ≡ drop (e + 1) s
 rest_bytes s e h = take_all (length s - (e + 1)) (drop (e + 1) s) (simp length-drop (omega arith))
 
-pub rest_part : (g : Bool) (s : Bytes) (e : ℕ) (r : Count) (out : List Literal) → e < length s
+pub rest_part : (g : Bool) (s : Bytes) (e : ℕ) (r : Answer ℕ) (out : List Literal) → e < length s
     → Filled (items g (split space (take (length s - (e + 1)) (drop (e + 1) s)))) r out → Filled (items g (pieces_from space s (e + 1))) r out
 rest_part g s e r out h p =
     subst (λ (ws : List Bytes). Filled (items g ws) r out) (ap (split space) (rest_bytes s e h) ∙ rest_some s e h) p
@@ -47,15 +45,18 @@ first_word {s} {e} p = sym start ∙ p.is ∙ ap (λ (k : ℕ). take k s ∷ pie
     zero_off = omega arith
 
 -- What a line's words make is what the first of them, a keyword w with or without signs, makes of the items after it.
-module _ {A W : Type 0} (from : List Bytes → Option A) (word : Bytes → W) (signs : W → Bool) (with : W → List Literal → Option A)
-    (by_word_lem : (v : Bytes) (vs : List Bytes) → from (v ∷ vs) ≡ then (items (signs (word v)) vs) (with (word v))) where
-  pub by_first : {s : Bytes} {e : ℕ} → Piece space s 0 e → {w : W} {g : Bool} → w ≡ word (take e s) → g ≡ signs w
-      → from (split space s) ≡ then (items g (pieces_from space s (e + 1))) (with w)
-  by_first {s} {e} p {w} {g} is_w is_g =
+abbrev pub made : {A W : Type 0} → (W → Bool) → (W → List Literal → Option A) → List Bytes → Answer W → Option A
+made signs with ws None = none
+made signs with ws (Some w) = then (items (signs w) ws) (with w)
+
+module _ {A W : Type 0} (from : List Bytes → Option A) (word : Bytes → Answer W) (signs : W → Bool) (with : W → List Literal → Option A)
+    (by_word_lem : (v : Bytes) (vs : List Bytes) → from (v ∷ vs) ≡ made signs with vs (word v)) where
+  pub by_first : {s : Bytes} {e : ℕ} → Piece space s 0 e → {o : Answer W} → o ≡ word (take e s)
+      → from (split space s) ≡ made signs with (pieces_from space s (e + 1)) o
+  by_first {s} {e} p {o} is =
       ap from (first_word p)
       ∙ by_word_lem (take e s) (pieces_from space s (e + 1))
-      ∙ ap (λ (v : W). then (items (signs v) (pieces_from space s (e + 1))) (with v)) (sym is_w)
-      ∙ ap (λ (x : Bool). then (items x (pieces_from space s (e + 1))) (with w)) (sym is_g)
+      ∙ ap (made signs with (pieces_from space s (e + 1))) (sym is)
 
 -- ---- brackets
 module _ (l : Bytes) where
@@ -86,22 +87,13 @@ module _ (l : Bytes) where
         here : 1 + (length (drop 1 l) - 1) ≡ length l - 1
         here = omega (arith, length-drop 1 l)
 
-    pub inside_last : Bracketed l (eqb (get_or l (length l - 1) 0) 41)
+    pub inside_last : get_or l (length l - 1) 0 ≡ 41 → inside l ≡ some (take (length l - 1 - 1) (drop 1 l))
     unfolding inside closed
-    inside_last = by (eqb (get_or l (length l - 1) 0) 41) (ap (λ (b : ℕ). eqb b 41) last_byte)
-      where
-        by : (t : Bool) → eqb (get_or (drop 1 l) (length (drop 1 l) - 1) 0) 41 ≡ t → Bracketed l t
-        by true q = (long, rw (eq-eqb (get_or l 0 0) 40 opens, q, size))
-        by false q = rw (eq-eqb (get_or l 0 0) 40 opens, q)
+    inside_last h = rw (eq-eqb (get_or l 0 0) 40 opens, last_byte, eq-eqb (get_or l (length l - 1) 0) 41 h, size)
 
-  -- what a line that passes the test has, and one that does not
-  pub bracketed : (r : Bool) → Bracketed l r → not r ≡ false → Bracketed l true
-  bracketed true p e = p
-  bracketed false p e = absurd (false≢true (sym e))
-
-  pub unbracketed : (r : Bool) → Bracketed l r → not r ≡ true → inside l ≡ none
-  unbracketed true p e = absurd (false≢true e)
-  unbracketed false p e = p
+    pub inside_other : (get_or l (length l - 1) 0 ≡ 41 → ⊥) → inside l ≡ none
+    unfolding inside closed
+    inside_other h = rw (eq-eqb (get_or l 0 0) 40 opens, last_byte, ne_eqb (get_or l (length l - 1) 0) 41 h)
 
   pub form_out : inside l ≡ none → form_of l ≡ none
   unfolding form_of

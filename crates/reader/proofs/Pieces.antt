@@ -1,12 +1,18 @@
 -- Pieces of a text: the search for the byte that ends one.
-use Prim.Native.Nat.{ℕ, suc, ◌+◌, ◌<◌, ◌≤◌, ◌-◌}
-use mathlib.Core.Path.{◌≡◌, refl, sym, ap, ◌∙◌}
+use Prim.Native.Nat.{ℕ, zero, suc, ◌+◌, ◌<◌, ◌≤◌, ◌-◌}
+use mathlib.Core.Path.{◌≡◌, refl, sym, ap, subst, ◌∙◌}
+use mathlib.Core.Bool.{Bool, true, false, cond, not}
 use mathlib.Core.List.{List, [], ◌∷◌, ◌++◌}
 use native.Mathlib.Omega.{arith}
 use native.Mathlib.Numerals.{add-one}
-use borrow.Author.Tests.{eq-eqb, ne_eqb, le-leb, lt-leb}
+use borrow.Author.Tests.{eq-eqb, eqb-true, eqb-false, ne_eqb, le-leb, lt-leb, ltb-false}
+use lib.Dec.{eqb, ltb}
 use lib.ListN.{length, get_or, take, drop, drop_of_length-le, length-drop}
-use lib.Seq.{drop-cons, take-suc, get_or-drop}
+use lib.Seq.{drop-cons, take-suc, take_all, get_or-drop}
+use Rattle.std.specs.List.{prefix_len, position_or_len}
+use Rattle.std.specs.Prelude.{position, Option as Answer, Some, None}
+use Rattle.std.proofs.lemmas.List.Quantifiers.{position-Some}
+use Rattle.theory.proofs.Basics.{not_true}
 use Rattle.layout.specs.Words.{Bytes, on_first, split}
 use Rattle.reader.specs.Pieces.{pieces_from, Piece}
 
@@ -29,14 +35,14 @@ pub record Passed (c : ℕ) (s : Bytes) (at i : ℕ) : Type 0 where
   pub high : i ≤ length s
   pub is : split c (drop at s) ≡ onto (take (i - at) (drop at s)) (split c (drop i s))
 
-pub pass_none : (c : ℕ) (s : Bytes) (at : ℕ) → at ≤ length s → Passed c s at at
+pass_none : (c : ℕ) (s : Bytes) (at : ℕ) → at ≤ length s → Passed c s at at
 pass_none c s at h = record { low = omega arith; high = h; is = rw e }
   where
     e : at - at ≡ 0
     e = omega arith
 
 module _ {c : ℕ} {s : Bytes} {at i : ℕ} (p : Passed c s at i) where
-  pub pass_more : i < length s → (get_or s i 0 ≡ c → ⊥) → Passed c s at (i + 1)
+  pass_more : i < length s → (get_or s i 0 ≡ c → ⊥) → Passed c s at (i + 1)
   unfolding split
   pass_more h ne =
       record {
@@ -68,7 +74,7 @@ module _ {c : ℕ} {s : Bytes} {at i : ℕ} (p : Passed c s at i) where
   unfolding pieces_from
   at_start = rw (le-leb at (length s) (omega (arith, p.low, p.high)))
 
-  pub pass_found : i < length s → get_or s i 0 ≡ c → Piece c s at i
+  pass_found : i < length s → get_or s i 0 ≡ c → Piece c s at i
   unfolding split pieces_from
   pass_found h e =
       record {
@@ -85,7 +91,7 @@ module _ {c : ℕ} {s : Bytes} {at i : ℕ} (p : Passed c s at i) where
       next : pieces_from c s (i + 1) ≡ split c (drop (i + 1) s)
       next = rw (le-leb (i + 1) (length s) (omega arith))
 
-  pub pass_end : length s ≤ i → Piece c s at i
+  pass_end : length s ≤ i → Piece c s at i
   unfolding split pieces_from
   pass_end h =
       record {
@@ -101,3 +107,53 @@ module _ {c : ℕ} {s : Bytes} {at i : ℕ} (p : Passed c s at i) where
 
       next : pieces_from c s (i + 1) ≡ []
       next = rw (lt-leb (i + 1) (length s) (omega arith))
+
+-- ---- the place that `position` gives
+-- all of a list passes
+all_pass : (p : ℕ → Bool) (xs : Bytes) → length xs ≤ prefix_len p xs → (k : ℕ) → k < length xs → p (get_or xs k 0) ≡ true
+all_pass p [] h k lt = absurd (omega arith)
+all_pass p (x ∷ xs) h k lt = by (p x) refl h (all_pass p xs) k lt
+  where
+    by : (t : Bool) → p x ≡ t → suc (length xs) ≤ cond t (1 + prefix_len p xs) 0 → (length xs ≤ prefix_len p xs → (k : ℕ) → k < length xs → p (get_or xs k 0) ≡ true)
+        → (k : ℕ) → k < suc (length xs) → p (get_or (x ∷ xs) k 0) ≡ true
+    by true q h ih zero lt = q
+    by true q h ih (suc k) lt = ih (omega arith) k (omega arith)
+    by false q h ih k lt = absurd (omega arith)
+
+pub none_stands : (p : ℕ → Bool) (xs : Bytes) → position p xs ≡ None → (k : ℕ) → k < length xs → p (get_or xs k 0) ≡ false
+none_stands p xs e k lt = not_true (p (get_or xs k 0)) (all_pass (λ x. not (p x)) xs (by (ltb (position_or_len p xs) (length xs)) refl e) k lt)
+  where
+    by : (t : Bool) → ltb (position_or_len p xs) (length xs) ≡ t → ◌≡◌ {A = Answer ℕ} (cond t (Some (position_or_len p xs)) None) None → length xs ≤ position_or_len p xs
+    by true q e = absurd (cc)
+    by false q e = ltb-false (position_or_len p xs) (length xs) q
+
+pub all_of : (s : Bytes) (at : ℕ) → take (length s - at) (drop at s) ≡ drop at s
+all_of s at = take_all (length s - at) (drop at s) (simp length-drop (omega arith))
+
+differs : (c : ℕ) (s : Bytes) (at : ℕ) (xs : Bytes) → xs ≡ drop at s → (k : ℕ) → eqb (get_or xs k 0) c ≡ false → get_or s (at + k) 0 ≡ c → ⊥
+differs c s at xs e k q z = eqb-false (get_or xs k 0) c q (ap (λ (l : Bytes). get_or l k 0) e ∙ get_or-drop at s k 0 ∙ z)
+
+module _ (c : ℕ) (s : Bytes) (at : ℕ) (low : at ≤ length s) where
+  pass_to : (n : ℕ) → at + n ≤ length s → ((k : ℕ) → k < n → get_or s (at + k) 0 ≡ c → ⊥) → Passed c s at (at + n)
+  pass_to zero h ne = let e : at ≡ at + 0 = omega arith in subst (Passed c s at) e (pass_none c s at low)
+  pass_to (suc n) h ne =
+      let e : at + n + 1 ≡ at + suc n = omega arith in
+      subst (Passed c s at) e (pass_more (pass_to n (omega arith) (λ k lt. ne k (omega arith))) (omega arith) (ne n (omega arith)))
+
+  long : length (take (length s - at) (drop at s)) ≡ length s - at
+  long = ap length (all_of s at) ∙ length-drop at s
+
+  pub found_at : {n : ℕ} → position (λ b. eqb b c) (take (length s - at) (drop at s)) ≡ Some n → Piece c s at (at + n)
+  found_at {n} e =
+      let w = position-Some (λ b. eqb b c) (take (length s - at) (drop at s)) n 0 e in
+      pass_found (pass_to n (omega (arith, w.0, long)) (λ k lt. differs c s at (take (length s - at) (drop at s)) (all_of s at) k (w.2 k lt))) (omega (arith, w.0, long))
+      (sym (get_or-drop at s n 0) ∙ ap (λ (l : Bytes). get_or l n 0) (sym (all_of s at)) ∙ eqb-true (get_or (take (length s - at) (drop at s)) n 0) c w.1)
+
+  pub found_none : position (λ b. eqb b c) (take (length s - at) (drop at s)) ≡ None → Piece c s at (length s)
+  found_none e =
+      let end : at + (length s - at) ≡ length s = omega arith in
+      subst (Piece c s at) end
+      (pass_end
+      (pass_to (length s - at) (omega arith)
+      (λ k lt. differs c s at (take (length s - at) (drop at s)) (all_of s at) k (none_stands (λ b. eqb b c) (take (length s - at) (drop at s)) e k (omega (arith, long, lt)))))
+      (omega arith))

@@ -4,22 +4,22 @@ use mathlib.Core.Path.{◌≡◌, refl, sym, ap, subst, ◌∙◌}
 use mathlib.Core.Bool.{Bool, true, false, cond}
 use mathlib.Core.List.{List, ◌∷◌}
 use mathlib.Core.Option.{Option, none, some}
+use native.Mathlib.Omega.{arith}
 use borrow.Author.Tests.{le-ltb, lt-ltb, leb-true}
 use lib.Dec.{leb}
 use lib.ListN.{length, take, drop}
+use Rattle.std.specs.Prelude.{Option as Answer, Some, None}
 use Rattle.qbf.specs.Formula.{Literal}
 use Rattle.layout.specs.Words.{Bytes, same, split, space, number, inside}
 use Rattle.layout.specs.Forms.{then, items}
 use Rattle.layout.specs.Opening.{text_bytes}
+use Rattle.layout.specs.Endings.{within, number_up_to}
 use Rattle.layout.specs.Program.{table_bytes}
 use Rattle.layout.specs.Session.{call_from, ceiled_call, call_of}
 use Rattle.sessions.specs.Session.{Request, write, page, write_word, page_word, write_request, page_request, call_request, request_from, request_of}
 use Rattle.reader.specs.Pieces.{pieces_from, Piece}
-use Rattle.reader.specs.Numbers.{num_of}
 use Rattle.reader.specs.Calls.{card_size}
-use Rattle.reader.specs.Requests.{size_line, page_line, Asked, from_items, from_words, from_line, RequestRead}
-use Rattle.reader.specs.declared.number.Num.{Num}
-use Rattle.reader.specs.declared.number.Num.TheVariants.{Value, NotNumber}
+use Rattle.reader.specs.Requests.{Asked, from_items, from_words, from_line, RequestRead}
 use Rattle.reader.specs.declared.request.RequestLine.{RequestLine}
 use Rattle.reader.specs.declared.request.RequestLine.TheVariants as line
 use Rattle.reader.proofs.Words.{same_true}
@@ -27,18 +27,18 @@ use Rattle.reader.proofs.Literals.{past}
 use Rattle.reader.proofs.Texts.{split_some}
 use Rattle.reader.proofs.Lines.{rest_bytes, rest_some, first_word}
 use Rattle.reader.proofs.Ceilings.{word_none}
-use Rattle.reader.proofs.Calls.{sized, one_item, size_is, size_text}
+use Rattle.reader.proofs.Calls.{sized, sized_within, one_item, size_is, size_text, size_read}
 
 -- ---- the word
 module _ (w : Bytes) (ws : List Bytes) where
   -- the word `write` makes no call
-  write_none : ceiled_call (write_word ∷ ws) ≡ none
+  write_uncalled : ceiled_call (write_word ∷ ws) ≡ none
   unfolding call_from same
-  write_none = word_none write_word ws refl refl (λ vs. refl)
+  write_uncalled = word_none write_word ws refl refl (λ vs. refl)
 
   pub write_word_lem : same w write_word ≡ true → from_words (w ∷ ws) ≡ from_items write_request ws
   unfolding request_from same
-  write_word_lem e = rw (same_true w write_word e, write_none)
+  write_word_lem e = rw (same_true w write_word e, write_uncalled)
 
   -- and `page` makes none, and no writing
   page_none_called : ceiled_call (page_word ∷ ws) ≡ none
@@ -58,83 +58,89 @@ module _ {s : Bytes} {e : ℕ} (p : Piece space s 0 e) where
   abbrev words : List Bytes
   words = take e s ∷ pieces_from space s (e + 1)
 
-  as_words : (r : RequestLine) → RequestRead (from_words words) r → RequestRead (from_words (split space s)) r
+  as_words : (r : Answer RequestLine) → RequestRead (from_words words) r → RequestRead (from_words (split space s)) r
   as_words r h = subst (λ (ws : List Bytes). RequestRead (from_words ws) r) (sym (first_word p)) h
 
-  pub read_other : same (take e s) write_word ≡ false → same (take e s) page_word ≡ false → RequestRead (from_words (split space s)) line.Other
-  read_other h k = as_words line.Other (other_word (take e s) (pieces_from space s (e + 1)) h k)
+  pub read_other : same (take e s) write_word ≡ false → same (take e s) page_word ≡ false → RequestRead (from_words (split space s)) None
+  read_other h k = as_words None (other_word (take e s) (pieces_from space s (e + 1)) h k)
 
-  pub read_write : (r : RequestLine) → same (take e s) write_word ≡ true → RequestRead (from_items write_request (pieces_from space s (e + 1))) r → RequestRead (from_words (split space s)) r
+  pub read_write : (r : Answer RequestLine) → same (take e s) write_word ≡ true → RequestRead (from_items write_request (pieces_from space s (e + 1))) r → RequestRead (from_words (split space s)) r
   read_write r h q = as_words r (subst (λ (a : Asked). RequestRead a r) (sym (write_word_lem (take e s) (pieces_from space s (e + 1)) h)) q)
 
-  pub read_page : (r : RequestLine) → same (take e s) page_word ≡ true → RequestRead (from_items page_request (pieces_from space s (e + 1))) r → RequestRead (from_words (split space s)) r
+  pub read_page : (r : Answer RequestLine) → same (take e s) page_word ≡ true → RequestRead (from_items page_request (pieces_from space s (e + 1))) r → RequestRead (from_words (split space s)) r
   read_page r h q = as_words r (subst (λ (a : Asked). RequestRead a r) (sym (page_word_lem (take e s) (pieces_from space s (e + 1)) h)) q)
 
 -- ---- the items
-asked_size : (z : Num) (o : Option Request) → o ≡ then (num_of z) (sized (λ n. write (some n))) → RequestRead (record { request = o; called = none }) (size_line z)
-unfolding sized
-asked_size NotNumber o e = e
-asked_size (Value n) o e = by (leb n table_bytes) refl e
+-- a number that is within the largest table
+low : (n : ℕ) (o : Option ℕ) → some n ≡ then o (within table_bytes) → n ≤ table_bytes
+low n none q = absurd (let z : ◌≡◌ {A = ℕ} 0 1 = cc in omega (arith, z))
+low n (some m) q = by (leb m table_bytes) refl q
   where
-    by : (t : Bool) → leb n table_bytes ≡ t → o ≡ cond t (some (write (some n))) none → RequestRead (record { request = o; called = none }) (cond t (line.Into n) line.Other)
-    by true q e = (e, leb-true n table_bytes q)
-    by false q e = e
-
-asked_page : (z : Num) (o : Option Request) → o ≡ then (num_of z) (λ n. some (page n)) → RequestRead (record { request = o; called = none }) (page_line z)
-asked_page NotNumber o e = e
-asked_page (Value n) o e = e
+    by : (t : Bool) → leb m table_bytes ≡ t → some n ≡ cond t (some m) none → n ≤ table_bytes
+    by true k q = let same : n ≡ m = cc in omega (arith, same, leb-true m table_bytes k)
+    by false k q = absurd (let z : ◌≡◌ {A = ℕ} 0 1 = cc in omega (arith, z))
 
 module _ (s : Bytes) (e : ℕ) where
   abbrev rest : List Bytes
   rest = pieces_from space s (e + 1)
 
   -- no item
-  pub write_whole : length s ≤ e → RequestRead (from_items write_request rest) line.Whole
+  pub write_whole : length s ≤ e → RequestRead (from_items write_request rest) (Some line.Whole)
   unfolding items
   write_whole low = ap (λ (ws : List Bytes). then (items false ws) write_request) (past s e low)
 
-  pub page_none : length s ≤ e → RequestRead (from_items page_request rest) line.Other
+  pub page_none : length s ≤ e → RequestRead (from_items page_request rest) None
   unfolding items
   page_none low = ap (λ (ws : List Bytes). then (items false ws) page_request) (past s e low)
 
   -- the number that the bytes after the word are
-  module _ (high : e < length s) (z : Num) (is : num_of z ≡ number (take (length s - (e + 1)) (drop (e + 1) s))) where
-    pieces : split space (drop (e + 1) s) ≡ rest
-    pieces = rest_some s e high
-
+  module _ (high : e < length s) where
     numbered : (says : List Literal → Option Request) (told : ℕ → Option Request) → ((w : Bytes) (ws : List Bytes) → then (items false (w ∷ ws)) says ≡ then (card_size (w ∷ ws)) told)
-        → then (items false rest) says ≡ then (num_of z) told
+        → then (items false rest) says ≡ then (card_size rest) told
     numbered says told one =
         let r = split_some space (drop (e + 1) s) in
-        some_word rest (r.0, r.1, sym pieces ∙ r.2)
-        ∙ ap (λ (o : Option ℕ). then o told) (ap card_size (sym pieces) ∙ sym (size_text (drop (e + 1) s)) ∙ ap number (sym (rest_bytes s e high)) ∙ sym is)
+        some_word rest (r.0, r.1, sym (rest_some s e high) ∙ r.2)
       where
         some_word : (ws : List Bytes) → ((w : Bytes) × (vs : List Bytes) × (ws ≡ w ∷ vs)) → then (items false ws) says ≡ then (card_size ws) told
         some_word ws (w, vs, g) =
             ap (λ (us : List Bytes). then (items false us) says) g ∙ one w vs ∙ ap (λ (us : List Bytes). then (card_size us) told) (sym g)
 
-    pub write_size : (r : RequestLine) → r ≡ size_line z → RequestRead (from_items write_request rest) r
-    write_size r told =
-        subst (λ (q : RequestLine). RequestRead (from_items write_request rest) q) (sym told)
-        (asked_size z _ (numbered write_request (sized (λ n. write (some n))) (size_is (write none) (λ n. write (some n)))))
+    -- .. as the size of a table
+    write_is : (o : Option ℕ) → o ≡ number_up_to 5 table_bytes (take (length s - (e + 1)) (drop (e + 1) s)) → then (items false rest) write_request ≡ then o (λ n. some (write (some n)))
+    write_is o is =
+        numbered write_request (sized (λ n. write (some n))) (size_is (write none) (λ n. write (some n)))
+        ∙ sized_within (λ n. write (some n)) (card_size rest)
+        ∙ ap (λ (p : Option ℕ). then p (λ n. some (write (some n)))) (sym (is ∙ size_read s e high))
 
-    pub page_number_lem : (r : RequestLine) → r ≡ page_line z → RequestRead (from_items page_request rest) r
-    page_number_lem r told =
-        subst (λ (q : RequestLine). RequestRead (from_items page_request rest) q) (sym told)
-        (asked_page z _ (numbered page_request (λ n. some (page n)) (one_item page_request (λ n. some (page n)) (λ n. refl) (λ l m ls. refl))))
+    pub write_size : (n : ℕ) → some n ≡ number_up_to 5 table_bytes (take (length s - (e + 1)) (drop (e + 1) s)) → RequestRead (from_items write_request rest) (Some (line.Into n))
+    write_size n is = (write_is (some n) is, low n (card_size rest) (is ∙ size_read s e high))
+
+    pub write_none : none ≡ number_up_to 5 table_bytes (take (length s - (e + 1)) (drop (e + 1) s)) → RequestRead (from_items write_request rest) None
+    write_none is = write_is none is
+
+    page_is : (o : Option ℕ) → o ≡ number (take (length s - (e + 1)) (drop (e + 1) s)) → then (items false rest) page_request ≡ then o (λ n. some (page n))
+    page_is o is =
+        numbered page_request (λ n. some (page n)) (one_item page_request (λ n. some (page n)) (λ n. refl) (λ l m ls. refl))
+        ∙ ap (λ (p : Option ℕ). then p (λ n. some (page n))) (ap card_size (sym (rest_some s e high)) ∙ sym (size_text (drop (e + 1) s)) ∙ ap number (sym (rest_bytes s e high)) ∙ sym is)
+
+    pub page_number_lem : (n : ℕ) → some n ≡ number (take (length s - (e + 1)) (drop (e + 1) s)) → RequestRead (from_items page_request rest) (Some (line.Page n))
+    page_number_lem n is = page_is (some n) is
+
+    pub page_other : none ≡ number (take (length s - (e + 1)) (drop (e + 1) s)) → RequestRead (from_items page_request rest) None
+    page_other is = page_is none is
 
 -- ---- the line
 module _ (l : Bytes) where
-  pub line_long : text_bytes < length l → RequestRead (from_line l) line.Other
+  pub line_long : text_bytes < length l → RequestRead (from_line l) None
   unfolding request_of call_of
   line_long h = rw (lt-ltb text_bytes (length l) h)
 
   module _ (short : length l ≤ text_bytes) where
-    pub line_out : inside l ≡ none → RequestRead (from_line l) line.Other
+    pub line_out : inside l ≡ none → RequestRead (from_line l) None
     unfolding request_of call_of
     line_out h = rw (le-ltb text_bytes (length l) short, h)
 
-    pub line_in_lem : {s : Bytes} (r : RequestLine) → inside l ≡ some s → RequestRead (from_words (split space s)) r → RequestRead (from_line l) r
+    pub line_in_lem : {s : Bytes} (r : Answer RequestLine) → inside l ≡ some s → RequestRead (from_words (split space s)) r → RequestRead (from_line l) r
     unfolding request_of call_of
     line_in_lem {s} r h w = subst (λ (a : Asked). RequestRead a r) (sym is) w
       where

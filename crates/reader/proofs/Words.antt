@@ -1,17 +1,22 @@
--- Equal words, byte by byte.
-use Prim.Native.Nat.{ℕ, suc, ◌+◌, ◌<◌, ◌≤◌}
-use mathlib.Core.Path.{◌≡◌, refl, sym, ap, ◌∙◌}
+-- Equal words.
+use mathlib.Core.Path.{◌≡◌, refl, ap, ◌∙◌}
 use mathlib.Core.Bool.{Bool, true, false, ◌&&◌, false≢true}
 use mathlib.Core.List.{[], ◌∷◌}
-use native.Mathlib.Omega.{arith}
-use native.Mathlib.Numerals.{add-one}
-use borrow.Author.Tests.{eq-eqb, ne_eqb, eqb-true}
+use Prim.Native.Nat.{ℕ, suc}
+use borrow.Author.Tests.{eqb-true}
 use lib.Dec.{eqb}
-use lib.ListN.{length, get_or, drop, drop_of_length-le}
-use lib.Seq.{drop-cons}
+use lib.ListN.{length}
+use Rattle.std.specs.Cmp.Lexicographic.{pointwise}
 use Rattle.layout.specs.Words.{Bytes, same}
 
--- ---- equal words
+-- what `==` says of two words
+pub pointwise_same : (w v : Bytes) → pointwise eqb w v ≡ same w v
+unfolding same
+pointwise_same [] [] = refl
+pointwise_same [] (b ∷ v) = refl
+pointwise_same (a ∷ w) [] = refl
+pointwise_same (a ∷ w) (b ∷ v) = ap (λ (t : Bool). eqb a b && t) (pointwise_same w v)
+
 and_false : (x : Bool) → (x && false) ≡ false
 and_false true = refl
 and_false false = refl
@@ -22,30 +27,6 @@ same_ne [] [] h = absurd (h refl)
 same_ne [] (b ∷ v) h = refl
 same_ne (a ∷ w) [] h = refl
 same_ne (a ∷ w) (b ∷ v) h = rw (same_ne w v (λ e. h (ap suc e))) (and_false (eqb a b))
-
--- two words agree up to i
-pub record Alike (w v : Bytes) (i : ℕ) : Type 0 where
-  pub long : length w ≡ length v
-  pub high : i ≤ length w
-  pub is : same w v ≡ same (drop i w) (drop i v)
-
-module _ {w v : Bytes} {i : ℕ} (p : Alike w v i) where
-  pub alike_more : i < length w → get_or w i 0 ≡ get_or v i 0 → Alike w v (i + 1)
-  unfolding same
-  alike_more h e =
-      record {
-        long = p.long;
-        high = omega arith;
-        is = p.is ∙ rw (add-one, drop-cons w i 0 h, drop-cons v i 0 (omega (arith, p.long)), eq-eqb (get_or w i 0) (get_or v i 0) e);
-      }
-
-  pub alike_differ : i < length w → (get_or w i 0 ≡ get_or v i 0 → ⊥) → false ≡ same w v
-  unfolding same
-  alike_differ h e = sym (p.is ∙ rw (drop-cons w i 0 h, drop-cons v i 0 (omega (arith, p.long)), ne_eqb (get_or w i 0) (get_or v i 0) e))
-
-  pub alike_end : length w ≤ i → true ≡ same w v
-  unfolding same
-  alike_end h = let k : length v ≤ i = omega (arith, p.long) in sym (p.is ∙ rw (drop_of_length-le w h, drop_of_length-le v k))
 
 pub same_true : (w v : Bytes) → same w v ≡ true → w ≡ v
 unfolding same

@@ -1,5 +1,6 @@
 -- A call's word, the size of a card's table, and what the answer of a line says of its call.
-use Rattle.std.specs.Prelude.{ℕ, ◌≡◌, Bool, true, false, cond, List, [], ◌∷◌, ℤ, leb}
+use Rattle.std.specs.Prelude.{ℕ, ◌≡◌, Bool, true, false, cond, List, [], ◌∷◌, ℤ}
+use Rattle.std.specs.Prelude.{Option as Answer, Some, None}
 use Rattle.std.proofs.Math.Option.{Option, none, some}
 use Rattle.qbf.specs.Formula.{Literal}
 use Rattle.qbf.specs.Ceiling.{highest_ceiling}
@@ -10,25 +11,23 @@ use Rattle.layout.specs.Forms.{rule_word, one_word}
 use Rattle.layout.specs.Program.{table_bytes}
 use Rattle.layout.specs.Session.{query_word, card_word, keep_card_word, forget_word, withdraw_word, closest_word, rule_call, one_call, named, query_call, closest_call, card_call, alone}
 use Rattle.reader.specs.Items.{Kept}
-use Rattle.reader.specs.declared.number.Num.{Num}
-use Rattle.reader.specs.declared.number.Num.TheVariants.{Value, NotNumber}
 use Rattle.reader.specs.declared.call.CallWord.{CallWord}
 use Rattle.reader.specs.declared.call.CallLine.{CallLine}
 use Rattle.reader.specs.declared.call.CallWord.TheVariants as word
 use Rattle.reader.specs.declared.call.CallLine.TheVariants as line
 
 -- ---- words
-unfoldable pub call_word_of : Bytes → CallWord
+unfoldable pub call_word_of : Bytes → Answer CallWord
 call_word_of w =
-    cond (same w rule_word) word.Rule
-    (cond (same w query_word) word.Query
-    (cond (same w card_word) word.Card
-    (cond (same w keep_card_word) word.KeepCard
-    (cond (same w forget_word) word.Forget
-    (cond (same w withdraw_word) word.Withdraw
-    (cond (same w one_word) word.One
-    (cond (same w closest_word) word.Closest
-    word.NotWord)))))))
+    cond (same w rule_word) (Some word.Rule)
+    (cond (same w query_word) (Some word.Query)
+    (cond (same w card_word) (Some word.Card)
+    (cond (same w keep_card_word) (Some word.KeepCard)
+    (cond (same w forget_word) (Some word.Forget)
+    (cond (same w withdraw_word) (Some word.Withdraw)
+    (cond (same w one_word) (Some word.One)
+    (cond (same w closest_word) (Some word.Closest)
+    None)))))))
 
 abbrev pub call_signs : CallWord → Bool
 call_signs word.Rule = true
@@ -39,7 +38,6 @@ call_signs word.Forget = false
 call_signs word.Withdraw = false
 call_signs word.One = true
 call_signs word.Closest = true
-call_signs word.NotWord = false
 
 -- the call that a word and its items make
 abbrev pub call_with : CallWord → List Literal → Option Call
@@ -51,7 +49,6 @@ call_with word.Forget ls = alone call.forget ls
 call_with word.Withdraw ls = alone call.withdraw ls
 call_with word.One ls = one_call ls
 call_with word.Closest ls = closest_call ls
-call_with word.NotWord ls = none
 
 -- ---- cards
 -- the size that the words after `card` or `keep-card` give
@@ -60,20 +57,10 @@ card_size [] = some table_bytes
 card_size (w ∷ []) = number w
 card_size (w ∷ v ∷ ws) = none
 
--- the card of that size, or the keep card
-abbrev pub card_sized : Bool → ℕ → CallLine
-card_sized true n = line.Card n
-card_sized false n = line.KeepCard n
-
-abbrev pub card_line : Bool → Num → CallLine
-card_line p (Value n) = cond (leb n table_bytes) (card_sized p n) line.NotCall
-card_line p NotNumber = line.NotCall
-
 -- ---- calls
--- What an answer says of a line's call under a ceiling. The literals of a rule or an exactly-one form, and those by which a query or a
+-- What the call of a line says under a ceiling. The literals of a rule or an exactly-one form, and those by which a query or a
 -- closest reading names flags, stand in the table.
 abbrev pub CallUnder : ℕ → Option Call → CallLine → List ℤ → Type 0
-CallUnder c o line.NotCall out = o ≡ none
 CallUnder c o (line.Rule n) out = (ls : List Literal) × (o ≡ some (call.rule ls)) × Kept n out ls
 CallUnder c o (line.Query n) out = (ls : List Literal) × (o ≡ some (call.query c (named true ls) (named false ls))) × Kept n out ls
 CallUnder c o (line.Card size) out = o ≡ some (call.card c size)
@@ -83,6 +70,7 @@ CallUnder c o line.Withdraw out = o ≡ some call.withdraw
 CallUnder c o (line.One n) out = (ls : List Literal) × (o ≡ some (call.one ls)) × Kept n out ls
 CallUnder c o (line.Closest n size) out = (ls : List Literal) × (o ≡ some (call.closest c size (named true ls) (named false ls))) × Kept n out ls
 
--- .. under the highest
-abbrev pub CallRead : Option Call → CallLine → List ℤ → Type 0
-CallRead o l out = CallUnder highest_ceiling o l out
+-- .. and what an answer says of a line that may have none, under the highest
+abbrev pub CallRead : Option Call → Answer CallLine → List ℤ → Type 0
+CallRead o None out = o ≡ none
+CallRead o (Some l) out = CallUnder highest_ceiling o l out

@@ -1,14 +1,12 @@
 -- What the answers of items say, and how the literals of a text are kept in 16 bits.
 use Rattle.std.specs.Prelude.{ℕ, suc, ◌+◌, ◌≤◌, ◌<◌, min, ◌≡◌, Bool, List, map, length, take, ℤ, pos, negsuc}
+use Rattle.std.specs.Prelude.{Option as Answer, Some, None}
 use Rattle.std.proofs.Math.Option.{Option, none, some}
 use Rattle.qbf.specs.Formula.{Literal, paper}
 use Rattle.layout.specs.Words.{Bytes, space}
 use Rattle.layout.specs.Forms.{consed, items}
 use Rattle.reader.specs.Pieces.{pieces_from}
 use Rattle.reader.specs.declared.item.Item.{Item}
-use Rattle.reader.specs.declared.item.Item.TheVariants.{Lit, NotItem}
-use Rattle.reader.specs.declared.items.Count.{Count}
-use Rattle.reader.specs.declared.items.Count.TheVariants.{Items, NotItems}
 
 -- ---- 16 bits
 -- Numbers of a text have up to 5 digits. A number that is no variable's is kept as the first that is none: no refusal changes.
@@ -25,11 +23,11 @@ all_narrowed (some ls) = some (map narrowed ls)
 
 -- ---- one item
 -- the literal at a place, narrowed, and the place of the next word, one past the end where there is none
-abbrev pub ItemRead : Bool → Bytes → ℕ → Item → Type 0
-ItemRead signed s at NotItem = items signed (pieces_from space s at) ≡ none
-ItemRead signed s at (Lit l c) =
-    (at < c.at) × (c.at ≤ length s + 1)
-    × (all_narrowed (items signed (pieces_from space s at)) ≡ consed (λ x. x) (some l) (all_narrowed (items signed (pieces_from space s c.at))))
+abbrev pub ItemRead : Bool → Bytes → ℕ → Answer Item → Type 0
+ItemRead signed s at None = items signed (pieces_from space s at) ≡ none
+ItemRead signed s at (Some i) =
+    (at < i.next) × (i.next ≤ length s + 1)
+    × (all_narrowed (items signed (pieces_from space s at)) ≡ consed (λ x. x) (some i.literal) (all_narrowed (items signed (pieces_from space s i.next))))
 
 -- ---- all items of a line
 -- n literals are told, and as many of them as the table holds stand in it, narrowed
@@ -37,6 +35,6 @@ pub record Kept (n : ℕ) (out : List ℤ) (ls : List Literal) : Type 0 where
   pub count : n ≡ length ls
   pub first : take n out ≡ take (length out) (map narrowed ls)
 
-abbrev pub Filled : Option (List Literal) → Count → List ℤ → Type 0
-Filled o NotItems out = o ≡ none
-Filled o (Items n) out = (ls : List Literal) × (o ≡ some ls) × Kept n out ls
+abbrev pub Filled : Option (List Literal) → Answer ℕ → List ℤ → Type 0
+Filled o None out = o ≡ none
+Filled o (Some n) out = (ls : List Literal) × (o ≡ some ls) × Kept n out ls

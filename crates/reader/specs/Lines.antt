@@ -1,5 +1,8 @@
 -- A line's brackets, its keyword, and what the answer of a line says of its form.
-use Rattle.std.specs.Prelude.{ℕ, zero, suc, ◌≤◌, ◌-◌, ◌≡◌, Bool, true, false, List, [], ◌∷◌, map, ℤ, pos, length, take, drop, eqb}
+use Rattle.std.specs.Prelude.{ℕ, zero, suc, ◌≡◌, Bool, true, false, List, [], ◌∷◌, map, ℤ, pos, eqb}
+use Rattle.std.specs.Prelude.{Option as Answer, Some, None}
+use Rattle.std.specs.Bool.{then_some}
+use Rattle.std.specs.Borrow.{Bor}
 use Rattle.std.proofs.Math.Option.{Option, none, some}
 use Rattle.qbf.specs.Formula.{Literal, Quantifier, free, exists, forall}
 use Rattle.tables.specs.Views.{quantifier_code}
@@ -13,17 +16,17 @@ use Rattle.reader.specs.declared.keyword.Word.TheVariants as word
 use Rattle.reader.specs.declared.keyword.Line.TheVariants as line
 
 -- ---- brackets
--- whether something stands between a line's brackets; then it is all but the first and the last byte
-abbrev pub Bracketed : Bytes → Bool → Type 0
-Bracketed l true = (2 ≤ length l) × (inside l ≡ some (take (length l - 1 - 1) (drop 1 l)))
-Bracketed l false = inside l ≡ none
+-- what stands between a line's brackets
+abbrev pub InsideIs : Bytes → Answer (Bor Bytes) → Type 0
+InsideIs l None = inside l ≡ none
+InsideIs l (Some s) = inside l ≡ some s.now
 
 -- ---- keywords
-abbrev pub pick : Bool → Word → Word → Word
-pick true a b = a
+abbrev pub pick : Bool → Word → Answer Word → Answer Word
+pick true a b = Some a
 pick false a b = b
 
-unfoldable pub word_of : Bytes → Word
+unfoldable pub word_of : Bytes → Answer Word
 word_of w =
     pick (same w book_word) word.Book
     (pick (same w flags_word) word.Flags
@@ -31,7 +34,7 @@ word_of w =
     (pick (same w forall_word) word.Forall
     (pick (same w rule_word) word.Rule
     (pick (same w end_word) word.End
-    word.NotWord)))))
+    None)))))
 
 abbrev pub signs : Word → Bool
 signs word.Book = false
@@ -40,7 +43,6 @@ signs word.Exists = false
 signs word.Forall = false
 signs word.Rule = true
 signs word.End = false
-signs word.NotWord = false
 
 -- the form that a keyword and its items make
 abbrev pub form_with : Word → List Literal → Option Form
@@ -50,31 +52,29 @@ form_with word.Exists ls = block_form exists ls
 form_with word.Forall ls = block_form forall ls
 form_with word.Rule ls = rule_form ls
 form_with word.End ls = end_form ls
-form_with word.NotWord ls = none
 
 -- ---- lines
-abbrev pub choose : Bool → Line → Line
-choose true a = a
-choose false a = line.NotLine
-
-abbrev pub block_of : ℕ → ℕ → Line
-block_of κ zero = line.NotLine
-block_of κ (suc n) = line.Block κ (suc n)
+abbrev pub block_of : ℕ → ℕ → Answer Line
+block_of κ zero = None
+block_of κ (suc n) = Some (line.Block κ (suc n))
 
 -- the line of a keyword with n items
-abbrev pub line_of : Word → ℕ → Line
-line_of word.Book n = choose (eqb n 1) line.Book
-line_of word.Flags n = line.Block (quantifier_code free) n
+abbrev pub line_of : Word → ℕ → Answer Line
+line_of word.Book n = then_some (eqb n 1) line.Book
+line_of word.Flags n = Some (line.Block (quantifier_code free) n)
 line_of word.Exists n = block_of (quantifier_code exists) n
 line_of word.Forall n = block_of (quantifier_code forall) n
-line_of word.Rule n = line.Rule n
-line_of word.End n = choose (eqb n 0) line.End
-line_of word.NotWord n = line.NotLine
+line_of word.Rule n = Some (line.Rule n)
+line_of word.End n = then_some (eqb n 0) line.End
 
--- What an answer says of a line's form. The edition, the numbers of a block and the literals of a rule stand in the table.
-abbrev pub LineRead : Option Form → Line → List ℤ → Type 0
-LineRead o line.NotLine out = o ≡ none
-LineRead o line.Book out = (e : ℕ) × (o ≡ some (form.book e)) × Kept 1 out (pos e ∷ [])
-LineRead o (line.Block κ n) out = (q : Quantifier) × (κ ≡ quantifier_code q) × ((ns : List ℕ) × (o ≡ some (form.block q ns)) × Kept n out (map pos ns))
-LineRead o (line.Rule n) out = (ls : List Literal) × (o ≡ some (form.clause ls)) × Kept n out ls
-LineRead o line.End out = o ≡ some form.end
+-- What a line says of its form. The edition, the numbers of a block and the literals of a rule stand in the table.
+abbrev pub LineIs : Option Form → Line → List ℤ → Type 0
+LineIs o line.Book out = (e : ℕ) × (o ≡ some (form.book e)) × Kept 1 out (pos e ∷ [])
+LineIs o (line.Block κ n) out = (q : Quantifier) × (κ ≡ quantifier_code q) × ((ns : List ℕ) × (o ≡ some (form.block q ns)) × Kept n out (map pos ns))
+LineIs o (line.Rule n) out = (ls : List Literal) × (o ≡ some (form.clause ls)) × Kept n out ls
+LineIs o line.End out = o ≡ some form.end
+
+-- .. and what an answer says, where the line may have none
+abbrev pub LineRead : Option Form → Answer Line → List ℤ → Type 0
+LineRead o None out = o ≡ none
+LineRead o (Some l) out = LineIs o l out

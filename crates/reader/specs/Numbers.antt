@@ -1,17 +1,15 @@
 -- What the answer of a word as a number says.
-use Rattle.std.specs.Prelude.{ℕ, ◌≤◌, ◌≡◌, length, take}
+use Rattle.std.specs.Prelude.{ℕ, ◌≡◌}
+use Rattle.std.specs.Prelude.{Option as Answer, Some, None}
+use Rattle.std.specs.Borrow.{Bor}
 use Rattle.std.proofs.Math.Option.{Option, none, some}
 use Rattle.layout.specs.Words.{Bytes, closed}
-use Rattle.reader.specs.declared.number.Num.{Num}
-use Rattle.reader.specs.declared.number.Num.TheVariants.{Value, NotNumber}
-use Rattle.reader.specs.declared.number.Unclosed.{Unclosed}
-use Rattle.reader.specs.declared.number.Unclosed.TheVariants.{Bytes as first, NotClosed}
 
-abbrev pub num_of : Num → Option ℕ
-num_of (Value v) = some v
-num_of NotNumber = none
+abbrev pub num_of : Answer ℕ → Option ℕ
+num_of (Some v) = some v
+num_of None = none
 
 -- what stands before a closing bracket
-abbrev pub UnclosedOf : Bytes → Unclosed → Type 0
-UnclosedOf w (first e) = (e ≤ length w) × (closed w ≡ some (take e w))
-UnclosedOf w NotClosed = closed w ≡ none
+abbrev pub UnclosedOf : Bytes → Answer (Bor Bytes) → Type 0
+UnclosedOf w (Some v) = closed w ≡ some v.now
+UnclosedOf w None = closed w ≡ none

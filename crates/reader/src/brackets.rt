@@ -1,18 +1,14 @@
 // The brackets of a line.
-ghost use Rattle.reader.specs.Lines.{Bracketed};
+ghost use Rattle.reader.specs.Lines.{InsideIs};
 
 use crate::word::{CLOSING, OPENING};
 
-// Whether a line has its brackets: what stands between them is all but its first and last byte.
-pub fn has_brackets(l: &[u8]) -> bool
-    ensures { Bracketed l.now result }
+// What stands between a line's brackets.
+pub fn inside(l: &[u8]) -> Option<&[u8]>
+    ensures { InsideIs l.now result }
 {
-    let n = l.len();
-    if n < 2 {
-        return false;
+    match l {
+        [OPENING, inside @ .., CLOSING] => Some(inside),
+        _ => None,
     }
-    if l[0] != OPENING {
-        return false;
-    }
-    l[n - 1] == CLOSING
 }

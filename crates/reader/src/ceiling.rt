@@ -5,10 +5,10 @@ ghost use Rattle.layout.specs.Words.{space, split};
 ghost use Rattle.layout.specs.Session.{ceiled_call, call_of};
 ghost use Rattle.reader.specs.Ceilings.{limited_line, CeiledRead};
 
-use crate::brackets::has_brackets;
+use crate::brackets::inside;
 use crate::call::CallLine;
-use crate::ending::{Ending, ended};
-use crate::number::CEILING_DIGITS;
+use crate::ending::ended;
+use crate::limit::CEILING;
 use crate::sized::read_sized;
 use crate::text::TEXT;
 
@@ -20,23 +20,13 @@ pub struct CeiledLine {
 }
 
 // "query and either card take a ceiling", and a closest reading: another call with one is no call.
-fn limited(line: CallLine, ceiling: u32) -> CeiledLine
+fn limited(line: CallLine, ceiling: u32) -> Option<CeiledLine>
     ensures { result ≡ limited_line line ceiling }
 {
-    let under = match line {
-        CallLine::Query(n) => CallLine::Query(n),
-        CallLine::Card(size) => CallLine::Card(size),
-        CallLine::KeepCard(size) => CallLine::KeepCard(size),
-        CallLine::Rule(n) => CallLine::NotCall,
-        CallLine::Forget => CallLine::NotCall,
-        CallLine::Withdraw => CallLine::NotCall,
-        CallLine::One(n) => CallLine::NotCall,
-        CallLine::Closest(n, size) => CallLine::Closest(n, size),
-        CallLine::NotCall => CallLine::NotCall,
-    };
-    CeiledLine {
-        line: under,
-        ceiling: ceiling,
+    match line {
+        CallLine::Query(_) | CallLine::Card(_) | CallLine::KeepCard(_) | CallLine::Closest(_, _) =>
+            Some(CeiledLine { line, ceiling }),
+        _ => None,
     }
 }
 
@@ -44,31 +34,29 @@ fn unlimited(line: CallLine) -> CeiledLine
     ensures { result ≡ record { line = line; ceiling = highest_ceiling } }
 {
     CeiledLine {
-        line: line,
+        line,
         ceiling: tables::HIGHEST_CEILING,
     }
 }
 
 // The call between a line's brackets.
-fn read_ceiled(s: &[u8], out: &mut [i16]) -> CeiledLine
+fn read_ceiled(s: &[u8], out: &mut [i16]) -> Option<CeiledLine>
     ensures { CeiledRead (ceiled_call (split space s.now)) result out.new }
 {
-    match ended(s, b"(ceiling", CEILING_DIGITS, tables::HIGHEST_CEILING) {
-        Ending::NoItem => unlimited(read_sized(s, out)),
-        Ending::Item(k, n) => limited(read_sized(&s[..k], out), n),
-        Ending::Outside => unlimited(CallLine::NotCall),
+    let ending = ended(s, b"(ceiling", CEILING)?;
+    let line = read_sized(ending.words, out)?;
+    match ending.number {
+        Some(n) => limited(line, n),
+        None => Some(unlimited(line)),
     }
 }
 
 // A line longer than a text may be is no call.
-pub fn read_call(l: &[u8], out: &mut [i16]) -> CeiledLine
+pub fn read_call(l: &[u8], out: &mut [i16]) -> Option<CeiledLine>
     ensures { CeiledRead (call_of l.now) result out.new }
 {
     if TEXT < l.len() {
-        return unlimited(CallLine::NotCall);
+        return None;
     }
-    if !has_brackets(l) {
-        return unlimited(CallLine::NotCall);
-    }
-    read_ceiled(&l[1..l.len() - 1], out)
+    read_ceiled(inside(l)?, out)
 }

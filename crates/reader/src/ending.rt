@@ -7,62 +7,64 @@ ghost use Rattle.reader.specs.Numbers.{num_of};
 ghost use Rattle.reader.specs.Pieces.{pieces_from};
 ghost use Rattle.reader.specs.Endings.{WordAt, EndedRead};
 
-use crate::number::{Num, closed_within};
+use crate::limit::Limit;
+use crate::number::closed_within;
 use crate::word::{SPACE, find, same_word};
 
-// No such item; or one with its number, after so many bytes of words; or words outside the form.
+// The words before such an item, all of them where there is none, and its number.
 #[derive(Clone, Copy)]
-pub enum Ending {
-    NoItem,
-    Item(usize, u32),
-    Outside,
+pub struct Ending<'a> {
+    pub words: &'a [u8],
+    pub number: Option<u32>,
 }
 
-// Where the item's word stands, or past the end where it does not.
-fn word_at(s: &[u8], word: &[u8]) -> usize
+// Where the item's word stands, if it does.
+fn word_at(s: &[u8], word: &[u8]) -> Option<usize>
     ensures { WordAt word.now s.now result }
 {
     let mut at: usize = 0;
     while at <= s.len() {
         let e = find(s, at, SPACE);
         if same_word(&s[at..e], word) {
-            return at;
+            return Some(at);
         }
         at = e + 1;
     }
-    at
+    None
 }
 
 // The number in the one word after that word, which ends at e.
-fn last_item(s: &[u8], e: usize, most: usize, top: u32) -> Num
-    requires { (e ≤ length s.now) × (most ≤ 10) }
-    ensures { num_of result ≡ last_item (number_up_to most top) (pieces_from space s.now (e + 1)) }
+fn last_item(s: &[u8], e: usize, limit: Limit) -> Option<u32>
+    requires { e ≤ length s.now }
+    ensures { num_of result ≡ last_item (number_up_to limit.digits limit.top) (pieces_from space s.now (e + 1)) }
 {
     if s.len() <= e {
-        return Num::NotNumber;
+        return None;
     }
     let f = find(s, e + 1, SPACE);
     if f < s.len() {
-        return Num::NotNumber;
+        return None;
     }
-    closed_within(&s[e + 1..f], most, top)
+    closed_within(&s[e + 1..f], limit)
 }
 
-// Its number has at most so many digits and is no higher than the highest.
-pub fn ended(s: &[u8], word: &[u8], most: usize, top: u32) -> Ending
-    requires { most ≤ 10 }
-    ensures { EndedRead s.now (ended word.now (number_up_to most top) (split space s.now)) result }
+// Words outside the form have no answer.
+pub fn ended<'a>(s: &'a [u8], word: &[u8], limit: Limit) -> Option<Ending<'a>>
+    ensures { EndedRead (ended word.now (number_up_to limit.digits limit.top) (split space s.now)) result }
 {
-    let at = word_at(s, word);
-    if s.len() < at {
-        return Ending::NoItem;
-    }
-    let e = find(s, at, SPACE);
-    let Num::Value(n) = last_item(s, e, most, top) else {
-        return Ending::Outside;
+    let Some(at) = word_at(s, word) else {
+        return Some(Ending {
+            words: s,
+            number: None,
+        });
     };
+    let e = find(s, at, SPACE);
+    let n = last_item(s, e, limit)?;
     if at == 0 {
-        return Ending::Outside;
+        return None;
     }
-    Ending::Item(at - 1, n)
+    Some(Ending {
+        words: &s[..at - 1],
+        number: Some(n),
+    })
 }

@@ -5,19 +5,14 @@ ghost use Rattle.layout.specs.Words.{same};
 ghost use Rattle.layout.specs.Forms.{no_word, off};
 ghost use Rattle.reader.specs.Items.{ItemRead, narrow};
 
-use crate::number::{Num, closed_number, read_number};
+use crate::number::{closed_number, read_number};
 use crate::word::{SPACE, find, same_word};
 
+// A literal, and the place of the next word.
 #[derive(Clone, Copy)]
-pub struct Cursor {
-    pub at: usize,
-}
-
-// A literal and the place of the next word, or no literal.
-#[derive(Clone, Copy)]
-pub enum Item {
-    Lit(i16, Cursor),
-    NotItem,
+pub struct Item {
+    pub literal: i16,
+    pub next: usize,
 }
 
 // A number in 16 bits. It is judged before it is narrowed: one that is no variable's becomes the first that is none.
@@ -53,27 +48,27 @@ fn is_no(w: &[u8], signed: bool) -> bool
     if signed { same_word(w, b"(no") } else { false }
 }
 
-// The item that starts at the cursor.
-pub fn read_item(s: &[u8], c: Cursor, signed: bool) -> Item
-    requires { c.at ≤ length s.now }
-    ensures { ItemRead signed s.now c.at result }
+// The item that starts at a place.
+pub fn read_item(s: &[u8], at: usize, signed: bool) -> Option<Item>
+    requires { at ≤ length s.now }
+    ensures { ItemRead signed s.now at result }
 {
-    let at = c.at;
     let e = find(s, at, SPACE);
-    if is_no(&s[at..e], signed) {
-        if s.len() <= e {
-            return Item::NotItem;
-        }
-        let b = e + 1;
-        let f = find(s, b, SPACE);
-        match closed_number(&s[b..f]) {
-            Num::Value(v) => Item::Lit(off(narrow(v)), Cursor { at: f + 1 }),
-            Num::NotNumber => Item::NotItem,
-        }
-    } else {
-        match read_number(&s[at..e]) {
-            Num::Value(v) => Item::Lit(on(narrow(v)), Cursor { at: e + 1 }),
-            Num::NotNumber => Item::NotItem,
-        }
+    if !is_no(&s[at..e], signed) {
+        let v = read_number(&s[at..e])?;
+        return Some(Item {
+            literal: on(narrow(v)),
+            next: e + 1,
+        });
     }
+    if s.len() <= e {
+        return None;
+    }
+    let b = e + 1;
+    let f = find(s, b, SPACE);
+    let v = closed_number(&s[b..f])?;
+    Some(Item {
+        literal: off(narrow(v)),
+        next: f + 1,
+    })
 }

@@ -5,14 +5,7 @@ ghost use Rattle.layout.specs.Forms.{items};
 ghost use Rattle.reader.specs.Pieces.{pieces_from};
 ghost use Rattle.reader.specs.Items.{Filled};
 
-use crate::item::{Cursor, Item, read_item};
-
-// How many items there are.
-#[derive(Clone, Copy)]
-pub enum Count {
-    Items(usize),
-    NotItems,
-}
+use crate::item::read_item;
 
 // Stores a literal, where the table has the place.
 pub fn put_literal(out: &mut [i16], n: usize, l: i16)
@@ -23,29 +16,28 @@ pub fn put_literal(out: &mut [i16], n: usize, l: i16)
     }
 }
 
-fn read_items(s: &[u8], signed: bool, out: &mut [i16]) -> Count
+// How many items there are.
+fn read_items(s: &[u8], signed: bool, out: &mut [i16]) -> Option<usize>
     ensures { Filled (items signed (split space s.now)) result out.new }
 {
     let mut at: usize = 0;
     let mut n: usize = 0;
     while at <= s.len() {
-        let Item::Lit(l, next) = read_item(s, Cursor { at }, signed) else {
-            return Count::NotItems;
-        };
-        put_literal(out, n, l);
+        let item = read_item(s, at, signed)?;
+        put_literal(out, n, item.literal);
         n += 1;
-        at = next.at;
+        at = item.next;
     }
-    Count::Items(n)
+    Some(n)
 }
 
 // The items after the word that ends at e.
-pub fn rest(s: &[u8], e: usize, signed: bool, out: &mut [i16]) -> Count
+pub fn rest(s: &[u8], e: usize, signed: bool, out: &mut [i16]) -> Option<usize>
     requires { e ≤ length s.now }
     ensures { Filled (items signed (pieces_from space s.now (e + 1))) result out.new }
 {
     if s.len() <= e {
-        return Count::Items(0);
+        return Some(0);
     }
     read_items(&s[e + 1..], signed, out)
 }

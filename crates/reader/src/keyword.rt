@@ -12,7 +12,6 @@ pub enum Word {
     Forall,
     Rule,
     End,
-    NotWord,
 }
 
 // What a line holds. The numbers of a block and the literals of a rule are counted here and lie in a lent table; a block has its
@@ -23,69 +22,58 @@ pub enum Line {
     Block(u16, usize),
     Rule(usize),
     End,
-    NotLine,
 }
 
-pub fn word_of(w: &[u8]) -> Word
+pub fn word_of(w: &[u8]) -> Option<Word>
     ensures { result ≡ word_of w.now }
 {
     if same_word(w, b"book") {
-        return Word::Book;
+        return Some(Word::Book);
     }
     if same_word(w, b"flags") {
-        return Word::Flags;
+        return Some(Word::Flags);
     }
     if same_word(w, b"exists") {
-        return Word::Exists;
+        return Some(Word::Exists);
     }
     if same_word(w, b"forall") {
-        return Word::Forall;
+        return Some(Word::Forall);
     }
     if same_word(w, b"rule") {
-        return Word::Rule;
+        return Some(Word::Rule);
     }
     if same_word(w, b"end") {
-        return Word::End;
+        return Some(Word::End);
     }
-    Word::NotWord
+    None
 }
 
-// Only a rule has signed items.
-pub fn takes_signs(w: Word) -> bool
-    ensures { result ≡ signs w }
-{
-    match w {
-        Word::Rule => true,
-        Word::Book => false,
-        Word::Flags => false,
-        Word::Exists => false,
-        Word::Forall => false,
-        Word::End => false,
-        Word::NotWord => false,
+impl Word {
+    // Only a rule has signed items.
+    pub fn takes_signs(self) -> bool
+        ensures { result ≡ signs self }
+    {
+        matches!(self, Word::Rule)
     }
 }
 
 // "any `(exists ..)` or `(forall ..)` with at least one number"
-fn block_of(quantifier: u16, n: usize) -> Line
+fn block_of(quantifier: u16, n: usize) -> Option<Line>
     ensures { result ≡ block_of quantifier n }
 {
-    if n == 0 {
-        return Line::NotLine;
-    }
-    Line::Block(quantifier, n)
+    (n > 0).then_some(Line::Block(quantifier, n))
 }
 
 // The line of a keyword with n items.
-pub fn line_of(w: Word, n: usize) -> Line
+pub fn line_of(w: Word, n: usize) -> Option<Line>
     ensures { result ≡ line_of w n }
 {
     match w {
-        Word::Book => if n == 1 { Line::Book } else { Line::NotLine },
-        Word::Flags => Line::Block(tables::FREE, n),
+        Word::Book => (n == 1).then_some(Line::Book),
+        Word::Flags => Some(Line::Block(tables::FREE, n)),
         Word::Exists => block_of(tables::EXISTS, n),
         Word::Forall => block_of(tables::FORALL, n),
-        Word::Rule => Line::Rule(n),
-        Word::End => if n == 0 { Line::End } else { Line::NotLine },
-        Word::NotWord => Line::NotLine,
+        Word::Rule => Some(Line::Rule(n)),
+        Word::End => (n == 0).then_some(Line::End),
     }
 }

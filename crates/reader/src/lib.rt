@@ -9,6 +9,7 @@ pub mod ending; // an item that may end it
 pub mod item;
 pub mod items;
 pub mod keyword;
+pub mod limit; // what a number may be
 pub mod line;
 pub mod number;
 pub mod request; // the book's text, a page

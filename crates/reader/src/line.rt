@@ -5,21 +5,18 @@ ghost use Rattle.layout.specs.Words.{space, split};
 ghost use Rattle.layout.specs.Forms.{form_from, form_of};
 ghost use Rattle.reader.specs.Lines.{LineRead};
 
-use crate::brackets::has_brackets;
-use crate::items::{Count, rest};
-use crate::keyword::{Line, line_of, takes_signs, word_of};
+use crate::brackets::inside;
+use crate::items::rest;
+use crate::keyword::{Line, line_of, word_of};
 use crate::word::{SPACE, find};
 
 // The form between a line's brackets.
-pub fn read_form(s: &[u8], out: &mut [i16]) -> Line
+pub fn read_form(s: &[u8], out: &mut [i16]) -> Option<Line>
     ensures { LineRead (form_from (split space s.now)) result out.new }
 {
     let e = find(s, 0, SPACE);
-    let w = word_of(&s[..e]);
-    let signed = takes_signs(w);
-    let Count::Items(n) = rest(s, e, signed, out) else {
-        return Line::NotLine;
-    };
+    let w = word_of(&s[..e])?;
+    let n = rest(s, e, w.takes_signs(), out)?;
     line_of(w, n)
 }
 
@@ -34,11 +31,8 @@ pub fn kept(n: usize) -> usize
     }
 }
 
-pub fn read_line(l: &[u8], out: &mut [i16]) -> Line
+pub fn read_line(l: &[u8], out: &mut [i16]) -> Option<Line>
     ensures { LineRead (form_of l.now) result out.new }
 {
-    if !has_brackets(l) {
-        return Line::NotLine;
-    }
-    read_form(&l[1..l.len() - 1], out)
+    read_form(inside(l)?, out)
 }

@@ -4,11 +4,11 @@ ghost use Rattle.std.specs.Prelude.{◌≡◌, ◌+◌, ◌≤◌, length};
 ghost use Rattle.layout.specs.Words.{space, split};
 ghost use Rattle.sessions.specs.Session.{write_request, page_request};
 ghost use Rattle.reader.specs.Pieces.{pieces_from};
-ghost use Rattle.reader.specs.Requests.{size_line, page_line, from_items, from_words, from_line, RequestRead};
+ghost use Rattle.reader.specs.Requests.{from_items, from_words, from_line, RequestRead};
 
-use crate::brackets::has_brackets;
-use crate::call::TABLE;
-use crate::number::{Num, read_number};
+use crate::brackets::inside;
+use crate::limit::SIZE;
+use crate::number::{read_number, read_up_to};
 use crate::text::TEXT;
 use crate::word::{SPACE, find, same_word};
 
@@ -19,55 +19,34 @@ pub enum RequestLine {
     Whole,
     Into(usize),
     Page(usize),
-    Other,
-}
-
-fn size_of(size: Num) -> RequestLine
-    ensures { result ≡ size_line size }
-{
-    match size {
-        Num::Value(n) => if n <= TABLE as u32 {
-            RequestLine::Into(n as usize)
-        } else {
-            RequestLine::Other
-        },
-        Num::NotNumber => RequestLine::Other,
-    }
-}
-
-fn page_of(number: Num) -> RequestLine
-    ensures { result ≡ page_line number }
-{
-    match number {
-        Num::Value(n) => RequestLine::Page(n as usize),
-        Num::NotNumber => RequestLine::Other,
-    }
 }
 
 // What follows the word `write`, which ends at e.
-fn write_items(s: &[u8], e: usize) -> RequestLine
+fn write_items(s: &[u8], e: usize) -> Option<RequestLine>
     requires { e ≤ length s.now }
     ensures { RequestRead (from_items write_request (pieces_from space s.now (e + 1))) result }
 {
     if s.len() <= e {
-        return RequestLine::Whole;
+        return Some(RequestLine::Whole);
     }
-    size_of(read_number(&s[e + 1..]))
+    let size = read_up_to(&s[e + 1..], SIZE)?;
+    Some(RequestLine::Into(size as usize))
 }
 
 // What follows the word `page`, which ends at e.
-fn page_items(s: &[u8], e: usize) -> RequestLine
+fn page_items(s: &[u8], e: usize) -> Option<RequestLine>
     requires { e ≤ length s.now }
     ensures { RequestRead (from_items page_request (pieces_from space s.now (e + 1))) result }
 {
     if s.len() <= e {
-        return RequestLine::Other;
+        return None;
     }
-    page_of(read_number(&s[e + 1..]))
+    let page = read_number(&s[e + 1..])?;
+    Some(RequestLine::Page(page as usize))
 }
 
 // What stands between a line's brackets.
-fn request_words(s: &[u8]) -> RequestLine
+fn request_words(s: &[u8]) -> Option<RequestLine>
     ensures { RequestRead (from_words (split space s.now)) result }
 {
     let e = find(s, 0, SPACE);
@@ -77,17 +56,14 @@ fn request_words(s: &[u8]) -> RequestLine
     if same_word(&s[..e], b"page") {
         return page_items(s, e);
     }
-    RequestLine::Other
+    None
 }
 
-pub fn read_request(l: &[u8]) -> RequestLine
+pub fn read_request(l: &[u8]) -> Option<RequestLine>
     ensures { RequestRead (from_line l.now) result }
 {
     if TEXT < l.len() {
-        return RequestLine::Other;
+        return None;
     }
-    if !has_brackets(l) {
-        return RequestLine::Other;
-    }
-    request_words(&l[1..l.len() - 1])
+    request_words(inside(l)?)
 }

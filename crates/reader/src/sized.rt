@@ -5,33 +5,27 @@ ghost use Rattle.layout.specs.Session.{sized_call};
 ghost use Rattle.reader.specs.Calls.{CallRead};
 ghost use Rattle.reader.specs.Sized.{sized_line};
 
-use crate::call::{CallLine, TABLE, read_words};
-use crate::ending::{Ending, ended};
-use crate::number::DIGITS;
+use crate::call::{CallLine, read_words};
+use crate::ending::ended;
+use crate::limit::SIZE;
 
 // Another call with such an item is no call.
-fn with_table(line: CallLine, size: usize) -> CallLine
+fn with_table(line: CallLine, size: usize) -> Option<CallLine>
     ensures { result ≡ sized_line line size }
 {
     match line {
-        CallLine::Closest(n, whole) => CallLine::Closest(n, size),
-        CallLine::Query(n) => CallLine::NotCall,
-        CallLine::Card(bytes) => CallLine::NotCall,
-        CallLine::KeepCard(bytes) => CallLine::NotCall,
-        CallLine::Rule(n) => CallLine::NotCall,
-        CallLine::Forget => CallLine::NotCall,
-        CallLine::Withdraw => CallLine::NotCall,
-        CallLine::One(n) => CallLine::NotCall,
-        CallLine::NotCall => CallLine::NotCall,
+        CallLine::Closest(n, _) => Some(CallLine::Closest(n, size)),
+        _ => None,
     }
 }
 
-pub fn read_sized(s: &[u8], out: &mut [i16]) -> CallLine
+pub fn read_sized(s: &[u8], out: &mut [i16]) -> Option<CallLine>
     ensures { CallRead (sized_call (split space s.now)) result out.new }
 {
-    match ended(s, b"(bytes", DIGITS, TABLE as u32) {
-        Ending::NoItem => read_words(s, out),
-        Ending::Item(k, n) => with_table(read_words(&s[..k], out), n as usize),
-        Ending::Outside => CallLine::NotCall,
+    let ending = ended(s, b"(bytes", SIZE)?;
+    let line = read_words(ending.words, out)?;
+    match ending.number {
+        Some(n) => with_table(line, n as usize),
+        None => Some(line),
     }
 }

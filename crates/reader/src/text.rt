@@ -1,7 +1,6 @@
 // The lines of a text.
-ghost use Rattle.std.specs.Prelude.{◌≡◌, cond, ◌≤◌, eqb, length};
-ghost use Rattle.layout.specs.Words.{newline};
-ghost use Rattle.layout.specs.Words.{same};
+ghost use Rattle.std.specs.Prelude.{◌≡◌, ◌≤◌, length};
+ghost use Rattle.layout.specs.Words.{newline, same};
 ghost use Rattle.layout.specs.Session.{end_line};
 ghost use Rattle.reader.specs.Books.{count_of_lines, BookEnd};
 ghost use Rattle.reader.specs.Pieces.{Piece};
@@ -27,39 +26,27 @@ fn is_end(line: &[u8]) -> bool
     same_word(line, b"(end)")
 }
 
-// "The book is the input up to and with its first line `(end)`": how many bytes that is, or 0 where no such line stands.
-pub fn book_end(text: &[u8]) -> usize
+// "The book is the input up to and with its first line `(end)`": how many bytes that is, where such a line stands.
+pub fn book_end(text: &[u8]) -> Option<usize>
     ensures { BookEnd text.now result }
 {
     let mut at: usize = 0;
     while at < text.len() {
         let end = line_end(text, at);
         if text.len() <= end {
-            return 0;
+            return None;
         }
         if is_end(&text[at..end]) {
-            return end + 1;
+            return Some(end + 1);
         }
         at = end + 1;
     }
-    0
-}
-
-fn lines_in(b: u8) -> usize
-    ensures { result ≡ cond (eqb b newline) 1 0 }
-{
-    if b == NEWLINE { 1 } else { 0 }
+    None
 }
 
 // How many lines the text has: bytes 10.
 pub fn line_count(text: &[u8]) -> usize
     ensures { result ≡ count_of_lines text.now }
 {
-    let mut n: usize = 0;
-    let mut i: usize = 0;
-    while i < text.len() {
-        n += lines_in(text[i]);
-        i += 1;
-    }
-    n
+    text.iter().filter(|b| **b == NEWLINE).count()
 }

@@ -1,20 +1,10 @@
 // Cells of the tables, read and written where they are.
 ghost use Rattle.std.specs.Prelude.{◌≡◌, suc, get_or, set, eqb};
 
-// Past the table every variable is open.
-pub fn value_of<'a>(values: &'a [u8], n: usize) -> u8
-    ensures { result ≡ get_or values.now n 0 }
-{
-    if n < values.len() {
-        return values[n];
-    }
-    tables::OPEN
-}
-
 pub fn is_open<'a>(values: &'a [u8], n: usize) -> bool
     ensures { result ≡ eqb (get_or values.now n 0) 0 }
 {
-    value_of(values, n) == tables::OPEN
+    literal::byte_at(values, n) == tables::OPEN
 }
 
 // The number of the variable after i others; 0 past the table.

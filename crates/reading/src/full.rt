@@ -7,12 +7,10 @@ use crate::cells::{is_open, number_after};
 pub fn is_full<'a>(values: &'a [u8], numbers: &'a [u16], free: usize) -> bool
     ensures { FullBy values.now numbers.now free result }
 {
-    let mut i: usize = 0;
-    while i < free {
+    for i in 0..free {
         if is_open(values, number_after(numbers, i)) {
             return false;
         }
-        i += 1;
     }
     true
 }

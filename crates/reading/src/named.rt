@@ -43,12 +43,10 @@ pub fn mark_all<'a>(
 ) -> bool
     ensures { Named places.now free value values.old literals.now result values.new }
 {
-    let mut i: usize = 0;
-    while i < literals.len() {
-        if !mark(values, places, free, literals[i], value) {
+    for lit in literals {
+        if !mark(values, places, free, *lit, value) {
             return false;
         }
-        i += 1;
     }
     true
 }

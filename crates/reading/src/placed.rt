@@ -2,7 +2,8 @@
 ghost use Rattle.std.specs.Prelude.{◌<◌, length};
 ghost use Rattle.reading.specs.Placed.{Placed};
 
-use crate::cells::{number_after, put, value_of};
+use crate::cells::{number_after, put};
+use literal::byte_at;
 
 // The free variables have the first places.
 pub fn by_place<'a>(recorded: &mut [u8], values: &'a [u8], numbers: &'a [u16], free: usize)
@@ -14,9 +15,7 @@ pub fn by_place<'a>(recorded: &mut [u8], values: &'a [u8], numbers: &'a [u16], f
         recorded.old
         recorded.new }
 {
-    let mut i: usize = 0;
-    while i < free {
-        put(recorded, i + 1, value_of(values, number_after(numbers, i)));
-        i += 1;
+    for i in 0..free {
+        put(recorded, i + 1, byte_at(values, number_after(numbers, i)));
     }
 }

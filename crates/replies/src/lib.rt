@@ -1,82 +1,127 @@
-// What query, card and keep card answer, in the paper's words and numbers; and the budget of a search under a ceiling.
+// What query, card and keep card answer; and the budget of a search under a ceiling.
 #![tactic(auto)]
 
 ghost use Rattle.std.specs.Prelude.{◌≡◌, List, [], ℕ, suc, ◌+◌, ◌<◌, ◌≤◌, ◌^◌};
 ghost use Rattle.std.proofs.Math.Option.{none, some};
 ghost use Rattle.qbf.specs.Ceiling.{highest_ceiling};
-ghost use Rattle.serving.specs.Serves.{said, number};
-ghost use Rattle.replies.specs.Replies.{ruling_said, card_said, ruling_for, total};
+ghost use Rattle.refusal.specs.Refusal.{number_of};
+ghost use Rattle.serving.specs.Serves.{said};
+ghost use Rattle.replies.specs.Replies.{ruling_number, ruling_said, card_said, ruling_for, total};
 
 use node::Verdict;
 use node_lines::lined;
+use refusal::Refusal;
 
-// "22 the state is malformed", "8 a query names a non-flag, or a flag twice", "21 the card has more lines than the table holds", "a stopped walk
-// returns 34"
-pub const MALFORMED: u16 = 22;
-
-pub const NOT_FREE: u16 = 8;
-
-pub const TOO_MANY_LINES: u16 = 21;
-
-pub const STOPPED: u16 = 34;
-
-// "a card with no line gives 35"
-pub const NO_LINE: u16 = 35;
-
-#[derive(Clone, Copy)]
+#[derive(Clone, Copy, Debug, PartialEq, Eq)]
 pub enum Ruling {
     Swap,
     Keep,
     Unsettled,
-    Refused(u16),
 }
 
-#[derive(Clone, Copy)]
-pub enum Printed {
-    Lines(usize),
-    Refused(u16),
-}
-
-#[derive(Clone, Copy)]
-pub struct Ruled {
-    pub ruling: Ruling,
-    pub visits: u64,
-}
-
-#[derive(Clone, Copy)]
-pub struct Listed {
-    pub printed: Printed,
-    pub visits: u64,
-}
-
-// The number of a card's refusal, 0 where there is none.
-pub fn refusal_of(p: Printed) -> u16
-    ensures { result ≡ number (card_said p 0 []).refusal }
-{
-    match p {
-        Printed::Lines(n) => 0,
-        Printed::Refused(n) => n,
-    }
-}
-
-// How many lines a card has.
-pub fn lines_of(p: Printed) -> usize
-    ensures { result ≡ (card_said p 0 []).lines }
-{
-    match p {
-        Printed::Lines(n) => n,
-        Printed::Refused(n) => 0,
+impl Ruling {
+    // The number by which other languages read it.
+    pub fn number(self) -> u16
+        ensures { result ≡ ruling_number self }
+    {
+        match self {
+            Ruling::Keep => 1,
+            Ruling::Swap => 2,
+            Ruling::Unsettled => 3,
+        }
     }
 }
 
 // "Yes is swap and No is keep", "otherwise unsettled"; the start node of a full reading is never Mixed.
-pub fn ruling_for(v: Verdict) -> Ruling
-    ensures { result ≡ ruling_for v }
-{
-    match v {
-        Verdict::Yes => Ruling::Swap,
-        Verdict::No => Ruling::Keep,
-        Verdict::Mixed => Ruling::Unsettled,
+impl From<Verdict> for Ruling {
+    ghost from_gives = { λ v r. r ≡ ruling_for v };
+
+    fn from(v: Verdict) -> Ruling {
+        match v {
+            Verdict::Yes => Ruling::Swap,
+            Verdict::No => Ruling::Keep,
+            Verdict::Mixed => Ruling::Unsettled,
+        }
+    }
+}
+
+// What a query answers.
+#[derive(Clone, Copy)]
+pub struct Ruled {
+    pub ruling: Result<Ruling, Refusal>,
+    pub visits: u64,
+}
+
+impl Ruled {
+    // "A refusal returns its number, 0 lines, 0 visits and the state as given".
+    pub fn refused(refusal: Refusal) -> Ruled
+        ensures { ruling_said result.ruling result.visits ≡ said (some (number_of refusal)) 0 0 0 [] }
+    {
+        Ruled {
+            ruling: Err(refusal),
+            visits: 0,
+        }
+    }
+
+    // .. and where the search came to its ceiling, "visits equal to the ceiling".
+    pub fn stopped(ceiling: u32) -> Ruled
+        ensures { ruling_said result.ruling result.visits ≡ said (some 34) 0 0 ceiling [] }
+    {
+        Ruled {
+            ruling: Err(Refusal::Stopped),
+            visits: ceiling as u64,
+        }
+    }
+
+    // By the verdict of the start node.
+    pub fn of(v: Verdict, visits: u64) -> Ruled
+        ensures { ruling_said result.ruling result.visits ≡ ruling_said (Ok (ruling_for v)) visits }
+    {
+        Ruled {
+            ruling: Ok(Ruling::from(v)),
+            visits: visits,
+        }
+    }
+}
+
+// What a card or keep card answers: how many lines its table holds.
+#[derive(Clone, Copy)]
+pub struct Listed {
+    pub lines: Result<usize, Refusal>,
+    pub visits: u64,
+}
+
+impl Listed {
+    pub fn refused(refusal: Refusal, visits: u64) -> Listed
+        ensures { (tb : List ℕ) → card_said result.lines result.visits tb ≡ said (some (number_of refusal)) 0 0 visits tb }
+    {
+        Listed {
+            lines: Err(refusal),
+            visits: visits,
+        }
+    }
+
+    pub fn stopped(ceiling: u32) -> Listed
+        ensures { (tb : List ℕ) → card_said result.lines result.visits tb ≡ said (some 34) 0 0 ceiling tb }
+    {
+        Listed::refused(Refusal::Stopped, ceiling as u64)
+    }
+
+    // "Only 21 differs: the walk runs to its end first, its visits are returned and its store is kept."
+    pub fn too_many_lines(visits: u64) -> Listed
+        ensures { (tb : List ℕ) → card_said result.lines result.visits tb ≡ said (some 21) 0 0 visits tb }
+    {
+        Listed::refused(Refusal::TooManyLines, visits)
+    }
+
+    // A card with its lines.
+    pub fn of(lines: usize, visits: u64) -> Listed
+        ensures { (tb : List ℕ) → card_said result.lines result.visits tb ≡ said none 0 lines visits tb }
+    {
+        Listed {
+            lines: Ok(lines),
+            visits: visits,
+        }
     }
 }
 
@@ -103,64 +148,4 @@ pub fn visits_of(ceiling: u32, left: u64) -> u64
     ensures { result + left ≡ suc ceiling }
 {
     ceiling as u64 + 1 - left
-}
-
-// "A refusal returns its number, 0 lines, 0 visits and the state as given": a query's.
-pub fn not_ruled(number: u16) -> Ruled
-    ensures { ruling_said result.ruling result.visits ≡ said (some number) 0 0 0 [] }
-{
-    Ruled {
-        ruling: Ruling::Refused(number),
-        visits: 0,
-    }
-}
-
-// .. and where it stopped, "visits equal to the ceiling".
-pub fn stopped_query(ceiling: u32) -> Ruled
-    ensures { ruling_said result.ruling result.visits ≡ said (some 34) 0 0 ceiling [] }
-{
-    Ruled {
-        ruling: Ruling::Refused(STOPPED),
-        visits: ceiling as u64,
-    }
-}
-
-fn not_listed(number: u16, visits: u64) -> Listed
-    ensures { (tb : List ℕ) → card_said result.printed result.visits tb ≡ said (some number) 0 0 visits tb }
-{
-    Listed {
-        printed: Printed::Refused(number),
-        visits: visits,
-    }
-}
-
-// A card's.
-pub fn malformed_card() -> Listed
-    ensures { (tb : List ℕ) → card_said result.printed result.visits tb ≡ said (some 22) 0 0 0 tb }
-{
-    not_listed(MALFORMED, 0)
-}
-
-pub fn stopped_card(ceiling: u32) -> Listed
-    ensures { (tb : List ℕ) → card_said result.printed result.visits tb ≡ said (some 34) 0 0 ceiling tb }
-{
-    not_listed(STOPPED, ceiling as u64)
-}
-
-// "Only 21 differs: the walk runs to its end first, its visits are returned and its store is kept."
-pub fn too_many_lines(visits: u64) -> Listed
-    ensures { (tb : List ℕ) → card_said result.printed result.visits tb ≡ said (some 21) 0 0 visits tb }
-{
-    not_listed(TOO_MANY_LINES, visits)
-}
-
-// A card with its lines.
-pub fn with_lines(lines: usize, visits: u64) -> Listed
-    ensures { (tb : List ℕ) → card_said result.printed result.visits tb ≡ said none 0 lines visits tb }
-{
-    let printed = Printed::Lines(lines);
-    Listed {
-        printed: printed,
-        visits: visits,
-    }
 }

@@ -2,21 +2,19 @@
 use Prim.Native.Nat.{ℕ, zero, suc}
 use mathlib.Core.Path.{◌≡◌, refl, sym, ap, subst, ◌∙◌}
 use mathlib.Core.List.{List, []}
+use mathlib.Core.Option.{some}
 use Rattle.qbf.specs.Calls.{Call}
 use Rattle.state.specs.declared.State.{State}
 use Rattle.serving.specs.Serves.{Said, said, said_with, number, fault_of, told, Serves}
 use Rattle.serving.proofs.Numbered.{served_told}
-use Rattle.rules.specs.declared.Change.{Change}
-use Rattle.rules.specs.declared.Change.TheVariants as change
 use Rattle.rules.specs.Rules.{change_said}
+use Rattle.std.specs.Prelude.{Result, Ok, Err}
+use Rattle.refusal.specs.declared.Refusal.{Refusal}
+use Rattle.refusal.specs.Refusal.{number_of}
 use Rattle.replies.specs.declared.Ruling.{Ruling}
-use Rattle.replies.specs.declared.Ruling.TheVariants as ruling
-use Rattle.replies.specs.declared.Printed.{Printed}
 use Rattle.replies.specs.Replies.{ruling_said, card_said}
 use Rattle.replies.proofs.Told.{card_said_lem}
 use Rattle.theory.proofs.AcceptedRule.{some_none}
-use Rattle.closest_call.specs.declared.Told.{Told}
-use Rattle.closest_call.specs.declared.Told.TheVariants as nearest
 use Rattle.closest_call.specs.Nearest.{nearest_said, returned}
 use Rattle.reply_numbers.specs.Answers.{unless_refused}
 
@@ -24,33 +22,34 @@ use Rattle.reply_numbers.specs.Answers.{unless_refused}
 pub says_as : {x : State} {c : Call} {a b : Said} {y : State} → Serves x c a y → b ≡ told a → Serves x c b y
 says_as {x} {c} {a} {b} {y} s p = subst (λ (r : Said). Serves x c r y) (sym (p ∙ served_told s)) s
 
-change_told : (c : Change) → said (fault_of (number (change_said c).refusal)) 0 0 0 [] ≡ told (change_said c)
-change_told change.Done = refl
-change_told (change.Refused n) = refl
+change_told : (c : Result Unit Refusal) → said (fault_of (number (change_said c).refusal)) 0 0 0 [] ≡ told (change_said c)
+change_told (Ok u) = refl
+change_told (Err r) = refl
 
-pub change_numbers : (c : Change) {n : ℕ} → n ≡ number (change_said c).refusal → said (fault_of n) 0 0 0 [] ≡ told (change_said c)
+pub change_numbers : (c : Result Unit Refusal) {n : ℕ} → n ≡ number (change_said c).refusal → said (fault_of n) 0 0 0 [] ≡ told (change_said c)
 change_numbers c p = ap (λ (n : ℕ). said (fault_of n) 0 0 0 []) p ∙ change_told c
 
-ruling_told : (r : Ruling) (k : ℕ) → said (fault_of (number (ruling_said r 0).refusal)) (ruling_said r 0).verdict 0 k [] ≡ told (ruling_said r k)
-ruling_told ruling.Swap k = refl
-ruling_told ruling.Keep k = refl
-ruling_told ruling.Unsettled k = refl
-ruling_told (ruling.Refused n) k = refl
+ruling_told : (r : Result Ruling Refusal) (k : ℕ) → said (fault_of (number (ruling_said r 0).refusal)) (ruling_said r 0).verdict 0 k [] ≡ told (ruling_said r k)
+ruling_told (Ok q) k = refl
+ruling_told (Err q) k = refl
 
-pub ruling_numbers : (r : Ruling) {n v : ℕ} (k : ℕ) → n ≡ number (ruling_said r 0).refusal → v ≡ (ruling_said r 0).verdict → said (fault_of n) v 0 k [] ≡ told (ruling_said r k)
+pub ruling_numbers : (r : Result Ruling Refusal) {n v : ℕ} (k : ℕ) → n ≡ number (ruling_said r 0).refusal → v ≡ (ruling_said r 0).verdict → said (fault_of n) v 0 k [] ≡ told (ruling_said r k)
 ruling_numbers r k p q = (λ i. said (fault_of (p i)) (q i) 0 k []) ∙ ruling_told r k
 
-pub card_numbers : (r : Printed) {n m : ℕ} (k : ℕ) (t : List ℕ) → n ≡ number (card_said r 0 []).refusal → m ≡ (card_said r 0 []).lines → said (fault_of n) 0 m k t ≡ told (card_said r k t)
+pub card_numbers : (r : Result ℕ Refusal) {n m : ℕ} (k : ℕ) (t : List ℕ) → n ≡ number (card_said r 0 []).refusal → m ≡ (card_said r 0 []).lines → said (fault_of n) 0 m k t ≡ told (card_said r k t)
 card_numbers r k t p q = (λ i. said (fault_of (p i)) 0 (q i) k t) ∙ sym (ap told (card_said_lem r k t))
 
 -- a closest reading, whose answer no number changes
-nearest_told : (t : Told) (m k : ℕ) (tb bytes : List ℕ) → told (nearest_said t m k tb bytes) ≡ nearest_said t m k tb bytes
+nearest_told : (t : Result ℕ Refusal) (m k : ℕ) (tb bytes : List ℕ) → told (nearest_said t m k tb bytes) ≡ nearest_said t m k tb bytes
     → said_with (fault_of (number (nearest_said t 0 0 [] []).refusal)) 0 m k tb (unless_refused (fault_of (number (nearest_said t 0 0 [] []).refusal)) bytes) (nearest_said t 0 0 [] []).differs ≡ nearest_said t m k tb bytes
-nearest_told (nearest.Reading d) m k tb bytes h = refl
-nearest_told (nearest.Refused zero) m k tb bytes h = absurd (some_none (sym (ap (λ (a : Said). a.refusal) h)))
-nearest_told (nearest.Refused (suc n)) m k tb bytes h = refl
+nearest_told (Ok d) m k tb bytes h = refl
+nearest_told (Err r) m k tb bytes h = refused (number_of r) (ap (λ (a : Said). a.refusal) h)
+  where
+    refused : (n : ℕ) → fault_of n ≡ some n → said_with (fault_of n) 0 m k tb (unless_refused (fault_of n) bytes) 0 ≡ said (some n) 0 m k tb
+    refused zero h = absurd (some_none (sym h))
+    refused (suc n) h = refl
 
-pub nearest_numbers : {x : State} {c : Call} {y : State} (t : Told) {n d m k : ℕ} (i j : ℕ) (tb bytes : List ℕ) → Serves x c (nearest_said t i j tb bytes) y
+pub nearest_numbers : {x : State} {c : Call} {y : State} (t : Result ℕ Refusal) {n d m k : ℕ} (i j : ℕ) (tb bytes : List ℕ) → Serves x c (nearest_said t i j tb bytes) y
     → n ≡ number (nearest_said t 0 0 [] []).refusal → d ≡ (nearest_said t 0 0 [] []).differs → m ≡ i → k ≡ j
     → Serves x c (said_with (fault_of n) 0 m k tb (unless_refused (fault_of n) bytes) d) y
 nearest_numbers {x} {c} {y} t i j tb bytes s p q u v =
@@ -58,11 +57,14 @@ nearest_numbers {x} {c} {y} t i j tb bytes s p q u v =
     (sym ((λ l. said_with (fault_of (p l)) 0 (u l) (v l) tb (unless_refused (fault_of (p l)) bytes) (q l)) ∙ nearest_told t i j tb bytes (served_told s))) s
 
 -- the reading that it returns
-pub nearest_returned : {x : State} {c : Call} {y : State} (t : Told) {n : ℕ} (i j : ℕ) (tb bytes : List ℕ) → Serves x c (nearest_said t i j tb bytes) y
+pub nearest_returned : {x : State} {c : Call} {y : State} (t : Result ℕ Refusal) {n : ℕ} (i j : ℕ) (tb bytes : List ℕ) → Serves x c (nearest_said t i j tb bytes) y
     → n ≡ number (nearest_said t 0 0 [] []).refusal → returned t bytes ≡ unless_refused (fault_of n) bytes
 nearest_returned t i j tb bytes s p = by t (served_told s) ∙ ap (λ (n : ℕ). unless_refused (fault_of n) bytes) (sym p)
   where
-    by : (t : Told) → told (nearest_said t i j tb bytes) ≡ nearest_said t i j tb bytes → returned t bytes ≡ unless_refused (fault_of (number (nearest_said t 0 0 [] []).refusal)) bytes
-    by (nearest.Reading d) h = refl
-    by (nearest.Refused zero) h = absurd (some_none (sym (ap (λ (a : Said). a.refusal) h)))
-    by (nearest.Refused (suc n)) h = refl
+    by : (t : Result ℕ Refusal) → told (nearest_said t i j tb bytes) ≡ nearest_said t i j tb bytes → returned t bytes ≡ unless_refused (fault_of (number (nearest_said t 0 0 [] []).refusal)) bytes
+    by (Ok d) h = refl
+    by (Err r) h = refused (number_of r) (ap (λ (a : Said). a.refusal) h)
+      where
+        refused : (n : ℕ) → fault_of n ≡ some n → [] ≡ unless_refused (fault_of n) bytes
+        refused zero h = absurd (some_none (sym h))
+        refused (suc n) h = refl

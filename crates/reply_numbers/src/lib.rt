@@ -2,17 +2,17 @@
 #![tactic(auto)]
 
 ghost use Rattle.std.specs.Prelude.{◌≡◌, List, [], ℕ};
-ghost use Rattle.serving.specs.Serves.{number, told};
+ghost use Rattle.serving.specs.Serves.{told};
 ghost use Rattle.rules.specs.Rules.{change_said};
 ghost use Rattle.replies.specs.Replies.{ruling_said, card_said};
-ghost use Rattle.closest_call.specs.Nearest.{nearest_said};
-ghost use Rattle.reply_numbers.specs.Answers.{reply_said};
+ghost use Rattle.reply_numbers.specs.Answers.{reply_said, ClosestTold};
 
-use closest_call::{Nearest, Told};
-use replies::{Listed, Ruled, Ruling};
-use rules::Change;
+use closest_call::Nearest;
+use refusal::{Refusal, number_if};
+use replies::{Listed, Ruled};
 
 // A refusal of 0 is none; a verdict is 1 for keep, 2 for swap and 3 for unsettled, 0 where the call is no query.
+// stays (C): other languages read the refusal and the verdict as numbers beside the counts
 #[repr(C)]
 #[derive(Clone, Copy)]
 pub struct Reply {
@@ -23,6 +23,7 @@ pub struct Reply {
 }
 
 // Of a closest reading: in how many variables it differs.
+// stays (C): other languages read the refusal as a number beside the counts
 #[repr(C)]
 #[derive(Clone, Copy)]
 pub struct Closest {
@@ -32,103 +33,60 @@ pub struct Closest {
     pub visits: u64,
 }
 
-const NONE: u16 = 0;
-
-const KEEP: u16 = 1;
-
-const SWAP: u16 = 2;
-
-const UNSETTLED: u16 = 3;
-
-fn ruling_refusal(r: Ruling) -> u16
-    ensures { result ≡ number (ruling_said r 0).refusal }
-{
-    match r {
-        Ruling::Swap => NONE,
-        Ruling::Keep => NONE,
-        Ruling::Unsettled => NONE,
-        Ruling::Refused(n) => n,
-    }
-}
-
-fn verdict_of(r: Ruling) -> u16
-    ensures { result ≡ (ruling_said r 0).verdict }
-{
-    match r {
-        Ruling::Swap => SWAP,
-        Ruling::Keep => KEEP,
-        Ruling::Unsettled => UNSETTLED,
-        Ruling::Refused(n) => NONE,
-    }
-}
-
-fn told_refusal(t: Told) -> u16
-    ensures { result ≡ number (nearest_said t 0 0 [] []).refusal }
-{
-    match t {
-        Told::Reading(d) => NONE,
-        Told::Refused(n) => n,
-    }
-}
-
-fn told_differs(t: Told) -> usize
-    ensures { result ≡ (nearest_said t 0 0 [] []).differs }
-{
-    match t {
-        Told::Reading(d) => d,
-        Told::Refused(n) => 0,
-    }
-}
-
 // Of a call that changes the rules or the store.
-pub fn of_change(c: Change) -> Reply
-    ensures { reply_said result [] ≡ told (change_said c) }
+pub fn of_change(change: Result<(), Refusal>) -> Reply
+    ensures { reply_said result [] ≡ told (change_said change) }
 {
     Reply {
-        refusal: rules::refusal_of(c),
-        verdict: NONE,
+        refusal: rules::refusal_of(change),
+        verdict: 0,
         lines: 0,
         visits: 0,
     }
 }
 
 // Of a query.
-pub fn of_query(asked: Ruled) -> Reply
-    ensures { reply_said result [] ≡ told (ruling_said asked.ruling asked.visits) }
-{
-    let ruling = asked.ruling;
-    Reply {
-        refusal: ruling_refusal(ruling),
-        verdict: verdict_of(ruling),
-        lines: 0,
-        visits: asked.visits,
+impl From<Ruled> for Reply {
+    ghost from_gives = { λ asked r. reply_said r [] ≡ told (ruling_said asked.ruling asked.visits) };
+
+    fn from(asked: Ruled) -> Reply {
+        let verdict = match asked.ruling {
+            Ok(ruling) => ruling.number(),
+            Err(_) => 0,
+        };
+        Reply {
+            refusal: number_if(asked.ruling.err()),
+            verdict: verdict,
+            lines: 0,
+            visits: asked.visits,
+        }
     }
 }
 
 // Of a card or keep card.
-pub fn of_card(shown: Listed) -> Reply
-    ensures { (tb : List ℕ) → reply_said result tb ≡ told (card_said shown.printed shown.visits tb) }
-{
-    let printed = shown.printed;
-    Reply {
-        refusal: replies::refusal_of(printed),
-        verdict: NONE,
-        lines: replies::lines_of(printed),
-        visits: shown.visits,
+impl From<Listed> for Reply {
+    ghost from_gives = { λ shown r. (tb : List ℕ) → reply_said r tb ≡ told (card_said shown.lines shown.visits tb) };
+
+    fn from(shown: Listed) -> Reply {
+        Reply {
+            refusal: number_if(shown.lines.err()),
+            verdict: 0,
+            lines: shown.lines.unwrap_or(0),
+            visits: shown.visits,
+        }
     }
 }
 
 // Of a closest reading.
-pub fn of_closest(found: Nearest) -> Closest
-    ensures refusal_value { result.refusal ≡ number (nearest_said found.told 0 0 [] []).refusal }
-    ensures differs_value { result.differs ≡ (nearest_said found.told 0 0 [] []).differs }
-    ensures lines_value { (result.lines ≡ found.lines) × (result.visits ≡ found.visits) }
-{
-    let said = found.told;
-    Closest {
-        refusal: told_refusal(said),
-        differs: told_differs(said),
-        lines: found.lines,
-        visits: found.visits,
+impl From<Nearest> for Closest {
+    ghost from_gives = { λ found r. ClosestTold found r };
+
+    fn from(found: Nearest) -> Closest {
+        Closest {
+            refusal: number_if(found.told.err()),
+            differs: found.told.unwrap_or(0),
+            lines: found.lines,
+            visits: found.visits,
+        }
     }
 }

@@ -2,12 +2,13 @@
 // result stored.
 #![tactic(auto)]
 
-ghost use Rattle.std.specs.Prelude.{◌≡◌, true, suc, ◌+◌, ◌^◌, ◌≤◌, ◌<◌, length, take, eqb};
+ghost use Rattle.std.specs.Prelude.{◌≡◌, true, suc, ◌^◌, ◌≤◌, ◌<◌, length, take, eqb};
 ghost use Rattle.qbf.specs.Formula.{paper, Prefix};
 ghost use Rattle.qbf.specs.Learning.{Constraint, push, without, resolvent, last_place};
 ghost use Rattle.qbf.specs.Calls.{in_order};
 ghost use Rattle.tables.specs.Codes.{codes, last_code, Quantified};
-ghost use Rattle.tables.specs.Shelves.{code_count, Entries, entries_of, newest_of};
+ghost use Rattle.tables.specs.Shelves.{code_count};
+ghost use Rattle.shelf.specs.Standing.{Kept, Room, rows, newest};
 ghost use Rattle.search_entry.specs.Entry.{Bounded};
 ghost use Rattle.resolution.specs.Stored.{Stored};
 
@@ -15,99 +16,85 @@ use coding::code::place_of;
 use coding::list::{last_code, reduced_first};
 use coding::union::unite;
 use search_entry::{Bounds, Source, placed};
+use shelf::Shelf;
 
-// Whether the last of the first n codes is of the place after `at`; then there is one.
-pub fn ends_next<'a>(cells: &'a [u16], n: usize, at: usize) -> bool
-    requires { (n ≤ length cells.now) × (at < suc paper.numbers) }
-    ensures { (result ≡ true → 1 ≤ n)
+// A constraint that two give: its codes are the first cells.
+#[derive(Drop)]
+pub struct Resolvent {
+    pub cells: [u16; tables::AREA],
+    pub len: usize,
+}
+
+// Whether the last of the codes is of the place after `at`; then there is one.
+pub fn ends_next<'a>(row: &'a [u16], at: usize) -> bool
+    requires { at < suc paper.numbers }
+    ensures { (result ≡ true → 1 ≤ length row.now)
         × ((D : Prefix) (e : Constraint)
-        → take n cells.now ≡ codes D e
+        → row.now ≡ codes D e
         → result ≡ eqb (last_place D e) (suc at)) }
 {
-    place_of(last_code(cells, n)) == at + 1
+    place_of(last_code(row, row.len())) == at + 1
 }
 
-// How many of the first n codes are left without the place after `at`, which can only be the last.
-fn trimmed<'a>(cells: &'a [u16], n: usize, at: usize) -> usize
-    requires { (n ≤ length cells.now) × (at < suc paper.numbers) }
-    ensures { (result ≤ n)
+// The codes without the place after `at`, which can only be the last.
+fn trimmed<'a>(row: &'a [u16], at: usize) -> &'a [u16]
+    requires { at < suc paper.numbers }
+    ensures { (length result.now ≤ length row.now)
         × ((D : Prefix) (e : Constraint)
-        → take n cells.now ≡ codes D e
+        → row.now ≡ codes D e
         → in_order D 0 e ≡ true
         → last_place D e ≤ suc at
-        → take result cells.now ≡ codes D (without D (suc at) e)) }
+        → result.now ≡ codes D (without D (suc at) e)) }
 {
-    if ends_next(cells, n, at) {
-        return n - 1;
+    if ends_next(row, at) {
+        return &row[..row.len() - 1];
     }
-    n
+    row
 }
 
-// The resolvent of the first n codes put aside and of a row, in an area; how many codes it has.
+// The resolvent of two rows, without the place after `at`.
 pub fn resolve<'a>(
-    joined: &mut [u16; tables::AREA],
-    row: &'a [u16],
-    saved: &'a [u16],
-    n: usize,
+    off: &'a [u16],
+    on: &'a [u16],
     at: usize,
     quantifiers: &'a [u8; tables::CODES],
     cube: bool,
-) -> usize
-    requires { (length row.now ≤ paper.numbers)
-        × (n ≤ paper.numbers)
-        × (n ≤ length saved.now)
-        × (at < suc paper.numbers)
-        × (paper.numbers + paper.numbers ≤ length joined.old) }
-    ensures { (result ≤ length joined.new)
-        × (length joined.new ≡ paper.numbers + paper.numbers)
+) -> Resolvent
+    requires { (length off.now ≤ paper.numbers) × (length on.now ≤ paper.numbers) × (at < suc paper.numbers) }
+    ensures { (result.len ≤ length result.cells)
         × ((D : Prefix) (e f : Constraint)
         → Quantified D quantifiers.now
-        → take n saved.now ≡ codes D e
-        → row.now ≡ codes D f
+        → off.now ≡ codes D e
+        → on.now ≡ codes D f
         → in_order D 0 e ≡ true
         → in_order D 0 f ≡ true
         → last_place D e ≤ suc at
         → last_place D f ≤ suc at
-        → take result joined.new ≡ codes D (resolvent D (suc at) cube e f)) }
+        → take result.len result.cells ≡ codes D (resolvent D (suc at) cube e f)) }
 {
-    let a = trimmed(saved, n, at);
-    let b = trimmed(row, row.len(), at);
-    let m = unite(joined, &saved[..a], &row[..b]);
-    reduced_first(joined, m, quantifiers, cube)
+    let mut cells = [0u16; tables::AREA];
+    let united = unite(&mut cells, trimmed(off, at), trimmed(on, at));
+    let len = reduced_first(&cells, united, quantifiers, cube);
+    Resolvent { cells, len }
 }
 
-// The first n codes are stored: the bounds of their row. A constraint has at most one literal of a variable, so that there is always room for
-// them, and its last code has a link; the tests keep that from being asked of every caller.
-pub fn store_first<'a>(
-    cells: &mut [u16; tables::CONSTRAINT_CODES],
-    links: &mut [u64; tables::CONSTRAINT_LINKS],
-    row: &'a [u16],
-    n: usize,
-) -> Bounds
-    requires { Entries cells.old links.old × (n ≤ length row.now) × (newest_of links.old < 2 ^ 63) }
+// A row is stored: its bounds. A constraint has at most one literal of a variable, so that there is always room for its codes, and its last code has
+// a link; the tests keep that from being asked of every caller.
+pub fn store<'a>(learned: &mut Shelf, row: &'a [u16]) -> Bounds
+    requires { Kept learned.old × Room learned.old }
     ensures { Bounded result
-        × Entries cells.new links.new
-        × (newest_of links.new ≤ suc (newest_of links.old))
-        × (n ≤ paper.numbers
-        → last_code (take n row.now) < code_count
-        → Stored result (take n row.now) cells.new
-        × (entries_of cells.new links.new
-        ≡ push paper.constraints (take n row.now) (entries_of cells.old links.old))
-        × (newest_of links.new ≡ suc (newest_of links.old))) }
+        × Kept learned.new
+        × (newest learned.new ≤ suc (newest learned.old))
+        × (length row.now ≤ paper.numbers
+        → last_code row.now < code_count
+        → Stored result row.now learned.new.cells
+        × (rows learned.new ≡ push paper.constraints row.now (rows learned.old))
+        × (newest learned.new ≡ suc (newest learned.old))) }
 {
-    if tables::NUMBERS < n {
+    let last = last_code(row, row.len()) as usize;
+    if tables::NUMBERS < row.len() || tables::CODES <= last {
         return placed(Source::Area, 0, 0);
     }
-    let last = last_code(row, n) as usize;
-    if tables::CODES <= last {
-        return placed(Source::Area, 0, 0);
-    }
-    let slot = shelf::store::push(
-        cells,
-        links,
-        tables::NUMBERS,
-        tables::CONSTRAINTS,
-        &row[..n],
-    );
-    placed(Source::Learned, slot * (tables::NUMBERS + 1) + 1, n)
+    let slot = learned.push(row);
+    placed(Source::Learned, slot * (tables::NUMBERS + 1) + 1, row.len())
 }

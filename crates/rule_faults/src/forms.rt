@@ -1,10 +1,13 @@
 // The refusals of an exactly-one form, in their order.
-ghost use Rattle.std.specs.Prelude.{◌≡◌, ◌≤◌, get_or};
-ghost use Rattle.qbf.specs.Formula.{paper};
+ghost use Rattle.std.specs.Prelude.{◌≡◌, ◌≤◌, slice_index_or};
+ghost use Rattle.qbf.specs.Formula.{paper, Prefix};
 ghost use Rattle.qbf.specs.One.{one_count};
-ghost use Rattle.rule_faults.specs.Faults.{one_fault_after, Judged};
+ghost use Rattle.tables.specs.Views.{Places};
+ghost use Rattle.refusal.specs.Refusal.{fault_in};
+ghost use Rattle.rule_faults.specs.Faults.{one_fault_after};
 
-use crate::refusals;
+use crate::refusals::judge_literals;
+use refusal::Refusal;
 
 // "Fewer than two literals or more than 16 is 7"
 const FEWEST: usize = 2;
@@ -18,30 +21,21 @@ fn one_count(n: usize) -> usize
 }
 
 // "7, in this form before 20", which "counts them together"
-pub fn one_fault<'a>(
-    ok: bool,
-    sizes: &'a [u16; tables::CLAUSE_SIZES],
-    lits: &'a [i16],
-    places: &'a [u16; tables::BY_NUMBER],
-) -> u16
-    ensures { Judged
-        ok
-        places.now
-        (λ D. one_fault_after (get_or sizes.now 0 0) D lits.now)
-        result }
+pub fn judge_form(
+    sizes: &[u16; tables::CLAUSE_SIZES],
+    lits: &[i16],
+    places: &[u16; tables::BY_NUMBER],
+) -> Result<(), Refusal>
+    ensures { (D : Prefix) →
+        Places D places.now →
+        fault_in result ≡ one_fault_after (slice_index_or sizes.now 0 0) D lits.now }
 {
-    if !ok {
-        return refusals::MALFORMED;
+    if lits.len() < FEWEST || lits.len() > tables::LITERALS {
+        return Err(Refusal::RuleLength);
     }
-    if lits.len() < FEWEST {
-        return refusals::LENGTH;
-    }
-    if lits.len() > tables::LITERALS {
-        return refusals::LENGTH;
-    }
-    let count = literal::cell_at(sizes, 0) as usize;
+    let count = sizes[0] as usize;
     if tables::CLAUSES < count + one_count(lits.len()) {
-        return refusals::FULL;
+        return Err(Refusal::RulesFull);
     }
-    refusals::literals_fault(lits, places)
+    judge_literals(lits, places)
 }

@@ -1,4 +1,4 @@
-// The first fault of a rule or of an exactly-one form that a call adds, by its number.
+// Whether a call may add a rule or an exactly-one form, and its first fault where it may not.
 #![tactic(auto)]
 
 pub mod forms; // of an exactly-one form

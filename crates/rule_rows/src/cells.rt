@@ -6,11 +6,7 @@ pub fn write(cells: &mut [i16], at: usize, lits: &[i16])
     requires { at + length lits.now ≤ length cells.old }
     ensures { cells.new ≡ paste cells.old at lits.now (length lits.now) }
 {
-    let mut i: usize = 0;
-    while i < lits.len() {
-        cells[at + i] = lits[i];
-        i += 1;
-    }
+    cells[at..at + lits.len()].copy_from_slice(lits);
 }
 
 // The cells are left as they are.

@@ -1,30 +1,29 @@
 -- The state that a call leaves which adds the clauses of a rule or of an exactly-one form.
-use Prim.Native.Nat.{ℕ, zero, suc, ◌+◌, ◌≤◌, ◌<◌}
+use Prim.Native.Nat.{ℕ, ◌+◌, ◌≤◌, ◌<◌}
 use native.Mathlib.Omega.{arith}
 use mathlib.Core.Path.{◌≡◌, refl, sym, ap, subst, ◌∙◌}
-use mathlib.Core.Logic.{◌⊎◌, inl, inr}
-use mathlib.Core.Bool.{Bool, true, false, ◌&&◌}
+use mathlib.Core.Bool.{Bool, true, ◌&&◌}
 use mathlib.Core.List.{List, [], ◌∷◌, ◌++◌, map}
 use mathlib.Core.Option.{Option, none, some}
 use lib.IntN.{ℤ}
 use lib.ListN.{length, get_or}
 use Rattle.qbf.specs.Formula.{paper, Prefix, Literal}
 use Rattle.qbf.specs.One.{one_forms, one_count}
-use Rattle.qbf.specs.Calls.{Call, State as Read, Reply, Answer, rule, one, answer, refused, refusal, rule_reply, rule_fault, one_fault, clause_of, with_rule, with_one, store_after_rule, guarded}
+use Rattle.qbf.specs.Calls.{Call, State as Read, Answer, rule, one, answer, refused, refusal, rule_reply, rule_fault, one_fault, clause_of, with_rule, with_one, store_after_rule, guarded}
 use Rattle.qbf.specs.Demands.{refusal_of}
-use Rattle.theory.proofs.Basics.{and_both, dichotomy}
-use Rattle.tables.specs.Views.{Table}
+use Rattle.theory.proofs.Basics.{and_both}
+use Rattle.tables.specs.Views.{Places, Table}
 use Rattle.tables.proofs.Laws.{rows_length}
 use Rattle.state.specs.declared.State.{State}
 use Rattle.state.specs.Reading.{rows_fit, prefix_fits, state_of, prefix_in, formula_in, store_in, state_in, fits, valid}
 use Rattle.state.specs.Derived.{Checked}
 use Rattle.state.proofs.Valid.{valid_facts, table_rows, valid_tables}
-use Rattle.serving.specs.Serves.{Said, said, said_of, fault_of, Serves}
-use Rattle.rule_faults.specs.Faults.{fault_after, one_fault_after, Judged}
+use Rattle.serving.specs.Serves.{Said, said, said_of, Serves}
+use Rattle.rule_faults.specs.Faults.{fault_after, one_fault_after}
 use Rattle.rule_rows.specs.Accepted.{Named, Accepted}
-use Rattle.serving.proofs.Calls.{malformed, served, unchanged}
+use Rattle.serving.proofs.Calls.{served, unchanged}
 use Rattle.rules.proofs.Emptied.{none_fit, none_stand}
-use Rattle.rules.proofs.Faultless.{fine_room, fine_length, one_fine_room, one_fine_length, one_fine_named, judged_fine}
+use Rattle.rules.proofs.Faultless.{fine_room, fine_length, one_fine_room, one_fine_length, one_fine_named}
 use Rattle.rule_rows.proofs.Rows.{none_left}
 
 -- ---- a call on a valid state with the fault o, or else the clauses of these forms more and no cube
@@ -42,36 +41,23 @@ module _ (x : State) (c : Call) (cs : List (List Literal)) where
     pub state : (guarded true (state_in x) c).state ≡ after o
     pub out : (guarded true (state_in x) c).out ≡ answer (rule_reply o) 0
 
-  -- the check says whether the state is valid, and the places are those of its prefix; r is the first refusal
-  module _ {o : Option ℕ} (adds : Adds o) {ok : Bool} {places kinds : List ℕ} (checked : Checked x ok places kinds) {fault : Prefix → Option ℕ} (fault_is : fault (prefix_in x) ≡ o) {r : ℕ} (j : Judged ok places fault r) where
-    judged : valid x ≡ true → o ≡ fault_of r
-    judged v = sym (j.found (checked.said ∙ v) (prefix_in x) (checked.placed v) ∙ fault_is)
+  -- the places of a valid state are those of its prefix; p is the first refusal
+  module _ {o : Option ℕ} (adds : Adds o) {places kinds : List ℕ} (checked : Checked x true places kinds) {fault : Prefix → Option ℕ} (fault_is : fault (prefix_in x) ≡ o) {p : Option ℕ} (j : (D : Prefix) → Places D places → p ≡ fault D) where
+    adds_valid : valid x ≡ true
+    adds_valid = sym checked.said
 
-    out_of : (p : Option ℕ) → o ≡ p → said_of (guarded true (state_in x) c).out ≡ said_of (answer (rule_reply p) 0)
-    out_of p q = ap said_of adds.out ∙ ap (λ (k : Option ℕ). said_of (answer (rule_reply k) 0)) q
+    judged : o ≡ p
+    judged = sym (j (prefix_in x) (checked.placed adds_valid) ∙ fault_is)
 
-    pub adds_refused : (r ≡ 0 → ⊥) → Serves x c (said (some r) 0 0 0 []) x
-    adds_refused h = by_test (dichotomy (valid x))
-      where
-        some_fault : (n : ℕ) → (n ≡ 0 → ⊥) → fault_of n ≡ some n
-        some_fault zero e = absurd (e refl)
-        some_fault (suc n) e = refl
+    out_of : (q : Option ℕ) → p ≡ q → said_of (guarded true (state_in x) c).out ≡ said_of (answer (rule_reply q) 0)
+    out_of q e = ap said_of adds.out ∙ ap (λ (k : Option ℕ). said_of (answer (rule_reply k) 0)) (judged ∙ e)
 
-        by_test : (valid x ≡ true) ⊎ (valid x ≡ false) → Serves x c (said (some r) 0 0 0 []) x
-        by_test (inr e) =
-            subst (λ (a : Said). Serves x c a x)
-            (ap (λ (p : Reply). said_of (answer p 0)) adds.malformed ∙ ap (λ (n : ℕ). said (some n) 0 0 0 []) (sym (j.malformed (checked.said ∙ e))))
-            (malformed x c e)
-        by_test (inl v) =
-            let q : o ≡ some r = judged v ∙ some_fault r h in
-            subst (λ (a : Said). Serves x c a x) (out_of (some r) q) (unchanged x c v (adds.state ∙ ap after q))
+    pub adds_refused : (r : ℕ) → p ≡ some r → Serves x c (said (some r) 0 0 0 []) x
+    adds_refused r e = subst (λ (a : Said). Serves x c a x) (out_of (some r) e) (unchanged x c adds_valid (adds.state ∙ ap after (judged ∙ e)))
 
-    module _ (e : r ≡ 0) where
-      pub adds_valid : valid x ≡ true
-      adds_valid = sym checked.said ∙ judged_fine ok places fault j e
-
+    module _ (e : p ≡ none) where
       pub adds_fine : none ≡ fault (prefix_in x)
-      adds_fine = sym (ap fault_of e) ∙ j.found (checked.said ∙ adds_valid) (prefix_in x) (checked.placed adds_valid)
+      adds_fine = sym e ∙ j (prefix_in x) (checked.placed adds_valid)
 
       pub adds_table : Table paper.literals paper.clauses x.clauses x.clause_sizes
       adds_table = (valid_tables x adds_valid checked.sized).clauses
@@ -85,16 +71,16 @@ module _ (x : State) (c : Call) (cs : List (List Literal)) where
         none_left_of = none_left x.learned_cube_sizes (omega (arith, checked.sized.learned_cube_sizes_room)) a.cleared
 
         q : o ≡ none
-        q = judged adds_valid ∙ ap fault_of e
+        q = judged ∙ e
 
         still_fits : fits y ≡ true
         still_fits =
-            and_both (p && d && b) (rows_fit paper.numbers paper.constraints cubes)
-            (and_both (p && d) b (and_both p d (valid_facts x adds_valid).prefix_fits_lem (table_rows paper.literals paper.clauses cells sizes a.added.table)) (valid_facts x adds_valid).learned_clauses_fit)
+            and_both (p' && d && b) (rows_fit paper.numbers paper.constraints cubes)
+            (and_both (p' && d) b (and_both p' d (valid_facts x adds_valid).prefix_fits_lem (table_rows paper.literals paper.clauses cells sizes a.added.table)) (valid_facts x adds_valid).learned_clauses_fit)
             (none_fit paper.numbers paper.constraints cubes none_left_of)
           where
-            p : Bool
-            p = prefix_fits paper x.numbers x.levels x.kinds
+            p' : Bool
+            p' = prefix_fits paper x.numbers x.levels x.kinds
 
             d : Bool
             d = rows_fit paper.literals paper.clauses sizes
@@ -114,7 +100,7 @@ module _ (x : State) (c : Call) (cs : List (List Literal)) where
 
         pub adds_accepted : Serves x c (said none 0 0 0 []) y
         adds_accepted =
-            subst (λ (s : Said). Serves x c s y) (out_of none q)
+            subst (λ (s : Said). Serves x c s y) (out_of none e)
             (served x c adds_valid y still_fits (reads ∙ sym (adds.state ∙ ap after q)) (ap (λ (w : Answer). refusal_of w.reply) adds.out ∙ ap (λ (k : Option ℕ). refusal_of (rule_reply k)) q))
 
 -- the clauses that stand are as many as the table counts
@@ -144,13 +130,13 @@ module _ (x : State) (ls : List Literal) where
   one_fault_is : one_fault_after (get_or x.clause_sizes 0 0) (prefix_in x) ls ≡ one_fault (formula_in x) ls
   one_fault_is = ap (λ (n : ℕ). one_fault_after n (prefix_in x) ls) (sym counts)
 
-  module _ {ok : Bool} {places kinds : List ℕ} (checked : Checked x ok places kinds) where
-    module _ {r : ℕ} (j : Judged ok places (λ D. fault_after (get_or x.clause_sizes 0 0) D ls) r) where
-      pub rule_refused : (r ≡ 0 → ⊥) → Serves x (rule ls) (said (some r) 0 0 0 []) x
+  module _ {places kinds : List ℕ} (checked : Checked x true places kinds) {p : Option ℕ} where
+    module _ (j : (D : Prefix) → Places D places → p ≡ fault_after (get_or x.clause_sizes 0 0) D ls) where
+      pub rule_refused : (r : ℕ) → p ≡ some r → Serves x (rule ls) (said (some r) 0 0 0 []) x
       rule_refused = adds_refused x (rule ls) (ls ∷ []) rule_adds checked rule_fault_is j
 
       -- there is room for the clause
-      pub rule_room : r ≡ 0 → Table paper.literals paper.clauses x.clauses x.clause_sizes × (get_or x.clause_sizes 0 0 < paper.clauses) × (length ls ≤ paper.literals)
+      pub rule_room : p ≡ none → Table paper.literals paper.clauses x.clauses x.clause_sizes × (get_or x.clause_sizes 0 0 < paper.clauses) × (length ls ≤ paper.literals)
       rule_room e =
           let fine = adds_fine x (rule ls) (ls ∷ []) rule_adds checked rule_fault_is j e in (
             adds_table x (rule ls) (ls ∷ []) rule_adds checked rule_fault_is j e,
@@ -158,16 +144,16 @@ module _ (x : State) (ls : List Literal) where
             fine_length (get_or x.clause_sizes 0 0) (prefix_in x) ls fine,
           )
 
-      pub rule_accepted : r ≡ 0 → {cells : List ℤ} {sizes cubes : List ℕ} → Accepted x.clauses x.clause_sizes (ls ∷ []) places x.learned_cube_sizes cells sizes cubes
+      pub rule_accepted : p ≡ none → {cells : List ℤ} {sizes cubes : List ℕ} → Accepted x.clauses x.clause_sizes (ls ∷ []) places x.learned_cube_sizes cells sizes cubes
           → Serves x (rule ls) (said none 0 0 0 []) (state_of x.numbers x.levels x.kinds cells sizes x.learned_clauses x.learned_clause_sizes x.learned_cubes cubes)
       rule_accepted e a = adds_accepted x (rule ls) (ls ∷ []) rule_adds checked rule_fault_is j e a
 
-    module _ {r : ℕ} (j : Judged ok places (λ D. one_fault_after (get_or x.clause_sizes 0 0) D ls) r) where
-      pub one_refused : (r ≡ 0 → ⊥) → Serves x (one ls) (said (some r) 0 0 0 []) x
+    module _ (j : (D : Prefix) → Places D places → p ≡ one_fault_after (get_or x.clause_sizes 0 0) D ls) where
+      pub one_refused : (r : ℕ) → p ≡ some r → Serves x (one ls) (said (some r) 0 0 0 []) x
       one_refused = adds_refused x (one ls) (one_forms ls) one_adds checked one_fault_is j
 
       -- there is room for all of its clauses
-      pub one_room : r ≡ 0
+      pub one_room : p ≡ none
           → Table paper.literals paper.clauses x.clauses x.clause_sizes × (get_or x.clause_sizes 0 0 + one_count (length ls) ≤ paper.clauses) × (length ls ≤ paper.literals) × Named ls
       one_room e =
           let fine = adds_fine x (one ls) (one_forms ls) one_adds checked one_fault_is j e in (
@@ -177,6 +163,6 @@ module _ (x : State) (ls : List Literal) where
             one_fine_named (get_or x.clause_sizes 0 0) (prefix_in x) ls fine,
           )
 
-      pub one_accepted : r ≡ 0 → {cells : List ℤ} {sizes cubes : List ℕ} → Accepted x.clauses x.clause_sizes (one_forms ls) places x.learned_cube_sizes cells sizes cubes
+      pub one_accepted : p ≡ none → {cells : List ℤ} {sizes cubes : List ℕ} → Accepted x.clauses x.clause_sizes (one_forms ls) places x.learned_cube_sizes cells sizes cubes
           → Serves x (one ls) (said none 0 0 0 []) (state_of x.numbers x.levels x.kinds cells sizes x.learned_clauses x.learned_clause_sizes x.learned_cubes cubes)
       one_accepted e a = adds_accepted x (one ls) (one_forms ls) one_adds checked one_fault_is j e a

@@ -2,8 +2,7 @@
 use Prim.Native.Nat.{ℕ, zero, suc, ◌+◌, ◌≤◌, ◌<◌}
 use native.Mathlib.Omega.{arith}
 use mathlib.Core.Path.{◌≡◌, sym}
-use mathlib.Core.Logic.{◌⊎◌, inl, inr}
-use mathlib.Core.Bool.{Bool, true, false, ◌||◌}
+use mathlib.Core.Bool.{false, ◌||◌}
 use mathlib.Core.List.{List, [], ◌∷◌}
 use mathlib.Core.Option.{Option, none}
 use lib.Dec.{leb, ltb, eqb}
@@ -12,9 +11,9 @@ use borrow.Author.Tests.{leb-false, ltb-false}
 use Rattle.qbf.specs.Formula.{paper, Prefix, Literal, number_of, place_of, any}
 use Rattle.qbf.specs.One.{one_count}
 use Rattle.qbf.specs.Calls.{◌or_else◌, given, literal_fault}
-use Rattle.theory.proofs.Basics.{or_false_right, dichotomy}
+use Rattle.theory.proofs.Basics.{or_false_right}
 use Rattle.theory.proofs.AcceptedRule.{given_none}
-use Rattle.rule_faults.specs.Faults.{fault_after, one_fault_after, Judged}
+use Rattle.rule_faults.specs.Faults.{fault_after, one_fault_after}
 use Rattle.rule_rows.specs.Accepted.{Named}
 
 -- ---- a rule
@@ -69,13 +68,3 @@ module _ (count : ℕ) (D : Prefix) (ls : List Literal) where
 
     pub one_fine_named : Named ls
     one_fine_named = named D [] ls together.1
-
--- ---- with the state's check
-module _ (ok : Bool) (places : List ℕ) (fault : Prefix → Option ℕ) where
-  -- what is accepted stands on a valid state
-  pub judged_fine : {r : ℕ} → Judged ok places fault r → r ≡ 0 → ok ≡ true
-  judged_fine {r} j e = by_test (dichotomy ok)
-    where
-      by_test : (ok ≡ true) ⊎ (ok ≡ false) → ok ≡ true
-      by_test (inl v) = v
-      by_test (inr h) = absurd (omega (arith, e, j.malformed h))

@@ -1,5 +1,6 @@
 pub mod Emptied
 pub mod Faultless
+pub mod Refused
 pub mod Adds
-pub mod Told
 pub mod Withdrawn
+pub mod Told

@@ -1,10 +1,8 @@
 -- What the answer of rule or forget says, in the paper's numbers.
-use Rattle.std.specs.Prelude.{[]}
-use Rattle.std.proofs.Math.Option.{none, some}
+use Rattle.std.specs.Prelude.{[], Result}
+use Rattle.refusal.specs.declared.Refusal.{Refusal}
+use Rattle.refusal.specs.Refusal.{fault_in}
 use Rattle.serving.specs.Serves.{Said, said}
-use Rattle.rules.specs.declared.Change.{Change}
-use Rattle.rules.specs.declared.Change.TheVariants.{Done, Refused}
 
-abbrev pub change_said : Change → Said
-change_said Done = said none 0 0 0 []
-change_said (Refused n) = said (some n) 0 0 0 []
+abbrev pub change_said : Result Unit Refusal → Said
+change_said r = said (fault_in r) 0 0 0 []

@@ -5,22 +5,14 @@ ghost use Rattle.std.specs.Prelude.{◌≡◌};
 ghost use Rattle.serving.specs.Serves.{number};
 ghost use Rattle.rules.specs.Rules.{change_said};
 
-use rule_faults::refusals;
+use refusal::Refusal;
 
 pub mod in_place; // the calls
-
-#[derive(Clone, Copy)]
-pub enum Change {
-    Done,
-    Refused(u16),
-}
+pub mod lent; // the tables of a state, of which a call writes some
 
 // The number of a refusal, 0 where there is none.
-pub fn refusal_of(c: Change) -> u16
-    ensures { result ≡ number (change_said c).refusal }
+pub fn refusal_of(change: Result<(), Refusal>) -> u16
+    ensures { result ≡ number (change_said change).refusal }
 {
-    match c {
-        Change::Done => refusals::NONE,
-        Change::Refused(n) => n,
-    }
+    refusal::number_if(change.err())
 }

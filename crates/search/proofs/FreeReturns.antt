@@ -5,7 +5,7 @@ use mathlib.Core.Path.{◌≡◌, refl, sym, ap, ◌∙◌, subst}
 use mathlib.Core.Logic.{inl, inr}
 use mathlib.Core.Bool.{Bool, true, false, cond, not, ◌&&◌, beq, true≢false, false≢true}
 use mathlib.Core.List.{List, [], ◌∷◌, ◌++◌, append-nil, append_assoc}
-use lib.ListN.{length, take, drop, length-append}
+use lib.ListN.{length, drop, length-append}
 use Rattle.qbf.specs.Formula.{paper, free, Prefix, Clause, Node, ◌▹◌, quantifiers, quantifier_at}
 use Rattle.qbf.specs.Truth.{Outcome, decided, mixed, decided_nodes, select}
 use Rattle.qbf.specs.Learning.{Constraint, Store, LearningResult, mentions, resolve}
@@ -168,8 +168,8 @@ module _ {cls sets kd ss cs cl qs ql tb sat mk : List ℕ} (kind : ℕ) (code : 
     (lined : (s : Node) (b : Bool) (ls : List Node) → LineTask s ls ss₁ tb₁ p off.lines → 1 ≡ byte_of b → Covers p.free tbₐ (ls ++ cond one ((s ▹ b) ∷ []) []))
     (q' : Position) (eq' : q' ≡ counts.below p off.budget l) (on : Answer) {up₂ cs₂ cl₂ qs₂ ql₂ tb₂ : List ℕ}
     (ons : SideVisited 2 q' on cls sets kd ss₁ cs₁ cl₁ qs₁ ql₁ tbₐ sat₁ mk₁ up₂ cs₂ cl₂ qs₂ ql₂ tb₂)
-    (saved : List ℕ) (aside : take off.len saved ≡ entry_of off cls cs₁ qs₁ up₁) (r : Answer) {cs₃ cl₃ qs₃ ql₃ : List ℕ}
-    (fins : FinishSays kd off.verdict off.len on kind saved cls up₂ p.at cs₂ cl₂ qs₂ ql₂ r cs₃ cl₃ qs₃ ql₃) (unup : t ≡ false) (visits : r.budget ≡ on.budget)
+    (saved : List ℕ) (aside : saved ≡ entry_of off cls cs₁ qs₁ up₁) (r : Answer) {cs₃ cl₃ qs₃ ql₃ : List ℕ}
+    (fins : FinishSays kd off.verdict on kind saved cls up₂ p.at cs₂ cl₂ qs₂ ql₂ r cs₃ cl₃ qs₃ ql₃) (unup : t ≡ false) (visits : r.budget ≡ on.budget)
     {ss₂ : List ℕ} (same₂ : ss₂ ≡ ss₁) (two : Bool) (two_is : two ≡ is_of p.yes on.verdict) (tb₃ : List ℕ) (n : ℕ) (settled : n ≡ settled_lines one two on.lines)
     (settling : (s : Node) (ls : List Node) → LineTask s ls ss₂ tb₂ p on.lines → SettledTo one two s ls p.free tb₃) where
   pub free_result : (D : Prefix) (s : Node) (ls : List Node) (R : List Clause) (g : Ledger) (st : Store) → Task D s ls R g st cls sets kd ss cs cl qs ql tb p.at p

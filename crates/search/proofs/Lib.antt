@@ -5,4 +5,4 @@ pub mod Returns
 pub mod FreeReturns
 pub mod SidesReturns
 pub mod Visiting
-pub mod Turning
+pub mod Setting

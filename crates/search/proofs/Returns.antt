@@ -6,7 +6,7 @@ use mathlib.Core.Path.{◌≡◌, refl, sym, ap, ◌∙◌, subst}
 use mathlib.Core.Logic.{inl, inr}
 use mathlib.Core.Bool.{Bool, true, false, true≢false}
 use mathlib.Core.List.{List, [], ◌∷◌, ◌++◌}
-use lib.ListN.{length, take, drop}
+use lib.ListN.{length, drop}
 use lib.Dec.{eqb}
 use Rattle.qbf.specs.Formula.{paper, Quantifier, Prefix, Clause, Node, ◌▹◌, quantifiers, quantifier_at}
 use Rattle.qbf.specs.Truth.{Outcome, DecidedNode, decided, mixed}
@@ -40,11 +40,11 @@ UpSays off kind codes at t =
     ((D : Prefix) (κ : Quantifier) (o : Outcome Constraint) → quantifier_code κ ≡ kind → Reads D off.verdict codes o → Ended D (suc at) o → 1 ≤ off.budget → t ≡ goes_up_of D κ (suc at) o)
     × (off.verdict ≡ Mixed → off.budget ≡ 0 → t ≡ true)
 
-abbrev pub FinishSays : List ℕ → Verdict → ℕ → Answer → ℕ → List ℕ → List ℕ → List ℕ → ℕ → List ℕ → List ℕ → List ℕ → List ℕ
+abbrev pub FinishSays : List ℕ → Verdict → Answer → ℕ → List ℕ → List ℕ → List ℕ → ℕ → List ℕ → List ℕ → List ℕ → List ℕ
     → Answer → List ℕ → List ℕ → List ℕ → List ℕ → Type 0
-FinishSays kinds v n on kind saved clauses up at cs cl qs ql r cs' cl' qs' ql' =
+FinishSays kinds v on kind saved clauses up at cs cl qs ql r cs' cl' qs' ql' =
     (D : Prefix) (R : List Clause) (s : Node) (κ : Quantifier) (a o : Outcome Constraint) (g : Ledger) (st : Store) (k : ℕ) → Quantified D kinds → length s ≡ at → quantifier_code κ ≡ kind
-    → Reads D v (take n saved) a → Reads D on.verdict (entry_of on clauses cs qs up) o → Ended D (suc at) a → Ended D (suc at) o → Fits D (resolvent_of D (suc at) a o)
+    → Reads D v saved a → Reads D on.verdict (entry_of on clauses cs qs up) o → Ended D (suc at) a → Ended D (suc at) o → Fits D (resolvent_of D (suc at) a o)
     → g.clauses ≡ length R → StoreKept D g st cs cl qs ql → Joined D g (onward_of D R κ s a o st k) r clauses up cs' cl' qs' ql'
 
 onward_visits : (D : Prefix) (R : List Clause) (κ : Quantifier) (s : Node) (a o : Outcome Constraint) (st : Store) (k : ℕ) → (onward_of D R κ s a o st k).visits ≡ k
@@ -162,12 +162,12 @@ module _ {cls sets kd ss cs cl qs ql tb sat mk : List ℕ} (κ : Quantifier) (ki
             (record { shown = shown_on; formed = formed_off; matrix = task.matrix; stored = w.stored; ruled = task.ruled; frees = task.frees; covers = cov; counted = cnt }))
             (opened_at p q' off.budget l eq' open_on) inside (at_side q' off.budget l eq') refl)))
 
-        module _ (saved : List ℕ) (aside : take off.len saved ≡ entry_of off cls cs₁ qs₁ up₁) (r : Answer) {cs₃ cl₃ qs₃ ql₃ : List ℕ}
-            (fins : FinishSays kd off.verdict off.len on kind saved cls up₂ p.at cs₂ cl₂ qs₂ ql₂ r cs₃ cl₃ qs₃ ql₃) (unup : t ≡ false) where
+        module _ (saved : List ℕ) (aside : saved ≡ entry_of off cls cs₁ qs₁ up₁) (r : Answer) {cs₃ cl₃ qs₃ ql₃ : List ℕ}
+            (fins : FinishSays kd off.verdict on kind saved cls up₂ p.at cs₂ cl₂ qs₂ ql₂ r cs₃ cl₃ qs₃ ql₃) (unup : t ≡ false) where
           abbrev k : ℕ
           k = suc (off_r.visits + on_r.visits)
 
-          off_reads : Reads D off.verdict (take off.len saved) off_r.outcome
+          off_reads : Reads D off.verdict saved off_r.outcome
           off_reads = subst (λ (x : List ℕ). Reads D off.verdict x off_r.outcome) (sym aside) w.verdict
 
           -- the on side was stopped
@@ -233,8 +233,8 @@ module _ {cls sets kd ss cs cl qs ql tb sat mk : List ℕ} (κ : Quantifier) (ki
       {ss₁ sat₁ mk₁ : List ℕ} (kept : Kept q.at q.words ss ss₁ tb tb₁ sat sat₁ mk mk₁) {tbₐ : List ℕ} (same : tbₐ ≡ tb₁) (l : ℕ) (lines : l ≡ off.lines)
       (q' : Position) (eq' : q' ≡ counts.below p off.budget l) (on : Answer) {up₂ cs₂ cl₂ qs₂ ql₂ tb₂ : List ℕ}
       (ons : SideVisited 2 q' on cls sets kd ss₁ cs₁ cl₁ qs₁ ql₁ tbₐ sat₁ mk₁ up₂ cs₂ cl₂ qs₂ ql₂ tb₂)
-      (saved : List ℕ) (aside : take off.len saved ≡ entry_of off cls cs₁ qs₁ up₁) (r : Answer) {cs₃ cl₃ qs₃ ql₃ : List ℕ}
-      (fins : FinishSays kd off.verdict off.len on kind saved cls up₂ p.at cs₂ cl₂ qs₂ ql₂ r cs₃ cl₃ qs₃ ql₃) (unup : t ≡ false)
+      (saved : List ℕ) (aside : saved ≡ entry_of off cls cs₁ qs₁ up₁) (r : Answer) {cs₃ cl₃ qs₃ ql₃ : List ℕ}
+      (fins : FinishSays kd off.verdict on kind saved cls up₂ p.at cs₂ cl₂ qs₂ ql₂ r cs₃ cl₃ qs₃ ql₃) (unup : t ≡ false)
       (visits : r.budget ≡ on.budget) {tb₃ : List ℕ} (same₃ : tb₃ ≡ tb₂) (n : ℕ) (lines₃ : n ≡ on.lines) where
     pub both_result : (D : Prefix) (s : Node) (ls : List Node) (R : List Clause) (g : Ledger) (st : Store) → Task D s ls R g st cls sets kd ss cs cl qs ql tb p.at p
         → Opened D s R p sat mk → p.at < length D → quantifier_at D (suc p.at) ≡ κ

@@ -3,7 +3,7 @@ use Prim.Native.Nat.{ℕ, suc, ◌+◌, ◌-◌, ◌<◌}
 use mathlib.Core.Path.{◌≡◌, sym, ap, ◌∙◌}
 use mathlib.Core.Bool.{Bool, false, cond}
 use mathlib.Core.List.{List, [], ◌∷◌, ◌++◌}
-use lib.ListN.{length, take}
+use lib.ListN.{length}
 use Rattle.qbf.specs.Formula.{Quantifier, free, exists, forall, Prefix, Clause, Node, ◌▹◌, quantifier_at}
 use Rattle.qbf.specs.Learning.{Store}
 use Rattle.qbf.specs.Card.{byte_of}
@@ -29,8 +29,8 @@ module _ {cls sets kd ss cs cl qs ql tb sat mk : List ℕ} (kind : ℕ) (p q : P
     (lined : (s : Node) (b : Bool) (ls : List Node) → LineTask s ls ss₁ tb₁ p off.lines → 1 ≡ byte_of b → Covers p.free tbₐ (ls ++ cond one ((s ▹ b) ∷ []) []))
     (q' : Position) (eq' : q' ≡ counts.below p off.budget l) (on : Answer) {up₂ cs₂ cl₂ qs₂ ql₂ tb₂ : List ℕ}
     (ons : SideVisited 2 q' on cls sets kd ss₁ cs₁ cl₁ qs₁ ql₁ tbₐ sat₁ mk₁ up₂ cs₂ cl₂ qs₂ ql₂ tb₂)
-    (saved : List ℕ) (aside : take off.len saved ≡ entry_of off cls cs₁ qs₁ up₁) (r : Answer) {cs₃ cl₃ qs₃ ql₃ : List ℕ}
-    (fins : FinishSays kd off.verdict off.len on kind saved cls up₂ p.at cs₂ cl₂ qs₂ ql₂ r cs₃ cl₃ qs₃ ql₃) (unup : t ≡ false) (visits : r.budget ≡ on.budget)
+    (saved : List ℕ) (aside : saved ≡ entry_of off cls cs₁ qs₁ up₁) (r : Answer) {cs₃ cl₃ qs₃ ql₃ : List ℕ}
+    (fins : FinishSays kd off.verdict on kind saved cls up₂ p.at cs₂ cl₂ qs₂ ql₂ r cs₃ cl₃ qs₃ ql₃) (unup : t ≡ false) (visits : r.budget ≡ on.budget)
     {ss₂ : List ℕ} (same₂ : ss₂ ≡ ss₁) (two : Bool) (two_is : two ≡ lined_of kind p.yes on.verdict) {tb₃ : List ℕ} (n : ℕ) (settled : n ≡ settled_lines one two on.lines) (same₃ : two ≡ false → tb₃ ≡ tb₂)
     (settling : (s : Node) (ls : List Node) → LineTask s ls ss₂ tb₂ p on.lines → SettledTo one two s ls p.free tb₃) where
   -- whether a side is a line, where the code is that of the quantifier

@@ -1,61 +1,54 @@
 // Steps 1 to 4 of a visit: at the start node they have been taken, and leave it open.
 ghost use Rattle.std.specs.Prelude.{◌≡◌, false, ◌≤◌};
 ghost use Rattle.qbf.specs.Formula.{paper};
-ghost use Rattle.tables.specs.Shelves.{Shelves};
 ghost use Rattle.tables.specs.Matrices.{RowLength};
+ghost use Rattle.search_entry.specs.Tables.{Stand};
 ghost use Rattle.search.specs.Search.{is_open, concluded_of, StepsTaken};
 
 use inner::{Leaf, conclude};
 use node::{Answer, Position, Verdict, settled, stopped};
+use search_entry::{Learned, Matrix, Trail};
 
+// stays (proof): what is read and what is written are fields of one struct above, which could not be lent as one.
 pub fn take_steps<'a>(
-    clauses: &'a [u16; tables::CLAUSE_ROWS],
-    sets: &'a [u64; tables::CLAUSE_SETS],
-    quantifiers: &'a [u8; tables::CODES],
+    matrix: &'a Matrix,
+    learned: &'a Learned,
     statuses: &'a [u8; tables::CODES],
-    learned: &'a [u16; tables::CONSTRAINT_CODES],
-    learned_links: &'a [u64; tables::CONSTRAINT_LINKS],
-    cubes: &'a [u16; tables::CONSTRAINT_CODES],
-    cube_links: &'a [u64; tables::CONSTRAINT_LINKS],
-    up: &mut [u16; tables::AREA],
-    sat: &mut [u64; tables::SATISFIED],
-    marks: &mut [u8; tables::BY_NUMBER],
-    at: usize,
-    words: usize,
+    trail: &mut Trail,
+    p: Position,
     at_start: bool,
 ) -> Leaf
-    requires { Shelves learned.now learned_links.now cubes.now cube_links.now × (at_start ≡ false → 1 ≤ at) × (at ≤ paper.numbers) × RowLength words }
-    ensures { StepsTaken at_start at words result clauses.now sets.now quantifiers.now statuses.now learned.now learned_links.now cubes.now cube_links.now sat.old marks.old up.new sat.new marks.new }
+    requires { Stand learned.now × (at_start ≡ false → 1 ≤ p.at) × (p.at ≤ paper.numbers) × RowLength p.words }
+    ensures { StepsTaken
+        at_start
+        p.at
+        p.words
+        result
+        matrix.now.rows
+        matrix.now.sets
+        matrix.now.quantifiers
+        statuses.now
+        learned.now.clauses.cells
+        learned.now.clauses.links
+        learned.now.cubes.cells
+        learned.now.cubes.links
+        trail.old.sat
+        trail.old.marks
+        trail.new.cube
+        trail.new.sat
+        trail.new.marks }
 {
     if at_start {
         return Leaf::Open;
     }
-    conclude(
-        clauses,
-        sets,
-        quantifiers,
-        statuses,
-        learned,
-        learned_links,
-        cubes,
-        cube_links,
-        up,
-        sat,
-        marks,
-        at,
-        words,
-    )
+    conclude(matrix, learned, statuses, trail, p)
 }
 
 // Asked first, and in one test: it is the likely way on from a node.
 pub fn is_open(leaf: Leaf) -> bool
     ensures { result ≡ is_open leaf }
 {
-    match leaf {
-        Leaf::No(b) => false,
-        Leaf::Yes(b) => false,
-        Leaf::Open => true,
-    }
+    matches!(leaf, Leaf::Open)
 }
 
 // The answer of a node that a step decided.

@@ -1,9 +1,47 @@
-// "The bar handed back is that part of the rule table, not a copy": where the constraint that a visit hands up lies, and that part of the lent
-// tables.
+// The tables that a search reads and those that it changes; where the constraint that a visit hands up lies in them, and that part: "the bar handed
+// back is that part of the rule table, not a copy".
 #![tactic(auto)]
 
 ghost use Rattle.std.specs.Prelude.{◌≡◌, ◌+◌, ◌≤◌, ◌<◌, length, take, drop};
 ghost use Rattle.search_entry.specs.Entry.{entry_at, Bounded};
+
+use shelf::Shelf;
+
+// The clauses, each in a row under universal reduction and all in sets by code; and by code the quantifiers.
+#[derive(Drop)]
+pub struct Matrix {
+    pub rows: [u16; tables::CLAUSE_ROWS],
+    pub sets: [u64; tables::CLAUSE_SETS],
+    pub quantifiers: [u8; tables::CODES],
+}
+
+// The learned constraints of both polarities.
+#[derive(Drop)]
+pub struct Learned {
+    pub clauses: Shelf,
+    pub cubes: Shelf,
+}
+
+// What is known on the way down to a node: of each place the row of the clauses satisfied, and the mark that its value satisfied one more; and the
+// cube that was made last.
+#[derive(Drop)]
+pub struct Trail {
+    pub sat: [u64; tables::SATISFIED],
+    pub marks: [u8; tables::BY_NUMBER],
+    pub cube: [u16; tables::AREA],
+}
+
+// Room for a constraint of each level of a search: of each place a row, in which a node of that length puts its off side's constraint aside.
+pub const ASIDE: usize = tables::NUMBERS * tables::NUMBERS;
+
+// What a search changes: what is learned and what is known on the way down; the statuses at the node; and what is put aside.
+#[derive(Drop)]
+pub struct Search {
+    pub learned: Learned,
+    pub trail: Trail,
+    pub statuses: [u8; tables::CODES],
+    pub aside: [u16; ASIDE],
+}
 
 // In the clauses of the search, among the learned constraints of its polarity, or in the area in which step 3 makes a cube.
 #[derive(Clone, Copy)]
@@ -23,34 +61,23 @@ pub struct Bounds {
 pub fn placed(source: Source, start: usize, len: usize) -> Bounds
     ensures { result ≡ record { source = source; start = start; len = len } }
 {
-    Bounds {
-        source: source,
-        start: start,
-        len: len,
-    }
+    Bounds { source, start, len }
 }
 
-fn part<'a>(cells: &'a [u16], start: usize, len: usize) -> &'a [u16]
-    requires { (start + len ≤ length cells.now) × (length cells.now < 65536) }
-    ensures { (result.now ≡ take len (drop start cells.now)) × (length result.now ≡ len) }
-{
-    &cells[start..start + len]
-}
-
-// The codes of a constraint that goes up.
+// The codes of a constraint that goes up, where it is one of the clauses, of the learned constraints of that shelf, or a cube.
 pub fn entry<'a>(
-    clauses: &'a [u16; tables::CLAUSE_ROWS],
-    learned: &'a [u16; tables::CONSTRAINT_CODES],
+    matrix: &'a Matrix,
+    learned: &'a Shelf,
     area: &'a [u16; tables::AREA],
     b: Bounds,
 ) -> &'a [u16]
     requires { Bounded b }
-    ensures { (result.now ≡ entry_at b clauses.now learned.now area.now) × (length result.now ≡ b.len) }
+    ensures { (result.now ≡ entry_at b matrix.now.rows learned.now.cells area.now) × (length result.now ≡ b.len) }
 {
-    let source = b.source;
-    match source {
-        Source::Clauses => part(clauses, b.start, b.len),
-        Source::Learned => part(learned, b.start, b.len),
-        Source::Area => part(area, b.start, b.len),
-    }
+    let cells: &[u16] = match b.source {
+        Source::Clauses => &matrix.rows,
+        Source::Learned => &learned.cells,
+        Source::Area => area,
+    };
+    &cells[b.start..b.start + b.len]
 }

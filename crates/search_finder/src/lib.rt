@@ -7,12 +7,13 @@ ghost use Rattle.tables.specs.Views.{Standing};
 ghost use Rattle.lowest_dead.specs.Found.{FoundLowest};
 ghost use Rattle.search_finder.specs.Lent.{Tells};
 
-use literal::cell_at;
+use lent_rows::LentRows;
+use literal::{ByNumber, cell_at};
 use lowest_dead::lowest_dead;
 
 // Whether the rows that stand lie within the table.
-fn stand<'a>(clauses: &'a [i16], sizes: &'a [u16]) -> bool
-    ensures { Tells result clauses.now sizes.now }
+fn stand(cells: &[i16], sizes: &[u16]) -> bool
+    ensures { Tells result cells.now sizes.now }
 {
     let count = cell_at(sizes, 0) as usize;
     if sizes.len() <= count {
@@ -20,7 +21,7 @@ fn stand<'a>(clauses: &'a [i16], sizes: &'a [u16]) -> bool
     }
     for k in 0..count {
         let end = k * tables::LITERALS + cell_at(sizes, k + 1) as usize;
-        let outside = clauses.len() < end;
+        let outside = cells.len() < end;
         if outside {
             return false;
         }
@@ -29,6 +30,7 @@ fn stand<'a>(clauses: &'a [i16], sizes: &'a [u16]) -> bool
 }
 
 // The index of the clause that step 1 takes; the count of the clauses where none is dead, and where they do not lie within their table.
+// stays (C): the number of none is the exported function's
 pub fn search_finder_lowest_dead<'a>(
     clauses: &'a [i16],
     sizes: &'a [u16],
@@ -45,8 +47,19 @@ pub fn search_finder_lowest_dead<'a>(
         values.now
         result }
 {
-    if stand(clauses, sizes) {
-        return lowest_dead(clauses, sizes, places, kinds, values);
+    let count = cell_at(sizes, 0) as usize;
+    if !stand(clauses, sizes) {
+        return count;
     }
-    cell_at(sizes, 0) as usize
+    let rows = LentRows {
+        cells: clauses,
+        sizes,
+        width: tables::LITERALS,
+    };
+    let shown = ByNumber {
+        places,
+        kinds,
+        values,
+    };
+    lowest_dead(rows, shown).unwrap_or(count)
 }

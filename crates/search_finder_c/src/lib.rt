@@ -7,6 +7,7 @@ ghost use Rattle.lowest_dead.specs.Found.{FoundLowest};
 ghost use Rattle.search_finder.specs.Lent.{Tells};
 
 // The index of the clause that step 1 takes; the count of the clauses where none is dead, and where they do not lie within their table.
+// stays (C): the number of none is the exported function's
 #[unsafe(no_mangle)]
 pub extern "C" fn search_finder_lowest_dead<'a>(
     clauses: &'a [i16],

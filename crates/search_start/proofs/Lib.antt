@@ -1,4 +1,2 @@
-pub mod Satisfying
-pub mod Tried
 pub mod Matching
 pub mod Starting

@@ -1,5 +1,5 @@
 -- Steps 1 to 4 at the start node, by the answers of the finders.
-use mathlib.Core.Path.{◌≡◌, refl, sym, ap, ◌∙◌}
+use mathlib.Core.Path.{◌≡◌, refl, sym, ◌∙◌}
 use mathlib.Core.Bool.{Bool, true, false, cond, ◌||◌, true≢false, false≢true}
 use mathlib.Core.List.{List, [], ◌∷◌}
 use mathlib.Core.Option.{Option, none, some}
@@ -30,14 +30,6 @@ first_any f (x ∷ xs) = by (f x) (first_any f xs)
 found_any : {A : Type 0} (f : A → Bool) (xs : List A) (o : Option A) → Found f xs o → is_some o ≡ any f xs
 found_any f xs none w = sym w
 found_any f xs (some x) w = sym (→any f xs x w.0 w.1)
-
--- ---- steps 1 and 2, by whether a clause is dead
-module _ (D : Prefix) (s : Node) (R : List Clause) (cs : List Constraint) {a : Bool} (is : a ≡ any (dead D s) R) where
-  pub no_by_clause : a ≡ true → true ≡ is_no D s R cs
-  no_by_clause e = ap (λ (b : Bool). b || any (matching D false s) cs) (sym e ∙ is)
-
-  pub no_by_learned : a ≡ false → {b : Bool} → b ≡ any (matching D false s) cs → b ≡ is_no D s R cs
-  no_by_learned e q = q ∙ ap (λ (b : Bool). b || any (matching D false s) cs) (sym e ∙ is)
 
 -- ---- the outcome, without its constraint
 abbrev outcome_of : Option Constraint → Option Constraint → Option Constraint → Option Constraint → Option (Outcome Constraint)

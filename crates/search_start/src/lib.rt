@@ -3,11 +3,13 @@
 #![tactic(auto)]
 
 ghost use Rattle.std.specs.Prelude.{◌≡◌, length};
-ghost use Rattle.qbf.specs.Formula.{paper, Prefix, Node};
-ghost use Rattle.tables.specs.Views.{Places, Kinds, Values, Standing, rows_of};
+ghost use Rattle.qbf.specs.Formula.{Prefix, Node};
+ghost use Rattle.tables.specs.Views.{Places, Kinds, Values, rows_of};
 ghost use Rattle.search_start.specs.Start.{is_no, is_yes, Concludes};
 
 use dead_clauses::any_dead;
+use lent_rows::LentRows;
+use literal::ByNumber;
 use matches::any_match;
 use satisfied::all_satisfied;
 
@@ -23,108 +25,69 @@ pub enum Start {
 }
 
 // Steps 1 and 2. For the verdict it is enough that a clause is dead, whichever is taken.
-fn is_no<'a>(
-    clauses: &'a [i16],
-    sizes: &'a [u16],
-    learned: &'a [i16],
-    learned_sizes: &'a [u16],
-    width: usize,
-    places: &'a [u16],
-    kinds: &'a [u16],
-    values: &'a [u8],
-    at: usize,
-) -> bool
-    requires { Standing paper.literals clauses.now sizes.now × Standing width learned.now learned_sizes.now }
+fn is_no(clauses: LentRows, learned: LentRows, shown: ByNumber, at: usize) -> bool
     ensures { (D : Prefix) (s : Node)
-        → Places D places.now
-        → Kinds D kinds.now
-        → Values D s values.now
+        → Places D shown.entry.places.now
+        → Kinds D shown.entry.kinds.now
+        → Values D s shown.entry.values.now
         → length s ≡ at
         → result
         ≡ is_no
         D
         s
-        (rows_of paper.literals clauses.now sizes.now)
-        (rows_of width learned.now learned_sizes.now) }
+        (rows_of clauses.entry.width clauses.entry.cells.now clauses.entry.sizes.now)
+        (rows_of learned.entry.width learned.entry.cells.now learned.entry.sizes.now) }
 {
-    if any_dead(clauses, sizes, kinds, values) {
+    if any_dead(clauses, shown.kinds, shown.values) {
         return true;
     }
-    any_match(learned, learned_sizes, width, places, values, false, at)
+    any_match(learned, shown, false, at)
 }
 
 // Steps 3 and 4.
-fn is_yes<'a>(
-    clauses: &'a [i16],
-    sizes: &'a [u16],
-    cubes: &'a [i16],
-    cube_sizes: &'a [u16],
-    width: usize,
-    places: &'a [u16],
-    values: &'a [u8],
-    at: usize,
-) -> bool
-    requires { Standing paper.literals clauses.now sizes.now × Standing width cubes.now cube_sizes.now }
+fn is_yes(clauses: LentRows, cubes: LentRows, shown: ByNumber, at: usize) -> bool
     ensures { (D : Prefix) (s : Node)
-        → Places D places.now
-        → Values D s values.now
+        → Places D shown.entry.places.now
+        → Values D s shown.entry.values.now
         → length s ≡ at
         → result
         ≡ is_yes
         D
         s
-        (rows_of paper.literals clauses.now sizes.now)
-        (rows_of width cubes.now cube_sizes.now) }
+        (rows_of clauses.entry.width clauses.entry.cells.now clauses.entry.sizes.now)
+        (rows_of cubes.entry.width cubes.entry.cells.now cubes.entry.sizes.now) }
 {
-    if all_satisfied(clauses, sizes, values) {
+    if all_satisfied(clauses, shown.values) {
         return true;
     }
-    any_match(cubes, cube_sizes, width, places, values, true, at)
+    any_match(cubes, shown, true, at)
 }
 
-// Rows of learned constraints have `width` cells; the node has `at` places.
-pub fn conclude<'a>(
-    clauses: &'a [i16],
-    sizes: &'a [u16],
-    learned: &'a [i16],
-    learned_sizes: &'a [u16],
-    cubes: &'a [i16],
-    cube_sizes: &'a [u16],
-    width: usize,
-    places: &'a [u16],
-    kinds: &'a [u16],
-    values: &'a [u8],
+// The node has `at` places.
+pub fn conclude(
+    clauses: LentRows,
+    learned: LentRows,
+    cubes: LentRows,
+    shown: ByNumber,
     at: usize,
 ) -> Start
-    requires standing { Standing paper.literals clauses.now sizes.now }
-    requires standing_2 { Standing width learned.now learned_sizes.now × Standing width cubes.now cube_sizes.now }
     ensures { (D : Prefix) (s : Node)
-        → Places D places.now
-        → Kinds D kinds.now
-        → Values D s values.now
+        → Places D shown.entry.places.now
+        → Kinds D shown.entry.kinds.now
+        → Values D s shown.entry.values.now
         → length s ≡ at
         → Concludes
         D
         s
-        (rows_of paper.literals clauses.now sizes.now)
-        (rows_of width learned.now learned_sizes.now)
-        (rows_of width cubes.now cube_sizes.now)
+        (rows_of clauses.entry.width clauses.entry.cells.now clauses.entry.sizes.now)
+        (rows_of learned.entry.width learned.entry.cells.now learned.entry.sizes.now)
+        (rows_of cubes.entry.width cubes.entry.cells.now cubes.entry.sizes.now)
         result }
 {
-    if is_no(
-        clauses,
-        sizes,
-        learned,
-        learned_sizes,
-        width,
-        places,
-        kinds,
-        values,
-        at,
-    ) {
+    if is_no(clauses, learned, shown, at) {
         return Start::No;
     }
-    if is_yes(clauses, sizes, cubes, cube_sizes, width, places, values, at) {
+    if is_yes(clauses, cubes, shown, at) {
         return Start::Yes;
     }
     Start::Open

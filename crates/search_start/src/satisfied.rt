@@ -1,31 +1,25 @@
 // Step 3 of a visit: "Every rule satisfied".
 ghost use Rattle.std.specs.Prelude.{◌≡◌};
-ghost use Rattle.qbf.specs.Formula.{paper, Prefix, Node, all, satisfied};
-ghost use Rattle.tables.specs.Views.{Values, Standing, rows_of};
+ghost use Rattle.qbf.specs.Formula.{Prefix, Node, all, satisfied};
+ghost use Rattle.tables.specs.Views.{Values, rows_of};
 
-use lent_rows::row;
-use literal::{TRUE, cell_at, status_of};
+use lent_rows::LentRows;
+use literal::{TRUE, status_of};
 
-fn is_satisfied<'a>(lits: &'a [i16], values: &'a [u8]) -> bool
+fn is_satisfied(lits: &[i16], values: &[u8]) -> bool
     ensures { (D : Prefix) (s : Node) → Values D s values.now → result ≡ satisfied D s lits.now }
 {
-    for i in 0..lits.len() {
-        if status_of(values, lits[i]) == TRUE {
-            return true;
-        }
-    }
-    false
+    lits.iter().any(|lit| status_of(values, *lit) == TRUE)
 }
 
-pub fn all_satisfied<'a>(clauses: &'a [i16], sizes: &'a [u16], values: &'a [u8]) -> bool
-    requires { Standing paper.literals clauses.now sizes.now }
+pub fn all_satisfied(clauses: LentRows, values: &[u8]) -> bool
     ensures { (D : Prefix) (s : Node)
         → Values D s values.now
-        → result ≡ all (satisfied D s) (rows_of paper.literals clauses.now sizes.now) }
+        → result
+        ≡ all (satisfied D s) (rows_of clauses.entry.width clauses.entry.cells.now clauses.entry.sizes.now) }
 {
-    let count = cell_at(sizes, 0) as usize;
-    for k in 0..count {
-        if !is_satisfied(row(clauses, sizes, tables::LITERALS, k), values) {
+    for k in 0..clauses.count() {
+        if !is_satisfied(clauses.row(k), values) {
             return false;
         }
     }

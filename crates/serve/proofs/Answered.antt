@@ -15,15 +15,18 @@ use Rattle.qbf.specs.Ceiling.{Attempt, finished, stopped, search_within}
 use Rattle.qbf.specs.Calls.{Call, rule, one, query, forget, withdraw, given, Reply, done, refused, swap, keep, unsettled, lines, card_refused, found, Answer, answer, rule_fault, one_fault, rule_reply, query_fault, start_node, query_reply, open_answer, attempt_answer, learning_reading, learning_query, State as Read, guarded, well_formed}
 use Rattle.layout.specs.Words.{Bytes}
 use Rattle.layout.specs.Output.{refusal_text}
-use Rattle.layout.specs.Session.{done_text, refused_text, answer_text}
+use Rattle.layout.specs.Session.{done_text, refused_text, answer_text, search_refusal_text}
 use Rattle.state.specs.declared.State.{State}
 use Rattle.state.specs.Reading.{read_state}
 use Rattle.serving.specs.Serves.{Said, said_reply, said_of, number, out_of, Serves}
 use Rattle.rules.specs.Rules.{change_said}
-use Rattle.rules.specs.declared.Change.{Change}
+use Rattle.std.specs.Prelude.{Result}
+use Rattle.refusal.specs.declared.Refusal.{Refusal}
 use Rattle.serving.proofs.Numbered.{Numbered}
 use Rattle.opening.proofs.Numbered.{rule_numbered, one_numbered}
 use Rattle.replies.specs.Replies.{ruling_said}
+use Rattle.std.specs.Prelude.{Result, Ok, Err}
+use Rattle.refusal.specs.declared.Refusal.{Refusal}
 use Rattle.replies.specs.declared.Ruling.{Ruling}
 use Rattle.replies.specs.declared.Ruling.TheVariants as ruling
 use Rattle.serve.specs.Line.{prefix_read, CallServed}
@@ -103,7 +106,7 @@ change_text_lem D c n a plain h = by a.reply a.visits h
     by (found ls tb r) k h = absurd h
 
 -- a call that is done or refused, from its contract and the text
-pub change_served : (x : State) (c : Call) (n : ℕ) (ch : Change) (x' : State) (t : Bytes) → Searchless c → ((o : Option Read) → Changing (out_of o c).reply) → Serves x c (change_said ch) x'
+pub change_served : (x : State) (c : Call) (n : ℕ) (ch : Result Unit Refusal) (x' : State) (t : Bytes) → Searchless c → ((o : Option Read) → Changing (out_of o c).reply) → Serves x c (change_said ch) x'
     → t ≡ change_text (done_text c) (number (change_said ch).refusal) n → CallServed x (some c) n t x'
 change_served x c n ch x' t plain h s e =
     record {
@@ -154,33 +157,33 @@ query_asking top on off (some y) = by (well_formed y)
     by true = asked (query_fault y.formula [] (on ++ off))
     by false = tt
 
-query_text_lem : (D : Prefix) (top : ℕ) (on off : List Literal) (n : ℕ) (q : Ruling) (k : ℕ) (a : Answer) → Asking a.reply → ruling_said q k ≡ said_of a → ruling_text q k n ≡ answer_text D (query top on off) n a
+query_text_lem : (D : Prefix) (top : ℕ) (on off : List Literal) (n : ℕ) (q : Result Ruling Refusal) (k : ℕ) (a : Answer) → Asking a.reply → ruling_said q k ≡ said_of a → ruling_text q k n ≡ answer_text D (query top on off) n a
 unfolding answer_text
 query_text_lem D top on off n q k a h e = by q a.reply a.visits h e
   where
-    by : (q : Ruling) (r : Reply) (v : ℕ) → Asking r → ruling_said q k ≡ said_reply r v → ruling_text q k n ≡ answer_text D (query top on off) n (answer r v)
+    by : (q : Result Ruling Refusal) (r : Reply) (v : ℕ) → Asking r → ruling_said q k ≡ said_reply r v → ruling_text q k n ≡ answer_text D (query top on off) n (answer r v)
     by q done v h e = absurd h
     by q (lines ns tb) v h e = absurd h
     by q (card_refused m tb) v h e = absurd h
     by q (found ns tb r) v h e = absurd h
-    by ruling.Swap swap v h e = ap (λ (s : Said). ruling_text ruling.Swap s.visits n) e
-    by ruling.Keep keep v h e = ap (λ (s : Said). ruling_text ruling.Keep s.visits n) e
-    by (ruling.Refused m) (refused p) v h e = ap (λ (s : Said). ruling_text (ruling.Refused (number s.refusal)) s.visits n) e
-    by ruling.Unsettled unsettled v h e = ap (λ (s : Said). ruling_text ruling.Unsettled s.visits n) e
-    by ruling.Swap unsettled v h e = absurd (omega (arith, ap (λ (s : Said). s.verdict) e))
-    by ruling.Keep unsettled v h e = absurd (omega (arith, ap (λ (s : Said). s.verdict) e))
-    by ruling.Unsettled swap v h e = absurd (omega (arith, ap (λ (s : Said). s.verdict) e))
-    by ruling.Unsettled keep v h e = absurd (omega (arith, ap (λ (s : Said). s.verdict) e))
-    by ruling.Unsettled (refused p) v h e = absurd (omega (arith, ap (λ (s : Said). s.verdict) e))
-    by (ruling.Refused m) unsettled v h e = absurd (omega (arith, ap (λ (s : Said). s.verdict) e))
-    by ruling.Swap keep v h e = absurd (omega (arith, ap (λ (s : Said). s.verdict) e))
-    by ruling.Swap (refused p) v h e = absurd (omega (arith, ap (λ (s : Said). s.verdict) e))
-    by ruling.Keep swap v h e = absurd (omega (arith, ap (λ (s : Said). s.verdict) e))
-    by ruling.Keep (refused p) v h e = absurd (omega (arith, ap (λ (s : Said). s.verdict) e))
-    by (ruling.Refused m) swap v h e = absurd (omega (arith, ap (λ (s : Said). s.verdict) e))
-    by (ruling.Refused m) keep v h e = absurd (omega (arith, ap (λ (s : Said). s.verdict) e))
+    by (Ok ruling.Swap) swap v h e = ap (λ (s : Said). ruling_text (Ok ruling.Swap) s.visits n) e
+    by (Ok ruling.Keep) keep v h e = ap (λ (s : Said). ruling_text (Ok ruling.Keep) s.visits n) e
+    by (Err m) (refused p) v h e = ap (λ (s : Said). search_refusal_text (number s.refusal) n s.visits) e
+    by (Ok ruling.Unsettled) unsettled v h e = ap (λ (s : Said). ruling_text (Ok ruling.Unsettled) s.visits n) e
+    by (Ok ruling.Swap) unsettled v h e = absurd (omega (arith, ap (λ (s : Said). s.verdict) e))
+    by (Ok ruling.Keep) unsettled v h e = absurd (omega (arith, ap (λ (s : Said). s.verdict) e))
+    by (Ok ruling.Unsettled) swap v h e = absurd (omega (arith, ap (λ (s : Said). s.verdict) e))
+    by (Ok ruling.Unsettled) keep v h e = absurd (omega (arith, ap (λ (s : Said). s.verdict) e))
+    by (Ok ruling.Unsettled) (refused p) v h e = absurd (omega (arith, ap (λ (s : Said). s.verdict) e))
+    by (Err m) unsettled v h e = absurd (omega (arith, ap (λ (s : Said). s.verdict) e))
+    by (Ok ruling.Swap) keep v h e = absurd (omega (arith, ap (λ (s : Said). s.verdict) e))
+    by (Ok ruling.Swap) (refused p) v h e = absurd (omega (arith, ap (λ (s : Said). s.verdict) e))
+    by (Ok ruling.Keep) swap v h e = absurd (omega (arith, ap (λ (s : Said). s.verdict) e))
+    by (Ok ruling.Keep) (refused p) v h e = absurd (omega (arith, ap (λ (s : Said). s.verdict) e))
+    by (Err m) swap v h e = absurd (omega (arith, ap (λ (s : Said). s.verdict) e))
+    by (Err m) keep v h e = absurd (omega (arith, ap (λ (s : Said). s.verdict) e))
 
-pub query_answered : (top : ℕ) (x : State) (on off : List Literal) (n : ℕ) (q : Ruling) (k : ℕ) (x' : State) (t : Bytes) → Serves x (query top on off) (ruling_said q k) x' → t ≡ ruling_text q k n → CallServed x (some (query top on off)) n t x'
+pub query_answered : (top : ℕ) (x : State) (on off : List Literal) (n : ℕ) (q : Result Ruling Refusal) (k : ℕ) (x' : State) (t : Bytes) → Serves x (query top on off) (ruling_said q k) x' → t ≡ ruling_text q k n → CallServed x (some (query top on off)) n t x'
 query_answered top x on off n q k x' t s e =
     record {
       text = e ∙ query_text_lem (prefix_read (read_state x)) top on off n q k (out_of (read_state x) (query top on off)) (query_asking top on off (read_state x)) s.answered;

@@ -1,10 +1,9 @@
 -- What is printed for a text, from the contracts of the calls: its refusal, or the text of a card on an empty store.
 use Prim.Native.Nat.{ℕ, suc}
-use native.Mathlib.Omega.{arith}
 use mathlib.Core.Path.{◌≡◌, refl, sym, ap, subst, ◌∙◌}
 use mathlib.Core.Logic.{◌⊎◌, inl, inr}
 use mathlib.Core.Bool.{Bool, true}
-use mathlib.Core.List.{List, []}
+use mathlib.Core.List.{List}
 use mathlib.Core.Option.{Option, some}
 use Rattle.qbf.specs.Formula.{paper, Formula}
 use Rattle.qbf.specs.Truth.{free_variables}
@@ -27,12 +26,14 @@ use Rattle.state.specs.declared.State.{State}
 use Rattle.state.specs.Reading.{read_state}
 use Rattle.serving.specs.Serves.{Said, said_of, number, out_of, Serves}
 use Rattle.replies.specs.Replies.{card_said}
-use Rattle.replies.specs.declared.Printed.{Printed}
+use Rattle.std.specs.Prelude.{Result, Ok, Err}
+use Rattle.refusal.specs.declared.Refusal.{Refusal}
+use Rattle.refusal.specs.Refusal.{number_of}
+use Rattle.theory.proofs.AcceptedRule.{some_none}
 use Rattle.opening.specs.Opened.{OpenedAs}
 use Rattle.opening.specs.declared.Opened.{Opened as Answered}
 use Rattle.writer.specs.Wrote.{Wrote}
 use Rattle.serve.specs.Line.{prefix_read, line_answer}
-use Rattle.replies.proofs.Told.{card_said_lem}
 use Rattle.edition_opening.proofs.Apart.{edition_apart}
 use Rattle.answer_text.proofs.Room.{wrote_as}
 use Rattle.serve.proofs.FreeLines.{card_lines}
@@ -59,7 +60,7 @@ module _ (s : Bytes) (q : Answered) (told : OpenedAs (open_editions both paper s
       by (b, i) = subst (λ (o : Opened). Wrote d₀ 0 (opened_printed table_bytes o) d r) (sym i) (w b (subst (λ (o : Opened). OpenedAs o q) i told).2 (opened_formula both paper refl s b i))
 
 -- ---- the card of a state with an empty store
-module _ (x : State) (size : ℕ) (p : Printed) (k : ℕ) (tb : List ℕ) (x' : State) (s : Serves x (card highest_ceiling size) (card_said p k tb) x') (r : ℕ) (q : r ≡ number (card_said p 0 []).refusal) (b : Formula) (e : read_state x ≡ some (fresh b)) (ok : formula_is_ok b ≡ true) where
+module _ (x : State) (size : ℕ) (p : Result ℕ Refusal) (k : ℕ) (tb : List ℕ) (x' : State) (s : Serves x (card highest_ceiling size) (card_said p k tb) x') (b : Formula) (e : read_state x ≡ some (fresh b)) (ok : formula_is_ok b ≡ true) where
   abbrev a : Answer
   a = (learning_card true b empty_store highest_ceiling size).out
 
@@ -72,25 +73,25 @@ module _ (x : State) (size : ℕ) (p : Printed) (k : ℕ) (tb : List ℕ) (x' : 
   out_is : out_of (read_state x) (card highest_ceiling size) ≡ a
   out_is = ap (λ (o : Option Read). out_of o (card highest_ceiling size)) e ∙ ap (λ (g : Bool). (guarded g (fresh b) (card highest_ceiling size)).out) formed
 
-  refusal_is : (reply : Reply) → a.reply ≡ reply → r ≡ number (said_of (record { reply = reply; visits = a.visits })).refusal
-  refusal_is reply z = q ∙ ap (λ (w : Said). number w.refusal) (sym (card_said_lem p k tb) ∙ s.answered ∙ ap said_of out_is ∙ said_by a reply z)
+  said_is : (q : Result ℕ Refusal) → p ≡ q → (reply : Reply) → a.reply ≡ reply → card_said q k tb ≡ said_of (record { reply = reply; visits = a.visits })
+  said_is q is reply z = sym (ap (λ (w : Result ℕ Refusal). card_said w k tb) is) ∙ s.answered ∙ ap said_of out_is ∙ said_by a reply z
 
   printed_by_lem : (reply : Reply) → a.reply ≡ reply → answer_printed b.prefix a ≡ card_printed b.prefix reply a.visits
   printed_by_lem reply z = ap (λ (w : Reply). card_printed b.prefix w a.visits) z
 
-  pub refused_printed : (r ≡ 0 → ⊥) → refusal_text r 0 ≡ answer_printed b.prefix a
-  refused_printed h = by (formed_cases highest_ceiling true size (fresh b))
+  pub refused_printed : (m : Refusal) → p ≡ Err m → (n : ℕ) → n ≡ number_of m → refusal_text n 0 ≡ answer_printed b.prefix a
+  refused_printed m is n told = ap (λ (j : ℕ). refusal_text j 0) told ∙ by (formed_cases highest_ceiling true size (fresh b))
     where
-      by : Refused a.reply ⊎ Listed highest_ceiling true size (fresh b) a.reply → refusal_text r 0 ≡ answer_printed b.prefix a
-      by (inl (m, tb', z)) = ap (λ (n : ℕ). refusal_text n 0) (refusal_is (card_refused (suc m) tb') z) ∙ sym (printed_by_lem (card_refused (suc m) tb') z)
-      by (inr (z, fits)) = absurd (h (refusal_is shown z))
+      by : Refused a.reply ⊎ Listed highest_ceiling true size (fresh b) a.reply → refusal_text (number_of m) 0 ≡ answer_printed b.prefix a
+      by (inl (j, tb', z)) = ap (λ (w : Said). refusal_text (number w.refusal) 0) (said_is (Err m) is (card_refused (suc j) tb') z) ∙ sym (printed_by_lem (card_refused (suc j) tb') z)
+      by (inr (z, fits)) = absurd (some_none (ap (λ (w : Said). w.refusal) (said_is (Err m) is shown z)))
 
   -- the line does not matter
-  pub shown_printed : r ≡ 0 → (line : ℕ) → line_answer (read_state x) line (some (card highest_ceiling size)) ≡ answer_printed b.prefix a
-  shown_printed h line = by (formed_cases highest_ceiling true size (fresh b))
+  pub shown_printed : (n : ℕ) → p ≡ Ok n → (line : ℕ) → line_answer (read_state x) line (some (card highest_ceiling size)) ≡ answer_printed b.prefix a
+  shown_printed n is line = by (formed_cases highest_ceiling true size (fresh b))
     where
       by : Refused a.reply ⊎ Listed highest_ceiling true size (fresh b) a.reply → line_answer (read_state x) line (some (card highest_ceiling size)) ≡ answer_printed b.prefix a
-      by (inl (m, tb', z)) = absurd (omega (arith, h, refusal_is (card_refused (suc m) tb') z))
+      by (inl (m, tb', z)) = absurd (some_none (sym (ap (λ (w : Said). w.refusal) (said_is (Ok n) is (card_refused (suc m) tb') z))))
       by (inr (z, fits)) =
           ap (λ (o : Option Read). answer_text (prefix_read o) (card highest_ceiling size) line (out_of o (card highest_ceiling size))) e
           ∙ ap (λ (g : Bool). answer_text b.prefix (card highest_ceiling size) line (guarded g (fresh b) (card highest_ceiling size)).out) formed

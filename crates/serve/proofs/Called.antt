@@ -37,7 +37,6 @@ small_call l top line.Forget out h = tt
 small_call l top line.Withdraw out h = tt
 small_call l top (line.One n) out h = tt
 small_call l top (line.Closest n size) out h = subst Fits h.1 (fits_call l)
-small_call l top line.NotCall out h = tt
 
 -- ---- by the literals that stand in the table
 -- the flags that are on, or those that are off, in a table of the same length
@@ -103,7 +102,7 @@ closest_turned {x} {number} {r} {t} {d} n lits wide top size k e ons on on_room 
 
 -- ---- by the kind of the call
 module _ {x : State} {number : ℕ} {s₀ : Shown} {t₀ : Bytes} {r : Turn} {t d : Bytes} where
-  meant : (c c' : Option Call) → c ≡ c' → Turned x c' number s₀ t₀ r t d → Turned x c number s₀ t₀ r t d
+  pub meant : (c c' : Option Call) → c ≡ c' → Turned x c' number s₀ t₀ r t d → Turned x c number s₀ t₀ r t d
   meant c c' e h = subst (λ (o : Option Call). Turned x o number s₀ t₀ r t d) (sym e) h
 
   module _ (lits : List ℤ) (top : ℕ) (q : CallLine) (c : Option Call) (h : CallUnder top c q lits) where
@@ -142,9 +141,6 @@ module _ {x : State} {number : ℕ} {s₀ : Shown} {t₀ : Bytes} {r : Turn} {t 
 
     pub called_withdraw : q ≡ line.Withdraw → Turned x (some withdraw) number s₀ t₀ r t d → Turned x c number s₀ t₀ r t d
     called_withdraw e u = meant c (some withdraw) (subst (λ (z : CallLine). CallUnder top c z lits) e h) u
-
-    pub called_none : q ≡ line.NotCall → Turned x none number s₀ t₀ r t d → Turned x c number s₀ t₀ r t d
-    called_none e u = meant c none (subst (λ (z : CallLine). CallUnder top c z lits) e h) u
 
 -- a line that is no call
 pub none_served : (x : State) (n : ℕ) (t : Bytes) → t ≡ refusal_text 1 n → CallServed x none n t x

@@ -28,12 +28,12 @@ use Rattle.state.specs.declared.State.{State}
 use Rattle.state.specs.Reading.{read_state, valid, prefix_in, state_in}
 use Rattle.state.specs.Derived.{Quantified}
 use Rattle.state.proofs.Valid.{valid_facts, valid_numbers, valid_quantified}
-use Rattle.serving.specs.Serves.{Said, said, said_reply, said_of, number, fault_of, told, out_of, Serves}
-use Rattle.serving.proofs.Numbered.{served_told}
+use Rattle.serving.specs.Serves.{Said, said, said_reply, said_of, number, out_of, Serves}
 use Rattle.serving.proofs.Calls.{malformed}
 use Rattle.replies.specs.Replies.{card_said}
-use Rattle.replies.proofs.Told.{card_said_lem}
-use Rattle.replies.specs.declared.Printed.{Printed}
+use Rattle.std.specs.Prelude.{Result, Ok, Err}
+use Rattle.refusal.specs.declared.Refusal.{Refusal}
+use Rattle.refusal.specs.Refusal.{number_of}
 use Rattle.answers.proofs.Running.{free_within, free_small}
 use Rattle.writer.specs.Rows.{card_rows}
 use Rattle.writer.proofs.Shown.{card_shown, card_most}
@@ -119,43 +119,32 @@ pub text_by : (D : Prefix) (c : Call) (line : ℕ) (a : Answer) (r : Reply) → 
 unfolding answer_text
 text_by D c line a r e = ap (λ (q : Reply). reply_printed D c line q a.visits) e
 
-refused_text_lem : (top : ℕ) (v : Bool) (o : Option Read) (D : Prefix) (size line : ℕ) (f : Option ℕ) (r n k : ℕ) (tb : List ℕ) → r ≡ number f → (r ≡ 0 → ⊥) → said f 0 n k tb ≡ said_of (out_of o (card_of v top size))
-    → search_refusal_text r line k ≡ answer_text D (card_of v top size) line (out_of o (card_of v top size))
-refused_text_lem top v o D size line f r n k tb q h s = by (card_cases top v size o)
+refused_text_lem : (top : ℕ) (v : Bool) (o : Option Read) (D : Prefix) (size line n k : ℕ) (tb : List ℕ) → said (some n) 0 0 k tb ≡ said_of (out_of o (card_of v top size))
+    → search_refusal_text n line k ≡ answer_text D (card_of v top size) line (out_of o (card_of v top size))
+refused_text_lem top v o D size line n k tb s = by (card_cases top v size o)
   where
     a : Answer
     a = out_of o (card_of v top size)
 
-    by : Refused a.reply ⊎ ListedBy top v size o a.reply → search_refusal_text r line k ≡ answer_text D (card_of v top size) line a
+    by : Refused a.reply ⊎ ListedBy top v size o a.reply → search_refusal_text n line k ≡ answer_text D (card_of v top size) line a
     by (inl (m, tb', e)) =
-        let w = s ∙ said_by a (card_refused (suc m) tb') e in
-        ap (λ (j : ℕ). search_refusal_text j line k) q ∙ ap (λ (z : Said). search_refusal_text (number z.refusal) line z.visits) w ∙ sym (text_by D (card_of v top size) line a (card_refused (suc m) tb') e)
-    by (inr (y, i, g, l)) = absurd (h (q ∙ ap (λ (z : Said). number z.refusal) (s ∙ said_by a (lines (card_lines y v) (table_of (free_variables y.formula.prefix) size (card_lines y v))) l.0)))
+        ap (λ (z : Said). search_refusal_text (number z.refusal) line z.visits) (s ∙ said_by a (card_refused (suc m) tb') e) ∙ sym (text_by D (card_of v top size) line a (card_refused (suc m) tb') e)
+    by (inr (y, i, g, l)) = absurd (some_none (ap (λ (z : Said). z.refusal) (s ∙ said_by a (lines (card_lines y v) (table_of (free_variables y.formula.prefix) size (card_lines y v))) l.0)))
 
--- a refused card, from its contract and the text
-pub refused_served : (top : ℕ) (v : Bool) (x : State) (size line r : ℕ) (p : Printed) (k : ℕ) (tb : List ℕ) (x' : State) (t : Bytes) → Serves x (card_of v top size) (card_said p k tb) x' → r ≡ number (card_said p 0 []).refusal → (r ≡ 0 → ⊥)
-    → t ≡ search_refusal_text r line k → CallServed x (some (card_of v top size)) line t x'
-refused_served top v x size line r p k tb x' t s q h e =
-    record {
-      text = e ∙ refused_text_lem top v (read_state x) (prefix_read (read_state x)) size line (card_said p 0 []).refusal r (card_said p 0 []).lines k tb q h (sym (card_said_lem p k tb) ∙ s.answered);
-      next = s.next;
-      kept = s.kept;
-    }
+-- a refused card's text, from what its answer says
+pub refused_text : (top : ℕ) (v : Bool) (x : State) (line : ℕ) (tb : List ℕ) (m : Refusal) (p : Result ℕ Refusal) (k : ℕ) → card_said p k tb ≡ said_of (out_of (read_state x) (card_of v top (length tb))) → p ≡ Err m
+    → search_refusal_text (number_of m) line k ≡ line_answer (read_state x) line (some (card_of v top (length tb)))
+refused_text top v x line tb m p k s is =
+    refused_text_lem top v (read_state x) (prefix_read (read_state x)) (length tb) line (number_of m) k tb (sym (ap (λ (q : Result ℕ Refusal). card_said q k tb) is) ∙ s)
 
 -- a call whose answer is shown
 pub shown_served : (x : State) (c : Call) (line : ℕ) (a : Said) (x' : State) (t : Bytes) → Serves x c a x' → t ≡ line_answer (read_state x) line (some c) → CallServed x (some c) line t x'
 shown_served x c line a x' t s e = record { text = e; next = s.next; kept = s.kept }
 
 -- what the lines' table owes to the writer, from the contract
-pub shown_said : (top : ℕ) (v : Bool) (x : State) (size r n : ℕ) (p : Printed) (k : ℕ) (tb : List ℕ) (x' : State) → length tb ≡ size → Serves x (card_of v top size) (card_said p k tb) x' → r ≡ number (card_said p 0 []).refusal → r ≡ 0 → n ≡ (card_said p 0 []).lines
+pub shown_said : (top : ℕ) (v : Bool) (x : State) (tb : List ℕ) (n : ℕ) (p : Result ℕ Refusal) (k : ℕ) → card_said p k tb ≡ said_of (out_of (read_state x) (card_of v top (length tb))) → p ≡ Ok n
     → said none 0 n k tb ≡ said_of (out_of (read_state x) (card_of v top (length tb)))
-shown_said top v x size r n p k tb x' long s q z m =
-    (λ i. said (fault_of (sym z i)) 0 (m i) k tb)
-    ∙ ap (λ (j : ℕ). said (fault_of j) 0 (card_said p 0 []).lines k tb) q
-    ∙ sym (ap told (card_said_lem p k tb))
-    ∙ served_told s
-    ∙ s.answered
-    ∙ ap (λ (j : ℕ). said_of (out_of (read_state x) (card_of v top j))) (sym long)
+shown_said top v x tb n p k s is = sym (ap (λ (q : Result ℕ Refusal). card_said q k tb) is) ∙ s
 
 -- ---- the longest card
 product : (n f : ℕ) → n * (8 * f + 7) ≡ 8 * (n * f) + 7 * n

@@ -22,13 +22,13 @@ use Rattle.state.specs.Reading.{read_state, valid, prefix_in}
 use Rattle.state.proofs.Valid.{valid_facts, valid_numbers, valid_quantified}
 use Rattle.serving.specs.Serves.{Said, said, said_reply, number, out_of, Serves}
 use Rattle.rules.specs.Rules.{change_said}
-use Rattle.rules.specs.declared.Change.{Change}
+use Rattle.std.specs.Prelude.{Result}
+use Rattle.refusal.specs.declared.Refusal.{Refusal}
 use Rattle.replies.specs.Replies.{card_said}
-use Rattle.replies.specs.declared.Printed.{Printed}
+use Rattle.std.specs.Prelude.{Result, Ok, Err}
+use Rattle.refusal.specs.declared.Refusal.{Refusal}
 use Rattle.replies.proofs.Told.{card_said_lem}
 use Rattle.closest_call.specs.Nearest.{nearest_said}
-use Rattle.closest_call.specs.declared.Told.{Told}
-use Rattle.closest_call.specs.declared.Told.TheVariants as told
 use Rattle.answer_text.specs.declared.shown.Shown.{Shown}
 use Rattle.answer_text.specs.Shown.{card_in, no_card, CardTold}
 use Rattle.serve.specs.Line.{prefix_read, line_card}
@@ -55,14 +55,14 @@ rule_left s t (card_refused n tb) k h = absurd h
 rule_left s t (found ls tb r) k h = absurd h
 
 -- from the contract of the call and the number of its refusal
-pub rule_leaves : (x : State) (c : Call) (ch : Change) (x' : State) (s : Shown) (n : ℕ) → Changing (out_of (read_state x) c).reply → Serves x c (change_said ch) x' → n ≡ number (change_said ch).refusal
+pub rule_leaves : (x : State) (c : Call) (ch : Result Unit Refusal) (x' : State) (s : Shown) (n : ℕ) → Changing (out_of (read_state x) c).reply → Serves x c (change_said ch) x' → n ≡ number (change_said ch).refusal
     → (r : Shown) → r ≡ cond (eqb n 0) no_card s → (t : Bytes) → card_in r t ≡ card_after_rule (out_of (read_state x) c).reply (card_in s t)
 rule_leaves x c ch x' s n h w e r is t =
     ap (λ (z : Shown). card_in z t) (is ∙ ap (λ (k : ℕ). cond (eqb k 0) no_card s) (e ∙ ap (λ (q : Said). number q.refusal) w.answered))
     ∙ rule_left s t (out_of (read_state x) c).reply (out_of (read_state x) c).visits h
 
 -- ---- a card, or that from which a closest reading was found
-module _ (x : State) (p : Printed) (tb : Bytes) (r : Shown) (told : CardTold x p (length tb) r) (after : Bytes) where
+module _ (x : State) (p : Result ℕ Refusal) (tb : Bytes) (r : Shown) (told : CardTold x p (length tb) r) (after : Bytes) where
   front : take r.size (tb ++ after) ≡ tb
   front = take-append-le r.size tb after (omega (arith, told.size)) ∙ take_all r.size tb (omega (arith, told.size))
 
@@ -94,7 +94,7 @@ module _ (x : State) (p : Printed) (tb : Bytes) (r : Shown) (told : CardTold x p
       free = told.free (prefix_in x) (valid_numbers x is_valid) (valid_quantified x is_valid) ∙ ap (λ (o : Option Read). free_variables (prefix_read o)) (sym (valid_facts x is_valid).read)
 
 -- ---- a card
-module _ (top : ℕ) (v : Bool) (x : State) (size : ℕ) (p : Printed) (k : ℕ) (tb : Bytes) (x' : State) (w : Serves x (card_of v top size) (card_said p k tb) x') (r : Shown) (told : CardTold x p (length tb) r) (after : Bytes) where
+module _ (top : ℕ) (v : Bool) (x : State) (size : ℕ) (p : Result ℕ Refusal) (k : ℕ) (tb : Bytes) (x' : State) (w : Serves x (card_of v top size) (card_said p k tb) x') (r : Shown) (told : CardTold x p (length tb) r) (after : Bytes) where
   abbrev a : Answer
   a = out_of (read_state x) (card_of v top size)
 
@@ -120,19 +120,19 @@ module _ (top : ℕ) (v : Bool) (x : State) (size : ℕ) (p : Printed) (k : ℕ)
 
 -- ---- a closest reading
 -- what it says of the card that it was found on
-found_refusal : (q : Told) (n k : ℕ) (tb bytes : Bytes) → (card_said (card_found q n) 0 []).refusal ≡ (nearest_said q n k tb bytes).refusal
-found_refusal (told.Reading d) n k tb bytes = refl
-found_refusal (told.Refused m) n k tb bytes = refl
+found_refusal : (q : Result ℕ Refusal) (n k : ℕ) (tb bytes : Bytes) → (card_said (card_found q n) 0 []).refusal ≡ (nearest_said q n k tb bytes).refusal
+found_refusal (Ok d) n k tb bytes = refl
+found_refusal (Err m) n k tb bytes = refl
 
-found_lines : (q : Told) (n k : ℕ) (tb bytes : Bytes) → (nearest_said q n k tb bytes).refusal ≡ none → (card_said (card_found q n) 0 []).lines ≡ (nearest_said q n k tb bytes).lines
-found_lines (told.Reading d) n k tb bytes e = refl
-found_lines (told.Refused m) n k tb bytes e = absurd (some_none e)
+found_lines : (q : Result ℕ Refusal) (n k : ℕ) (tb bytes : Bytes) → (nearest_said q n k tb bytes).refusal ≡ none → (card_said (card_found q n) 0 []).lines ≡ (nearest_said q n k tb bytes).lines
+found_lines (Ok d) n k tb bytes e = refl
+found_lines (Err m) n k tb bytes e = absurd (some_none e)
 
-found_table : (q : Told) (n k : ℕ) (tb bytes : Bytes) → tb ≡ (nearest_said q n k tb bytes).table
-found_table (told.Reading d) n k tb bytes = refl
-found_table (told.Refused m) n k tb bytes = refl
+found_table : (q : Result ℕ Refusal) (n k : ℕ) (tb bytes : Bytes) → tb ≡ (nearest_said q n k tb bytes).table
+found_table (Ok d) n k tb bytes = refl
+found_table (Err m) n k tb bytes = refl
 
-module _ (top size : ℕ) (on off : List Literal) (x : State) (q : Told) (n k : ℕ) (tb bytes : Bytes) (x' : State) (w : Serves x (closest top size on off) (nearest_said q n k tb bytes) x') (r : Shown) (made : CardTold x (card_found q n) (length tb) r) (after : Bytes) where
+module _ (top size : ℕ) (on off : List Literal) (x : State) (q : Result ℕ Refusal) (n k : ℕ) (tb bytes : Bytes) (x' : State) (w : Serves x (closest top size on off) (nearest_said q n k tb bytes) x') (r : Shown) (made : CardTold x (card_found q n) (length tb) r) (after : Bytes) where
   abbrev asked : Answer
   asked = out_of (read_state x) (closest top size on off)
 

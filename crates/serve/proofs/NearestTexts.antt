@@ -27,8 +27,9 @@ use Rattle.serving.specs.Serves.{Said, said, said_with, said_of, number, out_of}
 use Rattle.serving.proofs.Numbered.{Numbered, out_numbered}
 use Rattle.answers.proofs.Running.{free_within, free_small}
 use Rattle.closest_call.specs.Nearest.{nearest_said}
-use Rattle.closest_call.specs.declared.Told.{Told}
-use Rattle.closest_call.specs.declared.Told.TheVariants as told
+use Rattle.std.specs.Prelude.{Result, Ok, Err}
+use Rattle.refusal.specs.declared.Refusal.{Refusal}
+use Rattle.refusal.specs.Refusal.{number_of}
 use Rattle.writer.specs.Rows.{closest_row}
 use Rattle.writer.proofs.Shown.{closest_shown, closest_most}
 use Rattle.answer_text.specs.Room.{answer_bytes}
@@ -117,7 +118,7 @@ pub record ReadingWritten (top : ℕ) (on off : List Literal) (x : State) (tb rd
   pub short : length (closest_row x.numbers (take f rd) d n k) ≤ answer_bytes
   pub text : (line : ℕ) → closest_row x.numbers (take f rd) d n k ≡ line_answer (read_state x) line (some (closest top (length tb) on off))
 
-module _ (top : ℕ) (on off : List Literal) (x : State) (tb rd : List ℕ) (q : Told) (n k : ℕ) (s : nearest_said q n k tb (take (free_variables (prefix_in x)) rd) ≡ said_of (out_of (read_state x) (closest top (length tb) on off))) where
+module _ (top : ℕ) (on off : List Literal) (x : State) (tb rd : List ℕ) (q : Result ℕ Refusal) (n k : ℕ) (s : nearest_said q n k tb (take (free_variables (prefix_in x)) rd) ≡ said_of (out_of (read_state x) (closest top (length tb) on off))) where
   abbrev c : Call
   c = closest top (length tb) on off
 
@@ -128,22 +129,22 @@ module _ (top : ℕ) (on off : List Literal) (x : State) (tb rd : List ℕ) (q :
   D = prefix_in x
 
   -- a refusal
-  pub nearest_refused : (m line : ℕ) → q ≡ told.Refused m → search_refusal_text m line k ≡ line_answer (read_state x) line (some c)
+  pub nearest_refused : (m : Refusal) (line : ℕ) → q ≡ Err m → search_refusal_text (number_of m) line k ≡ line_answer (read_state x) line (some c)
   nearest_refused m line e = by (closest_cases top (length tb) on off (read_state x))
     where
-      w : said (some m) 0 n k tb ≡ said_of a
-      w = ap (λ (z : Told). nearest_said z n k tb (take (free_variables D) rd)) (sym e) ∙ s
+      w : said (some (number_of m)) 0 n k tb ≡ said_of a
+      w = ap (λ (z : Result ℕ Refusal). nearest_said z n k tb (take (free_variables D) rd)) (sym e) ∙ s
 
-      by : Refused a.reply ⊎ FoundBy (read_state x) a.reply → search_refusal_text m line k ≡ line_answer (read_state x) line (some c)
+      by : Refused a.reply ⊎ FoundBy (read_state x) a.reply → search_refusal_text (number_of m) line k ≡ line_answer (read_state x) line (some c)
       by (inl (j, u, i)) =
           ap (λ (z : Said). search_refusal_text (number z.refusal) line z.visits) (w ∙ said_by a (card_refused (suc j) u) i)
           ∙ sym (text_by (prefix_read (read_state x)) c line a (card_refused (suc j) u) i)
       by (inr (y, i, g, ls, u, f, h, j)) = absurd (some_none (ap (λ (z : Said). z.refusal) (w ∙ said_by a (found ls u f) j)))
 
   -- a reading among the lines ls, which the state's prefix shows
-  module _ (d : ℕ) (e : q ≡ told.Reading d) (small : (n < 2 ^ 64) × (k < 2 ^ 64)) (f : ℕ) where
+  module _ (d : ℕ) (e : q ≡ Ok d) (small : (n < 2 ^ 64) × (k < 2 ^ 64)) (f : ℕ) where
     w : said_with none 0 n k tb (take (free_variables D) rd) d ≡ said_of a
-    w = ap (λ (z : Told). nearest_said z n k tb (take (free_variables D) rd)) (sym e) ∙ s
+    w = ap (λ (z : Result ℕ Refusal). nearest_said z n k tb (take (free_variables D) rd)) (sym e) ∙ s
 
     module _ (is_valid : valid x ≡ true) (frees : f ≡ free_variables D) (ls : List Node) (u : List ℕ) (z : Found) (few : Short z) (j : a.reply ≡ found ls u z) where
       v : said_with none 0 n k tb (take (free_variables D) rd) d ≡ said_with none 0 (length ls) a.visits u (map byte_of z.reading) z.number

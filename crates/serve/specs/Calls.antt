@@ -2,7 +2,7 @@
 use Rattle.std.specs.Prelude.{◌≤◌}
 use Rattle.layout.specs.Program.{table_bytes}
 use Rattle.reader.specs.declared.call.CallLine.{CallLine}
-use Rattle.reader.specs.declared.call.CallLine.TheVariants.{Rule, Query, Card, KeepCard, Forget, Withdraw, One, Closest, NotCall}
+use Rattle.reader.specs.declared.call.CallLine.TheVariants.{Rule, Query, Card, KeepCard, Forget, Withdraw, One, Closest}
 
 abbrev pub Small : CallLine → Type 0
 Small (Rule n) = Unit {0}
@@ -13,4 +13,3 @@ Small Forget = Unit {0}
 Small Withdraw = Unit {0}
 Small (One n) = Unit {0}
 Small (Closest n size) = size ≤ table_bytes
-Small NotCall = Unit {0}

@@ -13,13 +13,13 @@ ghost use Rattle.writer.specs.Wrote.{Wrote};
 ghost use Rattle.answer_text.specs.Room.{answer_bytes};
 ghost use Rattle.serve.specs.Books.{PrintsCard};
 
+use crate::Sought;
 use crate::card::put_shown;
 use answer_text::ANSWER;
 use answer_text::book::{short, told};
-use answer_text::refusal::{refuse, refuse_card};
-use book_writer::{NONE, Written};
+use answer_text::refused::{refuse, refuse_card};
+use book_writer::Written;
 use edition_opening::{Editions, open_editions};
-use replies::{lines_of, refusal_of};
 use state::State;
 
 // The card of a state with an empty store, in a lent table.
@@ -31,31 +31,16 @@ fn print_in(x: State, table: &mut [u8], out: &mut [u8]) -> usize
         → formula_is_ok b ≡ true
         → Wrote out.old 0 (answer_printed b.prefix (learning_card true b empty_store highest_ceiling (length table.old)).out) out.new result }
 {
-    let mut learned_clauses = x.learned_clauses;
-    let mut learned_clause_sizes = x.learned_clause_sizes;
-    let mut learned_cubes = x.learned_cubes;
-    let mut learned_cube_sizes = x.learned_cube_sizes;
-    let shown = answers::in_place::card(
-        &x.numbers,
-        &x.levels,
-        &x.kinds,
-        &x.clauses,
-        &x.clause_sizes,
-        &mut learned_clauses,
-        &mut learned_clause_sizes,
-        &mut learned_cubes,
-        &mut learned_cube_sizes,
-        table,
-        tables::HIGHEST_CEILING,
-    );
-    let printed = shown.printed;
-    let visits = shown.visits;
-    let refusal = refusal_of(printed);
-    if refusal != NONE {
-        return refuse_card(out, refusal);
+    let mut next = x;
+    let sought = Sought {
+        yes: true,
+        ceiling: tables::HIGHEST_CEILING,
+    };
+    let shown = answers::on_state::card_of(&mut next, table, sought.yes, sought.ceiling);
+    match shown.lines {
+        Ok(lines) => put_shown(out, x, table, lines, shown.visits, sought),
+        Err(refusal) => refuse_card(out, refusal.number()),
     }
-    let lines = lines_of(printed);
-    put_shown(out, x, table, lines, visits, true, tables::HIGHEST_CEILING)
 }
 
 // "The program's card table has 65,536 bytes"

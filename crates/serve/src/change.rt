@@ -8,6 +8,7 @@ ghost use Rattle.serve.specs.Line.{TurnedBeside};
 use crate::Turn;
 use answer_text::change::put_change;
 use answer_text::shown::{Shown, after_rule};
+use rules::lent::{Adding, Emptying, Withdrawing};
 use rules::{in_place, refusal_of};
 use state::State;
 
@@ -16,25 +17,19 @@ pub fn serve_rule(x: State, lits: &[i16], line: u64, shown: Shown, out: &mut [u8
     requires { answer_bytes ≤ length out.old }
     ensures { TurnedBeside x (some (rule lits.now)) line shown result out.new }
 {
-    let mut clauses = x.clauses;
-    let mut clause_sizes = x.clause_sizes;
-    let mut cube_sizes = x.learned_cube_sizes;
-    let change = in_place::rule(
-        &x.numbers,
-        &x.levels,
-        &x.kinds,
-        &mut clauses,
-        &mut clause_sizes,
-        &x.learned_clauses,
-        &x.learned_clause_sizes,
-        &x.learned_cubes,
-        &mut cube_sizes,
-        lits,
-    );
     let mut next = x;
-    next.clauses = clauses;
-    next.clause_sizes = clause_sizes;
-    next.learned_cube_sizes = cube_sizes;
+    let mut tables = Adding {
+        numbers: &x.numbers,
+        levels: &x.levels,
+        kinds: &x.kinds,
+        clauses: &mut next.clauses,
+        clause_sizes: &mut next.clause_sizes,
+        learned_clauses: &x.learned_clauses,
+        learned_clause_sizes: &x.learned_clause_sizes,
+        learned_cubes: &x.learned_cubes,
+        learned_cube_sizes: &mut next.learned_cube_sizes,
+    };
+    let change = in_place::rule(&mut tables, lits);
     let refusal = refusal_of(change);
     let length = put_change(out, b"(accepted)\n", refusal, line);
     Turn {
@@ -49,25 +44,19 @@ pub fn serve_one(x: State, lits: &[i16], line: u64, shown: Shown, out: &mut [u8]
     requires { answer_bytes ≤ length out.old }
     ensures { TurnedBeside x (some (one lits.now)) line shown result out.new }
 {
-    let mut clauses = x.clauses;
-    let mut clause_sizes = x.clause_sizes;
-    let mut cube_sizes = x.learned_cube_sizes;
-    let change = in_place::one(
-        &x.numbers,
-        &x.levels,
-        &x.kinds,
-        &mut clauses,
-        &mut clause_sizes,
-        &x.learned_clauses,
-        &x.learned_clause_sizes,
-        &x.learned_cubes,
-        &mut cube_sizes,
-        lits,
-    );
     let mut next = x;
-    next.clauses = clauses;
-    next.clause_sizes = clause_sizes;
-    next.learned_cube_sizes = cube_sizes;
+    let mut tables = Adding {
+        numbers: &x.numbers,
+        levels: &x.levels,
+        kinds: &x.kinds,
+        clauses: &mut next.clauses,
+        clause_sizes: &mut next.clause_sizes,
+        learned_clauses: &x.learned_clauses,
+        learned_clause_sizes: &x.learned_clause_sizes,
+        learned_cubes: &x.learned_cubes,
+        learned_cube_sizes: &mut next.learned_cube_sizes,
+    };
+    let change = in_place::one(&mut tables, lits);
     let refusal = refusal_of(change);
     let length = put_change(out, b"(accepted)\n", refusal, line);
     let left = after_rule(shown, refusal);
@@ -83,24 +72,19 @@ pub fn serve_withdraw(x: State, line: u64, shown: Shown, out: &mut [u8]) -> Turn
     requires { answer_bytes ≤ length out.old }
     ensures { TurnedBeside x (some withdraw) line shown result out.new }
 {
-    let mut clause_sizes = x.clause_sizes;
-    let mut learned_clauses = x.learned_clauses;
-    let mut learned_clause_sizes = x.learned_clause_sizes;
-    let change = in_place::withdraw(
-        &x.numbers,
-        &x.levels,
-        &x.kinds,
-        &x.clauses,
-        &mut clause_sizes,
-        &mut learned_clauses,
-        &mut learned_clause_sizes,
-        &x.learned_cubes,
-        &x.learned_cube_sizes,
-    );
     let mut next = x;
-    next.clause_sizes = clause_sizes;
-    next.learned_clauses = learned_clauses;
-    next.learned_clause_sizes = learned_clause_sizes;
+    let mut tables = Withdrawing {
+        numbers: &x.numbers,
+        levels: &x.levels,
+        kinds: &x.kinds,
+        clauses: &x.clauses,
+        clause_sizes: &mut next.clause_sizes,
+        learned_clauses: &mut next.learned_clauses,
+        learned_clause_sizes: &mut next.learned_clause_sizes,
+        learned_cubes: &x.learned_cubes,
+        learned_cube_sizes: &x.learned_cube_sizes,
+    };
+    let change = in_place::withdraw(&mut tables);
     let refusal = refusal_of(change);
     let length = put_change(out, b"(withdrawn)\n", refusal, line);
     let left = after_rule(shown, refusal);
@@ -116,22 +100,19 @@ pub fn serve_forget(x: State, line: u64, shown: Shown, out: &mut [u8]) -> Turn
     requires { answer_bytes ≤ length out.old }
     ensures { TurnedBeside x (some forget) line shown result out.new }
 {
-    let mut clause_sizes = x.learned_clause_sizes;
-    let mut cube_sizes = x.learned_cube_sizes;
-    let change = in_place::forget(
-        &x.numbers,
-        &x.levels,
-        &x.kinds,
-        &x.clauses,
-        &x.clause_sizes,
-        &x.learned_clauses,
-        &mut clause_sizes,
-        &x.learned_cubes,
-        &mut cube_sizes,
-    );
     let mut next = x;
-    next.learned_clause_sizes = clause_sizes;
-    next.learned_cube_sizes = cube_sizes;
+    let mut tables = Emptying {
+        numbers: &x.numbers,
+        levels: &x.levels,
+        kinds: &x.kinds,
+        clauses: &x.clauses,
+        clause_sizes: &x.clause_sizes,
+        learned_clauses: &x.learned_clauses,
+        learned_clause_sizes: &mut next.learned_clause_sizes,
+        learned_cubes: &x.learned_cubes,
+        learned_cube_sizes: &mut next.learned_cube_sizes,
+    };
+    let change = in_place::forget(&mut tables);
     let refusal = refusal_of(change);
     let length = put_change(out, b"(forgotten)\n", refusal, line);
     Turn {

@@ -13,6 +13,21 @@ mod nearest;
 mod query;
 pub mod write; // the book's text
 
+// Of a query or a closest reading: the variables that are on, those that are off, and the ceiling of visits.
+#[derive(Clone, Copy)]
+pub struct Asked<'a> {
+    pub on: &'a [i16],
+    pub off: &'a [i16],
+    pub ceiling: u32,
+}
+
+// Of a card, or of a keep card where `yes` is false.
+#[derive(Clone, Copy)]
+pub struct Sought {
+    pub yes: bool,
+    pub ceiling: u32,
+}
+
 // The answer stands in the first bytes of the lent table, which is long enough.
 #[derive(Clone, Copy)]
 pub struct Turn {

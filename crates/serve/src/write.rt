@@ -5,7 +5,7 @@ ghost use Rattle.answer_text.specs.Room.{answer_bytes};
 ghost use Rattle.serve.specs.Line.{WriteTurned};
 
 use crate::Turn;
-use answer_text::refusal::refuse;
+use answer_text::refused::refuse;
 use answer_text::shown::Shown;
 use book_writer::{LONGEST, NONE, write_book};
 use state::State;

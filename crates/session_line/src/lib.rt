@@ -10,9 +10,10 @@ ghost use Rattle.session_line.specs.Line.{RequestTurned, ServesLine};
 
 use answer_text::ANSWER;
 use answer_text::shown::Shown;
-use book_writer::{NONE, TEXT_TABLE_TOO_SHORT};
+use book_writer::NONE;
 use reader::call::TABLE;
 use reader::request::{RequestLine, read_request};
+use refusal::Refusal;
 use rows::serve_page;
 use serve::Turn;
 use serve::call::serve_made;
@@ -35,7 +36,7 @@ pub struct Spoken {
 // The book's text, a page, or a call.
 fn serve_request(
     x: State,
-    asked: RequestLine,
+    asked: Option<RequestLine>,
     line: &[u8],
     number: u64,
     shown: Shown,
@@ -46,11 +47,13 @@ fn serve_request(
     requires answer_bytes_in_bounds { answer_bytes ≤ length out.old }
     ensures { RequestTurned x (request_of line.now) number shown cards.old result cards.new out.new }
 {
-    match asked {
+    let Some(request) = asked else {
+        return serve_made(x, line, number, shown, cards, out);
+    };
+    match request {
         RequestLine::Whole => serve_whole(x, number, shown, out),
         RequestLine::Into(size) => serve_write(x, size, number, shown, out),
         RequestLine::Page(k) => serve_page(x, k, number, shown, cards, out),
-        RequestLine::Other => serve_made(x, line, number, shown, cards, out),
     }
 }
 
@@ -68,7 +71,7 @@ pub fn serve_line(
     if out.len() < ANSWER {
         cover::clear(out);
         return Spoken {
-            refusal: TEXT_TABLE_TOO_SHORT,
+            refusal: Refusal::TableTooShort.number(),
             length: 0,
             state: x,
             shown: shown,

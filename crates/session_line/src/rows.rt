@@ -1,46 +1,40 @@
 // The line that asks for a page of the card answered last: its 24 rows, or 36.
-ghost use Rattle.std.specs.Prelude.{◌≡◌, ◌≤◌, min, length};
+ghost use Rattle.std.specs.Prelude.{◌≤◌, length};
 ghost use Rattle.sessions.specs.Session.{page_answer};
 ghost use Rattle.writer.specs.Wrote.{Wrote};
 ghost use Rattle.answer_text.specs.Room.{answer_bytes};
 ghost use Rattle.answer_text.specs.Shown.{card_in};
 ghost use Rattle.session_line.specs.Line.{PageTurned, page_rows};
 
-use answer_text::refusal::refuse;
+use answer_text::refused::refuse;
 use answer_text::shown::{NO_PAGE, Shown};
-use page::lent::put_page;
+use page::lent::put_first;
 use reader::call::TABLE;
 use serve::Turn;
 use state::State;
 
-// How many bytes of the table a card has.
-fn card_bytes(size: usize, room: usize) -> usize
-    ensures { result ≡ min size room }
-{
-    if size <= room { size } else { room }
-}
-
 // The rows of a page, or 36.
-fn put_rows<'a>(out: &mut [u8], table: &'a [u8], shown: Shown, k: usize, line: u64) -> usize
+fn put_rows(out: &mut [u8], table: &[u8], shown: Shown, k: usize, line: u64) -> usize
     requires { answer_bytes ≤ length out.old }
     ensures { Wrote out.old 0 (page_rows table.now shown.lines shown.free line k) out.new result }
 {
-    let refusal = page::refusal(table, shown.lines, shown.free, k);
-    if refusal != page::NONE {
-        return refuse(out, refusal, line);
+    match page::refusal(table, shown.lines, shown.free, k) {
+        Some(refusal) => refuse(out, refusal.number(), line),
+        None => {
+            let p = page::page(table, shown.lines, shown.free, k);
+            put_first(out, p)
+        }
     }
-    let p = page::page(table, shown.lines, shown.free, k);
-    put_page(out, 0, p)
 }
 
-fn put_shown<'a>(out: &mut [u8], cards: &'a [u8], shown: Shown, k: usize, line: u64) -> usize
+fn put_shown(out: &mut [u8], cards: &[u8], shown: Shown, k: usize, line: u64) -> usize
     requires { answer_bytes ≤ length out.old }
     ensures { Wrote out.old 0 (page_answer (card_in shown cards.now) line k) out.new result }
 {
-    if shown.refusal != page::NONE {
+    if shown.refusal != 0 {
         return refuse(out, NO_PAGE, line);
     }
-    let n = card_bytes(shown.size, cards.len());
+    let n = shown.size.min(cards.len());
     put_rows(out, &cards[..n], shown, k, line)
 }
 

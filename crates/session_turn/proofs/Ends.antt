@@ -1,9 +1,10 @@
 -- What the functions on the book answer, from what their callees do.
-use Prim.Native.Nat.{ℕ, zero, suc, ◌≤◌, ◌<◌}
+use Prim.Native.Nat.{ℕ}
 use mathlib.Core.Path.{◌≡◌, refl, sym, ap, subst, ◌∙◌}
 use mathlib.Core.Bool.{Bool, true, false}
 use native.Mathlib.Omega.{arith}
 use lib.ListN.{length, take}
+use Rattle.std.specs.Prelude.{Some, None}
 use Rattle.qbf.specs.Formula.{paper}
 use Rattle.layout.specs.Words.{Bytes}
 use Rattle.layout.specs.Output.{refusal_text}
@@ -65,14 +66,11 @@ close_opened q d₀ d o {r} told z e =
 
 -- ---- a turn on the book
 module _ (q : Bytes) (last : Bool) where
-  pub at_end_lem : {d₀ d : Bytes} {r : Session} (e : ℕ) → BookEnd q e → 0 < e → BookOpened q e d₀ r d → BookTurned q last d₀ r d
-  at_end_lem zero b h w = absurd (omega (arith, h))
-  at_end_lem (suc e) b h w = (suc e, b, w)
+  pub at_end_lem : {d₀ d : Bytes} {r : Session} (e : ℕ) → BookEnd q (Some e) → BookOpened q e d₀ r d → BookTurned q last d₀ r d
+  at_end_lem e b w = (Some e, b, w)
 
-  pub at_last : {d₀ d : Bytes} {r : Session} (e : ℕ) → BookEnd q e → e ≤ 0 → last ≡ true → BookClosed q d₀ r d → BookTurned q last d₀ r d
-  at_last {d₀} {d} {r} zero b h i w = (zero, b, subst (λ (t : Bool). BookNotEnded t q d₀ r d) (sym i) w)
-  at_last (suc e) b h i w = absurd (omega (arith, h))
+  pub at_last : {d₀ d : Bytes} {r : Session} → BookEnd q None → last ≡ true → BookClosed q d₀ r d → BookTurned q last d₀ r d
+  at_last {d₀} {d} {r} b i w = (None, b, subst (λ (t : Bool). BookNotEnded t q d₀ r d) (sym i) w)
 
-  pub at_none : (d₀ d : Bytes) {r : Session} (e : ℕ) → BookEnd q e → e ≤ 0 → last ≡ false → WaitsForBook (length q) r → BookTurned q last d₀ r d
-  at_none d₀ d {r} zero b h i w = (zero, b, subst (λ (t : Bool). BookNotEnded t q d₀ r d) (sym i) w)
-  at_none d₀ d (suc e) b h i w = absurd (omega (arith, h))
+  pub at_none : (d₀ d : Bytes) {r : Session} → BookEnd q None → last ≡ false → WaitsForBook (length q) r → BookTurned q last d₀ r d
+  at_none d₀ d {r} b i w = (None, b, subst (λ (t : Bool). BookNotEnded t q d₀ r d) (sym i) w)

@@ -10,6 +10,7 @@ use borrow.Author.Tests.{lt-leb, le-ltb, lt-ltb, eqb-true, eqb-false}
 use lib.Dec.{eqb, ltb}
 use lib.ListN.{length, take, drop, length-drop, length-take}
 use lib.Seq.{take_all, take-take, take-add, drop_at}
+use Rattle.std.specs.Prelude.{Some, None}
 use Rattle.qbf.specs.Formula.{paper}
 use Rattle.qbf.specs.Calls.{State as Read}
 use Rattle.qbf.specs.Runs.{fresh}
@@ -128,16 +129,16 @@ module _ (s r : Session) (got : ℕ) (text cards d₀ d : Bytes) (o : Over 0 r) 
 
 -- ---- the book
 -- what opens, whether it is longer than a text may be or not
-opened_fed : (q : Bytes) (e : ℕ) → BookEnd q (suc e) → feed start q ≡ opened_then paper (count_of_lines (take (suc e) q)) (open_editions both paper (take (suc e) q)) (split newline (drop (suc e) q))
-opened_fed q e b = by (dec_lt text_bytes (length (parted (split newline q)).book)) (split_some newline (drop (suc e) q)) ∙ same
+opened_fed : (q : Bytes) (e : ℕ) → BookEnd q (Some e) → feed start q ≡ opened_then paper (count_of_lines (take e q)) (open_editions both paper (take e q)) (split newline (drop e q))
+opened_fed q e b = by (dec_lt text_bytes (length (parted (split newline q)).book)) (split_some newline (drop e q)) ∙ same
   where
-    by : Dec (text_bytes < length (parted (split newline q)).book) → (w : Bytes) × (ws : List Bytes) × (split newline (drop (suc e) q) ≡ w ∷ ws)
+    by : Dec (text_bytes < length (parted (split newline q)).book) → (w : Bytes) × (ws : List Bytes) × (split newline (drop e q) ≡ w ∷ ws)
         → feed start q ≡ opened_then paper (parted (split newline q)).count (open_editions both paper (parted (split newline q)).book) (parted (split newline q)).rest
     by (yes h) r = (fed_book paper q).long h ∙ ap (λ (o : Opened). opened_then paper (parted (split newline q)).count o (parted (split newline q)).rest) (sym (open_long paper (parted (split newline q)).book h))
     by (no h) r = (fed_book paper q).ended (omega (arith, h)) r.0 r.1 (sym b.2 ∙ r.2)
 
     same : opened_then paper (parted (split newline q)).count (open_editions both paper (parted (split newline q)).book) (parted (split newline q)).rest
-        ≡ opened_then paper (count_of_lines (take (suc e) q)) (open_editions both paper (take (suc e) q)) (split newline (drop (suc e) q))
+        ≡ opened_then paper (count_of_lines (take e q)) (open_editions both paper (take e q)) (split newline (drop e q))
     same = λ i. opened_then paper ((sym (count_book q) ∙ ap count_of_lines (sym b.1)) i) (open_editions both paper (sym b.1 i)) (sym b.2 i)
 
 -- one that has not ended, and is read no further
@@ -171,8 +172,8 @@ module _ (s r : Session) (k : ℕ) (text cards d₀ d : Bytes) (inside : k ≤ l
       same : drop r.at (take (r.held + 0) text) ≡ take k text
       same = let g : r.held + 0 ≡ k = omega (arith, w.held, size) in λ i. drop (w.at i) (take (g i) text)
 
-  behind_went : (e : ℕ) → BookEnd q (suc e) → (o : Opened) → open_editions both paper (take (suc e) q) ≡ o → BookLeft o (count_of_lines (take (suc e) q)) (suc e) (length q) d₀ r d → k ≤ suc text_bytes → Went s q text start r text cards d
-  behind_went e b (refused n line) is w few = went_over s r q text d w.over (w.printed a).0 cards start (refusal_text n line) (w.printed a).1 (opened_fed q e b ∙ ap (λ (o : Opened). opened_then paper (count_of_lines (take (suc e) q)) o (split newline (drop (suc e) q))) is)
+  behind_went : (e : ℕ) → BookEnd q (Some e) → (o : Opened) → open_editions both paper (take e q) ≡ o → BookLeft o (count_of_lines (take e q)) e (length q) d₀ r d → k ≤ suc text_bytes → Went s q text start r text cards d
+  behind_went e b (refused n line) is w few = went_over s r q text d w.over (w.printed a).0 cards start (refusal_text n line) (w.printed a).1 (opened_fed q e b ∙ ap (λ (o : Opened). opened_then paper (count_of_lines (take e q)) o (split newline (drop e q))) is)
   behind_went e b (opened f) is w few =
       record {
         left =
@@ -181,44 +182,44 @@ module _ (s r : Session) (k : ℕ) (text cards d₀ d : Bytes) (inside : k ≤ l
               held = omega (arith, w.calling.held, size, inside);
               room = refl;
               within = omega (arith, w.printed);
-              few = omega (arith, number, one, lines, ap length same, length-drop (suc e) (take k text), b.0);
+              few = omega (arith, number, one, lines, ap length same, length-drop e (take k text), b.0);
             };
         next = calls g;
         shows = shows_calls r cards w.calling.over w.calling.calling (fresh f) w.state (calls g) (sym shown);
         fed =
             opened_fed q e b
-            ∙ ap (λ (o : Opened). opened_then paper n o (split newline (drop (suc e) q))) is
-            ∙ sym (fed_calls paper g (drop (suc e) q))
+            ∙ ap (λ (o : Opened). opened_then paper n o (split newline (drop e q))) is
+            ∙ sym (fed_calls paper g (drop e q))
             ∙ sym (λ i. after (take (w.printed i) d) (feed (calls g) (same i)));
         quiet = λ x. absurd (true_false (sym x ∙ w.calling.waits));
       }
     where
       n : ℕ
-      n = count_of_lines (take (suc e) (take k text))
+      n = count_of_lines (take e (take k text))
 
-      lines : count_of_lines (take (suc e) (take k text)) ≤ suc e
-      lines = omega (arith, count_few (take (suc e) (take k text)), length-take (suc e) (take k text))
+      lines : count_of_lines (take e (take k text)) ≤ e
+      lines = omega (arith, count_few (take e (take k text)), length-take e (take k text))
 
-      number : r.number ≡ suc (count_of_lines (take (suc e) (take k text)))
+      number : r.number ≡ suc (count_of_lines (take e (take k text)))
       number = omega (arith, w.calling.number, lines, b.0, size, few)
 
-      same : drop r.at (take (r.held + 0) text) ≡ drop (suc e) (take k text)
+      same : drop r.at (take (r.held + 0) text) ≡ drop e (take k text)
       same = let j : r.held + 0 ≡ k = omega (arith, w.calling.held, size) in λ i. drop (w.calling.at i) (take (j i) text)
 
       g : Serving Left
-      g = at_line (suc (count_of_lines (take (suc e) (take k text)))) (record { state = fresh f; shown = none })
+      g = at_line (suc (count_of_lines (take e (take k text)))) (record { state = fresh f; shown = none })
 
       shown : calls_in r cards (fresh f) ≡ calls g
       shown = λ i. calls (record { number = number i; part = part_in (w.calling.skipping i); left = record { state = fresh f; shown = card_in (w.shown i) cards } })
 
   book_went : (last : Bool) → (last ≡ true → text_bytes < length q) → (last ≡ false → length q ≤ text_bytes) → BookTurned q last d₀ r d → k ≤ suc text_bytes → Went s q text start r text cards d
-  book_went true full part (zero, b, w) few = went_over s r q text d w.over (w.printed a).0 cards start (unended_book (open_editions both paper q)) (w.printed a).1 (closed_fed q b (full refl))
-  book_went false full part (zero, b, w) few = waits_went b (part refl) w
-  book_went last full part (suc e, b, w) few = behind_went e b (open_editions both paper (take (suc e) q)) refl w few
+  book_went true full part (None, b, w) few = went_over s r q text d w.over (w.printed a).0 cards start (unended_book (open_editions both paper q)) (w.printed a).1 (closed_fed q b (full refl))
+  book_went false full part (None, b, w) few = waits_went b (part refl) w
+  book_went last full part (Some e, b, w) few = behind_went e b (open_editions both paper (take e q)) refl w few
 
   book_finished : Quiet start q → BookTurned q true d₀ r d → Finished s q text start r text d
-  book_finished h (zero, b, w) = finished_over s r q text d w.over (w.printed a).0 start ((w.printed a).1 ∙ sym (closed_end q h.0 h.1))
-  book_finished h (suc e, b, w) = absurd (some_left (split newline (drop (suc e) q)) (split_some newline (drop (suc e) q)) (b.2 ∙ h.0))
+  book_finished h (None, b, w) = finished_over s r q text d w.over (w.printed a).0 start ((w.printed a).1 ∙ sym (closed_end q h.0 h.1))
+  book_finished h (Some e, b, w) = absurd (some_left (split newline (drop e q)) (split_some newline (drop e q)) (b.2 ∙ h.0))
 
 -- ---- a line
 tail_of : {x : Bytes} {xs : List Bytes} {u : Bytes} {us : List Bytes} → x ∷ xs ≡ u ∷ us → xs ≡ us

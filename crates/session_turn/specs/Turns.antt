@@ -1,5 +1,5 @@
 -- What a turn of the program `session` owes for every buffer: what it prints and leaves is what the definition by steps prints and holds.
-use Rattle.std.specs.Prelude.{ℕ, zero, suc, ◌+◌, ◌-◌, ◌≤◌, ◌<◌, ◌≡◌, Bool, true, false, cond, ◌&&◌, ◌||◌, [], ◌∷◌, eqb, ltb, length, take, drop}
+use Rattle.std.specs.Prelude.{Option as Answer, Some, None, ℕ, suc, ◌+◌, ◌-◌, ◌≤◌, ◌<◌, ◌≡◌, Bool, true, false, cond, ◌&&◌, ◌||◌, [], ◌∷◌, eqb, ltb, length, take, drop}
 use Rattle.std.proofs.Math.Option.{some}
 use Rattle.qbf.specs.Formula.{paper}
 use Rattle.qbf.specs.Calls.{State as Read}
@@ -80,13 +80,13 @@ abbrev pub BookNotEnded : Bool → Bytes → Bytes → Session → Bytes → Typ
 BookNotEnded true q d₀ r d = BookClosed q d₀ r d
 BookNotEnded false q d₀ r d = WaitsForBook (length q) r
 
--- by where the book ends in what was read, 0 where it does not
-abbrev pub BookAt : ℕ → Bytes → Bool → Bytes → Session → Bytes → Type 0
-BookAt zero q last d₀ r d = BookNotEnded last q d₀ r d
-BookAt (suc e) q last d₀ r d = BookOpened q (suc e) d₀ r d
+-- by where the book ends in what was read, if it does
+abbrev pub BookAt : Answer ℕ → Bytes → Bool → Bytes → Session → Bytes → Type 0
+BookAt None q last d₀ r d = BookNotEnded last q d₀ r d
+BookAt (Some e) q last d₀ r d = BookOpened q e d₀ r d
 
 abbrev pub BookTurned : Bytes → Bool → Bytes → Session → Bytes → Type 0
-BookTurned q last d₀ r d = (e : ℕ) × BookEnd q e × BookAt e q last d₀ r d
+BookTurned q last d₀ r d = (e : Answer ℕ) × BookEnd q e × BookAt e q last d₀ r d
 
 -- ---- a line
 pub record Served (t : Turn) (r : Session) (cards d : Bytes) : Type 0 where

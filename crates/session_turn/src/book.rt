@@ -54,7 +54,8 @@ fn close_book(text: &[u8], answer: &mut [u8]) -> Session
     over(0)
 }
 
-fn wait(held: usize) -> Session
+// More of the book is to be read behind what is held.
+pub fn wait(held: usize) -> Session
     ensures { WaitsForBook held result }
 {
     let none = state::closed();
@@ -77,8 +78,7 @@ fn wait(held: usize) -> Session
 pub fn book_turn(text: &[u8], last: bool, answer: &mut [u8]) -> Session
     ensures { BookTurned text.now last answer.old result answer.new }
 {
-    let end = book_end(text);
-    if end > 0 {
+    if let Some(end) = book_end(text) {
         return open_book(text, end, answer);
     }
     if last {

@@ -5,8 +5,7 @@
 ghost use Rattle.session_turn.specs.Turns.{Turned, Over, started};
 
 use answer_text::shown::{Shown, no_card};
-use book::book_turn;
-use line_buffer::{has_ended, is_last};
+use book::{book_turn, wait};
 use lines::line_turn;
 use reader::call::TABLE;
 use state::State;
@@ -37,20 +36,7 @@ pub const ROOM: usize = reader::text::TEXT + 1;
 pub fn start() -> Session
     ensures { started result }
 {
-    let none = state::closed();
-    let card = no_card();
-    Session {
-        calling: false,
-        over: false,
-        waits: true,
-        skipping: false,
-        at: 0,
-        held: 0,
-        number: 1,
-        length: 0,
-        state: none,
-        shown: card,
-    }
+    wait(0)
 }
 
 // After the last answer.
@@ -97,10 +83,10 @@ pub fn turn(
         return over(0);
     }
     let held = s.held + got;
-    let ended = has_ended(s.waits, got);
+    let ended = s.waits && got == 0;
     if s.calling {
         return line_turn(s, held, ended, text, cards, answer);
     }
-    let last = is_last(ended, held, text.len());
+    let last = ended || held == text.len();
     book_turn(&text[..held], last, answer)
 }

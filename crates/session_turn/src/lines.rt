@@ -3,12 +3,12 @@ ghost use Rattle.std.specs.Prelude.{◌≤◌, ◌<◌, length};
 ghost use Rattle.session_turn.specs.Turns.{LineAnswered, LineEnded, Refilled, LineTurned};
 
 use crate::{Session, over};
-use line_buffer::{is_skipped, is_unended, kept_bytes, line_start, next_number, to_front};
+use line_buffer::{next_number, to_front};
 use reader::call::TABLE;
 use reader::text::line_end;
 use session_line::serve_line;
 
-// The line that ends at `end`.
+// The line that ends at `end`; one that is too long is no call, as an empty one is none.
 fn answer_line(
     s: Session,
     held: usize,
@@ -20,7 +20,7 @@ fn answer_line(
     requires { (s.at ≤ end) × (end < held) × (held ≤ length text.now) }
     ensures { LineAnswered s held end text.now cards.old answer.old result cards.new answer.new }
 {
-    let from = line_start(s.skipping, s.at, end);
+    let from = if s.skipping { end } else { s.at };
     let x = s.state;
     let shown = s.shown;
     let spoken = serve_line(x, &text[from..end], s.number, shown, cards, answer);
@@ -44,7 +44,8 @@ fn answer_line(
 fn last_line(s: Session, held: usize, cards: &mut [u8; TABLE], answer: &mut [u8]) -> Session
     ensures { LineEnded s held cards.old answer.old result answer.new }
 {
-    if is_unended(s.skipping, s.at, held) {
+    let unended = s.skipping || s.at < held;
+    if unended {
         let x = s.state;
         let shown = s.shown;
         let spoken = serve_line(x, b"", s.number, shown, cards, answer);
@@ -60,8 +61,8 @@ fn refill(s: Session, held: usize, text: &mut [u8]) -> Session
 {
     let room = text.len();
     let left = to_front(text, s.at, held);
-    let skipping = is_skipped(s.skipping, left, room);
-    let kept = kept_bytes(skipping, left);
+    let skipping = s.skipping || left == room;
+    let kept = if skipping { 0 } else { left };
     let x = s.state;
     let shown = s.shown;
     Session {

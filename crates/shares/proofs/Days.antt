@@ -12,8 +12,10 @@ use Rattle.days.specs.Accounts.{Stands, books, overspent, allowance, charged}
 use Rattle.days.specs.Day.{Day, DayStepped, Placed, accounted, at_book, book_at, day_step, outside, share_at, under_share}
 use Rattle.days_laws.proofs.Accounts.{charged_stands, not_overspent}
 use Rattle.days_laws.proofs.Days.{at_none}
-use Rattle.shares.specs.declared.Share.{Share}
-use Rattle.shares.specs.declared.Share.TheVariants.{Visits, Refused}
+use Rattle.std.specs.Prelude.{Result, Ok, Err}
+use Rattle.refusal.specs.Refusal.{number_of}
+use Rattle.refusal.specs.declared.Refusal.{Refusal}
+use Rattle.refusal.specs.declared.Refusal.TheVariants.{NoBook, Malformed}
 use Rattle.shares.specs.Shares.{share_of, allows_of, settled}
 use Rattle.shares.proofs.Answers.{Room, allows_room, no_room}
 
@@ -32,8 +34,8 @@ module _ (T : ℕ) (us : List ℕ) (place v : ℕ) (sized : length us ≡ books)
   -- visits within the share of a place are charged to it
   pub settled_charged : Stands T us → outside place ≡ false → v ≤ allowance T us (place - 1) → settled T us place v ≡ charged us (place - 1) v
   settled_charged s h k =
-      ap (λ (o : Bool). cond (allows_of (cond o (Refused 38) (cond (overspent T us) (Refused 22) (Visits (allowance T us (place - 1))))) v) (charged us (place - 1) v) us) h
-      ∙ ap (λ (o : Bool). cond (allows_of (cond o (Refused 22) (Visits (allowance T us (place - 1)))) v) (charged us (place - 1) v) us) ((not_overspent T us).1 s)
+      ap (λ (o : Bool). cond (allows_of (cond o (Err NoBook) (cond (overspent T us) (Err Malformed) (Ok (allowance T us (place - 1))))) v) (charged us (place - 1) v) us) h
+      ∙ ap (λ (o : Bool). cond (allows_of (cond o (Err Malformed) (Ok (allowance T us (place - 1)))) v) (charged us (place - 1) v) us) ((not_overspent T us).1 s)
       ∙ ap (λ (o : Bool). cond o (charged us (place - 1) v) us) (le-leb v (allowance T us (place - 1)) k)
 
 -- ---- the call
@@ -45,9 +47,9 @@ abbrev refused_at : ℕ → Day → Placed → DayStepped
 refused_at n d p = record { day = d; out = answer (refusal n p.call) 0 }
 
 -- what a call at a place does where the code answers this share: the day refuses it, or its book is called with these visits
-abbrev pub ByShare : Day → Placed → Share → Type 0
-ByShare d p (Refused n) = day_step d p ≡ refused_at n d p
-ByShare d p (Visits m) = (x : State) × (book_at d p.place ≡ some x) × (day_step d p ≡ under_share d (p.place - 1) m x p.call)
+abbrev pub ByShare : Day → Placed → Result ℕ Refusal → Type 0
+ByShare d p (Err r) = day_step d p ≡ refused_at (number_of r) d p
+ByShare d p (Ok m) = (x : State) × (book_at d p.place ≡ some x) × (day_step d p ≡ under_share d (p.place - 1) m x p.call)
 
 module _ (d : Day) (p : Placed) where
   abbrev booked : Option State
@@ -64,7 +66,7 @@ module _ (d : Day) (p : Placed) where
   by_share book told = go (outside p.place) refl booked refl (overspent d.total d.used) refl book told
     where
       go : (o : Bool) → outside p.place ≡ o → (b : Option State) → booked ≡ b → (over : Bool) → overspent d.total d.used ≡ over → (k : Bool) → (o ≡ false → k ≡ held b)
-          → ByShare d p (cond (not k || o) (Refused 38) (cond over (Refused 22) (Visits (share_at d p.place))))
+          → ByShare d p (cond (not k || o) (Err NoBook) (cond over (Err Malformed) (Ok (share_at d p.place))))
       go true e b f over g true t = at_none d p (seen true e b f)
       go true e b f over g false t = at_none d p (seen true e b f)
       go false e none f over g true t = absurd (no_room (sym (t refl)))

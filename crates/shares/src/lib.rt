@@ -4,41 +4,19 @@
 ghost use Rattle.std.specs.Prelude.{◌≡◌, true, ◌+◌, ◌<◌, min, length};
 ghost use Rattle.days.specs.Accounts.{books, owed as owedOf, used as usedOf, owing, stop_number};
 ghost use Rattle.days.specs.Day.{stop_as};
+ghost use Rattle.refusal.specs.Refusal.{number_of};
 ghost use Rattle.shares.specs.Shares.{share_of, allows_of, settled};
+
+use refusal::Refusal;
 
 // "Up to eight books, in places 1 to 8"
 pub const BOOKS: usize = 8;
-
-// "a place without a book, or outside 1 to 8, is 38"
-pub const NO_BOOK: u16 = 38;
-
-// "a state whose visits used and still owed together exceed T is 22"
-pub const MALFORMED: u16 = 22;
-
-// "A walk stopped by the shared total returns 37 where its own ceiling is higher, otherwise 34"
-pub const STOPPED_BY_SHARE: u16 = 37;
-
-pub const STOPPED: u16 = 34;
-
-// The visits that a call may use, or the number of a refusal.
-#[derive(Clone, Copy)]
-pub enum Share {
-    Visits(u32),
-    Refused(u16),
-}
 
 // What is still owed to the floor of a place.
 fn owed(total: u32, used: u32) -> u32
     ensures { result ≡ owedOf total used }
 {
-    let floor = total / BOOKS as u32;
-    if used < floor { floor - used } else { 0 }
-}
-
-fn wide(x: u32) -> u64
-    ensures { (result ≡ x) × (result < 4294967296) }
-{
-    x as u64
+    (total / BOOKS as u32).saturating_sub(used)
 }
 
 // The visits used and still owed, together: with used numbers of any size they take more than 32 bits.
@@ -46,67 +24,64 @@ fn committed(used: [u32; BOOKS], total: u32) -> u64
     ensures { result ≡ usedOf used + owing total used }
 {
     let mut sum: u64 = 0;
-    let mut i: usize = 0;
-    while i < BOOKS {
-        let u = used[i];
-        sum += wide(u) + wide(owed(total, u));
-        i += 1;
+    for u in used.iter() {
+        sum += u64::from(*u) + u64::from(owed(total, *u));
     }
     sum
 }
 
-// "A call may use what remains of its own floor, plus what is neither used nor still owed to any floor." Whether the place has a book comes first.
-pub fn allowance(used: [u32; BOOKS], total: u32, place: usize, book: bool) -> Share
+// The visits that a call may use. "A call may use what remains of its own floor, plus what is neither used nor still owed to any floor." "a place
+// without a book, or outside 1 to 8, is 38", before all else; then "a state whose visits used and still owed together exceed T is 22".
+// stays (no plainer): `book` is what the caller knows of the place, and no step is chosen by it
+pub fn allowance(used: [u32; BOOKS], total: u32, place: usize, book: bool) -> Result<u32, Refusal>
     ensures { result ≡ share_of total used place book }
 {
     if !book {
-        return Share::Refused(NO_BOOK);
+        return Err(Refusal::NoBook);
     }
     if place == 0 {
-        return Share::Refused(NO_BOOK);
+        return Err(Refusal::NoBook);
     }
     if BOOKS < place {
-        return Share::Refused(NO_BOOK);
+        return Err(Refusal::NoBook);
     }
     let sum = committed(used, total);
-    if wide(total) < sum {
-        return Share::Refused(MALFORMED);
+    if u64::from(total) < sum {
+        return Err(Refusal::Malformed);
     }
     let i = place - 1;
-    let rest = (wide(total) - sum) as u32;
-    Share::Visits(owed(total, used[i]) + rest)
+    let rest = (u64::from(total) - sum) as u32;
+    Ok(owed(total, used[i]) + rest)
 }
 
 // The visits that a call may make: its own ceiling, or what its place may use.
 pub fn limit(own: u32, may: u32) -> u32
     ensures { result ≡ min own may }
 {
-    if own <= may { own } else { may }
+    own.min(may)
 }
 
-fn stop_number(own: u32, may: u32) -> u16
-    ensures { result ≡ stop_number own may }
+// "A walk stopped by the shared total returns 37 where its own ceiling is higher, otherwise 34"
+fn stop(own: u32, may: u32) -> Refusal
+    ensures { number_of result ≡ stop_number own may }
 {
-    if may < own { STOPPED_BY_SHARE } else { STOPPED }
-}
-
-// The number of a call's refusal at its place, from that of the call under the limit; 0 where there is none.
-pub fn refusal(number: u16, own: u32, may: u32) -> u16
-    ensures { result ≡ stop_as (stop_number own may) number }
-{
-    if number == STOPPED {
-        stop_number(own, may)
+    if may < own {
+        Refusal::StoppedByShare
     } else {
-        number
+        Refusal::Stopped
     }
 }
 
-fn allows(may: Share, visits: u64) -> bool
-    ensures { result ≡ allows_of may visits }
+// The number of a call's refusal at its place, from that of the call under the limit; 0 where there is none.
+// stays (C): the number of a call is given as other languages read it
+pub fn refusal(number: u16, own: u32, may: u32) -> u16
+    ensures { result ≡ stop_as (stop_number own may) number }
 {
-    match may {
-        Share::Visits(m) => visits <= wide(m),
-        Share::Refused(n) => false,
+    let stopped = number == Refusal::Stopped.number();
+    if stopped {
+        stop(own, may).number()
+    } else {
+        number
     }
 }
 
@@ -114,7 +89,10 @@ fn allows(may: Share, visits: u64) -> bool
 fn may_use(used: [u32; BOOKS], total: u32, place: usize, visits: u64) -> bool
     ensures { (result ≡ allows_of (share_of total used place true) visits) × (length used ≡ books) }
 {
-    allows(allowance(used, total, place, true), visits)
+    match allowance(used, total, place, true) {
+        Ok(may) => visits <= u64::from(may),
+        Err(_) => false,
+    }
 }
 
 // "refused calls' visits count": the visits of a call are charged to its place, where it may use them; nothing else is charged.

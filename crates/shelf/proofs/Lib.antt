@@ -1,7 +1,6 @@
 pub mod Newest
 pub mod Ring
 pub mod Slots
-pub mod Matching
 pub mod Finding
 pub mod Writing
 pub mod Linking

@@ -58,29 +58,6 @@ numbers_listed D ns shown = ext_get_or 0 (numbers_in D) (entries ns) (len ∙ sy
         let e : 0 + i ≡ i = omega arith in
         sym (shown.at i low) ∙ sym (listing_at (entry_at ns) 0 (get_or ns 0 0) i 0 few ∙ ap (entry_at ns) e)
 
--- ---- the table as it is cleared: the cells below i are 0
-pub record Clearing (n : ℕ) (t : List ℕ) (i : ℕ) : Type 0 where
-  pub room : length t ≡ n
-  pub below : (m : ℕ) → m < i → get_or t m 0 ≡ 0
-
-pub clearing_none : (t : List ℕ) → Clearing (length t) t 0
-clearing_none t = record { room = refl; below = λ m h. absurd (not-suc-le-zero h) }
-
-module _ {n : ℕ} {t : List ℕ} {i : ℕ} (w : Clearing n t i) where
-  pub clearing_more : i < length t → Clearing n (set t i 0) (i + 1)
-  clearing_more h =
-      record {
-        room = length-set t i 0 ∙ w.room;
-        below = below_more (λ m. get_or (set t i 0) m 0 ≡ 0) i (λ m b. get_or-set_other t i m 0 0 (λ e. omega (arith, b, e)) ∙ w.below m b) (get_or-set_same t i 0 0 h);
-      }
-
-  pub clearing_end : length t ≤ i → Cleared n t
-  clearing_end h = record { room = w.room; zero = λ m. by m (le_or_lt (length t) m) }
-    where
-      by : (m : ℕ) → (length t ≤ m) ⊎ (m < length t) → get_or t m 0 ≡ 0
-      by m (inl b) = get_or-eq_default t 0 b
-      by m (inr b) = w.below m (omega (arith, b, h))
-
 -- ---- the table as it is filled
 -- the numbers of the first i places, the last one first
 abbrev seen_to : List ℕ → ℕ → List ℕ

@@ -20,6 +20,8 @@ use Rattle.theory.proofs.Basics.{dichotomy, and_left, and_right, and_both}
 use Rattle.state.specs.Reading.{listing, quantifier_of, entry_at, code_at, variable_at, prefix_of}
 use Rattle.state.specs.Derived.{ordered, step_is_ok, code_for}
 use Rattle.state.specs.Declare.{variable, variable_fault, declare_fault, with_variable, refusal_of, level_for, next_level, Growing, SoundUnder, DeclarableUnder, Declarable, Declared, DeclaredUnder}
+use Rattle.tables.specs.Views.{Numbers, Places}
+use Rattle.state.proofs.Valid.{prefix_numbers}
 use Rattle.state.proofs.Listing.{listing_length, listing_snoc, listing_same}
 use Rattle.state.proofs.Steps.{order_from, order_step, steps_from, steps_ok}
 use Rattle.state.proofs.Behind.{Behind, Ahead, ahead, behind, step_at, steps_snoc, Agree, steps_agree, level_agree, code_agree}
@@ -270,43 +272,47 @@ module _ {L : Limits} {ns ls ks : List ℕ} {n kind : ℕ} (w : New L ns ls ks n
         subst (λ (m : ℕ). DeclaredUnder L ns ls ks n kind 0 (set (set ns 0 q) q n) (set ls q m) (set ks m kind)) (sym b)
         (subst (λ (p : ℕ). DeclaredUnder L ns ls ks n kind 0 (set (set ns 0 p) p n) (set ls p level) (set ks level kind)) (sym a) stored_under)
 
+-- what the tests before a declaration say
+pub newly : {ns ls ks places : List ℕ} {n kind : ℕ} → suc paper.numbers ≤ length ns → suc paper.numbers ≤ length ls → suc paper.numbers ≤ length ks → Declarable ns ls ks kind → 1 ≤ n → n ≤ paper.numbers
+    → ((D : Prefix) → Numbers D ns → numbers_are_ok paper [] D ≡ true → Places D places) → get_or places n 0 ≡ 0 → New paper ns ls ks n kind
+newly {ns} {ls} {ks} {places} {n} a b c may low high shown fresh =
+    record {
+      numbers_room = a;
+      levels_room = b;
+      kinds_room = c;
+      may = may;
+      low = low;
+      high = high;
+      fresh = sym ((shown (prefix_of ns ls ks) (prefix_numbers ns ls ks) may.sound.numbers_ok).at n) ∙ fresh;
+    }
+
 -- ---- under the paper's limits
 module _ {ns ls ks : List ℕ} {n kind : ℕ} (w : New paper ns ls ks n kind) where
-  stored : Declared ns ls ks n kind 0 (ns' w) (ls' w) (ks' w)
+  stored : Declared ns ls ks n kind none (ns' w) (ls' w) (ks' w)
   stored =
       record {
-        refusal = ap refusal_of (sym (no_fault w));
+        refusal = sym (no_fault w);
         prefix = grown_prefix w ∙ ap (λ (o : Option ℕ). with_variable o (prefix_of ns ls ks) (quantifier_of kind) n) (sym (no_fault w));
         sound = grown_sound w;
       }
 
   -- q is the place, and l the level, as they were computed
-  pub declared_new : {q l : ℕ} → q ≡ suc (count w) → l ≡ level w → Declared ns ls ks n kind 0 (set (set ns 0 q) q n) (set ls q l) (set ks l kind)
+  pub declared_new : {q l : ℕ} → q ≡ suc (count w) → l ≡ level w → Declared ns ls ks n kind none (set (set ns 0 q) q n) (set ls q l) (set ks l kind)
   declared_new {q} {l} a b =
-      subst (λ (m : ℕ). Declared ns ls ks n kind 0 (set (set ns 0 q) q n) (set ls q m) (set ks m kind)) (sym b)
-      (subst (λ (p : ℕ). Declared ns ls ks n kind 0 (set (set ns 0 p) p n) (set ls p (level w)) (set ks (level w) kind)) (sym a) stored)
+      subst (λ (m : ℕ). Declared ns ls ks n kind none (set (set ns 0 q) q n) (set ls q m) (set ks m kind)) (sym b)
+      (subst (λ (p : ℕ). Declared ns ls ks n kind none (set (set ns 0 p) p n) (set ls p (level w)) (set ks (level w) kind)) (sym a) stored)
 
 -- ---- refusals
 module _ (ns ls ks : List ℕ) (n kind : ℕ) (may : Declarable ns ls ks kind) where
-  refused : (k : ℕ) → variable_fault paper (prefix_of ns ls ks) n ≡ some k → Declared ns ls ks n kind k ns ls ks
+  refused : (k : ℕ) → variable_fault paper (prefix_of ns ls ks) n ≡ some k → Declared ns ls ks n kind (some k) ns ls ks
   refused k e =
       record {
-        refusal = ap refusal_of (sym e);
+        refusal = sym e;
         prefix = ap (λ (o : Option ℕ). with_variable o (prefix_of ns ls ks) (quantifier_of kind) n) (sym e);
         sound = may.sound;
       }
 
-  pub declared_low : n < 1 → Declared ns ls ks n kind 3 ns ls ks
-  declared_low h =
-      refused 3 (ap (λ (x : Bool). given (x || ltb paper.numbers n) 3 or_else given (not (eqb (place_of (prefix_of ns ls ks) n) 0)) 4) (eq-eqb n 0 (omega (arith, h))))
-
-  pub declared_high : paper.numbers < n → Declared ns ls ks n kind 3 ns ls ks
-  declared_high h =
-      refused 3
-      (ap (λ (x : Bool). given (x || ltb paper.numbers n) 3 or_else given (not (eqb (place_of (prefix_of ns ls ks) n) 0)) 4) (ne_eqb n 0 (λ e. omega (arith, e, h)))
-      ∙ ap (λ (x : Bool). given x 3 or_else given (not (eqb (place_of (prefix_of ns ls ks) n) 0)) 4) (lt-ltb paper.numbers n h))
-
-  pub declared_twice : 1 ≤ n → n ≤ paper.numbers → (place_of (prefix_of ns ls ks) n ≡ 0 → ⊥) → Declared ns ls ks n kind 4 ns ls ks
+  pub declared_twice : 1 ≤ n → n ≤ paper.numbers → (place_of (prefix_of ns ls ks) n ≡ 0 → ⊥) → Declared ns ls ks n kind (some 4) ns ls ks
   declared_twice l h z =
       refused 4
       (ap (λ (x : Bool). given (x || ltb paper.numbers n) 3 or_else given (not (eqb (place_of (prefix_of ns ls ks) n) 0)) 4) (ne_eqb n 0 (λ e. omega (arith, e, l)))

@@ -7,6 +7,7 @@ pub mod Codes
 pub mod Recording
 pub mod Rooms
 pub mod Valid
+pub mod Checks
 pub mod Behind
 pub mod Growth
 pub mod Cases

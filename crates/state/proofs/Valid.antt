@@ -401,6 +401,13 @@ module _ (x : State) where
       said : ok ≡ valid x
       said = k.said ∙ ap (λ (q : Bool). q && valid_under paper x) (room_is paper x (sized_room s)) ∙ sym valid_paper
 
+  -- where the check says no there are no tables
+  pub checked_none : {ok : Bool} {places kinds : List ℕ} → Checked x ok places kinds → ok ≡ false → Checked x false [] []
+  checked_none k e = record { said = sym e ∙ k.said; sized = k.sized; placed = λ v. absurd (no v); kinded = λ v. absurd (no v) }
+    where
+      no : valid x ≡ true → ⊥
+      no v = false≢true (sym e ∙ k.said ∙ v)
+
 -- ---- what the tables of a valid state show
 pub record ValidTables (x : State) : Type 0 where
   pub clauses : Table paper.literals paper.clauses x.clauses x.clause_sizes

@@ -58,8 +58,9 @@ pub record DeclarableUnder (L : Limits) (ns ls ks : List ℕ) (kind : ℕ) : Typ
 abbrev pub Declarable : List ℕ → List ℕ → List ℕ → ℕ → Type 0
 Declarable ns ls ks kind = DeclarableUnder paper ns ls ks kind
 
-pub record Declared (ns ls ks : List ℕ) (n kind r : ℕ) (ns' ls' ks' : List ℕ) : Type 0 where
-  pub refusal : r ≡ refusal_of (variable_fault paper (prefix_of ns ls ks) n)
+-- o is the fault, if there is one
+pub record Declared (ns ls ks : List ℕ) (n kind : ℕ) (o : Option ℕ) (ns' ls' ks' : List ℕ) : Type 0 where
+  pub refusal : o ≡ variable_fault paper (prefix_of ns ls ks) n
   pub prefix : prefix_of ns' ls' ks' ≡ with_variable (variable_fault paper (prefix_of ns ls ks) n) (prefix_of ns ls ks) (quantifier_of kind) n
   pub sound : Sound ns' ls' ks'
 

@@ -1,3 +1,4 @@
 pub mod Reading
 pub mod Derived
 pub mod Declare
+pub mod Lent

@@ -1,19 +1,10 @@
 // One variable more, at the end of the prefix.
 ghost use Rattle.std.specs.Prelude.{◌≡◌};
+ghost use Rattle.refusal.specs.Refusal.{fault_in};
 ghost use Rattle.state.specs.Declare.{level_for, next_level, Growing, Declarable, Declared};
 
 use literal::{Level, Number, Place};
-
-// Nothing is refused.
-pub const ACCEPTED: u16 = 0;
-
-// "3 number not 1 to 40", "4 declared twice"
-pub const NOT_A_NUMBER: u16 = 3;
-
-pub const DECLARED_TWICE: u16 = 4;
-
-// "Declaring a 41st flag is 33, checked after 4"
-pub const TOO_MANY_FREE: u16 = 33;
+use refusal::Refusal;
 
 // 0 where there is no place.
 fn level_at<'a>(levels: &'a [u16], place: Place) -> u16
@@ -23,7 +14,7 @@ fn level_at<'a>(levels: &'a [u16], place: Place) -> u16
     if p == 0 {
         return 0;
     }
-    crate::cells::cell(levels, p)
+    literal::cell_at(levels, p)
 }
 
 // The level that a quantifier gives after the places that are declared.
@@ -36,14 +27,14 @@ pub fn next_level<'a>(levels: &'a [u16], kinds: &'a [u16], last: Place, kind: u1
     crate::levels::level_beside(level, beside, kind)
 }
 
-// The number of the refusal, and the tables as they were; or the variable is declared.
+// The variable is declared; or it is refused, and the tables are as they were. "3 number not 1 to 40", "4 declared twice"
 pub fn declare(
     numbers: &mut [u16; tables::BY_NUMBER],
     levels: &mut [u16; tables::BY_NUMBER],
     kinds: &mut [u16; tables::BY_NUMBER],
     number: Number,
     kind: u16,
-) -> u16
+) -> Result<(), Refusal>
     requires { Declarable numbers.old levels.old kinds.old kind }
     ensures { Declared
         numbers.old
@@ -51,21 +42,18 @@ pub fn declare(
         kinds.old
         number.0
         kind
-        result
+        (fault_in result)
         numbers.new
         levels.new
         kinds.new }
 {
     let n = number.0;
-    if n < 1 {
-        return NOT_A_NUMBER;
-    }
-    if n > tables::NUMBERS {
-        return NOT_A_NUMBER;
+    if n < 1 || n > tables::NUMBERS {
+        return Err(Refusal::NumberRange);
     }
     let places = crate::numbers::places_of(numbers);
     if places[n] != 0 {
-        return DECLARED_TWICE;
+        return Err(Refusal::DeclaredTwice);
     }
     let count = crate::cells::count(numbers);
     let level = next_level(levels, kinds, Place(count), kind).0;
@@ -74,5 +62,5 @@ pub fn declare(
     numbers[last] = n as u16;
     levels[last] = level as u16;
     kinds[level] = kind;
-    ACCEPTED
+    Ok(())
 }

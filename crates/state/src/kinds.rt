@@ -6,6 +6,7 @@ ghost use Rattle.qbf.specs.Calls.{free_is_ok};
 ghost use Rattle.tables.specs.Views.{Numbers, Places, Kinds};
 ghost use Rattle.state.specs.Derived.{Quantified, code_for};
 
+use crate::prefix::Variables;
 use literal::Place;
 
 // A place that is not declared counts as free.
@@ -16,8 +17,8 @@ pub fn kind_at<'a>(levels: &'a [u16], kinds: &'a [u16], place: Place) -> u16
     if p == 0 {
         return tables::FREE;
     }
-    let level = crate::cells::cell(levels, p) as usize;
-    crate::cells::cell(kinds, level)
+    let level = literal::cell_at(levels, p) as usize;
+    literal::cell_at(kinds, level)
 }
 
 // By number, in a table as long as that of the places; its content before is free.
@@ -29,41 +30,37 @@ pub fn kinds_of<'a>(places: &'a [u16], levels: &'a [u16], kinds: &'a [u16], tabl
         Quantified D levels.now kinds.now →
         Kinds D table.new) }
 {
-    let mut n: usize = 0;
-    while n < table.len() {
-        let place = crate::cells::cell(places, n) as usize;
-        table[n] = kind_at(levels, kinds, Place(place));
-        n += 1;
+    for (n, kind) in table.iter_mut().enumerate() {
+        let place = literal::cell_at(places, n) as usize;
+        *kind = kind_at(levels, kinds, Place(place));
     }
 }
 
 // The free variables come first.
-pub fn free_count<'a>(numbers: &'a [u16], levels: &'a [u16], kinds: &'a [u16]) -> usize
+pub fn free_count(variables: Variables<'_>) -> usize
     ensures { (D : Prefix) →
-        Numbers D numbers.now →
-        Quantified D levels.now kinds.now →
+        Numbers D variables.entry.numbers.now →
+        Quantified D variables.entry.levels.now variables.entry.kinds.now →
         result ≡ free_variables D }
 {
-    let count = crate::cells::count(numbers);
-    let mut i: usize = 0;
-    while i < count {
-        if kind_at(levels, kinds, Place(i + 1)) != tables::FREE {
+    let count = crate::cells::count(variables.numbers);
+    for i in 0..count {
+        if kind_at(variables.levels, variables.kinds, Place(i + 1)) != tables::FREE {
             return i;
         }
-        i += 1;
     }
-    i
+    count
 }
 
 // "flags stay at most 40": so there are where there are no more variables.
-pub fn few_free<'a>(numbers: &'a [u16], levels: &'a [u16], kinds: &'a [u16]) -> bool
+pub fn few_free(variables: Variables<'_>) -> bool
     ensures { (D : Prefix) →
-        Numbers D numbers.now →
-        Quantified D levels.now kinds.now →
+        Numbers D variables.entry.numbers.now →
+        Quantified D variables.entry.levels.now variables.entry.kinds.now →
         result ≡ free_is_ok D }
 {
-    if crate::cells::count(numbers) <= tables::MOST_FREE {
+    if crate::cells::count(variables.numbers) <= tables::MOST_FREE {
         return true;
     }
-    free_count(numbers, levels, kinds) <= tables::MOST_FREE
+    free_count(variables) <= tables::MOST_FREE
 }

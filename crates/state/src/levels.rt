@@ -6,6 +6,7 @@ ghost use Rattle.tables.specs.Views.{quantifier_code};
 ghost use Rattle.state.specs.Reading.{quantifier_of};
 ghost use Rattle.state.specs.Derived.{step_is_ok, levels_are_ok};
 
+use crate::prefix::Variables;
 use literal::Level;
 
 // The level of a place, next to one of the level and the quantifier given first.
@@ -40,30 +41,32 @@ fn step_ok(level: u16, beside: u16, next: u16, kind: u16) -> bool
     kind != tables::FREE
 }
 
-pub fn levels_ok<'a>(numbers: &'a [u16], levels: &'a [u16], kinds: &'a [u16], limit: usize) -> bool
+pub fn levels_ok(variables: Variables<'_>, limit: usize) -> bool
     ensures { (L : Limits) →
         L.numbers ≡ limit →
-        result ≡ levels_are_ok L numbers.now levels.now kinds.now }
+        result ≡ levels_are_ok
+        L
+        variables.entry.numbers.now
+        variables.entry.levels.now
+        variables.entry.kinds.now }
 {
-    let count = crate::cells::count(numbers);
+    let count = crate::cells::count(variables.numbers);
     if count > limit {
         return false;
     }
     let mut level: u16 = 0;
     let mut beside = tables::FREE;
-    let mut i: usize = 0;
-    while i < count {
-        let next = crate::cells::cell_after(levels, i);
+    for i in 0..count {
+        let next = crate::cells::cell_after(variables.levels, i);
         if next as usize > limit {
             return false;
         }
-        let kind = crate::cells::cell(kinds, next as usize);
+        let kind = literal::cell_at(variables.kinds, next as usize);
         if !step_ok(level, beside, next, kind) {
             return false;
         }
         level = next;
         beside = kind;
-        i += 1;
     }
     true
 }

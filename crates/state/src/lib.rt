@@ -3,19 +3,21 @@
 
 ghost use Rattle.std.specs.Prelude.{◌≡◌, true, false};
 ghost use Rattle.std.proofs.Math.Option.{some};
-ghost use Rattle.state.specs.Reading.{state_of, read_state, empty_state, valid};
-ghost use Rattle.state.specs.Derived.{Checked};
+ghost use Rattle.state.specs.Reading.{read_state, empty_state, valid};
+ghost use Rattle.state.specs.Lent.{lent_state, CheckedAs};
 
 pub mod cells;
 pub mod declare;
 pub mod kinds;
-mod lengths;
-pub mod lent;
 mod levels;
 pub mod numbers;
+pub mod parts;
 pub mod prefix;
 mod room;
 mod rows;
+
+use parts::Parts;
+use refusal::Refusal;
 
 #[repr(C)]
 #[derive(Clone, Copy)]
@@ -48,15 +50,15 @@ pub fn empty() -> State
     let learned_cubes = [0i16; tables::CONSTRAINT_CELLS];
     let learned_cube_sizes = [0u16; tables::CONSTRAINT_SIZES];
     State {
-        numbers: numbers,
-        levels: levels,
-        kinds: kinds,
-        clauses: clauses,
-        clause_sizes: clause_sizes,
-        learned_clauses: learned_clauses,
-        learned_clause_sizes: learned_clause_sizes,
-        learned_cubes: learned_cubes,
-        learned_cube_sizes: learned_cube_sizes,
+        numbers,
+        levels,
+        kinds,
+        clauses,
+        clause_sizes,
+        learned_clauses,
+        learned_clause_sizes,
+        learned_cubes,
+        learned_cube_sizes,
     }
 }
 
@@ -69,69 +71,71 @@ pub fn closed() -> State
 {
     let mut numbers = [0u16; tables::BY_NUMBER];
     numbers[0] = TOO_MANY;
-    let mut x = empty();
-    x.numbers = numbers;
-    x
+    State { numbers, ..empty() }
 }
 
-// "22 the state is malformed": it is not valid. The tables are lent, and the prefix is read on the way.
-pub fn check_tables<'a>(
-    numbers: &'a [u16; tables::BY_NUMBER],
-    levels: &'a [u16; tables::BY_NUMBER],
-    kinds: &'a [u16; tables::BY_NUMBER],
-    clauses: &'a [i16; tables::CLAUSE_CELLS],
-    clause_sizes: &'a [u16; tables::CLAUSE_SIZES],
-    learned_clauses: &'a [i16; tables::CONSTRAINT_CELLS],
-    learned_clause_sizes: &'a [u16; tables::LEARNED_CLAUSE_SIZES],
-    learned_cubes: &'a [i16; tables::CONSTRAINT_CELLS],
-    learned_cube_sizes: &'a [u16; tables::CONSTRAINT_SIZES],
-) -> prefix::Tables
-    ensures { Checked
-        (state_of
-        numbers.now
-        levels.now
-        kinds.now
-        clauses.now
-        clause_sizes.now
-        learned_clauses.now
-        learned_clause_sizes.now
-        learned_cubes.now
-        learned_cube_sizes.now)
-        result.ok
-        result.places
-        result.kinds }
-{
-    lengths::tables_sized(
-        numbers,
-        levels,
-        kinds,
-        clauses,
-        clause_sizes,
-        learned_clauses,
-        learned_clause_sizes,
-        learned_cubes,
-        learned_cube_sizes,
-    );
-    let mut places = [0u16; tables::BY_NUMBER];
-    let mut by_number = [0u16; tables::BY_NUMBER];
-    let ok = lent::check(
-        numbers,
-        levels,
-        kinds,
-        clauses,
-        clause_sizes,
-        learned_clauses,
-        learned_clause_sizes,
-        learned_cubes,
-        learned_cube_sizes,
-        tables::NUMBERS,
-        tables::CLAUSES,
-        &mut places,
-        &mut by_number,
-    );
-    prefix::Tables {
-        ok: ok,
-        places: places,
-        kinds: by_number,
+// The nine tables of a state, lent to be read.
+#[derive(Clone, Copy)]
+pub struct Lent<'a> {
+    pub numbers: &'a [u16; tables::BY_NUMBER],
+    pub levels: &'a [u16; tables::BY_NUMBER],
+    pub kinds: &'a [u16; tables::BY_NUMBER],
+    pub clauses: &'a [i16; tables::CLAUSE_CELLS],
+    pub clause_sizes: &'a [u16; tables::CLAUSE_SIZES],
+    pub learned_clauses: &'a [i16; tables::CONSTRAINT_CELLS],
+    pub learned_clause_sizes: &'a [u16; tables::LEARNED_CLAUSE_SIZES],
+    pub learned_cubes: &'a [i16; tables::CONSTRAINT_CELLS],
+    pub learned_cube_sizes: &'a [u16; tables::CONSTRAINT_SIZES],
+}
+
+// The place and the quantifier of each number.
+#[derive(Clone, Copy)]
+pub struct Tables {
+    pub places: [u16; tables::BY_NUMBER],
+    pub kinds: [u16; tables::BY_NUMBER],
+}
+
+impl<'a> Lent<'a> {
+    // "22 the state is malformed": it is not valid. The prefix is read on the way.
+    pub fn check(self) -> Result<Tables, Refusal>
+        ensures { CheckedAs (lent_state self.entry) result }
+    {
+        let Lent {
+            numbers,
+            levels,
+            kinds,
+            clauses,
+            clause_sizes,
+            learned_clauses,
+            learned_clause_sizes,
+            learned_cubes,
+            learned_cube_sizes,
+        } = self;
+        let parts = Parts {
+            numbers,
+            levels,
+            kinds,
+            clauses,
+            clause_sizes,
+            learned_clauses,
+            learned_clause_sizes,
+            learned_cubes,
+            learned_cube_sizes,
+        };
+        let mut places = [0u16; tables::BY_NUMBER];
+        let mut by_number = [0u16; tables::BY_NUMBER];
+        let valid = parts.check(
+            tables::NUMBERS,
+            tables::CLAUSES,
+            &mut places,
+            &mut by_number,
+        );
+        if !valid {
+            return Err(Refusal::Malformed);
+        }
+        Ok(Tables {
+            places,
+            kinds: by_number,
+        })
     }
 }

@@ -5,8 +5,7 @@ ghost use Rattle.qbf.specs.Calls.{numbers_are_ok};
 ghost use Rattle.tables.specs.Views.{Numbers, Places};
 ghost use Rattle.state.specs.Derived.{is_fresh, Placing};
 
-use crate::cells::cell;
-use literal::Number;
+use literal::{Number, cell_at};
 
 fn is_fresh<'a>(places: &'a [u16], limit: usize, number: Number) -> bool
     ensures { result ≡ is_fresh limit places.now number.0 }
@@ -18,7 +17,7 @@ fn is_fresh<'a>(places: &'a [u16], limit: usize, number: Number) -> bool
     if n > limit {
         return false;
     }
-    cell(places, n) == 0
+    cell_at(places, n) == 0
 }
 
 // The place of each number, in a table whose content before is free. Refused where a number is not 1 to the limit, or stands twice.
@@ -32,14 +31,12 @@ pub fn place_numbers<'a>(numbers: &'a [u16], limit: usize, places: &mut [u16]) -
     if count > limit {
         return false;
     }
-    let mut i: usize = 0;
-    while i < count {
+    for i in 0..count {
         let n = crate::cells::entry(numbers, i);
         if !is_fresh(places, limit, Number(n)) {
             return false;
         }
         places[n] = (i + 1) as u16;
-        i += 1;
     }
     true
 }

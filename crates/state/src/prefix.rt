@@ -3,18 +3,17 @@ ghost use Rattle.std.specs.Prelude.{◌≡◌, suc, length};
 ghost use Rattle.qbf.specs.Formula.{Limits};
 ghost use Rattle.state.specs.Derived.{Shown};
 
+// The number and the level of each place, and the quantifier of each level.
 #[derive(Clone, Copy)]
-pub struct Tables {
-    pub ok: bool,
-    pub places: [u16; tables::BY_NUMBER],
-    pub kinds: [u16; tables::BY_NUMBER],
+pub struct Variables<'a> {
+    pub numbers: &'a [u16],
+    pub levels: &'a [u16],
+    pub kinds: &'a [u16],
 }
 
 // The tables by number have a cell for each number up to the limit, and one more; their content before is free.
-pub fn read_prefix<'a>(
-    numbers: &'a [u16],
-    levels: &'a [u16],
-    kinds: &'a [u16],
+pub fn read_prefix(
+    variables: Variables<'_>,
     limit: usize,
     places: &mut [u16],
     by_number: &mut [u16],
@@ -24,17 +23,17 @@ pub fn read_prefix<'a>(
         L.numbers ≡ limit →
         Shown
         L
-        numbers.now
-        levels.now
-        kinds.now
+        variables.entry.numbers.now
+        variables.entry.levels.now
+        variables.entry.kinds.now
         result
         places.new
         by_number.new }
 {
-    let placed = crate::numbers::place_numbers(numbers, limit, places);
-    crate::kinds::kinds_of(places, levels, kinds, by_number);
+    let placed = crate::numbers::place_numbers(variables.numbers, limit, places);
+    crate::kinds::kinds_of(places, variables.levels, variables.kinds, by_number);
     if placed {
-        return crate::levels::levels_ok(numbers, levels, kinds, limit);
+        return crate::levels::levels_ok(variables, limit);
     }
     false
 }

@@ -1,25 +1,26 @@
 // The rows of a state's flat tables: clauses and learned constraints, each in place order, and a constraint reduced.
-ghost use Rattle.std.specs.Prelude.{◌≡◌, ◌≤◌, ◌+◌, ◌*◌, true, false, cond, not, ◌&&◌, length, take, drop};
+ghost use Rattle.std.specs.Prelude.{◌≡◌, ◌≤◌, ◌+◌, ◌*◌, true, false, cond, not, length, take, drop};
 ghost use Rattle.qbf.specs.Formula.{Prefix, paper, exists, forall, quantifier_at};
 ghost use Rattle.qbf.specs.Learning.{dropped, last_place};
 ghost use Rattle.qbf.specs.Calls.{in_order, clause_ok, constraint_ok};
 ghost use Rattle.tables.specs.Views.{quantifier_code, Places, Kinds};
-ghost use Rattle.state.specs.Derived.{clauses_fine, constraints_fine, records_fine};
+ghost use Rattle.state.specs.Derived.{clauses_fine, constraints_fine, rows_fine};
 ghost use Rattle.state.specs.Reading.{at_most, records_of};
+ghost use Rattle.state.specs.Lent.{parts_state};
+
+use crate::parts::Parts;
 
 // Each place is greater than the one before: so each variable is declared, and none stands twice.
 pub fn in_order<'a>(places: &'a [u16], lits: &'a [i16]) -> bool
     ensures { (D : Prefix) → Places D places.now → result ≡ in_order D 0 lits.now }
 {
     let mut last: usize = 0;
-    let mut i: usize = 0;
-    while i < lits.len() {
-        let place = literal::literal_place(places, lits[i]);
+    for lit in lits {
+        let place = literal::literal_place(places, *lit);
         if place <= last {
             return false;
         }
         last = place;
-        i += 1;
     }
     true
 }
@@ -90,8 +91,7 @@ pub fn clauses_ok<'a>(places: &'a [u16], flat: &'a [i16], sizes: &'a [u16], most
     if count > most {
         return false;
     }
-    let mut k: usize = 0;
-    while k < count {
+    for k in 0..count {
         let len = crate::cells::entry(sizes, k);
         if len > tables::LITERALS {
             return false;
@@ -100,7 +100,6 @@ pub fn clauses_ok<'a>(places: &'a [u16], flat: &'a [i16], sizes: &'a [u16], most
         if !clause_ok(places, lits) {
             return false;
         }
-        k += 1;
     }
     true
 }
@@ -124,8 +123,7 @@ pub fn constraints_ok<'a>(
     if count > tables::CONSTRAINTS {
         return false;
     }
-    let mut k: usize = 0;
-    while k < count {
+    for k in 0..count {
         let len = crate::cells::entry(sizes, k);
         if len > width {
             return false;
@@ -134,7 +132,6 @@ pub fn constraints_ok<'a>(
         if !constraint_ok(places, kinds, lits, cube) {
             return false;
         }
-        k += 1;
     }
     true
 }
@@ -144,49 +141,38 @@ fn records_ok<'a>(sizes: &'a [u16], clauses: usize) -> bool
     ensures { result ≡ at_most clauses (records_of sizes.now) }
 {
     let count = crate::cells::count(sizes);
-    let mut k: usize = 0;
-    while k < count {
+    for k in 0..count {
         if crate::cells::record(sizes, k) > clauses {
             return false;
         }
-        k += 1;
     }
     true
 }
 
 // Clauses, learned clauses, learned cubes, and the records of the learned clauses, under the limits for numbers and clauses.
-pub fn all_ok<'a>(
-    places: &'a [u16],
-    kinds: &'a [u16],
-    clauses: &'a [i16],
-    clause_sizes: &'a [u16],
-    learned_clauses: &'a [i16],
-    learned_clause_sizes: &'a [u16],
-    learned_cubes: &'a [i16],
-    learned_cube_sizes: &'a [u16],
+pub fn all_ok(
+    places: &[u16],
+    kinds: &[u16],
+    parts: Parts<'_>,
     most_numbers: usize,
     most_clauses: usize,
 ) -> bool
-    requires { (most_clauses * paper.literals ≤ length clauses.now)
-        × (paper.constraints * most_numbers ≤ length learned_clauses.now)
-        × (paper.constraints * most_numbers ≤ length learned_cubes.now) }
+    requires { (most_clauses * paper.literals ≤ length parts.clauses.now)
+        × (paper.constraints * most_numbers ≤ length parts.learned_clauses.now)
+        × (paper.constraints * most_numbers ≤ length parts.learned_cubes.now) }
     ensures { (D : Prefix) →
         Places D places.now →
         Kinds D kinds.now →
-        result
-        ≡ (clauses_fine most_clauses D clauses.now clause_sizes.now
-        && constraints_fine most_numbers D false learned_clauses.now learned_clause_sizes.now
-        && constraints_fine most_numbers D true learned_cubes.now learned_cube_sizes.now
-        && records_fine clause_sizes.now learned_clause_sizes.now) }
+        result ≡ rows_fine most_numbers most_clauses D (parts_state parts.entry) }
 {
-    if !clauses_ok(places, clauses, clause_sizes, most_clauses) {
+    if !clauses_ok(places, parts.clauses, parts.clause_sizes, most_clauses) {
         return false;
     }
     if !constraints_ok(
         places,
         kinds,
-        learned_clauses,
-        learned_clause_sizes,
+        parts.learned_clauses,
+        parts.learned_clause_sizes,
         most_numbers,
         false,
     ) {
@@ -195,12 +181,15 @@ pub fn all_ok<'a>(
     if !constraints_ok(
         places,
         kinds,
-        learned_cubes,
-        learned_cube_sizes,
+        parts.learned_cubes,
+        parts.learned_cube_sizes,
         most_numbers,
         true,
     ) {
         return false;
     }
-    records_ok(learned_clause_sizes, crate::cells::count(clause_sizes))
+    records_ok(
+        parts.learned_clause_sizes,
+        crate::cells::count(parts.clause_sizes),
+    )
 }

@@ -4,18 +4,10 @@ ghost use Rattle.state_parts.specs.Parts.{part};
 
 use crate::layout::least;
 
-pub fn of_cells<'a>(cells: &'a [u16], from: usize, len: usize) -> &'a [u16]
-    ensures { result.now ≡ part from len cells.now }
+pub fn part<T>(table: &[T], from: usize, len: usize) -> &[T]
+    ensures { result.now ≡ part from len table.now }
 {
-    let start = least(from, cells.len());
-    let end = start + least(len, cells.len() - start);
-    &cells[start..end]
-}
-
-pub fn of_literals<'a>(literals: &'a [i16], from: usize, len: usize) -> &'a [i16]
-    ensures { result.now ≡ part from len literals.now }
-{
-    let start = least(from, literals.len());
-    let end = start + least(len, literals.len() - start);
-    &literals[start..end]
+    let start = least(from, table.len());
+    let end = start + least(len, table.len() - start);
+    &table[start..end]
 }

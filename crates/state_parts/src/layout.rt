@@ -19,13 +19,13 @@ pub fn least(a: usize, b: usize) -> usize
 pub fn numbers_limit<'a>(cells: &'a [u16]) -> usize
     ensures { result ≡ get_or cells.now 0 0 }
 {
-    state::cells::cell(cells, 0) as usize
+    literal::cell_at(cells, 0) as usize
 }
 
 pub fn clauses_limit<'a>(cells: &'a [u16]) -> usize
     ensures { result ≡ get_or cells.now 1 0 }
 {
-    state::cells::cell(cells, 1) as usize
+    literal::cell_at(cells, 1) as usize
 }
 
 pub fn levels_at(numbers: usize) -> usize

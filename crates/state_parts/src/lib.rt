@@ -12,6 +12,8 @@ pub mod initial;
 pub mod layout;
 pub mod parts;
 
+use state::parts::Parts;
+
 // The check of the parts that these limits give. The tables by number have a cell for each number up to the limit, and one more.
 fn check_parts<'a>(
     cells: &'a [u16],
@@ -34,21 +36,18 @@ fn check_parts<'a>(
         places.new
         by_number.new }
 {
-    state::lent::check(
-        parts::numbers(cells, numbers),
-        parts::levels(cells, numbers),
-        parts::kinds(cells, numbers),
-        parts::clauses(literals, clauses),
-        parts::clause_sizes(cells, numbers, clauses),
-        parts::learned_clauses(literals, numbers, clauses),
-        parts::learned_clause_sizes(cells, numbers, clauses),
-        parts::learned_cubes(literals, numbers, clauses),
-        parts::learned_cube_sizes(cells, numbers, clauses),
-        numbers,
-        clauses,
-        places,
-        by_number,
-    )
+    let parts = Parts {
+        numbers: parts::numbers(cells, numbers),
+        levels: parts::levels(cells, numbers),
+        kinds: parts::kinds(cells, numbers),
+        clauses: parts::clauses(literals, clauses),
+        clause_sizes: parts::clause_sizes(cells, numbers, clauses),
+        learned_clauses: parts::learned_clauses(literals, numbers, clauses),
+        learned_clause_sizes: parts::learned_clause_sizes(cells, numbers, clauses),
+        learned_cubes: parts::learned_cubes(literals, numbers, clauses),
+        learned_cube_sizes: parts::learned_cube_sizes(cells, numbers, clauses),
+    };
+    parts.check(numbers, clauses, places, by_number)
 }
 
 // "22 the state is malformed": its limits are too high, a table is shorter than they ask, or what stands in them is not well formed. The prefix that is

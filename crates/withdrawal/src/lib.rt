@@ -67,10 +67,8 @@ fn keep<'a>(
     ensures { Kept cells.now sizes.now remain kept.new kept_sizes.new }
 {
     let count = state::cells::count(sizes);
-    let mut i: usize = 0;
-    while i < count {
+    for i in 0..count {
         keep_row(cells, sizes, i, remain, kept, kept_sizes);
-        i += 1;
     }
 }
 

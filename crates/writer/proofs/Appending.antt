@@ -1,15 +1,15 @@
--- Appending: nothing, a byte, one text after another, and a word byte by byte.
-use Prim.Native.Nat.{ℕ, ◌+◌, ◌<◌, ◌≤◌, zero-le}
+-- Appending: nothing, a byte, one text after another, and a text part by part.
+use Prim.Native.Nat.{ℕ, ◌+◌, ◌<◌}
 use mathlib.Core.Path.{◌≡◌, refl, sym, ap, subst, ◌∙◌}
-use mathlib.Core.Bool.{Bool}
 use mathlib.Core.List.{[], ◌∷◌, ◌++◌, append_assoc, append-nil}
 use native.Mathlib.Omega.{arith}
 use native.Mathlib.Numerals.{add-one}
-use lib.ListN.{length, get_or, take, set, length-set, length-append}
-use lib.Seq.{take-suc-set, take-suc, take_all}
+use lib.ListN.{length, take, set, length-set, length-append}
+use lib.Seq.{take-suc-set}
 use Rattle.layout.specs.Words.{Bytes}
-use Rattle.layout.specs.Output.{card_head}
+use Rattle.writer.specs.declared.Output.{Output}
 use Rattle.writer.specs.Wrote.{Wrote}
+use Rattle.writer.specs.Appended.{Appended, Room}
 
 pub wrote_none : (d : Bytes) (at : ℕ) → Wrote d at [] d at
 wrote_none d at = record { size = refl; next = omega arith; is = sym (append-nil (take at d)) }
@@ -29,34 +29,38 @@ wrote_then {d₀} {x} {d₁} {y} {d₂} {at} {r₁} {r₂} p q =
 pub wrote_two : {d₀ x d₁ d₂ : Bytes} {at r₁ r₂ : ℕ} (y z : Bytes) → Wrote d₀ at x d₁ r₁ → Wrote d₁ r₁ (y ++ z) d₂ r₂ → Wrote d₀ at (x ++ y ++ z) d₂ r₂
 wrote_two {d₀} {x} {d₁} {d₂} {at} {r₁} {r₂} y z p q = subst (λ (t : Bytes). Wrote d₀ at t d₂ r₂) (sym (append_assoc x y z)) (wrote_then p q)
 
--- ---- a word: its first j bytes are written
-pub record Copied (d₀ : Bytes) (at : ℕ) (w : Bytes) (d : Bytes) (j : ℕ) : Type 0 where
-  pub high : j ≤ length w
-  pub is : Wrote d₀ at (take j w) d (at + j)
+-- ---- outputs
+pub appended_none : (o : Output) → Appended o [] o
+appended_none o = record { same = refl; wrote = wrote_none o.bytes.now o.at }
 
-pub copy_none : (d : Bytes) (at : ℕ) (w : Bytes) → Copied d at w d 0
-copy_none d at w = record { high = zero-le; is = subst (Wrote d at [] d) e (wrote_none d at) }
-  where
-    e : at ≡ at + 0
-    e = omega arith
+pub appended_then : {a b c : Output} {x y : Bytes} → Appended a x b → Appended b y c → Appended a (x ++ y) c
+appended_then p q = record { same = q.same ∙ p.same; wrote = wrote_then p.wrote q.wrote }
 
-module _ {d₀ : Bytes} {at : ℕ} {w d : Bytes} {j : ℕ} (p : Copied d₀ at w d j) where
-  pub copy_more : j < length w → at + length w ≤ length d₀ → Copied d₀ at w (set d (at + j) (get_or w j 0)) (j + 1)
-  copy_more h k =
-      record {
-        high = omega arith;
-        is =
-            subst (λ (r : ℕ). Wrote d₀ at (take (j + 1) w) (set d (at + j) (get_or w j 0)) r) e
-            (subst (λ (t : Bytes). Wrote d₀ at t (set d (at + j) (get_or w j 0)) (at + j + 1)) (sym (ap (λ (m : ℕ). take m w) (add-one j) ∙ take-suc w j 0 h))
-            (wrote_then p.is (wrote_byte (get_or w j 0) (omega (arith, p.is.size)))));
-      }
-    where
-      e : at + j + 1 ≡ at + (j + 1)
-      e = omega arith
+-- .. and two more texts at once
+pub appended_two : {a b c : Output} {x : Bytes} (y z : Bytes) → Appended a x b → Appended b (y ++ z) c → Appended a (x ++ y ++ z) c
+appended_two {a} {b} {c} {x} y z p q = subst (λ (t : Bytes). Appended a t c) (sym (append_assoc x y z)) (appended_then p q)
 
-  pub copy_end : length w ≤ j → Wrote d₀ at w d (at + j)
-  copy_end h = subst (λ (t : Bytes). Wrote d₀ at t d (at + j)) (take_all j w h) p.is
+-- what was appended to a table that was lent
+pub wrote_lent : {d₀ d₁ d t : Bytes} {at r : ℕ} → Wrote d₀ at t d₁ r → d ≡ d₁ → Wrote d₀ at t d r
+wrote_lent {d₀} {t = t} {at} {r} w e = subst (λ (d : Bytes). Wrote d₀ at t d r) (sym e) w
 
--- the head of a card, by the verdict of its lines
-pub wrote_head : {d₀ : Bytes} {at : ℕ} {p q : Bool} {d : Bytes} {r : ℕ} → p ≡ q → Wrote d₀ at (card_head q) d r → Wrote d₀ at (card_head p) d r
-wrote_head {d₀} {at} {p} {q} {d} {r} e w = subst (λ (z : Bool). Wrote d₀ at (card_head z) d r) (sym e) w
+-- ---- of the text t behind o, the part `rest` is still to be written
+pub record Left (o : Output) (t rest : Bytes) (n : Output) : Type 0 where
+  pub done : Bytes
+  pub is : t ≡ done ++ rest
+  pub wrote : Appended o done n
+
+pub left_all : (o : Output) (t : Bytes) → Left o t t o
+left_all o t = record { done = []; is = refl; wrote = appended_none o }
+
+pub left_room : {o n : Output} {t : Bytes} (x rest : Bytes) → Left o t (x ++ rest) n → Room o t → Room n x
+left_room x rest p room = omega (arith, ap length p.is, length-append p.done (x ++ rest), length-append x rest)
+
+pub left_more : {o n m : Output} {t x rest : Bytes} → Left o t (x ++ rest) n → Appended n x m → Left o t rest m
+left_more {x} {rest} p w = record { done = p.done ++ x; is = p.is ∙ sym (append_assoc p.done x rest); wrote = appended_then p.wrote w }
+
+pub left_none : {o n : Output} {t : Bytes} → Left o t [] n → Appended o t n
+left_none {o} {n} p = subst (λ (s : Bytes). Appended o s n) (sym (p.is ∙ append-nil p.done)) p.wrote
+
+pub left_as : {o n : Output} {t x y : Bytes} → x ≡ y → Left o t x n → Left o t y n
+left_as {o} {n} {t} e p = subst (λ (s : Bytes). Left o t s n) e p

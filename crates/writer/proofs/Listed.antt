@@ -1,89 +1,42 @@
--- The lines of a card: one row of the table after the other.
-use Prim.Native.Nat.{ℕ, zero, suc, ◌+◌, ◌*◌, ◌-◌, ◌<◌, ◌≤◌, zero-le}
-use mathlib.Core.Path.{◌≡◌, sym, ap, subst, ◌∙◌}
-use mathlib.Core.List.{List, [], ◌∷◌, ◌++◌, append_assoc, append-nil}
+-- The lines of a card: the first row, and the rows behind it.
+use Prim.Native.Nat.{ℕ, suc, ◌+◌, ◌*◌, ◌-◌, ◌<◌, ◌≤◌}
+use mathlib.Core.Path.{◌≡◌, ap, subst, ◌∙◌}
+use mathlib.Core.List.{List, [], ◌++◌}
 use native.Mathlib.Omega.{arith}
-use native.Mathlib.Nat.{suc-mul, mul-le-mul_right}
-use lib.ListN.{length, take, drop, length-append, length-take, length-drop}
-use lib.Seq.{drop-nil}
-use Rattle.layout.specs.Words.{Bytes}
-use Rattle.writer.specs.Wrote.{Wrote}
+use native.Mathlib.Nat.{suc-mul}
+use lib.ListN.{take, drop}
 use Rattle.writer.specs.Rows.{row_text, rows_text}
-use Rattle.writer.proofs.Appending.{wrote_none, wrote_then}
 
-pub drop_drop : (a b : ℕ) (xs : List ℕ) → drop a (drop b xs) ≡ drop (b + a) xs
-drop_drop a zero xs = ap (λ (k : ℕ). drop k xs) e
+pub rows_step : (f : ℕ) (numbers table : List ℕ) (n k : ℕ) {row rest : List ℕ} → k < n → row ≡ take f table → rest ≡ drop f table
+    → rows_text f numbers table (n - k) ≡ row_text numbers row ++ rows_text f numbers rest (n - (k + 1))
+unfolding rows_text
+rows_step f numbers table n k h p q = rw (p, q) (ap (rows_text f numbers table) left)
   where
-    e : a ≡ 0 + a
-    e = omega arith
-drop_drop a (suc b) [] = drop-nil a ∙ sym (drop-nil (suc b + a))
-drop_drop a (suc b) (x ∷ xs) = drop_drop a b xs ∙ ap (λ (k : ℕ). drop k (x ∷ xs)) e
+    left : n - k ≡ suc (n - (k + 1))
+    left = omega (arith, h)
+
+pub rows_end : (f : ℕ) (numbers table : List ℕ) (n k : ℕ) → n ≤ k → rows_text f numbers table (n - k) ≡ []
+unfolding rows_text
+rows_end f numbers table n k h = ap (rows_text f numbers table) none
   where
-    e : suc (b + a) ≡ suc b + a
-    e = omega arith
+    none : n - k ≡ 0
+    none = omega (arith, h)
 
--- the first k of n rows are written, and the next starts at b
-pub record Listed (numbers table : Bytes) (f n : ℕ) (d₀ : Bytes) (p₀ : ℕ) (d : Bytes) (p b k : ℕ) : Type 0 where
-  pub done : Bytes
-  pub high : k ≤ n
-  pub start : b ≡ k * f
-  pub is : rows_text f numbers table n ≡ done ++ rows_text f numbers (drop b table) (n - k)
-  pub wrote : Wrote d₀ p₀ done d p
-
-pub list_none : (numbers table : Bytes) (f n : ℕ) (d : Bytes) (p : ℕ) → Listed numbers table f n d p d p 0 0
-list_none numbers table f n d p = record { done = []; high = zero-le; start = omega arith; is = ap (rows_text f numbers table) e; wrote = wrote_none d p }
+-- the rows that are left have their bytes
+pub rows_bytes_all : (f n : ℕ) {m : ℕ} → n * f ≤ m → (n - 0) * f ≤ m
+rows_bytes_all f n {m} h = subst (λ (k : ℕ). k * f ≤ m) e h
   where
     e : n ≡ n - 0
     e = omega arith
 
-module _ {numbers table : Bytes} {f n : ℕ} {d₀ : Bytes} {p₀ : ℕ} {d : Bytes} {p b k : ℕ} (inv : Listed numbers table f n d₀ p₀ d p b k) where
-  module _ (more : k < n) where
-    -- the next row lies within the table
-    pub list_inside : n * f ≤ length table → b + f ≤ length table
-    list_inside room = omega (arith, room, inv.start, suc-mul k f, mul-le-mul_right f more)
+pub rows_bytes : (f n k : ℕ) → k < n → (n - k) * f ≡ (n - (k + 1)) * f + f
+rows_bytes f n k h = ap (λ (m : ℕ). m * f) left ∙ suc-mul (n - (k + 1)) f
+  where
+    left : n - k ≡ suc (n - (k + 1))
+    left = omega (arith, h)
 
-    row : Bytes
-    row = take (b + f - b) (drop b table)
-
-    rest : Bytes
-    rest = rows_text f numbers (drop (b + f) table) (n - (k + 1))
-
-    list_step : rows_text f numbers (drop b table) (n - k) ≡ row_text numbers row ++ rest
-    unfolding rows_text row rest
-    list_step =
-        ap (rows_text f numbers (drop b table)) left
-        ∙ ap (λ (t : Bytes). row_text numbers (take f (drop b table)) ++ rows_text f numbers t (n - (k + 1))) (drop_drop f b table)
-        ∙ ap (λ (m : ℕ). row_text numbers (take m (drop b table)) ++ rows_text f numbers (drop (b + f) table) (n - (k + 1))) width
-      where
-        left : n - k ≡ suc (n - (k + 1))
-        left = omega (arith, more)
-
-        width : f ≡ b + f - b
-        width = omega arith
-
-    pub list_room : p₀ + length (rows_text f numbers table n) ≤ length d₀ → p + length (row_text numbers (take (b + f - b) (drop b table))) ≤ length d
-    unfolding row rest
-    list_room room =
-        omega (arith, room, inv.wrote.size, inv.wrote.next, ap length (inv.is ∙ ap (λ (t : Bytes). inv.done ++ t) list_step), length-append inv.done (row_text numbers row ++ rest), length-append (row_text numbers row) rest)
-
-    pub list_more : {d₁ : Bytes} {r : ℕ} → Wrote d p (row_text numbers (take (b + f - b) (drop b table))) d₁ r → Listed numbers table f n d₀ p₀ d₁ r (b + f) (k + 1)
-    unfolding row rest
-    list_more w =
-        record {
-          done = inv.done ++ row_text numbers row;
-          high = omega arith;
-          start = omega (arith, inv.start, suc-mul k f);
-          is = inv.is ∙ ap (λ (t : Bytes). inv.done ++ t) list_step ∙ sym (append_assoc inv.done (row_text numbers row) rest);
-          wrote = wrote_then inv.wrote w;
-        }
-
-  pub list_end : n ≤ k → Wrote d₀ p₀ (rows_text f numbers table n) d p
-  unfolding rows_text
-  list_end h = subst (λ (t : Bytes). Wrote d₀ p₀ t d p) (sym (inv.is ∙ ap (λ (m : ℕ). inv.done ++ rows_text f numbers (drop b table) m) none ∙ append-nil inv.done)) inv.wrote
-    where
-      none : n - k ≡ 0
-      none = omega (arith, h)
-
--- a row of f bytes
-pub row_width : (f b : ℕ) (table : List ℕ) → b + f ≤ length table → length (take (b + f - b) (drop b table)) ≡ f
-row_width f b table h = simp (length-take, length-drop) (omega arith)
+pub rows_all : (f : ℕ) (numbers table : List ℕ) (n : ℕ) → rows_text f numbers table n ≡ rows_text f numbers table (n - 0)
+rows_all f numbers table n = ap (rows_text f numbers table) e
+  where
+    e : n ≡ n - 0
+    e = omega arith

@@ -1,2 +1,3 @@
 pub mod Wrote
 pub mod Rows
+pub mod Appended

@@ -1,23 +1,24 @@
 // A byte, and a word of bytes.
-ghost use Rattle.std.specs.Prelude.{◌+◌, ◌≤◌, ◌<◌, [], ◌∷◌, length};
-ghost use Rattle.writer.specs.Wrote.{Wrote};
+ghost use Rattle.std.specs.Prelude.{[], ◌∷◌};
+ghost use Rattle.writer.specs.Appended.{Appended, Room};
 
-pub fn put_byte(d: &mut [u8], at: usize, b: u8) -> usize
-    requires { at < length d.old }
-    ensures { Wrote d.old at (b ∷ []) d.new result }
-{
-    d[at] = b;
-    at + 1
-}
+use crate::Output;
 
-pub fn put_word(d: &mut [u8], at: usize, w: &[u8]) -> usize
-    requires { at + length w.now ≤ length d.old }
-    ensures { Wrote d.old at w.now d.new result }
-{
-    let mut j: usize = 0;
-    while j < w.len() {
-        d[at + j] = w[j];
-        j += 1;
+impl Output<'_> {
+    pub fn put_byte(&mut self, b: u8)
+        requires { Room self.old (b ∷ []) }
+        ensures { Appended self.old (b ∷ []) self.new }
+    {
+        self.bytes[self.at] = b;
+        self.at += 1;
     }
-    at + j
+
+    pub fn put_word(&mut self, w: &[u8])
+        requires { Room self.old w.now }
+        ensures { Appended self.old w.now self.new }
+    {
+        let end = self.at + w.len();
+        self.bytes[self.at..end].copy_from_slice(w);
+        self.at = end;
+    }
 }

@@ -1,50 +1,46 @@
 // A line of a card: "each line's set flags in place order".
-ghost use Rattle.std.specs.Prelude.{◌+◌, ◌≤◌, ◌<◌, length};
+ghost use Rattle.std.specs.Prelude.{◌<◌, length};
 ghost use Rattle.writer.specs.Rows.{item_text, items_from, row_text};
-ghost use Rattle.writer.specs.Wrote.{Wrote};
+ghost use Rattle.writer.specs.Appended.{Appended, Room};
 
-use crate::bytes::{put_byte, put_word};
-use crate::number::put_number;
+use crate::Output;
 
-// The item of a variable's number and its value in a row; one that is open has none.
-pub fn put_item(d: &mut [u8], at: usize, n: u16, v: u8) -> usize
-    requires { at + length (item_text n v) ≤ length d.old }
-    ensures { Wrote d.old at (item_text n v) d.new result }
-{
-    if v == tables::ON {
-        let p = put_word(d, at, b" ");
-        return put_number(d, p, n as u64);
+impl Output<'_> {
+    // The item of a variable's number and its value in a row; one that is open has none.
+    pub fn put_item(&mut self, n: u16, v: u8)
+        requires { Room self.old (item_text n v) }
+        ensures { Appended self.old (item_text n v) self.new }
+    {
+        if v == tables::ON {
+            self.put_word(b" ");
+            self.put_number(n as u64);
+        } else if v == tables::OFF {
+            self.put_word(b" (no ");
+            self.put_number(n as u64);
+            self.put_word(b")");
+        }
     }
-    if v == tables::OFF {
-        let p = put_word(d, at, b" (no ");
-        let q = put_number(d, p, n as u64);
-        return put_word(d, q, b")");
-    }
-    at
-}
 
-// The items of a row, by the numbers of the places.
-pub fn put_items<'a>(d: &mut [u8], at: usize, numbers: &'a [u16], row: &'a [u8]) -> usize
-    requires row_in_bounds { length row.now < length numbers.now }
-    requires row_in_bounds_2 { at + length (items_from numbers.now 1 row.now) ≤ length d.old }
-    ensures { Wrote d.old at (items_from numbers.now 1 row.now) d.new result }
-{
-    let mut p = at;
-    let mut i: usize = 0;
-    while i < row.len() {
-        p = put_item(d, p, numbers[i + 1], row[i]);
-        i += 1;
+    // The items of a row, by the numbers of the places.
+    pub fn put_items(&mut self, numbers: &[u16], row: &[u8])
+        requires row_in_bounds { length row.now < length numbers.now }
+        requires room { Room self.old (items_from numbers.now 1 row.now) }
+        ensures { Appended self.old (items_from numbers.now 1 row.now) self.new }
+    {
+        for (i, v) in row.iter().enumerate() {
+            self.put_item(numbers[i + 1], *v);
+        }
     }
-    p
-}
 
-// A row of the card's table.
-pub fn put_line<'a>(d: &mut [u8], at: usize, numbers: &'a [u16], row: &'a [u8]) -> usize
-    requires row_in_bounds { length row.now < length numbers.now }
-    requires row_in_bounds_2 { at + length (row_text numbers.now row.now) ≤ length d.old }
-    ensures { Wrote d.old at (row_text numbers.now row.now) d.new result }
-{
-    let p = put_word(d, at, b"(line");
-    let q = put_items(d, p, numbers, row);
-    put_word(d, q, b")\n")
+    // A row of the card's table.
+    #[tactic(auto, using(crate::proofs::Written::row_length))]
+    pub fn put_line(&mut self, numbers: &[u16], row: &[u8])
+        requires row_in_bounds { length row.now < length numbers.now }
+        requires room { Room self.old (row_text numbers.now row.now) }
+        ensures { Appended self.old (row_text numbers.now row.now) self.new }
+    {
+        self.put_word(b"(line");
+        self.put_items(numbers, row);
+        self.put_word(b")\n");
+    }
 }

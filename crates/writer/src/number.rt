@@ -1,19 +1,21 @@
 // A number in decimal, "with as many digits as they need".
-ghost use Rattle.std.specs.Prelude.{◌+◌, ◌≤◌, length};
 ghost use Rattle.layout.specs.Output.{decimal};
-ghost use Rattle.writer.specs.Wrote.{Wrote};
+ghost use Rattle.writer.specs.Appended.{Appended, Room};
 
-use crate::bytes::put_byte;
+use crate::Output;
 
 const ZERO: u8 = b'0';
 
-pub fn put_number(d: &mut [u8], at: usize, n: u64) -> usize
-    requires { at + length (decimal n) ≤ length d.old }
-    ensures { Wrote d.old at (decimal n) d.new result }
-{
-    if n < 10 {
-        return put_byte(d, at, ZERO + n as u8);
+impl Output<'_> {
+    #[tactic(auto, using(crate::proofs::Decimals::one_length, crate::proofs::Decimals::tenth_length))]
+    pub fn put_number(&mut self, n: u64)
+        requires { Room self.old (decimal n) }
+        ensures { Appended self.old (decimal n) self.new }
+    {
+        if n < 10 {
+            return self.put_byte(ZERO + n as u8);
+        }
+        self.put_number(n / 10);
+        self.put_byte(ZERO + (n % 10) as u8);
     }
-    let p = put_number(d, at, n / 10);
-    put_byte(d, p, ZERO + (n % 10) as u8)
 }

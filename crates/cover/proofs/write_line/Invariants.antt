@@ -1,5 +1,5 @@
 -- `cover::write_line` meets its contract. The bytes passed are those of their places, and the others are as they were.
-use Prim.Native.Nat.{◌≤◌, ◌-◌}
+use Prim.Native.Nat.{◌≤◌}
 use mathlib.Core.Path.{◌≡◌}
 use mathlib.Core.List.{◌++◌}
 use lib.ListN.{length, drop}
@@ -8,6 +8,3 @@ use Rattle.cover.proofs.write_line.Given as goal
 
 abbrev pub invariant-loop-i : goal.invariant-loop-i
 invariant-loop-i l = (l.i ≤ l.k) × (length l.row ≡ length l.initial.row) × (l.row ≡ first_bytes l.statuses l.i ++ drop l.i l.initial.row)
-
-abbrev pub decreases-loop-i : goal.decreases-loop-i
-decreases-loop-i l = l.k - l.i

@@ -8,6 +8,3 @@ use Rattle.form_rows.proofs.add_pairs.Given as goal
 -- with the pairs of the literals from i on all pairs are added
 abbrev pub invariant-loop-i : goal.invariant-loop-i
 invariant-loop-i l = (l.i ≤ length l.lits) × Adding l.initial.cells l.initial.sizes l.places (pairs l.lits) (pairs (drop l.i l.lits)) l.cells l.sizes
-
-abbrev pub decreases-loop-i : goal.decreases-loop-i
-decreases-loop-i l = length l.lits - l.i

@@ -2,16 +2,16 @@
 use Rattle.inner.proofs.Conclusions.{stored_yes, stored_open, found_bounded}
 use Rattle.inner.proofs.stored_cube.Goals as goal
 
-pub returns-in-At : goal.returns-in-At
-returns-in-At c = record {
-  leaf_bounded = found_bounded c.in-At.is c.lookup-found.ensures.found_bounded;
+pub returns-in-Some : goal.returns-in-Some
+returns-in-Some c = record {
+  leaf_bounded = found_bounded c.in-Some.is c.lookup.ensures.found_bounded;
   leaf_coded = λ D s at es cls cs area shown given inner rows.
-      stored_yes D s es cls cs c.args.cubes.now area (c.lookup-found.ensures.found_coded D s at es cls area shown given inner rows) c.in-At.is;
+      stored_yes D s es cls cs c.args.cubes.now.cells area (c.lookup.ensures.found_coded D s at es cls area shown given inner rows) c.in-Some.is;
 }
 
-pub returns-in-Nothing : goal.returns-in-Nothing
-returns-in-Nothing c = record {
+pub returns-in-None : goal.returns-in-None
+returns-in-None c = record {
   leaf_bounded = tt;
   leaf_coded = λ D s at es cls cs area shown given inner rows.
-      stored_open D s es cls cs c.args.cubes.now area (c.lookup-found.ensures.found_coded D s at es cls area shown given inner rows) c.in-Nothing.is;
+      stored_open D s es cls cs c.args.cubes.now.cells area (c.lookup.ensures.found_coded D s at es cls area shown given inner rows) c.in-None.is;
 }

@@ -13,4 +13,4 @@ pub clear-requires : goal.clear-requires
 clear-requires c = omega (arith, codes_within ((c.args.last + 1) * 2) (get_or c.args.sizes.now 0 0) c.words_of-words.result c.words_of-words.ensures c.requires.0.few (omega (arith, c.requires.1)))
 
 pub returns : goal.returns
-returns c = λ D p q few. matrix_words c.words_of-words.ensures (c.add_clauses.ensures.2 D p q (omega (arith, few, c.requires.1)) (sets_cleared D c.clear.ensures few))
+returns c = (c.add_clauses.ensures.0, λ D p q few. matrix_words c.words_of-words.ensures (c.add_clauses.ensures.1 D p q (omega (arith, few, c.requires.1)) (sets_cleared D c.clear.ensures few)))

@@ -2,8 +2,8 @@
 use Rattle.node_lines.proofs.Lines.{lined_free, lined_other}
 use Rattle.node_lines.proofs.lined.Goals as goal
 
-pub returns-then-kind-eq-FREE : goal.returns-then-kind-eq-FREE
-returns-then-kind-eq-FREE c = lined_free c.args.kind c.args.yes c.args.v c.if-kind-eq-FREE.true c.is_of.ensures
+pub returns-then-free : goal.returns-then-free
+returns-then-free c = lined_free c.args.kind c.args.yes c.args.v c.if-free.true c.is_of.ensures
 
 pub returns : goal.returns
-returns c = lined_other c.args.kind c.args.yes c.args.v c.if-kind-eq-FREE.false
+returns c = lined_other c.args.kind c.args.yes c.args.v c.if-free.false

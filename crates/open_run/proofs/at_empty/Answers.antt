@@ -3,18 +3,11 @@ use mathlib.Core.Path.{◌∙◌, sym}
 use mathlib.Core.List.{[]}
 use Prim.Native.Nat.{suc}
 use Rattle.qbf.specs.Formula.{paper}
-use Rattle.tables.proofs.Laws.{standing}
 use Rattle.open_run.proofs.Walking.{open_values}
 use Rattle.open_run.proofs.at_empty.Goals as goal
 
-pub any_dead-requires : goal.any_dead-requires
-any_dead-requires c = standing c.requires
-
 pub returns-then-any_dead : goal.returns-then-any_dead
 returns-then-any_dead c = record { tests = λ D k. sym (c.any_dead.ensures D [] k (open_values D (suc paper.numbers))) ∙ c.if-any_dead.true }
-
-pub all_satisfied-requires : goal.all_satisfied-requires
-all_satisfied-requires c = standing c.requires
 
 pub returns-then-all_satisfied : goal.returns-then-all_satisfied
 returns-then-all_satisfied c = record { tests = λ D k. (sym (c.any_dead.ensures D [] k (open_values D (suc paper.numbers))) ∙ c.if-any_dead.false, sym (c.all_satisfied.ensures D [] (open_values D (suc paper.numbers))) ∙ c.if-all_satisfied.true) }

@@ -1,9 +1,17 @@
 -- `open_run::searched` meets its contract: the derived tables show what the formula's show.
 use Prim.Native.Nat.{suc}
-use mathlib.Core.Path.{refl}
+use Prim.Native.Nat.{ℕ}
+use mathlib.Core.List.{List}
+use mathlib.Core.Path.{refl, subst}
+use lib.ListN.{get_or}
+use Rattle.open_run.specs.OpenRun.{Below}
 use Rattle.qbf.specs.Formula.{paper}
 use Rattle.open_run.proofs.Walking.{searched_found}
 use Rattle.open_run.proofs.searched.Goals as goal
 
 pub returns : goal.returns
-returns c = (c.below.ensures.0, searched_found (suc paper.numbers) _ _ c.quantifiers_of-quantifiers.ensures c.load_clauses.ensures refl c.by_place.ensures refl c.below.result c.below.ensures.1)
+returns c = (
+  c.below.ensures.0,
+  searched_found (suc paper.numbers) _ _ c.quantifiers_of.ensures c.load_clauses.ensures.1 refl c.by_place.ensures refl c.below.result
+      (subst (λ (x : List ℕ). Below c.load_clauses.new.matrix.sets (get_or c.args.asked.clause_sizes.now 0 0) x c.by_place.new.recorded c.args.budget c.below.result) c.load_clauses.ensures.0 c.below.ensures.1),
+)

@@ -4,8 +4,8 @@ use Rattle.open_search.proofs.Budgets.{fewer_as}
 use Rattle.open_run.proofs.Walking.{walked_stopped, walked_no, walked_yes, walked_open}
 use Rattle.open_run.proofs.walk.Goals as goal
 
-pub returns-then-budget-le1 : goal.returns-then-budget-le1
-returns-then-budget-le1 c = (fewer_as c.found.ensures (omega arith), walked_stopped c.found.result (omega (arith, c.if-budget-le1.true)) c.found.ensures)
+pub returns-then-spent : goal.returns-then-spent
+returns-then-spent c = (fewer_as c.found.ensures (omega arith), walked_stopped c.found.result (omega (arith, c.if-spent.true)) c.found.ensures)
 
 pub returns-in-No : goal.returns-in-No
 returns-in-No c = (fewer_as c.found-in-No.ensures (omega (arith, c.counted.ensures)), walked_no c.at_empty-empty.ensures c.in-No.is c.found-in-No.result c.found-in-No.ensures c.counted.ensures)

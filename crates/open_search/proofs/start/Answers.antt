@@ -2,4 +2,4 @@
 use Rattle.open_search.proofs.start.Goals as goal
 
 pub returns : goal.returns
-returns c = (c.branch-sets.ensures.0.fewer, c.branch-sets.ensures.1)
+returns c = (c.branch-matrix.ensures.0.fewer, c.branch-matrix.ensures.1)

@@ -3,4 +3,4 @@ use Rattle.reply_numbers.proofs.Numbers.{change_numbers}
 use Rattle.reply_numbers.proofs.of_change.Goals as goal
 
 pub returns : goal.returns
-returns c = change_numbers c.args.c c.refusal_of.ensures
+returns c = change_numbers c.args.change c.refusal_of.ensures

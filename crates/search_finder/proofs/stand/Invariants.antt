@@ -1,11 +1,7 @@
 -- `search_finder::stand` meets its contract: the rows before k lie within the table.
-use Prim.Native.Nat.{◌-◌}
+use Rattle.std.proofs.Common.{ℕ, suc, ◌+◌, ◌*◌, ◌<◌, ◌≤◌, length, get_or}
 use Rattle.qbf.specs.Formula.{paper}
-use Rattle.search_finder.proofs.Lying.{Lying}
 use Rattle.search_finder.proofs.stand.Given as goal
 
 abbrev pub invariant-loop-k : goal.invariant-loop-k
-invariant-loop-k l = Lying paper.literals l.clauses l.sizes l.count l.k
-
-abbrev pub decreases-loop-k : goal.decreases-loop-k
-decreases-loop-k l = l.count - l.k
+invariant-loop-k l = (j : ℕ) → j < l.k → j * paper.literals + get_or l.sizes (suc j) 0 ≤ length l.cells

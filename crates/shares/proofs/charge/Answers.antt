@@ -3,54 +3,17 @@ use Prim.Native.Nat.{ℕ, ◌+◌, ◌-◌, ◌≤◌}
 use mathlib.Core.Path.{◌≡◌}
 use mathlib.Core.List.{List}
 use native.Mathlib.Omega.{arith}
-use mathlib.Core.Bool.{true, false}
 use lib.ListN.{length, get_or}
 use Rattle.days_laws.proofs.Accounts.{charged_fits}
 use Rattle.days.specs.Accounts.{books}
-use Rattle.shares.proofs.Answers.{Room, charge_room, charge_by}
+use Rattle.shares.proofs.Answers.{Room, charge_room}
 use Rattle.shares.proofs.charge.Goals as goal
 
 -- the account stays within the total
 within : (T : ℕ) (us : List ℕ) (p v : ℕ) → Room T us p v → length us ≡ books → get_or us (p - 1) 0 + v ≤ T
 within T us p v room n = charged_fits T us (p - 1) v (omega (arith, room.first, room.last, n)) room.stands room.fits
 
-pub overflow_sub-i : goal.overflow_sub-i
-overflow_sub-i c =
-    let room = charge_room c.args.total c.args.used.now c.args.place c.args.visits c.may_use.result c.may_use.ensures.0 c.if-may_use.true in
-    room.first
-
-pub offset_bounds-us-i : goal.offset_bounds-us-i
-offset_bounds-us-i c =
-    let room = charge_room c.args.total c.args.used.now c.args.place c.args.visits c.may_use.result c.may_use.ensures.0 c.if-may_use.true in
-    omega (arith, room.last)
-
-pub bounds-us-i : goal.bounds-us-i
-bounds-us-i c =
-    let room = charge_room c.args.total c.args.used.now c.args.place c.args.visits c.may_use.result c.may_use.ensures.0 c.if-may_use.true in
-    omega (arith, room.first, room.last)
-
-pub overflow_cast-used : goal.overflow_cast-used
-overflow_cast-used c =
-    let room = charge_room c.args.total c.args.used.now c.args.place c.args.visits c.may_use.result c.may_use.ensures.0 c.if-may_use.true in
-    omega (arith, within c.args.total c.args.used.now c.args.place c.args.visits room c.may_use.ensures.1)
-
 pub overflow_add-used : goal.overflow_add-used
 overflow_add-used c =
     let room = charge_room c.args.total c.args.used.now c.args.place c.args.visits c.may_use.result c.may_use.ensures.0 c.if-may_use.true in
     omega (arith, within c.args.total c.args.used.now c.args.place c.args.visits room c.may_use.ensures.1)
-
-pub offset_bounds-used-i : goal.offset_bounds-used-i
-offset_bounds-used-i c =
-    let room = charge_room c.args.total c.args.used.now c.args.place c.args.visits c.may_use.result c.may_use.ensures.0 c.if-may_use.true in
-    omega (arith, room.last)
-
-pub bounds-used-i : goal.bounds-used-i
-bounds-used-i c =
-    let room = charge_room c.args.total c.args.used.now c.args.place c.args.visits c.may_use.result c.may_use.ensures.0 c.if-may_use.true in
-    omega (arith, room.first, room.last)
-
-pub returns-then-may_use : goal.returns-then-may_use
-returns-then-may_use c = charge_by c.args.total c.args.used.now c.args.place c.args.visits c.may_use.result c.may_use.ensures.0 true c.if-may_use.true
-
-pub returns-else-may_use : goal.returns-else-may_use
-returns-else-may_use c = charge_by c.args.total c.args.used.now c.args.place c.args.visits c.may_use.result c.may_use.ensures.0 false c.if-may_use.false

@@ -1,5 +1,5 @@
 -- `unloading::decode` meets its contract: after i turns the first i literals are written.
-use borrow.Author.Rules.{rules, sfits_of}
+use borrow.Author.Rules.{sfits_of}
 use native.Mathlib.Omega.{arith}
 use mathlib.Core.Path.{◌∙◌}
 use Rattle.literal.proofs.Signed.{back}
@@ -7,13 +7,13 @@ use Rattle.unloading.proofs.Unloading.{decode_none, decode_more, decode_end}
 use Rattle.unloading.proofs.decode.Goals as goal
 
 pub loop-i-init : goal.loop-i-init
-loop-i-init c = (search rules, c.requires, decode_none c.args.numbers.now c.args.row.now c.args.at c.args.store.now)
+loop-i-init c = decode_none c.args.numbers.now c.args.row.now c.args.at c.args.store.now
 
 pub loop-i-preserved : goal.loop-i-preserved
-loop-i-preserved c = (omega arith, c.requires, decode_more c.loop-i.invariant.2 (omega arith) (omega arith) (λ D l n o e p. back (sfits_of c.literal_of.type_inv) ∙ c.literal_of.ensures D l n o e p))
+loop-i-preserved c = decode_more c.loop-i.invariant (omega arith) (omega arith) (λ D l n o e p. back (sfits_of c.literal_of.type_inv) ∙ c.literal_of.ensures D l n o e p)
 
 pub shape_of-store : goal.shape_of-store
-shape_of-store c = c.loop-i.invariant.2.size
+shape_of-store c = c.loop-i.invariant.size
 
 pub returns : goal.returns
-returns c = decode_end c.loop-i.invariant.2 (omega arith)
+returns c = decode_end c.loop-i.invariant (omega arith)

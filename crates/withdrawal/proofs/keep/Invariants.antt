@@ -7,6 +7,3 @@ use Rattle.withdrawal.proofs.keep.Given as goal
 
 abbrev pub invariant-loop-i : goal.invariant-loop-i
 invariant-loop-i l = (l.i ≤ l.count) × Keeping l.cells l.sizes l.remain l.i l.kept l.kept_sizes × (length l.kept ≡ length l.initial.kept) × (length l.kept_sizes ≡ length l.initial.kept_sizes)
-
-abbrev pub decreases-loop-i : goal.decreases-loop-i
-decreases-loop-i l = l.count - l.i

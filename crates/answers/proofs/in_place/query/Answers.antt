@@ -1,7 +1,12 @@
 -- `answers::in_place::query` meets its contract.
 use native.Mathlib.Omega.{arith}
-use mathlib.Core.Path.{◌∙◌, sym, refl}
+use mathlib.Core.Bool.{true}
+use mathlib.Core.Path.{ap, refl, subst, sym, ◌∙◌}
 use Rattle.qbf.specs.Calls.{query}
+use Rattle.state.specs.declared.State.{State}
+use Rattle.state.specs.Reading.{valid}
+use Rattle.state.specs.Derived.{Checked}
+use Rattle.state.proofs.Checks.{refused_invalid}
 use Rattle.state.proofs.Valid.{valid_numbers, valid_quantified}
 use Rattle.serving.proofs.Calls.{malformed}
 use Rattle.answers.proofs.Running.{ready, open_ready, free_within, free_small}
@@ -9,45 +14,51 @@ use Rattle.answers.proofs.Asking.{served_as_lem, read_ready, asked_by, halted_by
 use borrow.Author.Tests.{not-true, not-false}
 use Rattle.answers.proofs.in_place.query.Goals as goal
 
-pub returns-then-not-prefix : goal.returns-then-not-prefix
-returns-then-not-prefix c = served_as_lem _ (query c.args.ceiling _ _) c.not_ruled.ensures (malformed _ (query c.args.ceiling _ _) (sym c.check_tables-prefix.ensures.said ∙ c.if-not-prefix.true))
+pub returns-in_default-clause-serves : goal.returns-in_default-clause-serves
+returns-in_default-clause-serves c = served_as_lem _ (query c.args.ceiling _ _) c.refused.ensures (malformed _ (query c.args.ceiling _ _) (ap valid (sym c.lent.ensures) ∙ refused_invalid _ c.check.result c.check.ensures c.in_default.not-Ok))
 
-pub returns-then-not-reading : goal.returns-then-not-reading
-returns-then-not-reading c = let v = sym c.check_tables-prefix.ensures.said ∙ c.if-not-prefix.false in
+pub returns-then-not-reading-clause-serves : goal.returns-then-not-reading-clause-serves
+returns-then-not-reading-clause-serves c = let checked = subst (λ (x : State). Checked x true c.in-Ok.prefix.places c.in-Ok.prefix.kinds) c.lent.ensures c.in-Ok.ensures in
+    let v = sym checked.said in
     let frees = c.free_count-free.ensures _ (valid_numbers _ v) (valid_quantified _ v) in
-    served_as_lem _ (query c.args.ceiling _ _) c.not_ruled-then-not-reading.ensures
-    (refused_query _ v frees (c.read-reading.ensures _ _ (read_ready _ v frees (c.check_tables-prefix.ensures.placed v))) c.args.ceiling (not-true _ c.if-not-reading.true))
+    served_as_lem _ (query c.args.ceiling _ _) c.refused-then-not-reading.ensures
+    (refused_query _ v frees (c.read-reading.ensures _ _ (read_ready _ v frees (checked.placed v))) c.args.ceiling (not-true _ c.if-not-reading.true))
 
 pub query-requires : goal.query-requires
-query-requires c = let v = sym c.check_tables-prefix.ensures.said ∙ c.if-not-prefix.false in
+query-requires c = let checked = subst (λ (x : State). Checked x true c.in-Ok.prefix.places c.in-Ok.prefix.kinds) c.lent.ensures c.in-Ok.ensures in
+    let v = sym checked.said in
     let frees = c.free_count-free.ensures _ (valid_numbers _ v) (valid_quantified _ v) in
-    open_ready _ v c.check_tables-prefix.ensures.sized _ (free_small _ v _ frees)
+    open_ready _ v checked.sized _ (free_small _ v _ frees)
 
-pub returns-then-not-reading-2 : goal.returns-then-not-reading-2
-returns-then-not-reading-2 c = let v = sym c.check_tables-prefix.ensures.said ∙ c.if-not-prefix.false in
+pub returns-then-not-reading-2-clause-serves : goal.returns-then-not-reading-2-clause-serves
+returns-then-not-reading-2-clause-serves c = let checked = subst (λ (x : State). Checked x true c.in-Ok.prefix.places c.in-Ok.prefix.kinds) c.lent.ensures c.in-Ok.ensures in
+    let v = sym checked.said in
     let frees = c.free_count-free.ensures _ (valid_numbers _ v) (valid_quantified _ v) in
-    let read = c.read-reading.ensures _ _ (read_ready _ v frees (c.check_tables-prefix.ensures.placed v)) in
+    let read = c.read-reading.ensures _ _ (read_ready _ v frees (checked.placed v)) in
     let fine = (not-false _ c.if-not-reading.false) in
     let partly = (not-true _ c.if-not-reading-2.true) in
-    open_by _ v frees read fine partly c.args.ceiling (c.query.ensures.ruled _ _ (open_shown _ v frees read fine partly (c.check_tables-prefix.ensures.placed v) (c.check_tables-prefix.ensures.kinded v)))
+    open_by _ v frees read fine partly c.args.ceiling (c.query.ensures.ruled _ _ (open_shown _ v frees read fine partly (checked.placed v) (checked.kinded v)))
 
 pub run-found-requires : goal.run-found-requires
-run-found-requires c = let v = sym c.check_tables-prefix.ensures.said ∙ c.if-not-prefix.false in
+run-found-requires c = let checked = subst (λ (x : State). Checked x true c.in-Ok.prefix.places c.in-Ok.prefix.kinds) c.lent.ensures c.in-Ok.ensures in
+    let v = sym checked.said in
     let frees = c.free_count-free.ensures _ (valid_numbers _ v) (valid_quantified _ v) in
-    ready _ v c.check_tables-prefix.ensures.sized _ _ _ (omega (arith, free_within _ v _ frees)) (free_small _ v _ frees) c.budget_of.ensures.1
+    ready _ v checked.sized _ _ _ (omega (arith, free_within _ v _ frees)) (free_small _ v _ frees) c.budget_of.ensures.1
 
-pub returns-then-found-eq0 : goal.returns-then-found-eq0
-returns-then-found-eq0 c = let v = sym c.check_tables-prefix.ensures.said ∙ c.if-not-prefix.false in
+pub returns-then-found-eq0-clause-serves : goal.returns-then-found-eq0-clause-serves
+returns-then-found-eq0-clause-serves c = let checked = subst (λ (x : State). Checked x true c.in-Ok.prefix.places c.in-Ok.prefix.kinds) c.lent.ensures c.in-Ok.ensures in
+    let v = sym checked.said in
     let frees = c.free_count-free.ensures _ (valid_numbers _ v) (valid_quantified _ v) in
-    served_as_lem _ (query c.args.ceiling _ _) c.stopped_query.ensures
-    (halted_by _ v frees (c.read-reading.ensures _ _ (read_ready _ v frees (c.check_tables-prefix.ensures.placed v))) c.args.ceiling c.run-found.result _ _ (c.check_tables-prefix.ensures.placed v) (c.check_tables-prefix.ensures.kinded v)
+    served_as_lem _ (query c.args.ceiling _ _) c.stopped.ensures
+    (halted_by _ v frees (c.read-reading.ensures _ _ (read_ready _ v frees (checked.placed v))) c.args.ceiling c.run-found.result _ _ (checked.placed v) (checked.kinded v)
     (not-false _ c.if-not-reading.false) (not-false _ c.if-not-reading-2.false) (c.run-found.ensures.by_index _ _ v) refl c.budget_of.ensures.0 c.if-found-eq0.true)
 
 pub visits_of-requires : goal.visits_of-requires
 visits_of-requires c = omega (arith, c.run-found.ensures.table_len_unchanged.2, c.budget_of.ensures.0)
 
-pub returns : goal.returns
-returns c = let v = sym c.check_tables-prefix.ensures.said ∙ c.if-not-prefix.false in
+pub returns-clause-serves : goal.returns-clause-serves
+returns-clause-serves c = let checked = subst (λ (x : State). Checked x true c.in-Ok.prefix.places c.in-Ok.prefix.kinds) c.lent.ensures c.in-Ok.ensures in
+    let v = sym checked.said in
     let frees = c.free_count-free.ensures _ (valid_numbers _ v) (valid_quantified _ v) in
-    asked_by _ v frees (c.read-reading.ensures _ _ (read_ready _ v frees (c.check_tables-prefix.ensures.placed v))) c.args.ceiling c.run-found.result _ _ (c.check_tables-prefix.ensures.placed v) (c.check_tables-prefix.ensures.kinded v)
-    (not-false _ c.if-not-reading.false) (not-false _ c.if-not-reading-2.false) (c.run-found.ensures.by_index _ _ v) refl c.budget_of.ensures.0 c.visits_of.result c.visits_of.ensures c.if-found-eq0.false c.ruling_for.ensures
+    asked_by _ v frees (c.read-reading.ensures _ _ (read_ready _ v frees (checked.placed v))) c.args.ceiling c.run-found.result _ _ (checked.placed v) (checked.kinded v)
+    (not-false _ c.if-not-reading.false) (not-false _ c.if-not-reading-2.false) (c.run-found.ensures.by_index _ _ v) refl c.budget_of.ensures.0 c.visits_of.result c.visits_of.ensures c.if-found-eq0.false c.of.ensures

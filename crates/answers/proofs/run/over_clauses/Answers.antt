@@ -1,16 +1,14 @@
 -- `answers::run::over_clauses` meets its contract: the learned constraints go onto shelves, are searched with, and come back.
 use borrow.Author.Rules.{rules}
 use native.Mathlib.Omega.{arith}
-use Rattle.qbf.specs.Formula.{paper}
-use Rattle.shelf.proofs.Empty.{empty_shelf, empty_newest}
 use Rattle.answers.proofs.Running.{over_found}
 use Rattle.answers.proofs.run.over_clauses.Goals as goal
 
 pub load-requires : goal.load-requires
-load-requires c = (c.requires.1.clauses, empty_shelf paper.numbers paper.constraints, empty_newest paper.numbers paper.constraints)
+load-requires c = (c.requires.1.clauses, c.empty-search.ensures.0.clauses, c.empty-search.ensures.1)
 
 pub load-requires-2 : goal.load-requires-2
-load-requires-2 c = (c.requires.1.cubes, empty_shelf paper.numbers paper.constraints, empty_newest paper.numbers paper.constraints)
+load-requires-2 c = (c.requires.1.cubes, c.empty-search.ensures.0.cubes, c.empty-search.ensures.2)
 
 pub below-found-requires : goal.below-found-requires
 below-found-requires c = (

@@ -5,17 +5,16 @@ use borrow.Author.Rules.{rules, sfits_of}
 use Rattle.book_writer.proofs.Parts.{counting_none, counting_more, counting_end}
 use Rattle.book_writer.proofs.Rows.{literals_next, literals_end}
 use Rattle.book_writer.proofs.Digits.{counted_back}
-use borrow.Author.Rules.{rules}
 use Rattle.book_writer.proofs.lengths.literals_length.Goals as goal
 
-pub loop-i-init : goal.loop-i-init
-loop-i-init c = (counting_none _ refl, omega arith)
+pub loop-lit-init : goal.loop-lit-init
+loop-lit-init c = counting_none _ refl
 
 pub overflow_add-bytes : goal.overflow_add-bytes
-overflow_add-bytes c = omega (arith, c.loop-i.invariant.0.few, c.loop-i.invariant.1, c.literal_length-bytes.ensures.few, c.requires)
+overflow_add-bytes c = omega (arith, c.loop-lit.invariant.few, c.literal_length-bytes.ensures.few, c.requires)
 
-pub loop-i-preserved : goal.loop-i-preserved
-loop-i-preserved c = (counting_more c.loop-i.invariant.0 _ _ (literals_next _ c.loop-i-test.true) (counted_back (sfits_of (search rules)) c.literal_length-bytes.ensures) (omega arith), omega (arith, c.loop-i-test.true))
+pub loop-lit-preserved : goal.loop-lit-preserved
+loop-lit-preserved c = counting_more c.loop-lit.invariant _ _ (literals_next c.args.lits.now {i = c.loop-lit.lit-index} (search rules)) (counted_back (sfits_of (search rules)) c.literal_length-bytes.ensures) (omega arith)
 
 pub returns : goal.returns
-returns c = counting_end c.loop-i.invariant.0 (literals_end _ c.loop-i-test.false) (omega (arith, c.loop-i.invariant.1, c.requires))
+returns c = counting_end c.loop-lit.invariant (literals_end c.args.lits.now {i = c.loop-lit.lit-index} (search rules)) (omega (arith, c.requires))

@@ -7,7 +7,7 @@ use Rattle.book_writer.proofs.Digits.{counted_rule}
 use Rattle.book_writer.proofs.lengths.rules_length.Goals as goal
 
 pub loop-k-init : goal.loop-k-init
-loop-k-init c = (counting_none _ refl, omega arith)
+loop-k-init c = counting_none _ refl
 
 pub slice_bounds-literals_length-end : goal.slice_bounds-literals_length-end
 slice_bounds-literals_length-end c = let Cell-at = c.cell_at-count in
@@ -21,12 +21,12 @@ pub overflow_add-bytes : goal.overflow_add-bytes
 overflow_add-bytes c = omega (arith, c.literals_length.ensures.few)
 
 pub overflow_add-bytes-in-loop-k : goal.overflow_add-bytes-in-loop-k
-overflow_add-bytes-in-loop-k c = omega (arith, c.literals_length.ensures.few, c.loop-k.invariant.0.few, c.loop-k.invariant.1)
+overflow_add-bytes-in-loop-k c = omega (arith, c.literals_length.ensures.few, c.loop-k.invariant.few)
 
 pub loop-k-preserved : goal.loop-k-preserved
 loop-k-preserved c = let Cell-at = c.cell_at-count in
     let loop-test = c.loop-k-test in
-    (counting_more c.loop-k.invariant.0 _ _ (rules_next c.args.cells.now c.args.sizes.now (omega (arith, loop-test.true, Cell-at.ensures)) c.cell_at.ensures) (counted_rule _ c.literals_length.ensures) (omega arith), omega (arith, loop-test.true))
+    counting_more c.loop-k.invariant _ _ (rules_next c.args.cells.now c.args.sizes.now (omega (arith, loop-test.true, Cell-at.ensures)) c.cell_at.ensures) (counted_rule _ c.literals_length.ensures) (omega arith)
 
 pub returns : goal.returns
-returns c = counting_end c.loop-k.invariant.0 (rules_end c.args.cells.now c.args.sizes.now c.loop-k.k (omega (arith, c.loop-k-test.false, c.cell_at-count.ensures))) (omega (arith, c.loop-k.invariant.1))
+returns c = counting_end c.loop-k.invariant (rules_end c.args.cells.now c.args.sizes.now c.loop-k.k (omega (arith, c.loop-k-test.false, c.cell_at-count.ensures))) (omega (arith))

@@ -1,5 +1,5 @@
 -- `rules_length` meets its contract: the rules passed are counted.
-use Prim.Native.Nat.{◌*◌, ◌-◌, ◌≤◌}
+use Prim.Native.Nat.{◌*◌}
 use lib.ListN.{drop}
 use Rattle.booktext.specs.Books.{rules_text}
 use Rattle.book_writer.specs.Tables.{most_rule}
@@ -8,7 +8,4 @@ use Rattle.book_writer.proofs.Rows.{all_rules}
 use Rattle.book_writer.proofs.lengths.rules_length.Given as goal
 
 abbrev pub invariant-loop-k : goal.invariant-loop-k
-invariant-loop-k l = Counting (rules_text (all_rules l.cells l.sizes)) (rules_text (drop l.k (all_rules l.cells l.sizes))) (l.k * most_rule) l.bytes × (l.k ≤ l.count)
-
-abbrev pub decreases-loop-k : goal.decreases-loop-k
-decreases-loop-k l = l.count - l.k
+invariant-loop-k l = Counting (rules_text (all_rules l.cells l.sizes)) (rules_text (drop l.k (all_rules l.cells l.sizes))) (l.k * most_rule) l.bytes

@@ -6,18 +6,18 @@ use Rattle.book_writer.proofs.Places.{places_all, places_next, places_end}
 use Rattle.book_writer.proofs.lengths.variables_length.Goals as goal
 
 pub loop-i-init : goal.loop-i-init
-loop-i-init c = (counting_none _ (places_all c.args.numbers.now c.args.levels.now c.args.kinds.now free), omega arith)
+loop-i-init c = counting_none _ (places_all c.args.variables.numbers.now c.args.variables.levels.now c.args.variables.kinds.now free)
 
 pub overflow_add-bytes : goal.overflow_add-bytes
-overflow_add-bytes c = omega (arith, c.loop-i.invariant.0.few, c.loop-i.invariant.1, c.variable_length-bytes.ensures.few)
+overflow_add-bytes c = omega (arith, c.loop-i.invariant.few, c.variable_length-bytes.ensures.few)
 
 pub loop-i-preserved : goal.loop-i-preserved
 loop-i-preserved c = let Cell-at = c.cell_at-count in
     let loop-test = c.loop-i-test in
-    (counting_more c.loop-i.invariant.0 _ _ (places_next c.args.numbers.now c.args.levels.now c.args.kinds.now _ (omega (arith, loop-test.true, Cell-at.ensures)) c.kind_at-kind.ensures c.cell_at-n.ensures) c.variable_length-bytes.ensures (omega arith), omega (arith, loop-test.true))
+    counting_more c.loop-i.invariant _ _ (places_next c.args.variables.numbers.now c.args.variables.levels.now c.args.variables.kinds.now _ (omega (arith, loop-test.true, Cell-at.ensures)) c.kind_at-kind.ensures c.cell_at-n.ensures) c.variable_length-bytes.ensures (omega arith)
 
 pub overflow_add-result : goal.overflow_add-result
-overflow_add-result c = omega (arith, c.loop-i.invariant.0.few, c.loop-i.invariant.1)
+overflow_add-result c = omega (arith, c.loop-i.invariant.few)
 
 pub returns : goal.returns
-returns c = counting_last c.loop-i.invariant.0 (places_end c.args.numbers.now c.args.levels.now c.args.kinds.now _ (omega (arith, c.loop-i-test.false, c.cell_at-count.ensures))) (omega (arith, c.loop-i.invariant.1))
+returns c = counting_last c.loop-i.invariant (places_end c.args.variables.numbers.now c.args.variables.levels.now c.args.variables.kinds.now _ (omega (arith, c.loop-i-test.false, c.cell_at-count.ensures))) (omega (arith))

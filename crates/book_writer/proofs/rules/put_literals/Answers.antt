@@ -1,23 +1,24 @@
--- `put_literals` meets its contract: the literals passed are written.
-use mathlib.Core.Path.{refl}
+-- `put_literals` writes one literal after the other.
+use Prim.Native.Nat.{◌+◌}
+use mathlib.Core.List.{◌∷◌}
+use native.Mathlib.Omega.{arith}
 use borrow.Author.Rules.{rules, sfits_of}
-use Rattle.book_writer.proofs.Parts.{writing_none, writing_more, writing_end}
-use Rattle.book_writer.proofs.Rows.{literals_next, literals_room, literals_end, wrote_back}
-use borrow.Author.Rules.{rules}
+use lib.IntN.{pos}
+use lib.ListN.{get_or, drop}
+use Rattle.layout.specs.Words.{space}
+use Rattle.layout.specs.Output.{literal_text, items_text}
+use Rattle.writer.proofs.Appending.{left_all, left_room, left_more, left_none, left_as}
+use Rattle.book_writer.proofs.Rows.{literals_next, literals_end, length_back, wrote_back}
 use Rattle.book_writer.proofs.rules.put_literals.Goals as goal
 
-pub loop-i-init : goal.loop-i-init
-loop-i-init c = writing_none _ _ _ refl
+pub loop-lit-init : goal.loop-lit-init
+loop-lit-init c = left_all _ _
 
-pub put_literal-p-requires : goal.put_literal-p-requires
-put_literal-p-requires c = literals_room c.args.lits.now c.loop-i.i c.loop-i-test.true (sfits_of (search rules)) c.loop-i.invariant c.requires
+pub put_literal-requires : goal.put_literal-requires
+put_literal-requires c = omega (arith, length_back {l = get_or c.args.lits.now c.loop-lit.lit-index (pos 0)} (sfits_of (search rules)), left_room (space ∷ literal_text (get_or c.args.lits.now c.loop-lit.lit-index (pos 0))) (items_text (drop (c.loop-lit.lit-index + 1) c.args.lits.now)) (left_as (literals_next c.args.lits.now {i = c.loop-lit.lit-index} (search rules)) c.loop-lit.invariant) c.requires)
 
-pub loop-i-preserved : goal.loop-i-preserved
-loop-i-preserved c = let loop-test = c.loop-i-test in
-    writing_more c.loop-i.invariant _ _ (literals_next _ loop-test.true) (wrote_back (sfits_of (search rules)) c.put_literal-p.ensures)
-
-pub shape_of-d : goal.shape_of-d
-shape_of-d c = c.loop-i.invariant.wrote.size
+pub loop-lit-preserved : goal.loop-lit-preserved
+loop-lit-preserved c = left_more (left_as (literals_next c.args.lits.now {i = c.loop-lit.lit-index} (search rules)) c.loop-lit.invariant) (wrote_back (sfits_of (search rules)) c.put_literal.ensures)
 
 pub returns : goal.returns
-returns c = writing_end c.loop-i.invariant (literals_end _ c.loop-i-test.false)
+returns c = left_none (left_as (literals_end c.args.lits.now {i = c.loop-lit.lit-index} (search rules)) c.loop-lit.invariant)

@@ -1,12 +1,8 @@
--- `put_literals` meets its contract: the literals passed are written.
-use Prim.Native.Nat.{◌-◌}
-use lib.ListN.{length, drop}
+-- `put_literals` writes one literal after the other.
+use lib.ListN.{drop}
 use Rattle.layout.specs.Output.{items_text}
-use Rattle.book_writer.proofs.Parts.{Writing}
+use Rattle.writer.proofs.Appending.{Left}
 use Rattle.book_writer.proofs.rules.put_literals.Given as goal
 
-abbrev pub invariant-loop-i : goal.invariant-loop-i
-invariant-loop-i l = Writing (items_text l.lits) (items_text (drop l.i l.lits)) l.initial.d l.initial.p l.d l.p
-
-abbrev pub decreases-loop-i : goal.decreases-loop-i
-decreases-loop-i l = length l.lits - l.i
+abbrev pub invariant-loop-lit : goal.invariant-loop-lit
+invariant-loop-lit l = Left l.initial.out (items_text l.lits) (items_text (drop l.lit-index l.lits)) l.out

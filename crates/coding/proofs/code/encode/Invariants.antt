@@ -1,5 +1,5 @@
 -- `coding::code::encode` meets its contract. The loop keeps the codes of the first literals.
-use Prim.Native.Nat.{ℕ, ◌-◌, ◌≤◌, ◌<◌}
+use Prim.Native.Nat.{ℕ, ◌≤◌, ◌<◌}
 use mathlib.Core.Path.{◌≡◌}
 use lib.ListN.{length, get_or, take}
 use Rattle.qbf.specs.Formula.{paper, Prefix}
@@ -14,6 +14,3 @@ invariant-loop-i l = (l.i ≤ length l.lits)
     × (length l.cells ≡ length l.initial.cells)
     × ((j : ℕ) → j < l.i → get_or l.cells j 0 < code_count)
     × ((D : Prefix) → Places D l.places → length D ≤ paper.numbers → take l.i l.cells ≡ codes D (take l.i l.lits))
-
-abbrev pub decreases-loop-i : goal.decreases-loop-i
-decreases-loop-i l = length l.lits - l.i

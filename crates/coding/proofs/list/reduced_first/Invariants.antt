@@ -7,10 +7,7 @@ use Rattle.qbf.specs.Learning.{Constraint, reduce}
 use Rattle.tables.specs.Codes.{codes, Quantified}
 use Rattle.coding.proofs.list.reduced_first.Given as goal
 
-abbrev pub invariant-loop-left : goal.invariant-loop-left
-invariant-loop-left l = (l.left ≤ l.n)
+abbrev pub invariant-loop-i : goal.invariant-loop-i
+invariant-loop-i l = (l.i ≤ l.n)
     × (l.n ≤ length l.cells)
-    × ((D : Prefix) (e : Constraint) → Quantified D l.quantifiers → take l.n l.cells ≡ codes D e → reduce D l.cube (take l.left e) ≡ reduce D l.cube e)
-
-abbrev pub decreases-loop-left : goal.decreases-loop-left
-decreases-loop-left l = l.left
+    × ((D : Prefix) (e : Constraint) → Quantified D l.quantifiers → take l.n l.cells ≡ codes D e → reduce D l.cube (take l.i e) ≡ reduce D l.cube e)

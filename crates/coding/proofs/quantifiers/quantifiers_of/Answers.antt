@@ -7,8 +7,8 @@ use Rattle.coding.proofs.Given.{stored_length}
 use Rattle.coding.proofs.Placewise.{Filled, filled_none, filled_more, filled_all}
 use Rattle.coding.proofs.quantifiers.quantifiers_of.Goals as goal
 
-pub loop-place-init : goal.loop-place-init
-loop-place-init c = (
+pub loop-i-init : goal.loop-i-init
+loop-i-init c = (
   omega arith,
   c.cell_at-count.ensures,
   c.requires,
@@ -16,16 +16,16 @@ loop-place-init c = (
   λ D n k o. subst (Filled D 0) (sym c.put.ensures) (filled_none D),
 )
 
-pub loop-place-preserved : goal.loop-place-preserved
-loop-place-preserved c = (
+pub loop-i-preserved : goal.loop-i-preserved
+loop-i-preserved c = (
   omega arith,
   omega arith,
   omega arith,
-  ap length c.put-in-loop-place.ensures ∙ stored_length (c.loop-place.place + 1) c.kind_at-kind.result c.kind_at-kind.result c.loop-place.table ∙ c.loop-place.invariant.3,
+  ap length c.put-in-loop-i.ensures ∙ stored_length (c.loop-i.i + 1) c.kind_at-kind.result c.kind_at-kind.result c.loop-i.table ∙ c.loop-i.invariant.3,
   λ D n k o.
-      subst (Filled D (c.loop-place.place + 1)) (sym c.put-in-loop-place.ensures)
-      (filled_more D c.args.numbers.now c.args.kinds.now n k o c.loop-place.place c.loop-place.table (c.loop-place.invariant.4 D n k o) (omega (arith, n.count)) (omega (arith, c.loop-place.invariant.3)) c.kind_at-kind.ensures),
+      subst (Filled D (c.loop-i.i + 1)) (sym c.put-in-loop-i.ensures)
+      (filled_more D c.args.numbers.now c.args.kinds.now n k o c.loop-i.i c.loop-i.table (c.loop-i.invariant.4 D n k o) (omega (arith, n.count)) (omega (arith, c.loop-i.invariant.3)) c.kind_at-kind.ensures),
 )
 
 pub returns : goal.returns
-returns c = λ D n k o. filled_all D c.loop-place.place c.loop-place.table (c.loop-place.invariant.4 D n k o) (omega (arith, n.count))
+returns c = λ D n k o. filled_all D c.loop-i.i c.loop-i.table (c.loop-i.invariant.4 D n k o) (omega (arith, n.count))

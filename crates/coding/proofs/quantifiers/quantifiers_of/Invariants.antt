@@ -1,5 +1,5 @@
 -- `coding::quantifiers::quantifiers_of` meets its contract. The loop keeps the quantifiers of the first places.
-use Prim.Native.Nat.{◌≤◌, ◌-◌}
+use Prim.Native.Nat.{◌≤◌}
 use mathlib.Core.Path.{◌≡◌}
 use mathlib.Core.Bool.{true}
 use mathlib.Core.List.{[]}
@@ -11,12 +11,9 @@ use Rattle.tables.specs.Shelves.{code_count}
 use Rattle.coding.proofs.Placewise.{Filled}
 use Rattle.coding.proofs.quantifiers.quantifiers_of.Given as goal
 
-abbrev pub invariant-loop-place : goal.invariant-loop-place
-invariant-loop-place l = (l.place ≤ l.count)
+abbrev pub invariant-loop-i : goal.invariant-loop-i
+invariant-loop-i l = (l.i ≤ l.count)
     × (l.count ≡ get_or l.numbers 0 0)
     × (get_or l.numbers 0 0 ≤ paper.numbers)
     × (length l.table ≡ code_count)
-    × ((D : Prefix) → Numbers D l.numbers → Kinds D l.kinds → numbers_are_ok paper [] D ≡ true → Filled D l.place l.table)
-
-abbrev pub decreases-loop-place : goal.decreases-loop-place
-decreases-loop-place l = l.count - l.place
+    × ((D : Prefix) → Numbers D l.numbers → Kinds D l.kinds → numbers_are_ok paper [] D ≡ true → Filled D l.i l.table)

@@ -1,5 +1,5 @@
 -- `coding::statuses::statuses_of` meets its contract. The loop keeps the statuses at the node of the first places.
-use Prim.Native.Nat.{◌≤◌, ◌-◌}
+use Prim.Native.Nat.{◌≤◌}
 use mathlib.Core.Path.{◌≡◌}
 use mathlib.Core.Bool.{true}
 use mathlib.Core.List.{[]}
@@ -11,11 +11,8 @@ use Rattle.tables.specs.Codes.{Statuses}
 use Rattle.tables.specs.Shelves.{code_count}
 use Rattle.coding.proofs.statuses.statuses_of.Given as goal
 
-abbrev pub invariant-loop-place : goal.invariant-loop-place
-invariant-loop-place l = (l.place ≤ l.at)
+abbrev pub invariant-loop-i : goal.invariant-loop-i
+invariant-loop-i l = (l.i ≤ l.at)
     × (l.at ≤ paper.numbers)
     × (length l.statuses ≡ code_count)
-    × ((D : Prefix) (s : Node) → Numbers D l.numbers → Values D s l.values → numbers_are_ok paper [] D ≡ true → length s ≡ l.at → length s ≤ length D → Statuses (take l.place s) l.statuses)
-
-abbrev pub decreases-loop-place : goal.decreases-loop-place
-decreases-loop-place l = l.at - l.place
+    × ((D : Prefix) (s : Node) → Numbers D l.numbers → Values D s l.values → numbers_are_ok paper [] D ≡ true → length s ≡ l.at → length s ≤ length D → Statuses (take l.i s) l.statuses)

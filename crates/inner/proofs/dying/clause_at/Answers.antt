@@ -16,7 +16,7 @@ returns-then-size-le-LITERALS c = let n = c.left_at-size.result in
     let at : Bounds = record { source = Clauses; start = c.args.k * clause_row + 1; len = n } in record {
       found_bounded = subst Bounded (sym c.placed.ensures) (record { short = omega (arith, c.if-size-le-LITERALS.true); inside = omega (arith, c.if-k-lt-CLAUSES.true, c.if-size-le-LITERALS.true) });
       found_coded = λ D e cs area few short is.
-          found_part D (some e) c.args.clauses.now cs area at c.placed.ensures (clause_part c.args.clauses.now c.args.k n c.left_at-size.ensures) (e, refl, is);
+          found_part D (some e) c.args.rows.now cs area at c.placed.ensures (clause_part c.args.rows.now c.args.k n c.left_at-size.ensures) (e, refl, is);
     }
 
 pub returns-else-size-le-LITERALS : goal.returns-else-size-le-LITERALS

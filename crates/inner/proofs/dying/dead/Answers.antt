@@ -25,6 +25,6 @@ returns c = record {
   found_bounded = c.clause_at.ensures.found_bounded;
   found_coded = λ D R s st k marks cs area given shown formed entered.
       let w = one_dies given shown formed entered c.any_dies.ensures c.if-not-any_dies.false c.first_outside.ensures in
-      subst (FoundCoded D c.clause_at.result c.args.clauses.now cs area) (sym w.1)
+      subst (FoundCoded D c.clause_at.result c.args.matrix.now.rows cs area) (sym w.1)
       (c.clause_at.ensures.found_coded D _ cs area (omega (arith, w.0, shown.few)) (shown.short _ w.0) (shown.dying _ w.0));
 }

@@ -1,20 +1,17 @@
 -- `block::declare_all`: what is left of the literals declares what the whole would.
+use Rattle.std.proofs.Common.{rules, get_or, pos}
 use borrow.Author.Rules.{sfits_of}
+use Rattle.std.proofs.lemmas.Result.{err_from_is_err_and}
 use Rattle.literal.proofs.Signed.{back}
-use Rattle.opening.proofs.Growing.{left_all, left_none, left_refused, left_more, declarable}
+use mathlib.Core.Path.{refl}
+use Rattle.opening.proofs.Growing.{left_refused, left_more, declarable}
 use Rattle.opening.proofs.block.declare_all.Goals as goal
 
-pub loop-i-init : goal.loop-i-init
-loop-i-init c = left_all c.args.lits.now c.requires
+pub declare-requires : goal.declare-requires
+declare-requires c = declarable c.loop-lit.invariant.growable
 
-pub declare-fault-requires : goal.declare-fault-requires
-declare-fault-requires c = declarable c.loop-i.invariant.growable
+pub returns-in_err-declare : goal.returns-in_err-declare
+returns-in_err-declare c = let p = err_from_is_err_and c.from_residual.result c.from_residual.ensures.1 in rw (p.1, p.2) (left_refused c.loop-lit.invariant c.loop-lit-test.true (back {z = get_or c.args.lits.now c.loop-lit.lit-index (pos 0)} (sfits_of (search rules))) c.number_of.ensures c.in_err-declare.ensures refl)
 
-pub returns-then-fault-ne-ACCEPTED : goal.returns-then-fault-ne-ACCEPTED
-returns-then-fault-ne-ACCEPTED c = left_refused c.loop-i.invariant c.loop-i-test.true (back (sfits_of c.number_of-arg-1.given)) c.number_of-number.ensures c.declare-fault.ensures c.if-fault-ne-ACCEPTED.true
-
-pub loop-i-preserved : goal.loop-i-preserved
-loop-i-preserved c = left_more c.loop-i.invariant c.loop-i-test.true (back (sfits_of c.number_of-arg-1.given)) c.number_of-number.ensures c.declare-fault.ensures c.if-fault-ne-ACCEPTED.false
-
-pub returns : goal.returns
-returns c = left_none c.loop-i.invariant c.loop-i-test.false
+pub loop-lit-preserved : goal.loop-lit-preserved
+loop-lit-preserved c = left_more c.loop-lit.invariant c.loop-lit-test.true (back {z = get_or c.args.lits.now c.loop-lit.lit-index (pos 0)} (sfits_of (search rules))) c.number_of.ensures c.in_ok-declare.ensures refl

@@ -2,9 +2,10 @@
 use Prim.Native.Nat.{◌*◌}
 use native.Mathlib.Omega.{arith}
 use mathlib.Core.Path.{sym, ◌∙◌}
-use lib.ListN.{length}
+use lib.ListN.{length, take}
+use lib.Dec.{ltb}
 use borrow.Author.Tests.{leb-true, leb-false}
-use Rattle.page.proofs.Faults.{fault_number, fault_lines, fault_pages, fault_size, fault_bytes}
+use Rattle.page.proofs.Faults.{any_listed, fault_number, fault_lines, fault_pages, fault_size, fault_bytes}
 use Rattle.page.proofs.fault.refused.Goals as goal
 
 pub returns-then-number-eq0 : goal.returns-then-number-eq0
@@ -19,12 +20,9 @@ returns-then-lines-gt-MOST_LINES c = fault_lines c.args.table.now c.args.lines c
 pub overflow_mul-lines : goal.overflow_mul-lines
 overflow_mul-lines c = omega (arith, leb-true (c.args.lines * c.args.f) (length c.args.table.now) (sym c.fits.ensures ∙ c.if-fits.true))
 
-pub byte_above-requires : goal.byte_above-requires
-byte_above-requires c = leb-true (c.args.lines * c.args.f) (length c.args.table.now) (sym c.fits.ensures ∙ c.if-fits.true)
-
 pub returns-then-fits : goal.returns-then-fits
 returns-then-fits c = let held = leb-true (c.args.lines * c.args.f) (length c.args.table.now) (sym c.fits.ensures ∙ c.if-fits.true) in
-    fault_bytes c.args.table.now c.args.lines c.args.f c.args.number c.if-number-eq0.false (omega (arith, c.pages.ensures)) (omega arith) held c.byte_above.result c.byte_above.ensures
+    fault_bytes c.args.table.now c.args.lines c.args.f c.args.number c.if-number-eq0.false (omega (arith, c.pages.ensures)) (omega arith) held c.byte_above.result (c.byte_above.ensures ∙ any_listed (ltb 2) (take (c.args.lines * c.args.f) c.args.table.now))
 
 pub returns : goal.returns
 returns c = fault_size c.args.table.now c.args.lines c.args.f c.args.number (leb-false (c.args.lines * c.args.f) (length c.args.table.now) (sym c.fits.ensures ∙ c.if-fits.false))

@@ -1,11 +1,15 @@
--- `page::lent::put_page` meets its contract. The rows passed are written.
-use Prim.Native.Nat.{◌-◌}
-use Rattle.layout.specs.Page.{page_rows}
-use Rattle.page.proofs.Rowed.{Rowed}
+-- `put_page` writes one row after the other.
+use Prim.Native.Nat.{◌+◌, ◌*◌}
+use mathlib.Core.Path.{◌≡◌}
+use lib.ListN.{length, drop}
+use Rattle.layout.specs.Words.{joined}
+use Rattle.layout.specs.Page.{page_rows, page_columns}
+use Rattle.writer.proofs.Appending.{Left}
 use Rattle.page.proofs.lent.put_page.Given as goal
 
-abbrev pub invariant-loop-r : goal.invariant-loop-r
-invariant-loop-r l = Rowed l.initial.d l.at l.p l.d l.q l.r
-
-abbrev pub decreases-loop-r : goal.decreases-loop-r
-decreases-loop-r l = page_rows - l.r
+abbrev pub invariant-loop-row : goal.invariant-loop-row
+invariant-loop-row l = record {
+  rows : length l.row-items ≡ page_rows;
+  wrote : Left l.initial.out (joined l.row-items) (joined (drop l.row-index l.row-items)) l.out;
+  at : l.out.at ≡ l.initial.out.at + l.row-index * page_columns;
+}

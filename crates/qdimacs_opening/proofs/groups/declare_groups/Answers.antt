@@ -7,19 +7,13 @@ pub loop-i-init : goal.loop-i-init
 loop-i-init c = join_none c.args.more.now c.args.more_levels.now c.args.more_kinds.now c.requires.sound.0
 
 pub overflow_add-i : goal.overflow_add-i
-overflow_add-i c = omega (arith, c.loop-i-test.true, c.count-last.ensures, group_count c.requires.sound.1)
+overflow_add-i c = omega (arith, c.loop-i-test.true, c.count-i-end.ensures, group_count c.requires.sound.1)
 
 pub declare-requires : goal.declare-requires
-declare-requires c = join_declarable c.requires.sound.1 c.requires.joinable (omega (arith, c.loop-i-test.true, c.count-last.ensures)) c.kind_at-kind.ensures c.entry.ensures c.loop-i.invariant.sound
-
-pub overflow_add-i-in-loop-i : goal.overflow_add-i-in-loop-i
-overflow_add-i-in-loop-i c = omega (arith, c.loop-i-test.true, c.count-last.ensures, group_count c.requires.sound.1)
-
-pub loop-i-smaller : goal.loop-i-smaller
-loop-i-smaller c = omega (arith, c.loop-i-test.true)
+declare-requires c = join_declarable c.requires.sound.1 c.requires.joinable (omega (arith, c.loop-i-test.true, c.count-i-end.ensures)) c.kind_at-kind.ensures c.entry.ensures c.loop-i.invariant.sound
 
 pub loop-i-preserved : goal.loop-i-preserved
-loop-i-preserved c = join_more c.requires.sound.1 c.requires.joinable c.loop-i.invariant (omega (arith, c.loop-i-test.true, c.count-last.ensures)) c.kind_at-kind.ensures c.entry.ensures c.declare.ensures
+loop-i-preserved c = join_more c.requires.sound.1 c.requires.joinable c.loop-i.invariant (omega (arith, c.loop-i-test.true, c.count-i-end.ensures)) c.kind_at-kind.ensures c.entry.ensures c.declare.ensures
 
 pub returns : goal.returns
-returns c = join_all c.loop-i.invariant (omega (arith, c.loop-i-test.false, c.count-last.ensures))
+returns c = join_all c.loop-i.invariant (omega (arith, c.loop-i-test.false, c.count-i-end.ensures))

@@ -1,11 +1,7 @@
 -- `declare_groups`: each turn declares the variable of one place more.
-use Prim.Native.Nat.{◌-◌}
 use Rattle.state.specs.Reading.{prefix_of}
 use Rattle.qdimacs_opening.proofs.Joining.{Joining}
 use Rattle.qdimacs_opening.proofs.groups.declare_groups.Given as goal
 
 abbrev pub invariant-loop-i : goal.invariant-loop-i
 invariant-loop-i l = Joining (prefix_of l.initial.numbers l.initial.levels l.initial.kinds) l.more l.more_levels l.more_kinds l.numbers l.levels l.kinds l.i
-
-abbrev pub decreases-loop-i : goal.decreases-loop-i
-decreases-loop-i l = l.last - l.i

@@ -1,5 +1,5 @@
 -- `read_header`: the word `cnf` and two numbers, and no fourth word.
-use mathlib.Core.Path.{sym, ap, ◌∙◌}
+use mathlib.Core.Path.{ap}
 use Rattle.reader.specs.Numbers.{num_of}
 use Rattle.qdimacs_reader.proofs.Lines.{header_long, header_other, header_uncounted, header_read}
 use mathlib.Core.Bool.{not}
@@ -13,19 +13,19 @@ returns-then-not-is_cnf c = λ _.
     header_other c.next_word-form.ensures c.next_word-variables.ensures c.next_word-clauses.ensures c.next_word-more.ensures
     c.if-more.false c.is_cnf.ensures (ap not c.if-not-is_cnf.true)
 
-pub returns-in_default : goal.returns-in_default
-returns-in_default c = λ _.
+pub returns-in_err-v : goal.returns-in_err-v
+returns-in_err-v c = rw c.from_residual.ensures (λ _.
     header_uncounted c.next_word-form.ensures c.next_word-variables.ensures c.next_word-clauses.ensures c.next_word-more.ensures
-    c.if-more.false c.is_cnf.ensures (ap not c.if-not-is_cnf.false) c.number_at.ensures (ap num_of c.in_default.is)
+    c.if-more.false c.is_cnf.ensures (ap not c.if-not-is_cnf.false) c.number_at.ensures (ap num_of c.in_err-v.was))
 
-pub returns-in_default-number_at : goal.returns-in_default-number_at
-returns-in_default-number_at c = λ _.
+pub returns-in_err-c : goal.returns-in_err-c
+returns-in_err-c c = rw c.from_residual-in_err-c.ensures (λ _.
     header_read c.next_word-form.ensures c.next_word-variables.ensures c.next_word-clauses.ensures c.next_word-more.ensures
-    c.if-more.false c.is_cnf.ensures (ap not c.if-not-is_cnf.false) c.number_at.ensures (ap num_of c.in-Value.is)
-    (ap num_of (sym c.in_default-number_at.is) ∙ c.number_at-2.ensures)
+    c.if-more.false c.is_cnf.ensures (ap not c.if-not-is_cnf.false) c.number_at.ensures (ap num_of c.in_ok-v.was)
+    c.in_err-c.ensures)
 
 pub returns : goal.returns
 returns c = λ _.
     header_read c.next_word-form.ensures c.next_word-variables.ensures c.next_word-clauses.ensures c.next_word-more.ensures
-    c.if-more.false c.is_cnf.ensures (ap not c.if-not-is_cnf.false) c.number_at.ensures (ap num_of c.in-Value.is)
-    (ap num_of (sym c.in-Value-number_at.is) ∙ c.number_at-2.ensures)
+    c.if-more.false c.is_cnf.ensures (ap not c.if-not-is_cnf.false) c.number_at.ensures (ap num_of c.in_ok-v.was)
+    c.in_ok-c.ensures

@@ -1,8 +1,7 @@
 -- `read_literal`: `0`, then a minus and a number, or a number.
-use mathlib.Core.Path.{sym, ap, ◌∙◌}
+use mathlib.Core.Path.{sym, ◌∙◌}
 use lib.IntN.{pos}
 use Rattle.layout.specs.Forms.{off}
-use Rattle.reader.specs.Numbers.{num_of}
 use Rattle.reader.proofs.Narrowed.{back16, narrowed_on, narrowed_off}
 use Rattle.qdimacs_reader.proofs.Literals.{literal_zero, literal_on, literal_some, literal_off}
 use Rattle.qdimacs_reader.proofs.item.read_literal.Goals as goal
@@ -16,24 +15,22 @@ slice_bounds-read_number-count c = literal_some c.args.signed c.args.w.now (sym 
 pub slice_bounds-read_number-start : goal.slice_bounds-read_number-start
 slice_bounds-read_number-start c = literal_some c.args.signed c.args.w.now (sym c.is_zero.ensures ∙ c.if-is_zero.false) (sym c.is_off.ensures ∙ c.if-is_off.true)
 
-pub returns-in-Value : goal.returns-in-Value
-returns-in-Value c = let item = sym c.is_zero.ensures ∙ c.if-is_zero.false in
+pub returns-in_err-v : goal.returns-in_err-v
+returns-in_err-v c = let item = sym c.is_zero.ensures ∙ c.if-is_zero.false in
     let signed = sym c.is_off.ensures ∙ c.if-is_off.true in
-    let value = ap num_of (sym c.in-Value.is) ∙ c.read_number.ensures in
-    (off c.in-Value.v, literal_off c.args.signed c.args.w.now item signed value, back16 c.off.type_inv ∙ narrowed_off _ c.narrow.ensures c.off.ensures)
+    rw c.from_residual.ensures (literal_off c.args.signed c.args.w.now item signed c.in_err-v.ensures)
 
-pub returns-in-NotNumber : goal.returns-in-NotNumber
-returns-in-NotNumber c = let item = sym c.is_zero.ensures ∙ c.if-is_zero.false in
+pub returns-then-is_off : goal.returns-then-is_off
+returns-then-is_off c = let item = sym c.is_zero.ensures ∙ c.if-is_zero.false in
     let signed = sym c.is_off.ensures ∙ c.if-is_off.true in
-    literal_off c.args.signed c.args.w.now item signed (ap num_of (sym c.in-NotNumber.is) ∙ c.read_number.ensures)
+    (off c.in_ok-v.v, literal_off c.args.signed c.args.w.now item signed c.in_ok-v.ensures, back16 c.off.type_inv ∙ narrowed_off _ c.narrow.ensures c.off.ensures)
 
-pub returns-in-Value-read_number : goal.returns-in-Value-read_number
-returns-in-Value-read_number c = let item = sym c.is_zero.ensures ∙ c.if-is_zero.false in
+pub returns-in_err-v-2 : goal.returns-in_err-v-2
+returns-in_err-v-2 c = let item = sym c.is_zero.ensures ∙ c.if-is_zero.false in
     let plain = sym c.is_off.ensures ∙ c.if-is_off.false in
-    let value = ap num_of (sym c.in-Value-read_number.is) ∙ c.read_number-else-is_off.ensures in
-    (pos c.in-Value-read_number.v, literal_on c.args.signed c.args.w.now item plain value, back16 c.on.type_inv ∙ narrowed_on _ c.narrow-in-Value-read_number.ensures c.on.ensures)
+    rw c.from_residual-in_err-v-2.ensures (literal_on c.args.signed c.args.w.now item plain c.in_err-v-2.ensures)
 
-pub returns-in-NotNumber-read_number : goal.returns-in-NotNumber-read_number
-returns-in-NotNumber-read_number c = let item = sym c.is_zero.ensures ∙ c.if-is_zero.false in
+pub returns : goal.returns
+returns c = let item = sym c.is_zero.ensures ∙ c.if-is_zero.false in
     let plain = sym c.is_off.ensures ∙ c.if-is_off.false in
-    literal_on c.args.signed c.args.w.now item plain (ap num_of (sym c.in-NotNumber-read_number.is) ∙ c.read_number-else-is_off.ensures)
+    (pos c.in_ok-v-2.v, literal_on c.args.signed c.args.w.now item plain c.in_ok-v-2.ensures, back16 c.on.type_inv ∙ narrowed_on _ c.narrow-2.ensures c.on.ensures)

@@ -1,15 +1,26 @@
 -- `read_words`: the first word decides what the others are.
-use Rattle.qdimacs_reader.proofs.Lines.{words_header, words_exists, words_forall, words_clause}
+use mathlib.Core.Path.{ap, ◌∙◌}
+use Rattle.std.specs.Prelude.{Some}
+use Rattle.qdimacs_reader.proofs.Lines.{words_header, words_exists, exists_none, words_forall, forall_none, words_clause, clause_none}
 use Rattle.qdimacs_reader.proofs.line.read_words.Goals as goal
 
-pub returns-in-Header : goal.returns-in-Header
-returns-in-Header c = words_header c.next_word-first.ensures c.word_of.ensures c.read_header.result _ c.in-Header.is c.read_header.ensures
+pub returns-in-Some-Header : goal.returns-in-Some-Header
+returns-in-Some-Header c = words_header c.next_word-first.ensures c.word_of.ensures c.read_header.result _ (c.in-Some-Header.is ∙ ap Some c.in-Some-Header.field-0-is) c.read_header.ensures
 
-pub returns-in-Exists : goal.returns-in-Exists
-returns-in-Exists c = words_exists c.next_word-first.ensures c.word_of.ensures c.group_of.result _ c.read_literals.result c.in-Exists.is c.read_literals.ensures c.group_of.ensures
+pub returns-in_err-read_literals-in-Some-Exists : goal.returns-in_err-read_literals-in-Some-Exists
+returns-in_err-read_literals-in-Some-Exists c = rw c.from_residual.ensures (exists_none c.next_word-first.ensures c.word_of.ensures (c.in-Some-Exists.is ∙ ap Some c.in-Some-Exists.field-0-is) c.in_err-read_literals-in-Some-Exists.ensures)
 
-pub returns-in-Forall : goal.returns-in-Forall
-returns-in-Forall c = words_forall c.next_word-first.ensures c.word_of.ensures c.group_of-in-Forall.result _ c.read_literals-in-Forall.result c.in-Forall.is c.read_literals-in-Forall.ensures c.group_of-in-Forall.ensures
+pub returns-in_err-read_literals-in-Some-Forall : goal.returns-in_err-read_literals-in-Some-Forall
+returns-in_err-read_literals-in-Some-Forall c = rw c.from_residual-in_err-read_literals-in-Some-Forall.ensures (forall_none c.next_word-first.ensures c.word_of.ensures (c.in-Some-Forall.is ∙ ap Some c.in-Some-Forall.field-0-is) c.in_err-read_literals-in-Some-Forall.ensures)
 
-pub returns-in-Item : goal.returns-in-Item
-returns-in-Item c = words_clause c.next_word-first.ensures c.word_of.ensures c.clause_of.result _ c.read_literals-in-Item.result c.in-Item.is c.read_literals-in-Item.ensures c.clause_of.ensures
+pub returns-in_err-read_literals-in-None : goal.returns-in_err-read_literals-in-None
+returns-in_err-read_literals-in-None c = rw c.from_residual-in_err-read_literals-in-None.ensures (clause_none c.next_word-first.ensures c.word_of.ensures c.in-None.is c.in_err-read_literals-in-None.ensures)
+
+pub returns-in_ok-read_literals-in-Some-Exists : goal.returns-in_ok-read_literals-in-Some-Exists
+returns-in_ok-read_literals-in-Some-Exists c = words_exists c.next_word-first.ensures c.word_of.ensures c.group_of.result _ c.in_ok-read_literals-in-Some-Exists.field-0 (c.in-Some-Exists.is ∙ ap Some c.in-Some-Exists.field-0-is) c.in_ok-read_literals-in-Some-Exists.ensures c.group_of.ensures
+
+pub returns-in_ok-read_literals-in-Some-Forall : goal.returns-in_ok-read_literals-in-Some-Forall
+returns-in_ok-read_literals-in-Some-Forall c = words_forall c.next_word-first.ensures c.word_of.ensures c.group_of-in-Some-Forall.result _ c.in_ok-read_literals-in-Some-Forall.field-0 (c.in-Some-Forall.is ∙ ap Some c.in-Some-Forall.field-0-is) c.in_ok-read_literals-in-Some-Forall.ensures c.group_of-in-Some-Forall.ensures
+
+pub returns-in_ok-read_literals-in-None : goal.returns-in_ok-read_literals-in-None
+returns-in_ok-read_literals-in-None c = words_clause c.next_word-first.ensures c.word_of.ensures _ c.in_ok-read_literals-in-None.field-0 c.in-None.is c.in_ok-read_literals-in-None.ensures

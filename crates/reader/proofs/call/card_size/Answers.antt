@@ -7,4 +7,4 @@ pub returns-then-s-e : goal.returns-then-s-e
 returns-then-s-e c = size_whole c.args.s.now c.args.e c.if-s-e.true
 
 pub returns : goal.returns
-returns c = c.read_number.ensures ∙ size_read c.args.s.now c.args.e c.if-s-e.false
+returns c = c.read_up_to.ensures ∙ size_read c.args.s.now c.args.e c.if-s-e.false

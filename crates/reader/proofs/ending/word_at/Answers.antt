@@ -16,7 +16,7 @@ pub slice_bounds-same_word-end : goal.slice_bounds-same_word-end
 slice_bounds-same_word-end c = omega (arith, c.find-e.ensures.high)
 
 pub returns-then-same_word : goal.returns-then-same_word
-returns-then-same_word c = scan_found c.loop-at.invariant c.find-e.ensures (sym c.same_word.ensures ∙ c.if-same_word.true)
+returns-then-same_word c = scan_found c.loop-at.invariant (omega (arith, c.loop-at-test.true)) c.find-e.ensures (sym c.same_word.ensures ∙ c.if-same_word.true)
 
 pub overflow_add-at : goal.overflow_add-at
 overflow_add-at c = omega (arith, c.find-e.ensures.high)

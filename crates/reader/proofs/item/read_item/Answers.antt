@@ -8,26 +8,27 @@ use Rattle.reader.proofs.Narrowed.{narrowed_on, narrowed_off}
 use Rattle.reader.proofs.Literals.{literal_alone, literal_on, literal_off, consed_none, item_read}
 use Rattle.reader.proofs.item.read_item.Goals as goal
 
+pub returns-in_err-v : goal.returns-in_err-v
+returns-in_err-v c = rw c.from_residual.ensures (literal_on c.find-e.ensures _ (sym c.is_no.ensures ∙ c.if-not-is_no.true) (ap num_of (sym c.in_err-v.was) ∙ c.read_number.ensures) ∙ consed_none pos _)
+
+pub returns-then-not-is_no : goal.returns-then-not-is_no
+returns-then-not-is_no c = (
+  omega arith,
+  omega arith,
+  item_read pos _ _ c.on.type_inv (narrowed_on _ c.narrow.ensures c.on.ensures)
+      (literal_on c.find-e.ensures _ (sym c.is_no.ensures ∙ c.if-not-is_no.true) (ap num_of (sym c.in_ok-v.was) ∙ c.read_number.ensures)),
+)
+
 pub returns-then-s-e : goal.returns-then-s-e
-returns-then-s-e c = let negated = sym c.is_no.ensures ∙ c.if-is_no.true in
-    literal_alone c.find-e.ensures _ c.if-s-e.true negated
+returns-then-s-e c = literal_alone c.find-e.ensures _ c.if-s-e.true (sym c.is_no.ensures ∙ c.if-not-is_no.false)
 
-pub returns-in-Value : goal.returns-in-Value
-returns-in-Value c = let negated = sym c.is_no.ensures ∙ c.if-is_no.true in
-    let number = ap num_of (sym c.in-Value.is) ∙ c.closed_number.ensures in
-    (omega arith, omega arith, item_read off _ _ c.off.type_inv (narrowed_off _ c.narrow.ensures c.off.ensures) (literal_off c.find-e.ensures _ c.find-f.ensures negated number))
+pub returns-in_err-v-2 : goal.returns-in_err-v-2
+returns-in_err-v-2 c = rw c.from_residual-in_err-v-2.ensures (literal_off c.find-e.ensures _ c.find-f.ensures (sym c.is_no.ensures ∙ c.if-not-is_no.false) (ap num_of (sym c.in_err-v-2.was) ∙ c.closed_number.ensures) ∙ consed_none off _)
 
-pub returns-in-NotNumber : goal.returns-in-NotNumber
-returns-in-NotNumber c = let negated = sym c.is_no.ensures ∙ c.if-is_no.true in
-    let number = ap num_of (sym c.in-NotNumber.is) ∙ c.closed_number.ensures in
-    literal_off c.find-e.ensures _ c.find-f.ensures negated number ∙ consed_none off _
-
-pub returns-in-Value-read_number : goal.returns-in-Value-read_number
-returns-in-Value-read_number c = let plain = sym c.is_no.ensures ∙ c.if-is_no.false in
-    let number = ap num_of (sym c.in-Value-read_number.is) ∙ c.read_number.ensures in
-    (omega arith, omega arith, item_read pos _ _ c.on.type_inv (narrowed_on _ c.narrow-in-Value-read_number.ensures c.on.ensures) (literal_on c.find-e.ensures _ plain number))
-
-pub returns-in-NotNumber-read_number : goal.returns-in-NotNumber-read_number
-returns-in-NotNumber-read_number c = let plain = sym c.is_no.ensures ∙ c.if-is_no.false in
-    let number = ap num_of (sym c.in-NotNumber-read_number.is) ∙ c.read_number.ensures in
-    literal_on c.find-e.ensures _ plain number ∙ consed_none pos _
+pub returns : goal.returns
+returns c = (
+  omega arith,
+  omega arith,
+  item_read off _ _ c.off.type_inv (narrowed_off _ c.narrow-2.ensures c.off.ensures)
+      (literal_off c.find-e.ensures _ c.find-f.ensures (sym c.is_no.ensures ∙ c.if-not-is_no.false) (ap num_of (sym c.in_ok-v-2.was) ∙ c.closed_number.ensures)),
+)

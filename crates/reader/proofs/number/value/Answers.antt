@@ -1,28 +1,14 @@
+-- `value` meets its contract: digit by digit, and then what fits 32 bits.
 use borrow.Author.Rules.{rules}
-use native.Mathlib.Omega.{arith}
-use Rattle.reader.proofs.Digits.{value_none, value_small, value_more, value_low, value_high, value_over, value_end}
+use mathlib.Core.Path.{sym, ◌∙◌}
+use Rattle.reader.proofs.Digits.{value_more, value_bad, value_all}
 use Rattle.reader.proofs.number.value.Goals as goal
 
-pub loop-i-init : goal.loop-i-init
-loop-i-init c = value_none _
+pub returns-then-not-is_ascii_digit : goal.returns-then-not-is_ascii_digit
+returns-then-not-is_ascii_digit c = value_bad c.loop-b.invariant (search rules) (sym c.is_ascii_digit.ensures.value ∙ c.if-not-is_ascii_digit.true)
 
-pub returns-then-b-lt-ZERO : goal.returns-then-b-lt-ZERO
-returns-then-b-lt-ZERO c = value_low c.loop-i.invariant (search rules) c.if-b-lt-ZERO.true
-
-pub returns-then-b-gt-NINE : goal.returns-then-b-gt-NINE
-returns-then-b-gt-NINE c = value_high c.loop-i.invariant (search rules) (search rules) (search rules)
-
-pub overflow_mul-v : goal.overflow_mul-v
-overflow_mul-v c = omega (arith, value_small c.loop-i.invariant (omega arith))
-
-pub overflow_add-v : goal.overflow_add-v
-overflow_add-v c = omega (arith, value_small c.loop-i.invariant (omega arith))
-
-pub loop-i-preserved : goal.loop-i-preserved
-loop-i-preserved c = value_more c.loop-i.invariant (search rules) (search rules) (search rules)
-
-pub returns-then-v : goal.returns-then-v
-returns-then-v c = value_over c.loop-i.invariant (omega arith) (omega arith)
+pub loop-b-preserved : goal.loop-b-preserved
+loop-b-preserved c = value_more c.loop-b.invariant (search rules) (sym c.is_ascii_digit.ensures.value ∙ c.if-not-is_ascii_digit.false)
 
 pub returns : goal.returns
-returns c = value_end c.loop-i.invariant (omega arith) (omega arith)
+returns c = value_all c.loop-b.invariant c.try_from.result c.loop-b-test.false c.try_from.ensures c.ok.ensures.value

@@ -1,16 +1,10 @@
--- `find` meets its contract: the loop passes bytes that are not c.
-use borrow.Author.Rules.{rules}
-use Rattle.reader.proofs.Pieces.{pass_none, pass_more, pass_found, pass_end}
+-- `find` meets its contract: the first place, or the end.
+use mathlib.Core.Path.{sym}
+use Rattle.reader.proofs.Pieces.{found_at, found_none}
 use Rattle.reader.proofs.word.find.Goals as goal
 
-pub loop-i-init : goal.loop-i-init
-loop-i-init c = pass_none _ _ _ (search rules)
+pub returns-in-Some : goal.returns-in-Some
+returns-in-Some c = found_at c.args.c c.args.s.now c.args.at c.requires (sym c.in-Some.ensures)
 
-pub returns-then-s-i : goal.returns-then-s-i
-returns-then-s-i c = pass_found c.loop-i.invariant (search rules) c.if-s-i.true
-
-pub loop-i-preserved : goal.loop-i-preserved
-loop-i-preserved c = pass_more c.loop-i.invariant (search rules) c.if-s-i.false
-
-pub returns : goal.returns
-returns c = pass_end c.loop-i.invariant (search rules)
+pub returns-in-None : goal.returns-in-None
+returns-in-None c = found_none c.args.c c.args.s.now c.args.at c.requires (sym c.in-None.ensures)

@@ -5,4 +5,4 @@ use lib.Dec.{eqb}
 use Rattle.reading.proofs.cells.is_open.Goals as goal
 
 pub returns : goal.returns
-returns c = ap (λ (k : ℕ). eqb k 0) c.value_of.ensures
+returns c = ap (λ (k : ℕ). eqb k 0) c.byte_at.ensures

@@ -5,6 +5,3 @@ use Rattle.reading.proofs.full.is_full.Given as goal
 
 abbrev pub invariant-loop-i : goal.invariant-loop-i
 invariant-loop-i l = Filled l.values l.numbers l.free l.i
-
-abbrev pub decreases-loop-i : goal.decreases-loop-i
-decreases-loop-i l = l.free - l.i

@@ -5,14 +5,14 @@ use Rattle.reading.proofs.Marking.{marking_none, marking_more, marking_bad, mark
 use borrow.Author.Rules.{rules}
 use Rattle.reading.proofs.named.mark_all.Goals as goal
 
-pub loop-i-init : goal.loop-i-init
-loop-i-init c = marking_none c.args.places.now c.args.free c.args.value c.args.values.now c.args.literals.now
+pub loop-lit-init : goal.loop-lit-init
+loop-lit-init c = marking_none c.args.places.now c.args.free c.args.value c.args.values.now c.args.literals.now
 
 pub returns-then-not-mark : goal.returns-then-not-mark
-returns-then-not-mark c = marking_bad c.args.places.now c.args.free c.args.value c.args.values.now c.args.literals.now c.loop-i.invariant c.loop-i-test.true (back (sfits_of (search rules))) c.mark.ensures c.if-not-mark.true
+returns-then-not-mark c = marking_bad c.args.places.now c.args.free c.args.value c.args.values.now c.args.literals.now c.loop-lit.invariant c.loop-lit-test.true (back (sfits_of (search rules))) c.mark.ensures c.if-not-mark.true
 
-pub loop-i-preserved : goal.loop-i-preserved
-loop-i-preserved c = marking_more c.args.places.now c.args.free c.args.value c.args.values.now c.args.literals.now c.loop-i.invariant c.loop-i-test.true (back (sfits_of (search rules))) c.mark.ensures c.if-not-mark.false
+pub loop-lit-preserved : goal.loop-lit-preserved
+loop-lit-preserved c = marking_more c.args.places.now c.args.free c.args.value c.args.values.now c.args.literals.now c.loop-lit.invariant c.loop-lit-test.true (back (sfits_of (search rules))) c.mark.ensures c.if-not-mark.false
 
 pub returns : goal.returns
-returns c = marking_end c.args.places.now c.args.free c.args.value c.args.values.now c.args.literals.now c.loop-i.invariant c.loop-i-test.false
+returns c = marking_end c.args.places.now c.args.free c.args.value c.args.values.now c.args.literals.now c.loop-lit.invariant c.loop-lit-test.false

@@ -4,8 +4,5 @@ use lib.ListN.{length}
 use Rattle.reading.proofs.Marking.{Marking}
 use Rattle.reading.proofs.named.mark_all.Given as goal
 
-abbrev pub invariant-loop-i : goal.invariant-loop-i
-invariant-loop-i l = Marking l.places l.free l.value l.initial.values l.literals l.values l.i
-
-abbrev pub decreases-loop-i : goal.decreases-loop-i
-decreases-loop-i l = length l.literals - l.i
+abbrev pub invariant-loop-lit : goal.invariant-loop-lit
+invariant-loop-lit l = Marking l.places l.free l.value l.initial.values l.literals l.values l.lit-index

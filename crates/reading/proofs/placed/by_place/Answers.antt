@@ -6,7 +6,7 @@ pub loop-i-init : goal.loop-i-init
 loop-i-init c = placing_none c.args.values.now c.args.numbers.now c.args.recorded.now c.args.free
 
 pub loop-i-preserved : goal.loop-i-preserved
-loop-i-preserved c = placing_more c.args.values.now c.args.numbers.now c.args.recorded.now c.args.free c.loop-i.invariant c.requires c.loop-i-test.true c.number_after.ensures c.value_of.ensures c.put.ensures
+loop-i-preserved c = placing_more c.args.values.now c.args.numbers.now c.args.recorded.now c.args.free c.loop-i.invariant c.requires c.loop-i-test.true c.number_after.ensures c.byte_at.ensures c.put.ensures
 
 pub shape_of-recorded : goal.shape_of-recorded
 shape_of-recorded c = c.loop-i.invariant.room

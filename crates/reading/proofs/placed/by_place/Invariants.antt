@@ -5,6 +5,3 @@ use Rattle.reading.proofs.placed.by_place.Given as goal
 
 abbrev pub invariant-loop-i : goal.invariant-loop-i
 invariant-loop-i l = Placing l.values l.numbers l.initial.recorded l.free l.recorded l.i
-
-abbrev pub decreases-loop-i : goal.decreases-loop-i
-decreases-loop-i l = l.free - l.i

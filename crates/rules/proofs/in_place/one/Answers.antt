@@ -1,22 +1,23 @@
--- `rules::in_place::one` meets its contract. A form that is judged without a fault stands on a valid state, and there is room for all of its clauses.
-use Rattle.state.specs.declared.State.{State}
-use Rattle.state.specs.Reading.{state_of}
+-- `rules::in_place::one` meets its contract: what is added stands on a valid state, and there is room for it.
+use mathlib.Core.Path.{refl}
+use Rattle.std.proofs.lemmas.Result.{err_from_is_err_and}
+use Rattle.qbf.specs.Calls.{one}
+use Rattle.rules.proofs.Refused.{refused_malformed, checked_lent}
 use Rattle.rules.proofs.Adds.{one_refused, one_room, one_accepted}
 use Rattle.rules.proofs.in_place.one.Goals as goal
 
-pub returns-then-fault-ne-NONE : goal.returns-then-fault-ne-NONE
-returns-then-fault-ne-NONE c = let lent : State = state_of c.args.numbers.now c.args.levels.now c.args.kinds.now c.args.clauses.now c.args.clause_sizes.now
-    c.args.learned_clauses.now c.args.learned_clause_sizes.now c.args.learned_cubes.now c.args.learned_cube_sizes.now in
-    one_refused (lent) c.args.lits.now c.check_tables-read.ensures c.one_fault-fault.ensures c.if-fault-ne-NONE.true
+pub returns-in_err-places-clause-serves : goal.returns-in_err-places-clause-serves
+returns-in_err-places-clause-serves c =
+    let p = err_from_is_err_and c.from_residual.result c.from_residual.ensures.1 in
+    rw (p.1, p.2) (refused_malformed c.lent-lent.ensures (one c.args.lits.now) refl c.in_err-places.ensures)
+
+pub returns-in_err-judge_form-clause-serves : goal.returns-in_err-judge_form-clause-serves
+returns-in_err-judge_form-clause-serves c =
+    let p = err_from_is_err_and c.from_residual-in_err-judge_form.result c.from_residual-in_err-judge_form.ensures.1 in
+    rw (p.1, p.2) (one_refused _ c.args.lits.now (checked_lent c.lent-lent.ensures c.in_ok-places.ensures) c.in_err-judge_form.ensures _ refl)
 
 pub accept_one-requires : goal.accept_one-requires
-accept_one-requires c = let lent : State = state_of c.args.numbers.now c.args.levels.now c.args.kinds.now c.args.clauses.now c.args.clause_sizes.now
-    c.args.learned_clauses.now c.args.learned_clause_sizes.now c.args.learned_cubes.now c.args.learned_cube_sizes.now in
-    one_room (lent) c.args.lits.now c.check_tables-read.ensures
-    c.one_fault-fault.ensures c.if-fault-ne-NONE.false
+accept_one-requires c = one_room _ c.args.lits.now (checked_lent c.lent-lent.ensures c.in_ok-places.ensures) c.in_ok-judge_form.ensures refl
 
-pub returns : goal.returns
-returns c = let lent : State = state_of c.args.numbers.now c.args.levels.now c.args.kinds.now c.args.clauses.now c.args.clause_sizes.now
-    c.args.learned_clauses.now c.args.learned_clause_sizes.now c.args.learned_cubes.now c.args.learned_cube_sizes.now in
-    one_accepted (lent) c.args.lits.now c.check_tables-read.ensures
-    c.one_fault-fault.ensures c.if-fault-ne-NONE.false c.accept_one.ensures
+pub returns-clause-serves : goal.returns-clause-serves
+returns-clause-serves c = one_accepted _ c.args.lits.now (checked_lent c.lent-lent.ensures c.in_ok-places.ensures) c.in_ok-judge_form.ensures refl c.accept_one.ensures

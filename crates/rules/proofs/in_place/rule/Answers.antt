@@ -1,22 +1,23 @@
--- `rules::in_place::rule` meets its contract. A rule that is judged without a fault stands on a valid state, and there is room for its clause.
-use Rattle.state.specs.declared.State.{State}
-use Rattle.state.specs.Reading.{state_of}
+-- `rules::in_place::rule` meets its contract: what is added stands on a valid state, and there is room for it.
+use mathlib.Core.Path.{refl}
+use Rattle.std.proofs.lemmas.Result.{err_from_is_err_and}
+use Rattle.qbf.specs.Calls.{rule}
+use Rattle.rules.proofs.Refused.{refused_malformed, checked_lent}
 use Rattle.rules.proofs.Adds.{rule_refused, rule_room, rule_accepted}
 use Rattle.rules.proofs.in_place.rule.Goals as goal
 
+pub returns-in_err-places-clause-serves : goal.returns-in_err-places-clause-serves
+returns-in_err-places-clause-serves c =
+    let p = err_from_is_err_and c.from_residual.result c.from_residual.ensures.1 in
+    rw (p.1, p.2) (refused_malformed c.lent-lent.ensures (rule c.args.lits.now) refl c.in_err-places.ensures)
+
+pub returns-in_err-judge_rule-clause-serves : goal.returns-in_err-judge_rule-clause-serves
+returns-in_err-judge_rule-clause-serves c =
+    let p = err_from_is_err_and c.from_residual-in_err-judge_rule.result c.from_residual-in_err-judge_rule.ensures.1 in
+    rw (p.1, p.2) (rule_refused _ c.args.lits.now (checked_lent c.lent-lent.ensures c.in_ok-places.ensures) c.in_err-judge_rule.ensures _ refl)
+
 pub accept-requires : goal.accept-requires
-accept-requires c = let lent : State = state_of c.args.numbers.now c.args.levels.now c.args.kinds.now c.args.clauses.now c.args.clause_sizes.now
-    c.args.learned_clauses.now c.args.learned_clause_sizes.now c.args.learned_cubes.now c.args.learned_cube_sizes.now in
-    rule_room (lent) c.args.lits.now c.check_tables-read.ensures
-    c.rule_fault-fault.ensures c.if-fault-eq-NONE.true
+accept-requires c = rule_room _ c.args.lits.now (checked_lent c.lent-lent.ensures c.in_ok-places.ensures) c.in_ok-judge_rule.ensures refl
 
-pub returns-then-fault-eq-NONE : goal.returns-then-fault-eq-NONE
-returns-then-fault-eq-NONE c = let lent : State = state_of c.args.numbers.now c.args.levels.now c.args.kinds.now c.args.clauses.now c.args.clause_sizes.now
-    c.args.learned_clauses.now c.args.learned_clause_sizes.now c.args.learned_cubes.now c.args.learned_cube_sizes.now in
-    rule_accepted (lent) c.args.lits.now c.check_tables-read.ensures
-    c.rule_fault-fault.ensures c.if-fault-eq-NONE.true c.accept.ensures
-
-pub returns : goal.returns
-returns c = let lent : State = state_of c.args.numbers.now c.args.levels.now c.args.kinds.now c.args.clauses.now c.args.clause_sizes.now
-    c.args.learned_clauses.now c.args.learned_clause_sizes.now c.args.learned_cubes.now c.args.learned_cube_sizes.now in
-    rule_refused (lent) c.args.lits.now c.check_tables-read.ensures c.rule_fault-fault.ensures c.if-fault-eq-NONE.false
+pub returns-clause-serves : goal.returns-clause-serves
+returns-clause-serves c = rule_accepted _ c.args.lits.now (checked_lent c.lent-lent.ensures c.in_ok-places.ensures) c.in_ok-judge_rule.ensures refl c.accept.ensures

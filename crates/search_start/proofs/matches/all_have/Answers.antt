@@ -1,18 +1,18 @@
--- `search_start::matches::all_have` meets its contract: the literals before i have the truth value.
-use mathlib.Core.Path.{refl}
-use borrow.Author.Rules.{rules, sfits_of}
-use Rattle.literal.proofs.Signed.{back}
-use Rattle.search_start.proofs.Matching.{have_more, have_stop, have_end}
+-- `search_start::matches::all_have` meets its contract: each literal's status is the wanted one.
+use Rattle.std.proofs.Common.{rules, ◌≡◌, ◌∙◌, cond, true, false, eqb, Bool, ℤ, pos}
+use Rattle.std.proofs.lemmas.Iterator.{cases_from_all, YieldsList-from_slice}
+use borrow.Author.Tests.{tests}
+use Rattle.literal.proofs.Chains.{all_is}
+use Rattle.qbf.specs.Formula.{has}
+use Rattle.tables.specs.Views.{status}
+use Rattle.tables.proofs.Lists.{all_same}
+use Rattle.search_start.proofs.Matching.{has_status}
 use Rattle.search_start.proofs.matches.all_have.Goals as goal
 
-pub loop-i-init : goal.loop-i-init
-loop-i-init c = record { within = search rules; wants = c.wanted-want.ensures; same = λ D s shown. refl }
-
-pub returns-then-is-want : goal.returns-then-is-want
-returns-then-is-want c = have_stop c.loop-i.invariant c.status_of-is.result c.loop-i-test.true (cc (back (sfits_of c.status_of-arg-1.given))) c.if-is-want.true
-
-pub loop-i-preserved : goal.loop-i-preserved
-loop-i-preserved c = have_more c.loop-i.invariant c.status_of-is.result c.loop-i-test.true (cc (back (sfits_of c.status_of-arg-1.given))) c.if-is-want.false
-
 pub returns : goal.returns
-returns c = have_end c.loop-i.invariant c.loop-i-test.false
+returns c =
+    let test : ℤ → Bool = λ l. eqb (status c.args.values.now l) (cond c.args.cube 2 1) in
+    λ D s shown.
+    all_is test (pos 0) c.args.lits.now c.all.result
+    (cases_from_all _ _ _ (λ l. test l ≡ true) (λ l. test l ≡ false) c.all.ensures.ran (YieldsList-from_slice c.args.lits.now cc) (λ x q e. search (rules, tests)) (λ x q e. search (rules, tests)))
+    ∙ all_same test (has D c.args.cube s) (has_status D s c.args.values.now shown c.args.cube) c.args.lits.now

@@ -1,13 +1,10 @@
 -- `search_start::satisfied::all_satisfied` meets its contract: all rows before k are satisfied.
-use Prim.Native.Nat.{◌-◌}
-use mathlib.Core.Bool.{true}
-use Rattle.qbf.specs.Formula.{paper, satisfied}
-use Rattle.tables.specs.Views.{Values}
-use Rattle.search_start.proofs.Tried.{Tried}
+use Rattle.std.proofs.Common.{◌≡◌, ℕ, ◌<◌, true}
+use Rattle.qbf.specs.Formula.{Prefix, Node, satisfied}
+use Rattle.tables.specs.Views.{Values, row}
 use Rattle.search_start.proofs.satisfied.all_satisfied.Given as goal
 
 abbrev pub invariant-loop-k : goal.invariant-loop-k
-invariant-loop-k l = Tried (λ D s. Values D s l.values) satisfied true paper.literals l.clauses l.sizes l.count l.k
-
-abbrev pub decreases-loop-k : goal.decreases-loop-k
-decreases-loop-k l = l.count - l.k
+invariant-loop-k l =
+    (D : Prefix) (s : Node) → Values D s l.values
+    → (j : ℕ) → j < l.k → satisfied D s (row l.clauses.width l.clauses.cells.now l.clauses.sizes.now j) ≡ true

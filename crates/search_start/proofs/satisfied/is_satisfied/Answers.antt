@@ -1,18 +1,17 @@
--- `search_start::satisfied::is_satisfied` meets its contract: no literal before i is true.
-use native.Mathlib.Omega.{arith}
-use borrow.Author.Rules.{sfits_of}
-use Rattle.literal.proofs.Signed.{back}
-use Rattle.search_start.proofs.Satisfying.{open_start, open_found, open_more, open_end}
+-- `search_start::satisfied::is_satisfied` meets its contract: some literal's status is true.
+use Rattle.std.proofs.Common.{rules, ◌≡◌, ◌∙◌, true, false, eqb, Bool, ℤ, pos}
+use Rattle.std.proofs.lemmas.Iterator.{cases_from_any, YieldsList-from_slice}
+use borrow.Author.Tests.{tests}
+use Rattle.literal.proofs.Chains.{any_is, any_same}
+use Rattle.qbf.specs.Formula.{has}
+use Rattle.tables.specs.Views.{status}
+use Rattle.tables.proofs.Laws.{status_true}
 use Rattle.search_start.proofs.satisfied.is_satisfied.Goals as goal
 
-pub loop-i-init : goal.loop-i-init
-loop-i-init c = open_start
-
-pub returns-then-status_of-eq-TRUE : goal.returns-then-status_of-eq-TRUE
-returns-then-status_of-eq-TRUE c = open_found c.loop-i.invariant {st = c.status_of.result} c.loop-i-test.true (cc (back (sfits_of c.status_of-arg-1.given))) (omega (arith, c.if-status_of-eq-TRUE.true))
-
-pub loop-i-preserved : goal.loop-i-preserved
-loop-i-preserved c = open_more c.loop-i.invariant {st = c.status_of.result} c.loop-i-test.true (cc (back (sfits_of c.status_of-arg-1.given))) (λ is. omega (arith, is, c.if-status_of-eq-TRUE.false))
-
 pub returns : goal.returns
-returns c = open_end c.loop-i.invariant c.loop-i-test.false
+returns c =
+    let test : ℤ → Bool = λ l. eqb (status c.args.values.now l) 2 in
+    λ D s shown.
+    any_is test (pos 0) c.args.lits.now c.any.result
+    (cases_from_any _ _ _ (λ l. test l ≡ true) (λ l. test l ≡ false) c.any.ensures.ran (YieldsList-from_slice c.args.lits.now cc) (λ x q e. search (rules, tests)) (λ x q e. search (rules, tests)))
+    ∙ any_same test (has D true s) (status_true D s c.args.values.now shown) c.args.lits.now

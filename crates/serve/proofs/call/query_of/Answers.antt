@@ -11,11 +11,11 @@ slice_bounds-named-end c = simp length-take (omega arith)
 pub slice_bounds-named-end-3 : goal.slice_bounds-named-end-3
 slice_bounds-named-end-3 c = simp length-take (omega arith)
 
-pub slice_bounds-serve_query-end : goal.slice_bounds-serve_query-end
-slice_bounds-serve_query-end c = simp length-take (omega arith)
+pub slice_bounds-asked-end : goal.slice_bounds-asked-end
+slice_bounds-asked-end c = simp length-take (omega arith)
 
-pub slice_bounds-serve_query-end-2 : goal.slice_bounds-serve_query-end-2
-slice_bounds-serve_query-end-2 c = simp length-take (omega arith)
+pub slice_bounds-asked-end-2 : goal.slice_bounds-asked-end-2
+slice_bounds-asked-end-2 c = simp length-take (omega arith)
 
 pub returns : goal.returns
 returns c = query_turned c.args.n c.args.lits.now c.requires.lits_len c.args.ceiling c.kept-k.result c.kept-k.ensures

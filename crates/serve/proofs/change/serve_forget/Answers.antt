@@ -11,5 +11,5 @@ use Rattle.serve.proofs.change.serve_forget.Goals as goal
 pub returns : goal.returns
 returns c = λ t.
     turned c.args.x (some forget) c.args.line _ c.args.shown c.args.shown c.put_change-length.ensures
-    (λ u e. change_served c.args.x forget c.args.line c.forget-change.result _ u (λ m l k. refl) forget_changing c.forget-change.ensures (e ∙ ap (λ k. change_text forgotten_text k c.args.line) c.refusal_of-refusal.ensures))
+    (λ u e. change_served c.args.x forget c.args.line c.forget-change.result _ u (λ m l k. refl) forget_changing c.forget-change.ensures.serves (e ∙ ap (λ k. change_text forgotten_text k c.args.line) c.refusal_of-refusal.ensures))
     t t refl

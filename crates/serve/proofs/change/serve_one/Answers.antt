@@ -13,5 +13,5 @@ use Rattle.serve.proofs.change.serve_one.Goals as goal
 pub returns : goal.returns
 returns c = λ t.
     turned c.args.x (some (one c.args.lits.now)) c.args.line _ c.args.shown c.after_rule-left.result c.put_change-length.ensures
-    (λ u e. change_served c.args.x (one c.args.lits.now) c.args.line c.one-change.result _ u (λ m l k. refl) (one_changing c.args.lits.now) c.one-change.ensures (e ∙ ap (λ k. change_text accepted_text k c.args.line) c.refusal_of-refusal.ensures))
-    t t (rule_leaves c.args.x (one c.args.lits.now) c.one-change.result _ c.args.shown c.refusal_of-refusal.result (one_changing c.args.lits.now (read_state c.args.x)) c.one-change.ensures c.refusal_of-refusal.ensures c.after_rule-left.result c.after_rule-left.ensures t)
+    (λ u e. change_served c.args.x (one c.args.lits.now) c.args.line c.one-change.result _ u (λ m l k. refl) (one_changing c.args.lits.now) c.one-change.ensures.serves (e ∙ ap (λ k. change_text accepted_text k c.args.line) c.refusal_of-refusal.ensures))
+    t t (rule_leaves c.args.x (one c.args.lits.now) c.one-change.result _ c.args.shown c.refusal_of-refusal.result (one_changing c.args.lits.now (read_state c.args.x)) c.one-change.ensures.serves c.refusal_of-refusal.ensures c.after_rule-left.result c.after_rule-left.ensures t)

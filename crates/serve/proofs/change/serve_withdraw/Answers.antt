@@ -13,5 +13,5 @@ use Rattle.serve.proofs.change.serve_withdraw.Goals as goal
 pub returns : goal.returns
 returns c = λ t.
     turned c.args.x (some withdraw) c.args.line _ c.args.shown c.after_rule-left.result c.put_change-length.ensures
-    (λ u e. change_served c.args.x withdraw c.args.line c.withdraw-change.result _ u (λ m l k. refl) withdraw_changing c.withdraw-change.ensures (e ∙ ap (λ k. change_text withdrawn_text k c.args.line) c.refusal_of-refusal.ensures))
-    t t (rule_leaves c.args.x withdraw c.withdraw-change.result _ c.args.shown c.refusal_of-refusal.result (withdraw_changing (read_state c.args.x)) c.withdraw-change.ensures c.refusal_of-refusal.ensures c.after_rule-left.result c.after_rule-left.ensures t)
+    (λ u e. change_served c.args.x withdraw c.args.line c.withdraw-change.result _ u (λ m l k. refl) withdraw_changing c.withdraw-change.ensures.serves (e ∙ ap (λ k. change_text withdrawn_text k c.args.line) c.refusal_of-refusal.ensures))
+    t t (rule_leaves c.args.x withdraw c.withdraw-change.result _ c.args.shown c.refusal_of-refusal.result (withdraw_changing (read_state c.args.x)) c.withdraw-change.ensures.serves c.refusal_of-refusal.ensures c.after_rule-left.result c.after_rule-left.ensures t)

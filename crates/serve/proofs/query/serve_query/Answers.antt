@@ -8,6 +8,6 @@ use Rattle.serve.proofs.query.serve_query.Goals as goal
 
 pub returns : goal.returns
 returns c = λ t.
-    turned c.args.x (some (query c.args.ceiling c.args.on.now c.args.off.now)) c.args.line _ c.args.shown c.args.shown c.put_ruling-length.ensures
-    (λ u e. query_answered c.args.ceiling c.args.x c.args.on.now c.args.off.now c.args.line c.query-asked.result.ruling c.query-asked.result.visits _ u c.query-asked.ensures e)
+    turned c.args.x (some (query c.args.asked.ceiling c.args.asked.on.now c.args.asked.off.now)) c.args.line _ c.args.shown c.args.shown c.put_ruling-length.ensures
+    (λ u e. query_answered c.args.asked.ceiling c.args.x c.args.asked.on.now c.args.asked.off.now c.args.line c.query-ruled.result.ruling c.query-ruled.result.visits _ u c.query-ruled.ensures e)
     t t refl

@@ -3,13 +3,13 @@ use Rattle.reader.proofs.Books.{book_within}
 use Rattle.session_turn.proofs.book.book_turn.Goals as goal
 
 pub open_book-requires : goal.open_book-requires
-open_book-requires c = book_within c.args.text.now c.book_end-end.result c.book_end-end.ensures
+open_book-requires c = book_within c.args.text.now c.in-Some.end c.in-Some.ensures
 
-pub returns-then-end-gt0 : goal.returns-then-end-gt0
-returns-then-end-gt0 c = at_end_lem c.args.text.now c.args.last c.book_end-end.result c.book_end-end.ensures c.if-end-gt0.true c.open_book.ensures
+pub returns-in-Some : goal.returns-in-Some
+returns-in-Some c = at_end_lem c.args.text.now c.args.last c.in-Some.end c.in-Some.ensures c.open_book.ensures
 
 pub returns-then-last : goal.returns-then-last
-returns-then-last c = at_last c.args.text.now c.args.last c.book_end-end.result c.book_end-end.ensures c.if-end-gt0.false c.if-last.true c.close_book.ensures
+returns-then-last c = at_last c.args.text.now c.args.last c.in_default.ensures c.if-last.true c.close_book.ensures
 
 pub returns : goal.returns
-returns c = at_none c.args.text.now c.args.last c.args.answer.now c.args.answer.now c.book_end-end.result c.book_end-end.ensures c.if-end-gt0.false c.if-last.false c.wait.ensures
+returns c = at_none c.args.text.now c.args.last c.args.answer.now c.args.answer.now c.in_default.ensures c.if-last.false c.wait.ensures

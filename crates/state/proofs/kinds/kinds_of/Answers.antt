@@ -6,14 +6,11 @@ use Rattle.state.proofs.kinds.kinds_of.Goals as goal
 pub loop-n-init : goal.loop-n-init
 loop-n-init c = coded_none c.args.levels.now c.args.kinds.now c.args.places.now c.requires
 
-pub loop-n-smaller : goal.loop-n-smaller
-loop-n-smaller c = omega (arith, c.loop-n.invariant.room, c.loop-n-test.true)
-
 pub loop-n-preserved : goal.loop-n-preserved
-loop-n-preserved c = coded_more c.args.levels.now c.args.kinds.now c.args.places.now c.loop-n.invariant c.loop-n-test.true c.cell-place.ensures c.kind_at.ensures
+loop-n-preserved c = coded_more c.args.levels.now c.args.kinds.now c.args.places.now c.loop-n.invariant (omega (arith, c.loop-n-test.true, c.loop-n.invariant.room, c.requires)) c.cell_at-place.ensures c.kind_at.ensures
 
 pub shape_of-table : goal.shape_of-table
 shape_of-table c = c.loop-n.invariant.room ∙ sym c.requires
 
 pub returns : goal.returns
-returns c = (c.loop-n.invariant.room ∙ sym c.requires, coded_end c.args.levels.now c.args.kinds.now c.args.places.now c.loop-n.invariant c.loop-n-test.false)
+returns c = (c.loop-n.invariant.room ∙ sym c.requires, coded_end c.args.levels.now c.args.kinds.now c.args.places.now c.loop-n.invariant (omega (arith, c.loop-n-test.false, c.loop-n.invariant.room, c.requires)))

@@ -4,26 +4,26 @@ use mathlib.Core.Path.{ap}
 use Rattle.state.proofs.levels.levels_ok.Goals as goal
 
 pub returns-then-count-limit : goal.returns-then-count-limit
-returns-then-count-limit c = λ L q. levels_many L c.args.numbers.now c.args.levels.now c.args.kinds.now c.count-count.ensures c.if-count-limit.true q
+returns-then-count-limit c = λ L q. levels_many L c.args.variables.numbers.now c.args.variables.levels.now c.args.variables.kinds.now c.count-count.ensures c.if-count-limit.true q
 
 pub loop-i-init : goal.loop-i-init
-loop-i-init c = stepping_none c.args.limit c.args.numbers.now c.args.levels.now c.args.kinds.now c.count-count.ensures c.if-count-limit.false
+loop-i-init c = stepping_none c.args.limit c.args.variables.numbers.now c.args.variables.levels.now c.args.variables.kinds.now c.count-count.ensures c.if-count-limit.false
 
 pub returns-then-next-limit : goal.returns-then-next-limit
-returns-then-next-limit c = let level_read : LevelRead c.args.limit c.args.numbers.now c.args.levels.now c.args.kinds.now c.count-count.result c.loop-i.level c.loop-i.beside c.loop-i.i c.cell_after-next.result = record { stepping = c.loop-i.invariant; more = c.loop-i-test.true; is = c.cell_after-next.ensures } in
+returns-then-next-limit c = let level_read : LevelRead c.args.limit c.args.variables.numbers.now c.args.variables.levels.now c.args.variables.kinds.now c.count-count.result c.loop-i.level c.loop-i.beside c.loop-i.i c.cell_after-next.result = record { stepping = c.loop-i.invariant; more = c.loop-i-test.true; is = c.cell_after-next.ensures } in
     level_high (level_read) c.if-next-limit.true
 
 pub step_ok-requires : goal.step_ok-requires
 step_ok-requires c = c.loop-i.invariant.code
 
 pub returns-then-not-step_ok : goal.returns-then-not-step_ok
-returns-then-not-step_ok c = let tested : StepTested c.args.limit c.args.numbers.now c.args.levels.now c.args.kinds.now c.count-count.result c.loop-i.level c.loop-i.beside c.loop-i.i c.cell_after-next.result c.cell-kind.result c.step_ok.result = let level_read : LevelRead c.args.limit c.args.numbers.now c.args.levels.now c.args.kinds.now c.count-count.result c.loop-i.level c.loop-i.beside c.loop-i.i c.cell_after-next.result = record { stepping = c.loop-i.invariant; more = c.loop-i-test.true; is = c.cell_after-next.ensures } in
-    record { level_read = level_read; small = c.if-next-limit.false; is = c.cell-kind.ensures; said = c.step_ok.ensures } in
+returns-then-not-step_ok c = let tested : StepTested c.args.limit c.args.variables.numbers.now c.args.variables.levels.now c.args.variables.kinds.now c.count-count.result c.loop-i.level c.loop-i.beside c.loop-i.i c.cell_after-next.result c.cell_at-kind.result c.step_ok.result = let level_read : LevelRead c.args.limit c.args.variables.numbers.now c.args.variables.levels.now c.args.variables.kinds.now c.count-count.result c.loop-i.level c.loop-i.beside c.loop-i.i c.cell_after-next.result = record { stepping = c.loop-i.invariant; more = c.loop-i-test.true; is = c.cell_after-next.ensures } in
+    record { level_read = level_read; small = c.if-next-limit.false; is = c.cell_at-kind.ensures; said = c.step_ok.ensures } in
     step_bad (tested) (ap not c.if-not-step_ok.true)
 
 pub loop-i-preserved : goal.loop-i-preserved
-loop-i-preserved c = let tested : StepTested c.args.limit c.args.numbers.now c.args.levels.now c.args.kinds.now c.count-count.result c.loop-i.level c.loop-i.beside c.loop-i.i c.cell_after-next.result c.cell-kind.result c.step_ok.result = let level_read : LevelRead c.args.limit c.args.numbers.now c.args.levels.now c.args.kinds.now c.count-count.result c.loop-i.level c.loop-i.beside c.loop-i.i c.cell_after-next.result = record { stepping = c.loop-i.invariant; more = c.loop-i-test.true; is = c.cell_after-next.ensures } in
-    record { level_read = level_read; small = c.if-next-limit.false; is = c.cell-kind.ensures; said = c.step_ok.ensures } in
+loop-i-preserved c = let tested : StepTested c.args.limit c.args.variables.numbers.now c.args.variables.levels.now c.args.variables.kinds.now c.count-count.result c.loop-i.level c.loop-i.beside c.loop-i.i c.cell_after-next.result c.cell_at-kind.result c.step_ok.result = let level_read : LevelRead c.args.limit c.args.variables.numbers.now c.args.variables.levels.now c.args.variables.kinds.now c.count-count.result c.loop-i.level c.loop-i.beside c.loop-i.i c.cell_after-next.result = record { stepping = c.loop-i.invariant; more = c.loop-i-test.true; is = c.cell_after-next.ensures } in
+    record { level_read = level_read; small = c.if-next-limit.false; is = c.cell_at-kind.ensures; said = c.step_ok.ensures } in
     step_more (tested) (ap not c.if-not-step_ok.false)
 
 pub returns : goal.returns

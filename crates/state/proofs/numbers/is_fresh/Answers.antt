@@ -8,4 +8,4 @@ pub returns-then-n-limit : goal.returns-then-n-limit
 returns-then-n-limit c = simp (le-leb _ _ c.if-n-lt1.false, lt-leb _ _ c.if-n-limit.true)
 
 pub returns : goal.returns
-returns c = simp (le-leb _ _ c.if-n-lt1.false, le-leb _ _ c.if-n-limit.false, c.cell.ensures)
+returns c = simp (le-leb _ _ c.if-n-lt1.false, le-leb _ _ c.if-n-limit.false, c.cell_at.ensures)

@@ -1,4 +1,3 @@
-use Prim.Native.Nat.{◌-◌}
 use Rattle.qbf.specs.Formula.{paper}
 use Rattle.qbf.specs.Calls.{clause_ok}
 use Rattle.tables.specs.Views.{Places}
@@ -7,6 +6,3 @@ use Rattle.state.proofs.rows.clauses_ok.Given as goal
 
 abbrev pub invariant-loop-k : goal.invariant-loop-k
 invariant-loop-k l = Scanning (λ D. Places D l.places) (clause_ok paper) paper.literals l.most l.flat l.sizes l.count l.k
-
-abbrev pub decreases-loop-k : goal.decreases-loop-k
-decreases-loop-k l = l.count - l.k

@@ -1,4 +1,3 @@
-use Prim.Native.Nat.{◌-◌}
 use Rattle.qbf.specs.Formula.{paper}
 use Rattle.qbf.specs.Calls.{constraint_ok}
 use Rattle.tables.specs.Views.{Places, Kinds}
@@ -7,6 +6,3 @@ use Rattle.state.proofs.rows.constraints_ok.Given as goal
 
 abbrev pub invariant-loop-k : goal.invariant-loop-k
 invariant-loop-k l = Scanning (λ D. Places D l.places × Kinds D l.kinds) (λ D. constraint_ok D l.cube) l.width paper.constraints l.flat l.sizes l.count l.k
-
-abbrev pub decreases-loop-k : goal.decreases-loop-k
-decreases-loop-k l = l.count - l.k

@@ -10,16 +10,16 @@ use Rattle.literal.proofs.Signed.{back}
 use Rattle.state.proofs.Order.{ordering_none, ordering_end, ordering_bad, ordering_more}
 use Rattle.state.proofs.rows.in_order.Goals as goal
 
-pub loop-i-init : goal.loop-i-init
-loop-i-init c = ordering_none c.args.places.now c.args.lits.now
+pub loop-lit-init : goal.loop-lit-init
+loop-lit-init c = ordering_none c.args.places.now c.args.lits.now
 
 pub returns-then-place-last : goal.returns-then-place-last
-returns-then-place-last c = let told : (D : Prefix) → Places D c.args.places.now → c.literal_place-place.result ≡ place D (get_or c.args.lits.now c.loop-i.i (pos 0)) = λ D shown. c.literal_place-place.ensures.1 D shown ∙ ap (place D) (back {z = get_or c.args.lits.now c.loop-i.i (pos 0)} (sfits_of (search rules))) in
-    ordering_bad c.loop-i.invariant c.loop-i-test.true (told) (omega (arith, c.if-place-last.true))
+returns-then-place-last c = let told : (D : Prefix) → Places D c.args.places.now → c.literal_place-place.result ≡ place D (get_or c.args.lits.now c.loop-lit.lit-index (pos 0)) = λ D shown. c.literal_place-place.ensures.1 D shown ∙ ap (place D) (back {z = get_or c.args.lits.now c.loop-lit.lit-index (pos 0)} (sfits_of (search rules))) in
+    ordering_bad c.loop-lit.invariant c.loop-lit-test.true (told) (omega (arith, c.if-place-last.true))
 
-pub loop-i-preserved : goal.loop-i-preserved
-loop-i-preserved c = let told : (D : Prefix) → Places D c.args.places.now → c.literal_place-place.result ≡ place D (get_or c.args.lits.now c.loop-i.i (pos 0)) = λ D shown. c.literal_place-place.ensures.1 D shown ∙ ap (place D) (back {z = get_or c.args.lits.now c.loop-i.i (pos 0)} (sfits_of (search rules))) in
-    ordering_more c.loop-i.invariant c.loop-i-test.true (told) (omega (arith, c.if-place-last.false))
+pub loop-lit-preserved : goal.loop-lit-preserved
+loop-lit-preserved c = let told : (D : Prefix) → Places D c.args.places.now → c.literal_place-place.result ≡ place D (get_or c.args.lits.now c.loop-lit.lit-index (pos 0)) = λ D shown. c.literal_place-place.ensures.1 D shown ∙ ap (place D) (back {z = get_or c.args.lits.now c.loop-lit.lit-index (pos 0)} (sfits_of (search rules))) in
+    ordering_more c.loop-lit.invariant c.loop-lit-test.true (told) (omega (arith, c.if-place-last.false))
 
 pub returns : goal.returns
-returns c = ordering_end c.loop-i.invariant c.loop-i-test.false
+returns c = ordering_end c.loop-lit.invariant c.loop-lit-test.false

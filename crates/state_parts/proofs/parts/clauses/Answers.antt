@@ -3,4 +3,4 @@ use Rattle.state_parts.proofs.Cutting.{part_same}
 use Rattle.state_parts.proofs.parts.clauses.Goals as goal
 
 pub returns : goal.returns
-returns c = part_same 0 0 _ _ c.args.literals.now c.of_literals.ensures refl c.clause_cells.ensures
+returns c = part_same 0 0 _ _ c.args.literals.now c.part.ensures refl c.clause_cells.ensures

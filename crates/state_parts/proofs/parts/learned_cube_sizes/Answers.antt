@@ -5,4 +5,4 @@ use Rattle.state_parts.proofs.Cutting.{part_same}
 use Rattle.state_parts.proofs.parts.learned_cube_sizes.Goals as goal
 
 pub returns : goal.returns
-returns c = part_same _ _ (cube_sizes paper) (cube_sizes paper) c.args.cells.now c.of_cells.ensures c.learned_cube_sizes_at.ensures refl
+returns c = part_same _ _ (cube_sizes paper) (cube_sizes paper) c.args.cells.now c.part.ensures c.learned_cube_sizes_at.ensures refl

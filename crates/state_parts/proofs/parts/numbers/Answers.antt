@@ -5,4 +5,4 @@ use Rattle.state_parts.proofs.Cutting.{part_same}
 use Rattle.state_parts.proofs.parts.numbers.Goals as goal
 
 pub returns : goal.returns
-returns c = part_same numbers_at numbers_at _ _ c.args.cells.now c.of_cells.ensures refl (add-one c.args.numbers)
+returns c = part_same numbers_at numbers_at _ _ c.args.cells.now c.part.ensures refl (add-one c.args.numbers)

@@ -1,0 +1,37 @@
+// The tables of a state as its caller lends them to a search, which writes what it learns.
+ghost use Rattle.std.specs.Prelude.{◌≡◌};
+ghost use Rattle.state.specs.Lent.{lent_state};
+ghost use Rattle.answers.specs.Lent.{searching_state};
+
+use state::Lent;
+
+#[derive(Drop)]
+pub struct Searching<'a> {
+    pub numbers: &'a [u16; tables::BY_NUMBER],
+    pub levels: &'a [u16; tables::BY_NUMBER],
+    pub kinds: &'a [u16; tables::BY_NUMBER],
+    pub clauses: &'a [i16; tables::CLAUSE_CELLS],
+    pub clause_sizes: &'a [u16; tables::CLAUSE_SIZES],
+    pub learned_clauses: &'a mut [i16; tables::CONSTRAINT_CELLS],
+    pub learned_clause_sizes: &'a mut [u16; tables::LEARNED_CLAUSE_SIZES],
+    pub learned_cubes: &'a mut [i16; tables::CONSTRAINT_CELLS],
+    pub learned_cube_sizes: &'a mut [u16; tables::CONSTRAINT_SIZES],
+}
+
+impl<'a> Searching<'a> {
+    pub fn lent(&self) -> Lent<'_>
+        ensures { lent_state result ≡ searching_state self.now }
+    {
+        Lent {
+            numbers: self.numbers,
+            levels: self.levels,
+            kinds: self.kinds,
+            clauses: self.clauses,
+            clause_sizes: self.clause_sizes,
+            learned_clauses: self.learned_clauses,
+            learned_clause_sizes: self.learned_clause_sizes,
+            learned_cubes: self.learned_cubes,
+            learned_cube_sizes: self.learned_cube_sizes,
+        }
+    }
+}

@@ -1,0 +1,45 @@
+// The calls query and card on a state that stands in one place.
+ghost use Rattle.std.specs.Prelude.{length};
+ghost use Rattle.qbf.specs.Calls.{query, card_of};
+ghost use Rattle.serving.specs.Serves.{Serves};
+ghost use Rattle.replies.specs.Replies.{ruling_said, card_said};
+
+use crate::in_place;
+use crate::lent::Searching;
+use replies::{Listed, Ruled};
+use state::State;
+
+pub fn query(state: &mut State, on: &[i16], off: &[i16], ceiling: u32) -> Ruled
+    ensures { Serves state.old (query ceiling on.now off.now) (ruling_said result.ruling result.visits) state.new }
+{
+    let mut lent = Searching {
+        numbers: &state.numbers,
+        levels: &state.levels,
+        kinds: &state.kinds,
+        clauses: &state.clauses,
+        clause_sizes: &state.clause_sizes,
+        learned_clauses: &mut state.learned_clauses,
+        learned_clause_sizes: &mut state.learned_clause_sizes,
+        learned_cubes: &mut state.learned_cubes,
+        learned_cube_sizes: &mut state.learned_cube_sizes,
+    };
+    in_place::query(&mut lent, on, off, ceiling)
+}
+
+// The card, whose lines are Yes nodes, or the keep card, whose lines are No nodes.
+pub fn card_of(state: &mut State, table: &mut [u8], yes: bool, ceiling: u32) -> Listed
+    ensures { Serves state.old (card_of yes ceiling (length table.old)) (card_said result.lines result.visits table.new) state.new }
+{
+    let mut lent = Searching {
+        numbers: &state.numbers,
+        levels: &state.levels,
+        kinds: &state.kinds,
+        clauses: &state.clauses,
+        clause_sizes: &state.clause_sizes,
+        learned_clauses: &mut state.learned_clauses,
+        learned_clause_sizes: &mut state.learned_clause_sizes,
+        learned_cubes: &mut state.learned_cubes,
+        learned_cube_sizes: &mut state.learned_cube_sizes,
+    };
+    in_place::card_of(&mut lent, table, yes, ceiling)
+}

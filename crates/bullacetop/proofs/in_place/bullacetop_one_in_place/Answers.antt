@@ -1,6 +1,0 @@
--- `bullacetop::in_place::bullacetop_one_in_place` meets its contract.
-use Rattle.reply_numbers.proofs.Numbers.{says_as}
-use Rattle.bullacetop.proofs.in_place.bullacetop_one_in_place.Goals as goal
-
-pub returns : goal.returns
-returns c = says_as c.one-formed.ensures c.of_change.ensures

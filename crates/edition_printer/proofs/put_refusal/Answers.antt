@@ -1,7 +1,0 @@
--- `edition_printer::put_refusal`: a refusal is shorter than the table.
-use native.Mathlib.Omega.{arith}
-use Rattle.answer_text.proofs.Room.{refusal_room}
-use Rattle.edition_printer.proofs.put_refusal.Goals as goal
-
-pub put_refusal-requires : goal.put_refusal-requires
-put_refusal-requires c = omega (arith, refusal_room c.args.refusal c.args.line (omega (arith, c.ranges.refusal)) (omega (arith, c.ranges.line)))

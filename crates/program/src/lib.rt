@@ -1,0 +1,17 @@
+// A program that answers one text: standard input, read to its end.
+#![tactic(auto)]
+
+use std::io;
+use std::io::Input;
+
+// One byte more than a text may have.
+const ROOM: usize = reader::text::TEXT + 1;
+
+// What is done with the text.
+pub fn with_text<F: FnOnce(&[u8]) -> io::Result<()>>(rt: &impl Input, answer: F) -> io::Result<()>
+    requires { F.IsAlwaysCallable answer }
+{
+    let mut text = [0u8; ROOM];
+    let held = input::read_all(&mut rt.reader(), &mut text);
+    answer(&text[..held])
+}

@@ -1,0 +1,19 @@
+-- `oldest_match` meets its contract: what was found is the first match among the rows passed, and the number is that of the newest row before them that
+-- ends in the code.
+use native.Mathlib.Omega.{arith}
+use mathlib.Core.Path.{refl, ap, ◌∙◌}
+use Rattle.tables.specs.Codes.{all_are}
+use Rattle.shelf.proofs.Finding.{find_start, find_more, find_less, find_end}
+use Rattle.shelf.proofs.Shelf.oldest_match.Goals as goal
+
+pub loop-number-init : goal.loop-number-init
+loop-number-init c = find_start c.args.statuses.now c.args.code c.args.want c.requires.0 c.before_oldest-base.result _ c.before_oldest-base.ensures (omega (arith, c.ranges.code)) refl
+
+pub loop-number-smaller : goal.loop-number-smaller
+loop-number-smaller c = find_less c.args.statuses.now c.args.code c.args.want c.requires.0 c.loop-number.invariant (omega arith) c.slot_of-slot.result c.all_are-hit.result _ c.chosen-found.result c.slot_of-slot.ensures.0 c.slot_of-slot.ensures.1 (c.all_are-hit.ensures ∙ ap (all_are c.args.statuses.now c.args.want) c.row_in-row.ensures.0) refl c.chosen-found.ensures
+
+pub loop-number-preserved : goal.loop-number-preserved
+loop-number-preserved c = find_more c.args.statuses.now c.args.code c.args.want c.requires.0 c.loop-number.invariant (omega arith) c.slot_of-slot.result c.all_are-hit.result _ c.chosen-found.result c.slot_of-slot.ensures.0 c.slot_of-slot.ensures.1 (c.all_are-hit.ensures ∙ ap (all_are c.args.statuses.now c.args.want) c.row_in-row.ensures.0) refl c.chosen-found.ensures
+
+pub returns : goal.returns
+returns c = find_end c.args.statuses.now c.args.code c.args.want c.requires.0 c.loop-number.invariant (omega arith)

@@ -1,0 +1,28 @@
+-- A shelf as the code has it.
+use Rattle.std.specs.Prelude.{ℕ, ◌^◌, ◌<◌, ◌≡◌, List, Some, None}
+use Rattle.std.specs.Prelude as code
+use Rattle.std.proofs.Math.Option.{Option, none, some}
+use Rattle.qbf.specs.Formula.{paper}
+use Rattle.tables.specs.Shelves.{Entries, entries_of, newest_of, row_at}
+use Rattle.shelf.specs.declared.Shelf.{Shelf}
+
+-- its cells and its links agree
+abbrev pub Kept : Shelf → Type 0
+Kept x = Entries x.cells x.links
+
+-- the rows that stand, the oldest first
+abbrev pub rows : Shelf → List (List ℕ)
+rows x = entries_of x.cells x.links
+
+-- the number of the newest row
+abbrev pub newest : Shelf → ℕ
+newest x = newest_of x.links
+
+-- there is a number for one row more
+abbrev pub Room : Shelf → Type 0
+Room x = newest x < 2 ^ 63
+
+-- a slot that was found holds the row o; where none was found there is none
+abbrev pub Found : Shelf → code.Option ℕ → Option (List ℕ) → Type 0
+Found x (Some r) o = (r < paper.constraints) × (o ≡ some (row_at paper.numbers x.cells r))
+Found x None o = o ≡ none

@@ -1,0 +1,8 @@
+-- `put_overflow` meets its contract: seven texts one after the other.
+use Rattle.layout.specs.Output.{overflow_text}
+use Rattle.writer.proofs.Appending.{appended_then}
+use Rattle.writer.proofs.Output.put_overflow.Goals as goal
+
+pub returns : goal.returns
+unfolding overflow_text
+returns c = appended_then (appended_then (appended_then (appended_then (appended_then (appended_then c.put_word.ensures c.put_number.ensures) c.put_word-2.ensures) c.put_number-2.ensures) c.put_word-3.ensures) c.put_number-3.ensures) c.put_word-4.ensures
