@@ -1,19 +1,16 @@
 -- Every answer that is no card is short, whatever numbers of 64 bits stand in it; and what stands at the start of the lent table.
-use Prim.Native.Nat.{ℕ, zero, suc, ◌≤◌, ◌<◌, ◌^◌}
+use Prim.Native.Nat.{ℕ, ◌≤◌, ◌<◌, ◌^◌}
 use native.Mathlib.Omega.{arith}
-use mathlib.Core.Path.{◌≡◌, refl, sym, ap, subst, ◌∙◌}
-use borrow.Author.Tests.{ne_eqb}
+use mathlib.Core.Path.{◌≡◌, ap, subst, ◌∙◌}
 use lib.ListN.{length, take, length-take}
 use Rattle.layout.specs.Words.{Bytes}
 use Rattle.layout.specs.Output.{decimal, refusal_text, overflow_text, query_text}
-use Rattle.layout.specs.Session.{search_refusal_text}
 use Rattle.layout_laws.proofs.Decimal.{decimal_length}
 use Rattle.writer.specs.Wrote.{Wrote}
 use Rattle.writer.proofs.Lengths.{refusal_length, overflow_length, query_length}
 use Rattle.book_writer.specs.declared.Written.{Written}
-use Rattle.answer_text.specs.Room.{answer_bytes, TooShort}
+use Rattle.answer_text.specs.Room.{answer_bytes}
 use Rattle.answer_text.specs.Books.{Prints}
-use Rattle.answer_text.specs.Texts.{change_text}
 
 -- a number of 64 bits has at most 20 digits
 pub digits_20 : (n : ℕ) → n < 2 ^ 64 → length (decimal n) ≤ 20
@@ -28,15 +25,6 @@ overflow_room n line visits h k v = omega (arith, overflow_length n line visits,
 pub query_room : (w : Bytes) (visits : ℕ) → length w ≤ 9 → visits < 2 ^ 64 → length (query_text w visits) ≤ 42
 query_room w visits h v = omega (arith, h, query_length w visits, digits_20 visits v)
 
--- ---- a refusal, or none
-pub change_done : (w : Bytes) (n line : ℕ) → n ≡ 0 → w ≡ change_text w n line
-change_done w zero line e = refl
-change_done w (suc n) line e = absurd (omega (arith, e))
-
-pub change_refused : (w : Bytes) (n line : ℕ) → (n ≡ 0 → ⊥) → refusal_text n line ≡ change_text w n line
-change_refused w zero line h = absurd (h refl)
-change_refused w (suc n) line h = refl
-
 -- the same text by another name
 pub wrote_as : {d₀ d t u : Bytes} {at r : ℕ} → t ≡ u → Wrote d₀ at t d r → Wrote d₀ at u d r
 wrote_as {d₀} {d} {t} {u} {at} {r} e w = subst (λ (v : Bytes). Wrote d₀ at v d r) e w
@@ -48,20 +36,3 @@ within {d₀} {d} {t} {r} w = omega (arith, w.next, ap length w.is, length-take 
 pub prints : (t d₀ : Bytes) {d : Bytes} {n : ℕ} {r : Written} → answer_bytes ≤ length d₀ → Wrote d₀ 0 t d n → (r.refusal ≡ 0) × (r.length ≡ n) → Prints t d₀ r d
 prints t d₀ {d} {n} {r} h w (z, e) =
     record { short = λ q. absurd (omega (arith, h, q)); printed = λ q. (z, omega (arith, within w, e), ap (λ (k : ℕ). take k d) e ∙ w.is) }
-
--- .. or a table that is too short
-pub prints_short : (t d₀ : Bytes) {d : Bytes} {r : Written} → length d₀ < answer_bytes → TooShort r.refusal r.length d₀ d → Prints t d₀ r d
-prints_short t d₀ h s = record { short = λ q. s; printed = λ q. absurd (omega (arith, h, q)) }
-
--- ---- a refusal after a search
-pub overflow_text_lem : (n line visits : ℕ) → n ≡ 21 → overflow_text n line visits ≡ search_refusal_text n line visits
-overflow_text_lem n line visits e = ap (λ (k : ℕ). overflow_text k line visits) e ∙ ap (λ (k : ℕ). search_refusal_text k line visits) (sym e)
-
-pub stopped_text : (n line visits : ℕ) → n ≡ 34 → overflow_text n line visits ≡ search_refusal_text n line visits
-stopped_text n line visits e = ap (λ (k : ℕ). overflow_text k line visits) e ∙ ap (λ (k : ℕ). search_refusal_text k line visits) (sym e)
-
-pub no_line_text : (n line visits : ℕ) → n ≡ 35 → overflow_text n line visits ≡ search_refusal_text n line visits
-no_line_text n line visits e = ap (λ (k : ℕ). overflow_text k line visits) e ∙ ap (λ (k : ℕ). search_refusal_text k line visits) (sym e)
-
-pub other_text : (n line visits : ℕ) → (n ≡ 21 → ⊥) → (n ≡ 34 → ⊥) → (n ≡ 35 → ⊥) → refusal_text n line ≡ search_refusal_text n line visits
-other_text n line visits h k m = sym (rw (ne_eqb n 21 h, ne_eqb n 34 k, ne_eqb n 35 m))

@@ -4,6 +4,7 @@ ghost use Rattle.answer_text.specs.Room.{TooShort};
 ghost use Rattle.answer_text.specs.Books.{PrintsRefusal};
 
 use crate::refused::refuse;
+use crate::{ANSWER, Answer};
 use book_writer::Written;
 use refusal::Refusal;
 
@@ -25,8 +26,10 @@ pub fn told(length: usize) -> Written
 pub fn print_refusal(refusal: u16, line: usize, out: &mut [u8]) -> Written
     ensures { PrintsRefusal refusal line out.old result out.new }
 {
-    if out.len() < crate::ANSWER {
+    if out.len() < ANSWER {
         return short(out);
     }
-    told(refuse(out, refusal, line as u64))
+    let mut answer = Answer { bytes: out };
+    let length = refuse(&mut answer, refusal, line as u64);
+    told(length)
 }

@@ -1,11 +1,12 @@
 // A refusal at the start of the lent table.
-ghost use Rattle.std.specs.Prelude.{◌≤◌, length};
+ghost use Rattle.std.specs.Prelude.{◌≡◌, ◌||◌, eqb, ◌≤◌, length};
 ghost use Rattle.layout.specs.Output.{refusal_text, overflow_text};
 ghost use Rattle.layout.specs.Session.{search_refusal_text};
-ghost use Rattle.refusal.specs.Refusal.{number_of};
 ghost use Rattle.writer.specs.Wrote.{Wrote};
-ghost use Rattle.answer_text.specs.Room.{answer_bytes, refusal_bytes};
+ghost use Rattle.answer_text.specs.Room.{refusal_bytes};
+ghost use Rattle.answer_text.specs.Answered.{Answered};
 
+use crate::Answer;
 use refusal::Refusal;
 use writer::Output;
 
@@ -13,49 +14,51 @@ use writer::Output;
 const CARD_LINE: u64 = 0;
 
 // A table of 52 bytes holds every refusal.
-pub fn write_refusal(out: &mut [u8], n: u16, line: u64) -> usize
+pub fn write_refusal(out: &mut [u8], refusal: u16, line: u64) -> usize
     requires { refusal_bytes ≤ length out.old }
-    ensures { Wrote out.old 0 (refusal_text n line) out.new result }
+    ensures { Wrote out.old 0 (refusal_text refusal line) out.new result }
 {
     let mut text = Output { bytes: out, at: 0 };
-    text.put_refusal(n as u64, line);
+    text.put_refusal(refusal as u64, line);
     text.at
 }
 
-pub fn refuse(out: &mut [u8], n: u16, line: u64) -> usize
-    requires { answer_bytes ≤ length out.old }
-    ensures { Wrote out.old 0 (refusal_text n line) out.new result }
+pub fn refuse(out: &mut Answer<'_>, refusal: u16, line: u64) -> usize
+    ensures { Answered out.old (refusal_text refusal line) out.new result }
 {
-    write_refusal(out, n, line)
+    write_refusal(out.bytes, refusal, line)
 }
 
 // .. of a text's card, which has no line.
-pub fn refuse_card(out: &mut [u8], n: u16) -> usize
-    requires { answer_bytes ≤ length out.old }
-    ensures { Wrote out.old 0 (refusal_text n 0) out.new result }
+pub fn refuse_card(out: &mut Answer<'_>, refusal: u16) -> usize
+    ensures { Answered out.old (refusal_text refusal 0) out.new result }
 {
-    refuse(out, n, CARD_LINE)
+    refuse(out, refusal, CARD_LINE)
 }
 
-fn refuse_with_visits(out: &mut [u8], n: u16, line: u64, visits: u64) -> usize
-    requires { answer_bytes ≤ length out.old }
-    ensures { Wrote out.old 0 (overflow_text n line visits) out.new result }
+fn refuse_with_visits(out: &mut Answer<'_>, refusal: u16, line: u64, visits: u64) -> usize
+    ensures { Answered out.old (overflow_text refusal line visits) out.new result }
 {
-    let mut text = Output { bytes: out, at: 0 };
-    text.put_overflow(n as u64, line, visits);
+    let bytes = &mut *out.bytes;
+    let mut text = Output { bytes, at: 0 };
+    text.put_overflow(refusal as u64, line, visits);
     text.at
 }
 
 // A card too large, a stopped call and a card without a line tell their visits.
-pub fn put_search_refusal(out: &mut [u8], refusal: Refusal, visits: u64, line: u64) -> usize
-    requires { answer_bytes ≤ length out.old }
-    ensures { Wrote out.old 0 (search_refusal_text (number_of refusal) line visits) out.new result }
+fn tells_visits(refusal: u16) -> bool
+    ensures { result ≡ (eqb refusal 21 || (eqb refusal 34 || eqb refusal 35)) }
 {
-    let number = refusal.number();
-    match refusal {
-        Refusal::TooManyLines | Refusal::Stopped | Refusal::NoLine => refuse_with_visits(
-            out, number, line, visits,
-        ),
-        _ => refuse(out, number, line),
+    refusal == Refusal::TooManyLines.number()
+        || refusal == Refusal::Stopped.number()
+        || refusal == Refusal::NoLine.number()
+}
+
+pub fn put_search_refusal(out: &mut Answer<'_>, refusal: u16, visits: u64, line: u64) -> usize
+    ensures { Answered out.old (search_refusal_text refusal line visits) out.new result }
+{
+    if tells_visits(refusal) {
+        return refuse_with_visits(out, refusal, line, visits);
     }
+    refuse(out, refusal, line)
 }

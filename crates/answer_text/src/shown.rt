@@ -6,6 +6,7 @@ use refusal::{Refusal, number_if};
 use state::State;
 
 // The card stands in the first bytes of the table, as many as the call asked for; a refusal other than 0 is no card.
+// stays (C): the header declares the number of the refusal, 0 for none, beside the counts
 #[repr(C)]
 #[derive(Clone, Copy)]
 pub struct Shown {
@@ -15,15 +16,19 @@ pub struct Shown {
     pub free: usize,
 }
 
-// "36 a page the card does not have"
-pub const NO_PAGE: u16 = 36;
+// What a session holds between two lines: the state, and the card answered last.
+#[derive(Clone, Copy)]
+pub struct Held {
+    pub state: State,
+    pub shown: Shown,
+}
 
-// No card has been answered yet, or what was answered may no longer hold.
+// No card has been answered yet, or what was answered may no longer hold: "36 a page the card does not have".
 pub fn no_card() -> Shown
     ensures { result ≡ no_card }
 {
     Shown {
-        refusal: NO_PAGE,
+        refusal: Refusal::NoPage.number(),
         size: 0,
         lines: 0,
         free: 0,

@@ -1,5 +1,5 @@
 -- The search on the tables of a state: what it needs of the state, and what its result says of the next one.
-use Prim.Native.Nat.{ℕ, zero, suc, ◌-◌, ◌*◌, ◌^◌, ◌≤◌, ◌<◌}
+use Prim.Native.Nat.{ℕ, zero, suc, ◌-◌, ◌^◌, ◌≤◌, ◌<◌}
 use native.Mathlib.Omega.{arith}
 use mathlib.Core.Path.{◌≡◌, refl, sym, ap, ◌∙◌, subst}
 use mathlib.Core.Bool.{Bool, true, false, cond, ◌&&◌}
@@ -40,7 +40,7 @@ use Rattle.cover.specs.Cover.{Covers}
 use Rattle.node.specs.Node.{entry_of, Reads}
 use Rattle.node.specs.declared.Verdict.{Verdict}
 use Rattle.node.specs.declared.Verdict.TheVariants.{Yes, No, Mixed}
-use Rattle.node.specs.declared.Position.{Position}
+use Rattle.node.specs.declared.position.Position.{Position}
 use Rattle.node.specs.declared.Answer.{Answer}
 use Rattle.search_entry.specs.declared.Source.TheVariants.{Area}
 use Rattle.search.proofs.Visiting.{open_alive}
@@ -54,7 +54,8 @@ use Rattle.search_start.specs.Start.{Starts}
 use Rattle.open_run.specs.OpenRun.{Ready as OpenReady}
 use Rattle.search_start.specs.declared.Start.{Start}
 use Rattle.search_start.specs.declared.Start.TheVariants.{No as NoStart, Yes as YesStart, Open}
-use Rattle.answers.specs.Run.{Ready, AtStart, Ends, store_left, FoundBy, below_start, BelowBy, Below, Over, Searched, Ran}
+use Rattle.search_entry.specs.declared.Matrix.{Matrix}
+use Rattle.answers.specs.Run.{Ready, MatrixLoaded, AtStart, Ends, store_left, FoundBy, below_start, BelowBy, Below, Over, Searched, Ran}
 
 -- a start node that does not branch
 abbrev ended_at : Verdict → ℕ → Answer
@@ -64,23 +65,15 @@ pub ended_few : {w : Verdict} {k n : ℕ} {r : Answer} → r ≡ ended_at w k �
 ended_few {w} {k} {n} {r} e h = (omega (arith, ap (λ (a : Answer). a.lines) e), omega (arith, h, ap (λ (a : Answer). a.budget) e))
 
 -- where a search on a state starts
-abbrev pub start_at : ℕ → ℕ → ℕ → ℕ → Bool → Position
-start_at at free budget words p = record { at = at; free = free; budget = budget; lines = 0; words = words; yes = p }
+abbrev pub start_at : (at free budget words : ℕ) → Bool → free ≤ paper.numbers → RowLength words → Position
+start_at at free budget words p small long = record { at = at; free = free; budget = budget; lines = 0; words = words; yes = p; few = small; long = long }
 
-pub room : {p : Bool} (cl ql : List ℕ) (at free budget words : ℕ) → at ≤ paper.numbers → free ≤ paper.numbers → RowLength words
-    → newest_of cl ≤ paper.constraints → newest_of ql ≤ paper.constraints → budget ≤ suc highest_ceiling → Room (paper.numbers * paper.numbers) cl ql (start_at at free budget words p)
-room cl ql at free budget words within small long learned cubes bounded =
-    record {
-      within = within;
-      free = small;
-      words = long;
-      aside = omega arith;
-      lines = omega (arith, bounded);
-      clauses = omega (arith, learned, bounded);
-      cubes = omega (arith, cubes, bounded);
-    }
+pub room : {p : Bool} (cl ql : List ℕ) (at free budget words : ℕ) {small : free ≤ paper.numbers} {long : RowLength words} → at ≤ paper.numbers
+    → newest_of cl ≤ paper.constraints → newest_of ql ≤ paper.constraints → budget ≤ suc highest_ceiling → Room cl ql (start_at at free budget words p small long)
+room cl ql at free budget words within learned cubes bounded =
+    record { within = within; lines = omega (arith, bounded); clauses = omega (arith, learned, bounded); cubes = omega (arith, cubes, bounded) }
 
-pub few_lines : {p : Bool} (cl ql : List ℕ) (at free budget words : ℕ) (r : Answer) (cl' ql' : List ℕ) → Counts cl ql (start_at at free budget words p) r cl' ql' → budget ≤ suc highest_ceiling
+pub few_lines : {p : Bool} (cl ql : List ℕ) (at free budget words : ℕ) {small : free ≤ paper.numbers} {long : RowLength words} (r : Answer) (cl' ql' : List ℕ) → Counts cl ql (start_at at free budget words p small long) r cl' ql' → budget ≤ suc highest_ceiling
     → (r.lines < 2 ^ 63) × (r.budget ≤ budget)
 few_lines cl ql at free budget words r cl' ql' c bounded = (omega (arith, c.lines_fewer, bounded), omega (arith, c.lines_fewer, c.lines_more))
 
@@ -89,15 +82,19 @@ ends D Yes cs o h = (h.0, h.1)
 ends D No cs o h = (h.0, h.1)
 ends D Mixed cs o h = h
 
+-- what is derived of a state, by another name of it
+pub matrix_as : {x y : State} {places : List ℕ} {m m' : Matrix} → x ≡ y → MatrixLoaded x places m m' → MatrixLoaded y places m m'
+matrix_as {x} {y} {places} {m} {m'} e = subst (λ (z : State). MatrixLoaded z places m m') e
+
 -- the search below an open start node, from what the branch there gives
 pub below_shown : {p : Bool} (rows sets : List ℕ) (count words : ℕ) (numbers quantifiers values statuses cs cl qs ql table sat marks : List ℕ) (at free budget : ℕ) (a : Answer)
-    (up cs' cl' qs' ql' table' : List ℕ)
+    (up cs' cl' qs' ql' table' : List ℕ) {small : free ≤ paper.numbers} {fits : RowLength words}
     → at ≤ get_or numbers 0 0 → words ≡ words_of count
     → ((D : Prefix) (s : Node) → Numbers D numbers → Values D s values → numbers_are_ok paper [] D ≡ true → length s ≡ at → length s ≤ length D → Statuses s statuses)
     → ((D : Prefix) (R : List Clause) (s : Node) → StartShown D R s words at sets statuses → length R ≡ count → Descended D s R words sat marks (length s))
-    → Followed (start_at at free budget words p) a rows sets quantifiers statuses cs cl qs ql table sat marks up cs' cl' qs' ql' table'
+    → Followed (start_at at free budget words p small fits) a rows sets quantifiers statuses cs cl qs ql table sat marks up cs' cl' qs' ql' table'
     → Below p rows sets count numbers quantifiers values cs cl qs ql table at free budget a cs' cl' qs' ql' table'
-below_shown {p} rows sets count words numbers quantifiers values statuses cs cl qs ql table sat marks at free budget a up cs' cl' qs' ql' table' within is coded known follow =
+below_shown {p} rows sets count words numbers quantifiers values statuses cs cl qs ql table sat marks at free budget a up cs' cl' qs' ql' table' {small} {fits} within is coded known follow =
     record { by = shown }
   where
     shown : (D : Prefix) (R : List Clause) (s : Node) (g : Ledger) (st : Store)
@@ -107,7 +104,7 @@ below_shown {p} rows sets count words numbers quantifiers values statuses cs cl 
     shown D R s g st ns vs qs_shown m counted stored ruled form long frees cov alive =
         by (below_start D R at budget s st) r.says
       where
-        by : (t : Attempt) → Says D g [] t (start_at at free budget words p) a rows up cs' cl' qs' ql' table' → BelowBy p D g t free budget a cs' cl' qs' ql' table'
+        by : (t : Attempt) → Says D g [] t (start_at at free budget words p small fits) a rows up cs' cl' qs' ql' table' → BelowBy p D g t free budget a cs' cl' qs' ql' table'
         by (finished o) h =
             record {
               tried = record { verdict = ends D a.verdict (entry_of a rows cs' qs' up) o.outcome h.verdict; visits = h.visited; left = h.left; covers = h.covers; lines = h.counted };
@@ -127,7 +124,7 @@ below_shown {p} rows sets count words numbers quantifiers values statuses cs cl 
         matrix : MatrixShown D R words rows sets
         matrix = matrix_words (sym is) m
 
-        r : Result D g [] (below_start D R at budget s st) (start_at at free budget words p) a rows up cs' cl' qs' ql' table'
+        r : Result D g [] (below_start D R at budget s st) (start_at at free budget words p small fits) a rows up cs' cl' qs' ql' table'
         r =
             follow.result D s [] R g st
             (record {
@@ -162,11 +159,10 @@ module _ (x : State) (v : valid x ≡ true) where
   few_variables = leb-true (get_or x.numbers 0 0) paper.numbers (and_left (leb (get_or x.numbers 0 0) paper.numbers) _ f.prefix_fits_lem)
 
   -- what a search asks of its tables
-  pub ready : Sized x → (at free budget : ℕ) → at ≤ get_or x.numbers 0 0 → free ≤ paper.numbers → budget ≤ suc highest_ceiling
-      → Ready x.numbers x.clauses x.clause_sizes x.learned_clauses x.learned_clause_sizes x.learned_cubes x.learned_cube_sizes at free budget
-  ready sized at free budget within small bounded =
+  pub ready : Sized x → (at : ℕ) → at ≤ get_or x.numbers 0 0 → Ready x at
+  ready sized at within =
       let t = valid_tables x v sized in
-      record { few = few_variables; within = within; frees = small; clauses_in = t.clauses; learned_in = record { clauses = t.learned_clauses; cubes = t.learned_cubes }; bounded = bounded }
+      record { few = few_variables; within = within; clauses_in = t.clauses; learned_in = record { clauses = t.learned_clauses; cubes = t.learned_cubes } }
 
   pub open_ready : Sized x → (free : ℕ) → free ≤ paper.numbers → OpenReady x.numbers x.clauses x.clause_sizes free
   open_ready sized free small = record { few = few_variables; frees = small; clauses_in = (valid_tables x v sized).clauses }

@@ -17,6 +17,20 @@ searching_state t =
     t.learned_cubes.now
     t.learned_cube_sizes.now
 
+-- the state that a search left: the learned constraints are as it left them
+abbrev pub searching_left : Searching → Searching → State
+searching_left t t' =
+    state_of
+    t.numbers.now
+    t.levels.now
+    t.kinds.now
+    t.clauses.now
+    t.clause_sizes.now
+    t'.learned_clauses.now
+    t'.learned_clause_sizes.now
+    t'.learned_cubes.now
+    t'.learned_cube_sizes.now
+
 -- the same references
 pub record SearchingHeld (t t' : Searching) : Type 0 where
   pub numbers : t'.numbers ≡ t.numbers

@@ -1,16 +1,19 @@
 -- What the search on the tables of a state gives: the learning search from the node that the values show, within a budget. Where a state y is named beside the
 -- state x, it is the next one: x with the learned constraints that the search leaves.
-use Rattle.std.specs.Prelude.{ℕ, suc, ◌+◌, ◌-◌, ◌≤◌, ◌≡◌, Bool, true, false, List, [], length, get_or, drop, ℤ, leb}
+use Rattle.std.specs.Prelude.{ℕ, suc, ◌+◌, ◌-◌, ◌≤◌, ◌≡◌, Bool, true, false, List, [], length, get_or, drop, map, ℤ, leb}
 use Rattle.std.proofs.Math.Option.{none, some}
 use Rattle.qbf.specs.Formula.{paper, Prefix, Clause, Node, quantifiers}
 use Rattle.qbf.specs.Truth.{Outcome, decided, mixed, DecidedNode, free_variables}
 use Rattle.qbf.specs.Learning.{Constraint, Store, LearningResult, leaf, first_dead}
-use Rattle.qbf.specs.Ceiling.{highest_ceiling, Attempt, finished, stopped, below_within, search_within}
-use Rattle.tables.specs.Views.{Numbers, Places, Kinds, Values}
-use Rattle.tables.specs.Formed.{Clauses, Stores, Formed}
-use Rattle.tables.specs.Codes.{Quantified}
+use Rattle.qbf.specs.Ceiling.{Attempt, finished, stopped, below_within, search_within}
+use Rattle.tables.specs.Views.{Numbers, Places, Kinds, Values, rows_of}
+use Rattle.tables.specs.Formed.{Clauses, clauses_of, Stores, Formed}
+use Rattle.tables.specs.Codes.{codes, Quantified}
 use Rattle.tables.specs.Records.{Ledger, StoreKept}
 use Rattle.tables.specs.Matrices.{MatrixShown, words_of}
+use Rattle.shelf.specs.Standing.{rows as shelved, newest}
+use Rattle.search_entry.specs.declared.Matrix.{Matrix}
+use Rattle.search_entry.specs.declared.Learned.{Learned}
 use Rattle.search_start.specs.declared.Start.{Start}
 use Rattle.search_start.specs.Start.{Starts}
 use Rattle.node.specs.declared.Answer.{Answer}
@@ -50,14 +53,29 @@ pub record FoundBy (p : Bool) (x : State) (t : Attempt) (free budget : ℕ) (r :
   pub tried : TriedBy p t free budget r table
   pub state : read_state y ≡ some (record { formula = formula_in x; store = store_left t })
 
--- what a search asks of the tables of a state, which a valid one has: rows within their tables, and a start among the variables; and of its budget
-pub record Ready (numbers : List ℕ) (clauses : List ℤ) (sizes : List ℕ) (lc : List ℤ) (lcs : List ℕ) (lq : List ℤ) (lqs : List ℕ) (at free budget : ℕ) : Type 0 where
-  pub few : get_or numbers 0 0 ≤ paper.numbers
-  pub within : at ≤ get_or numbers 0 0
-  pub frees : free ≤ paper.numbers
-  pub clauses_in : Clauses clauses sizes
-  pub learned_in : Stores lc lcs lq lqs
-  pub bounded : budget ≤ suc highest_ceiling
+-- the learned constraints of a state lie within their tables
+abbrev pub StoresOf : State → Type 0
+StoresOf x = Stores x.learned_clauses x.learned_clause_sizes x.learned_cubes x.learned_cube_sizes
+
+-- what a search asks of the tables of a state, which a valid one has: rows within their tables, and a start among the variables
+pub record Ready (x : State) (at : ℕ) : Type 0 where
+  pub few : get_or x.numbers 0 0 ≤ paper.numbers
+  pub within : at ≤ get_or x.numbers 0 0
+  pub clauses_in : Clauses x.clauses x.clause_sizes
+  pub learned_in : StoresOf x
+
+-- the tables of the clauses are derived, under the quantifiers that are there
+pub record MatrixLoaded (x : State) (places : List ℕ) (m m' : Matrix) : Type 0 where
+  pub same : m'.quantifiers ≡ m.quantifiers
+  pub shown : (D : Prefix) → Places D places → Quantified D m.quantifiers → length D ≤ get_or x.numbers 0 0
+      → MatrixShown D (clauses_of x.clauses x.clause_sizes) (words_of (get_or x.clause_sizes 0 0)) m'.rows m'.sets
+
+-- the learned constraints stand on the shelves
+pub record StoreLoaded (x : State) (places : List ℕ) (l : Learned) : Type 0 where
+  pub newest_clause : newest l.clauses ≡ get_or x.learned_clause_sizes 0 0
+  pub newest_cube : newest l.cubes ≡ get_or x.learned_cube_sizes 0 0
+  pub clauses : (D : Prefix) → Places D places → length D ≤ paper.numbers → shelved l.clauses ≡ map (codes D) (rows_of paper.numbers x.learned_clauses x.learned_clause_sizes)
+  pub cubes : (D : Prefix) → Places D places → length D ≤ paper.numbers → shelved l.cubes ≡ map (codes D) (rows_of paper.numbers x.learned_cubes x.learned_cube_sizes)
 
 -- steps 1 to 4 at the start node: a verdict, or the node is open
 pub record AtStart (x : State) (places kinds values : List ℕ) (at : ℕ) (r : Start) : Type 0 where

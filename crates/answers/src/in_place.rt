@@ -8,7 +8,10 @@ ghost use Rattle.answers.specs.Lent.{searching_state, SearchingHeld};
 use crate::lent::Searching;
 use crate::open;
 use crate::run::run;
-use open_run::Asked;
+use crate::task::Task;
+use cover::CardLines;
+use open_run::asked::Asked;
+use reading::Flags;
 use refusal::Refusal;
 use replies::{Listed, Ruled, budget_of, total_lines, visits_of};
 use state::kinds::free_count;
@@ -36,11 +39,15 @@ pub fn query(lent: &mut Searching<'_>, on: &[i16], off: &[i16], ceiling: u32) ->
         kinds,
     });
     let mut values = [tables::OPEN; tables::BY_NUMBER];
-    let reading = reading::read(&mut values, numbers, &prefix.places, free, on, off);
-    if !reading.ok {
+    let flags = Flags {
+        numbers,
+        places: &prefix.places,
+        free,
+    };
+    let Ok(full) = reading::read(flags, &mut values, on, off) else {
         return Ruled::refused(Refusal::NotFree);
-    }
-    if !reading.full {
+    };
+    if !full {
         let asked = Asked {
             numbers,
             clauses: lent.clauses,
@@ -54,23 +61,16 @@ pub fn query(lent: &mut Searching<'_>, on: &[i16], off: &[i16], ceiling: u32) ->
     }
     let at = free; // each free variable has its value at the start node
     let mut no_table = [0u8; 1];
-    let found = run(
-        lent.numbers,
-        lent.clauses,
-        lent.clause_sizes,
-        lent.learned_clauses,
-        lent.learned_clause_sizes,
-        lent.learned_cubes,
-        lent.learned_cube_sizes,
-        &prefix.places,
-        &prefix.kinds,
-        &values,
+    let task = Task {
+        places: &prefix.places,
+        kinds: &prefix.kinds,
+        values: &values,
         at,
         free,
-        &mut no_table,
-        true, // there are no lines
-        budget_of(ceiling),
-    );
+        yes: true, // there are no lines
+        budget: budget_of(ceiling),
+    };
+    let found = run(lent, task, &mut no_table);
     if found.budget == 0 {
         return Ruled::stopped(ceiling);
     }
@@ -100,23 +100,16 @@ pub fn card_of(lent: &mut Searching<'_>, table: &mut [u8], yes: bool, ceiling: u
         kinds,
     });
     let values = [tables::OPEN; tables::BY_NUMBER];
-    let found = run(
-        lent.numbers,
-        lent.clauses,
-        lent.clause_sizes,
-        lent.learned_clauses,
-        lent.learned_clause_sizes,
-        lent.learned_cubes,
-        lent.learned_cube_sizes,
-        &prefix.places,
-        &prefix.kinds,
-        &values,
-        0,
+    let task = Task {
+        places: &prefix.places,
+        kinds: &prefix.kinds,
+        values: &values,
+        at: 0,
         free,
-        table,
         yes,
-        budget_of(ceiling),
-    );
+        budget: budget_of(ceiling),
+    };
+    let found = run(lent, task, table);
     if found.budget == 0 {
         cover::clear(table);
         return Listed::stopped(ceiling);
@@ -124,7 +117,7 @@ pub fn card_of(lent: &mut Searching<'_>, table: &mut [u8], yes: bool, ceiling: u
     let verdict = found.verdict;
     let lines = total_lines(verdict, found.lines, yes);
     let visits = visits_of(ceiling, found.budget);
-    if cover::fits(table.len(), free, lines) {
+    if cover::fits(table.len(), CardLines { count: lines, free }) {
         return Listed::of(lines, visits);
     }
     cover::clear(table);

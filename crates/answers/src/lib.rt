@@ -6,3 +6,4 @@ pub mod lent; // the tables of a state, of which a search writes some
 pub mod on_state; // the calls on a state by reference
 mod open; // the plain search for a query with open flags
 mod run; // the search on lent tables
+mod task; // what it is asked

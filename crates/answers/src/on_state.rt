@@ -27,6 +27,7 @@ pub fn query(state: &mut State, on: &[i16], off: &[i16], ceiling: u32) -> Ruled
 }
 
 // The card, whose lines are Yes nodes, or the keep card, whose lines are No nodes.
+// stays (proof): a function that hands out what is lent of a state proves, but its caller then knows nothing of the state that is left
 pub fn card_of(state: &mut State, table: &mut [u8], yes: bool, ceiling: u32) -> Listed
     ensures { Serves state.old (card_of yes ceiling (length table.old)) (card_said result.lines result.visits table.new) state.new }
 {

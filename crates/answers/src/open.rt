@@ -1,15 +1,14 @@
 // A query with an open flag: "goes as the plain walk from the empty node, entering one side only at a recorded flag. It neither reads nor adds to the store":
 // what is learned is not lent.
-ghost use Rattle.open_run.specs.Asked.{ready};
 ghost use Rattle.replies.specs.Replies.{ruling_said};
 ghost use Rattle.answers.specs.OpenRun.{OpenRuled};
 
-use open_run::{Asked, walk};
+use open_run::asked::Asked;
+use open_run::walk;
 use replies::{Ruled, budget_of, visits_of};
 
 // "swap if every completion is a swap, keep if none is, otherwise unsettled"
 pub fn query(asked: Asked<'_>, ceiling: u32) -> Ruled
-    requires { ready asked }
     ensures { OpenRuled
         asked.entry.numbers.now
         asked.entry.clauses.now

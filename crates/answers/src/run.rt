@@ -1,15 +1,16 @@
 // The search on lent tables. Steps 1 to 4 at the start node read the state's own tables; where they leave it open, the tables of a search
-// are derived, lent to it, and the learned constraints written back. Of the prefix only the numbers are read here, so a contract speaks of
-// every valid state with these tables.
-ghost use Rattle.std.specs.Prelude.{◌≡◌, true, List, ℕ, suc, ◌^◌, ◌≤◌, ◌<◌, length, get_or, ℤ};
+// are derived, lent to it, and the learned constraints written back. Of the prefix only the numbers are read here.
+ghost use Rattle.std.specs.Prelude.{◌≡◌, true, ◌^◌, ◌≤◌, ◌<◌, length, get_or};
 ghost use Rattle.qbf.specs.Formula.{paper};
-ghost use Rattle.qbf.specs.Ceiling.{highest_ceiling};
-ghost use Rattle.state.specs.Reading.{state_of, valid};
-ghost use Rattle.tables.specs.Formed.{Clauses, Stores};
+ghost use Rattle.state.specs.Reading.{valid};
+ghost use Rattle.state.specs.Lent.{lent_state};
+ghost use Rattle.tables.specs.Formed.{Clauses};
 ghost use Rattle.shelf.specs.Standing.{newest};
-ghost use Rattle.search_entry.specs.Tables.{Stand};
-ghost use Rattle.answers.specs.Run.{Ready, AtStart, Below, Over, Searched, Ran};
+ghost use Rattle.answers.specs.Lent.{searching_state, searching_left, SearchingHeld};
+ghost use Rattle.answers.specs.Run.{Ready, StoresOf, MatrixLoaded, StoreLoaded, AtStart, Below, Over, Searched, Ran};
 
+use crate::lent::Searching;
+use crate::task::Task;
 use coding::quantifiers::quantifiers_of;
 use coding::statuses::statuses_of;
 use lent_rows::LentRows;
@@ -21,11 +22,12 @@ use node::{Answer, Position, Verdict};
 use search_entry::{ASIDE, Learned, Matrix, Search, Source, Trail};
 use search_start::Start;
 use shelf::Shelf;
+use state::Lent;
 use unloading::{unload, unload_clauses};
 
 // Empty shelves, and the scratch space of a search.
 fn empty() -> Search
-    ensures { Stand result.learned × (newest result.learned.clauses ≡ 0) × (newest result.learned.cubes ≡ 0) }
+    ensures { (newest result.learned.clauses ≡ 0) × (newest result.learned.cubes ≡ 0) }
 {
     Search {
         learned: Learned {
@@ -49,50 +51,26 @@ fn empty() -> Search
 }
 
 // Steps 1 to 4 at the start node, where an entry of any smaller last place counts too: the general finders, over the state's tables.
-fn at_start<'a>(
-    clauses: &'a [i16; tables::CLAUSE_CELLS],
-    clause_sizes: &'a [u16; tables::CLAUSE_SIZES],
-    learned_clauses: &'a [i16; tables::CONSTRAINT_CELLS],
-    learned_clause_sizes: &'a [u16; tables::LEARNED_CLAUSE_SIZES],
-    learned_cubes: &'a [i16; tables::CONSTRAINT_CELLS],
-    learned_cube_sizes: &'a [u16; tables::CONSTRAINT_SIZES],
-    places: &'a [u16; tables::BY_NUMBER],
-    by_number: &'a [u16; tables::BY_NUMBER],
-    values: &'a [u8; tables::BY_NUMBER],
-    at: usize,
-) -> Start
-    requires { Clauses clauses.now clause_sizes.now
-        × Stores learned_clauses.now learned_clause_sizes.now learned_cubes.now learned_cube_sizes.now }
-    ensures { (numbers levels kinds : List ℕ) →
-        valid
-        (state_of
-        numbers
-        levels
-        kinds
-        clauses.now
-        clause_sizes.now
-        learned_clauses.now
-        learned_clause_sizes.now
-        learned_cubes.now
-        learned_cube_sizes.now)
-        ≡ true →
+fn at_start(lent: Lent<'_>, task: Task<'_>) -> Start
+    requires { Ready (lent_state lent) task.at }
+    ensures { valid (lent_state lent.entry) ≡ true →
         AtStart
-        (state_of
-        numbers
-        levels
-        kinds
-        clauses.now
-        clause_sizes.now
-        learned_clauses.now
-        learned_clause_sizes.now
-        learned_cubes.now
-        learned_cube_sizes.now)
-        places.now
-        by_number.now
-        values.now
-        at
+        (lent_state lent.entry)
+        task.entry.places.now
+        task.entry.kinds.now
+        task.entry.values.now
+        task.entry.at
         result }
 {
+    let Lent {
+        clauses,
+        clause_sizes,
+        learned_clauses,
+        learned_clause_sizes,
+        learned_cubes,
+        learned_cube_sizes,
+        ..
+    } = lent;
     let rows = LentRows {
         cells: clauses,
         sizes: clause_sizes,
@@ -108,9 +86,16 @@ fn at_start<'a>(
         sizes: learned_cube_sizes,
         width: tables::NUMBERS,
     };
+    let Task {
+        places,
+        kinds,
+        values,
+        at,
+        ..
+    } = task;
     let shown = ByNumber {
         places,
-        kinds: by_number,
+        kinds,
         values,
     };
     search_start::conclude(rows, learned, cubes, shown, at)
@@ -130,48 +115,87 @@ fn ended(verdict: Verdict, budget: u64) -> Answer
     }
 }
 
+// The tables of the clauses are derived.
+fn load_formula(lent: Lent<'_>, places: &[u16; tables::BY_NUMBER], matrix: &mut Matrix)
+    requires { (get_or (lent_state lent).numbers 0 0 ≤ paper.numbers)
+        × Clauses (lent_state lent).clauses (lent_state lent).clause_sizes }
+    ensures { MatrixLoaded (lent_state lent.entry) places.now matrix.old matrix.new }
+{
+    let Lent {
+        numbers,
+        clauses,
+        clause_sizes,
+        ..
+    } = lent;
+    let rows = LentRows {
+        cells: clauses,
+        sizes: clause_sizes,
+        width: tables::LITERALS,
+    };
+    load_clauses(rows, places, numbers[0] as usize, matrix);
+}
+
+// The learned constraints go onto empty shelves.
+fn load_store(lent: Lent<'_>, places: &[u16; tables::BY_NUMBER], learned: &mut Learned)
+    requires { StoresOf (lent_state lent)
+        × (newest learned.old.clauses ≡ 0)
+        × (newest learned.old.cubes ≡ 0) }
+    ensures { StoreLoaded (lent_state lent.entry) places.now learned.new }
+{
+    let Lent {
+        learned_clauses,
+        learned_clause_sizes,
+        learned_cubes,
+        learned_cube_sizes,
+        ..
+    } = lent;
+    let clauses = LentRows {
+        cells: learned_clauses,
+        sizes: learned_clause_sizes,
+        width: tables::NUMBERS,
+    };
+    let cubes = LentRows {
+        cells: learned_cubes,
+        sizes: learned_cube_sizes,
+        width: tables::NUMBERS,
+    };
+    load(clauses, places, &mut learned.clauses);
+    load(cubes, places, &mut learned.cubes);
+}
+
 // The search below an open start node, with its scratch space and what it knows of the clauses at that node.
-fn below<'a>(
-    matrix: &'a Matrix,
-    count: usize,
-    numbers: &'a [u16; tables::BY_NUMBER],
-    values: &'a [u8; tables::BY_NUMBER],
+fn below(
+    matrix: &Matrix,
+    lent: Lent<'_>,
+    task: Task<'_>,
     search: &mut Search,
     table: &mut [u8],
-    at: usize,
-    free: usize,
-    yes: bool,
-    budget: u64,
 ) -> Answer
-    requires { (count ≤ paper.clauses)
-        × Stand search.old.learned
-        × (get_or numbers.now 0 0 ≤ paper.numbers)
-        × (at ≤ get_or numbers.now 0 0)
-        × (free ≤ paper.numbers)
+    requires { (get_or (lent_state lent).clause_sizes 0 0 ≤ paper.clauses)
+        × (get_or (lent_state lent).numbers 0 0 ≤ paper.numbers)
+        × (task.at ≤ get_or (lent_state lent).numbers 0 0)
         × (newest search.old.learned.clauses ≤ paper.constraints)
         × (newest search.old.learned.cubes ≤ paper.constraints)
-        × (2 ≤ budget)
-        × (budget ≤ suc highest_ceiling) }
+        × (2 ≤ task.budget) }
     ensures table_len_unchanged { (length table.new ≡ length table.old)
         × (result.lines < 2 ^ 63)
-        × Stand search.new.learned
-        × (result.budget ≤ budget) }
+        × (result.budget ≤ task.entry.budget) }
     ensures below { Below
-        yes
+        task.entry.yes
         matrix.now.rows
         matrix.now.sets
-        count
-        numbers.now
+        (get_or (lent_state lent.entry).clause_sizes 0 0)
+        (lent_state lent.entry).numbers
         matrix.now.quantifiers
-        values.now
+        task.entry.values.now
         search.old.learned.clauses.cells
         search.old.learned.clauses.links
         search.old.learned.cubes.cells
         search.old.learned.cubes.links
         table.old
-        at
-        free
-        budget
+        task.entry.at
+        task.entry.free
+        task.entry.budget
         result
         search.new.learned.clauses.cells
         search.new.learned.clauses.links
@@ -179,358 +203,155 @@ fn below<'a>(
         search.new.learned.cubes.links
         table.new }
 {
-    let words = words_of(count);
-    search.statuses = statuses_of(numbers, values, at);
-    start_rows(
-        &matrix.sets,
-        &search.statuses,
-        words,
-        count,
+    let Lent {
+        numbers,
+        clause_sizes,
+        ..
+    } = lent;
+    let Task {
+        values,
         at,
-        &mut search.trail,
-    );
+        free,
+        yes,
+        budget,
+        ..
+    } = task;
+    let count = clause_sizes[0] as usize;
+    search.statuses = statuses_of(numbers, values, at);
     let start = Position {
         at,
         free,
         budget,
         lines: 0,
-        words,
+        words: words_of(count),
         yes,
     };
+    start_rows(
+        &matrix.sets,
+        &search.statuses,
+        count,
+        start,
+        &mut search.trail,
+    );
     search::start(matrix, search, table, start)
 }
 
 // .. over the derived tables of the clauses: those of the learned constraints are derived here, and written back.
-fn over_clauses<'a>(
-    matrix: &'a Matrix,
-    count: usize,
-    numbers: &'a [u16; tables::BY_NUMBER],
-    learned_clauses: &mut [i16; tables::CONSTRAINT_CELLS],
-    learned_clause_sizes: &mut [u16; tables::LEARNED_CLAUSE_SIZES],
-    learned_cubes: &mut [i16; tables::CONSTRAINT_CELLS],
-    learned_cube_sizes: &mut [u16; tables::CONSTRAINT_SIZES],
-    places: &'a [u16; tables::BY_NUMBER],
-    values: &'a [u8; tables::BY_NUMBER],
-    at: usize,
-    free: usize,
+// stays (no plainer): `2 ≤ task.budget` is what the one test at the head of `run` says; a task is made before it
+// stays (no plainer): `Ready (searching_state lent) task.at` holds of what anyone lends only once it has been checked, so no type of what is lent says it
+fn over_clauses(
+    matrix: &Matrix,
+    lent: &mut Searching<'_>,
+    task: Task<'_>,
     table: &mut [u8],
-    yes: bool,
-    budget: u64,
 ) -> Answer
-    requires { (count ≤ paper.clauses)
-        × Stores learned_clauses.old learned_clause_sizes.old learned_cubes.old learned_cube_sizes.old
-        × (get_or numbers.now 0 0 ≤ paper.numbers)
-        × (at ≤ get_or numbers.now 0 0)
-        × (free ≤ paper.numbers)
-        × (2 ≤ budget)
-        × (budget ≤ suc highest_ceiling) }
-    ensures table_len_unchanged { (length table.new ≡ length table.old) × (result.lines < 2 ^ 63) × (result.budget ≤ budget) }
-    ensures by_index { (levels kinds : List ℕ) (clauses : List ℤ) (sizes : List ℕ) →
-        valid
-        (state_of
-        numbers.now
-        levels
-        kinds
-        clauses
-        sizes
-        learned_clauses.old
-        learned_clause_sizes.old
-        learned_cubes.old
-        learned_cube_sizes.old)
-        ≡ true →
+    requires { Ready (searching_state lent.old) task.at × (2 ≤ task.budget) }
+    ensures held { SearchingHeld lent.old lent.new }
+    ensures table_len_unchanged { (length table.new ≡ length table.old)
+        × (result.lines < 2 ^ 63)
+        × (result.budget ≤ task.entry.budget) }
+    ensures over { valid (searching_state lent.old) ≡ true →
         Over
-        yes
-        (state_of
-        numbers.now
-        levels
-        kinds
-        clauses
-        sizes
-        learned_clauses.old
-        learned_clause_sizes.old
-        learned_cubes.old
-        learned_cube_sizes.old)
+        task.entry.yes
+        (searching_state lent.old)
         matrix.now.rows
         matrix.now.sets
-        count
+        (get_or lent.old.clause_sizes.now 0 0)
         matrix.now.quantifiers
-        places.now
-        values.now
-        at
-        free
-        budget
+        task.entry.places.now
+        task.entry.values.now
+        task.entry.at
+        task.entry.free
+        task.entry.budget
         table.old
         result
-        (state_of
-        numbers.now
-        levels
-        kinds
-        clauses
-        sizes
-        learned_clauses.new
-        learned_clause_sizes.new
-        learned_cubes.new
-        learned_cube_sizes.new)
+        (searching_left lent.old lent.new)
         table.new }
 {
     let mut search = empty();
-    load(
-        learned_clauses,
-        learned_clause_sizes,
-        places,
-        &mut search.learned.clauses,
-    );
-    load(
-        learned_cubes,
-        learned_cube_sizes,
-        places,
-        &mut search.learned.cubes,
-    );
-    let found = below(
-        matrix,
-        count,
-        numbers,
-        values,
-        &mut search,
-        table,
-        at,
-        free,
-        yes,
-        budget,
-    );
+    load_store(lent.lent(), task.places, &mut search.learned);
+    let found = below(matrix, lent.lent(), task, &mut search, table);
+    let count = lent.clause_sizes[0];
     unload_clauses(
         &search.learned.clauses,
-        numbers,
-        learned_clauses,
-        learned_clause_sizes,
-        count as u16,
+        lent.numbers,
+        lent.learned_clauses,
+        lent.learned_clause_sizes,
+        count,
     );
     unload(
         &search.learned.cubes,
-        numbers,
-        learned_cubes,
-        learned_cube_sizes,
+        lent.numbers,
+        lent.learned_cubes,
+        lent.learned_cube_sizes,
     );
     found
 }
 
 // .. over the state's tables: those of its clauses are derived here.
-fn searched<'a>(
-    numbers: &'a [u16; tables::BY_NUMBER],
-    clauses: &'a [i16; tables::CLAUSE_CELLS],
-    clause_sizes: &'a [u16; tables::CLAUSE_SIZES],
-    learned_clauses: &mut [i16; tables::CONSTRAINT_CELLS],
-    learned_clause_sizes: &mut [u16; tables::LEARNED_CLAUSE_SIZES],
-    learned_cubes: &mut [i16; tables::CONSTRAINT_CELLS],
-    learned_cube_sizes: &mut [u16; tables::CONSTRAINT_SIZES],
-    places: &'a [u16; tables::BY_NUMBER],
-    by_number: &'a [u16; tables::BY_NUMBER],
-    values: &'a [u8; tables::BY_NUMBER],
-    at: usize,
-    free: usize,
-    table: &mut [u8],
-    yes: bool,
-    budget: u64,
-) -> Answer
-    requires { Ready
-        numbers.now
-        clauses.now
-        clause_sizes.now
-        learned_clauses.old
-        learned_clause_sizes.old
-        learned_cubes.old
-        learned_cube_sizes.old
-        at
-        free
-        budget
-        × (2 ≤ budget) }
-    ensures table_len_unchanged { (length table.new ≡ length table.old) × (result.lines < 2 ^ 63) × (result.budget ≤ budget) }
-    ensures by_index { (levels kinds : List ℕ) →
-        valid
-        (state_of
-        numbers.now
-        levels
-        kinds
-        clauses.now
-        clause_sizes.now
-        learned_clauses.old
-        learned_clause_sizes.old
-        learned_cubes.old
-        learned_cube_sizes.old)
-        ≡ true →
+fn searched(lent: &mut Searching<'_>, task: Task<'_>, table: &mut [u8]) -> Answer
+    requires { Ready (searching_state lent.old) task.at × (2 ≤ task.budget) }
+    ensures held { SearchingHeld lent.old lent.new }
+    ensures table_len_unchanged { (length table.new ≡ length table.old)
+        × (result.lines < 2 ^ 63)
+        × (result.budget ≤ task.entry.budget) }
+    ensures searched { valid (searching_state lent.old) ≡ true →
         Searched
-        yes
-        (state_of
-        numbers.now
-        levels
-        kinds
-        clauses.now
-        clause_sizes.now
-        learned_clauses.old
-        learned_clause_sizes.old
-        learned_cubes.old
-        learned_cube_sizes.old)
-        places.now
-        by_number.now
-        values.now
-        at
-        free
-        budget
+        task.entry.yes
+        (searching_state lent.old)
+        task.entry.places.now
+        task.entry.kinds.now
+        task.entry.values.now
+        task.entry.at
+        task.entry.free
+        task.entry.budget
         table.old
         result
-        (state_of
-        numbers.now
-        levels
-        kinds
-        clauses.now
-        clause_sizes.now
-        learned_clauses.new
-        learned_clause_sizes.new
-        learned_cubes.new
-        learned_cube_sizes.new)
+        (searching_left lent.old lent.new)
         table.new }
 {
+    let numbers = lent.numbers;
+    let kinds = task.kinds;
     let mut matrix = Matrix {
         rows: [0u16; tables::CLAUSE_ROWS],
         sets: [0u64; tables::CLAUSE_SETS],
-        quantifiers: quantifiers_of(numbers, by_number),
+        quantifiers: quantifiers_of(numbers, kinds),
     };
-    load_clauses(
-        clauses,
-        clause_sizes,
-        places,
-        numbers[0] as usize,
-        &mut matrix,
-    );
-    over_clauses(
-        &matrix,
-        clause_sizes[0] as usize,
-        numbers,
-        learned_clauses,
-        learned_clause_sizes,
-        learned_cubes,
-        learned_cube_sizes,
-        places,
-        values,
-        at,
-        free,
-        table,
-        yes,
-        budget,
-    )
+    load_formula(lent.lent(), task.places, &mut matrix);
+    over_clauses(&matrix, lent, task, table)
 }
 
 // The whole search: the start node's own visit is made where the budget allows it.
-pub fn run<'a>(
-    numbers: &'a [u16; tables::BY_NUMBER],
-    clauses: &'a [i16; tables::CLAUSE_CELLS],
-    clause_sizes: &'a [u16; tables::CLAUSE_SIZES],
-    learned_clauses: &mut [i16; tables::CONSTRAINT_CELLS],
-    learned_clause_sizes: &mut [u16; tables::LEARNED_CLAUSE_SIZES],
-    learned_cubes: &mut [i16; tables::CONSTRAINT_CELLS],
-    learned_cube_sizes: &mut [u16; tables::CONSTRAINT_SIZES],
-    places: &'a [u16; tables::BY_NUMBER],
-    by_number: &'a [u16; tables::BY_NUMBER],
-    values: &'a [u8; tables::BY_NUMBER],
-    at: usize,
-    free: usize,
-    table: &mut [u8],
-    yes: bool,
-    budget: u64,
-) -> Answer
-    requires { Ready
-        numbers.now
-        clauses.now
-        clause_sizes.now
-        learned_clauses.old
-        learned_clause_sizes.old
-        learned_cubes.old
-        learned_cube_sizes.old
-        at
-        free
-        budget }
-    ensures table_len_unchanged { (length table.new ≡ length table.old) × (result.lines < 2 ^ 63) × (result.budget ≤ budget) }
-    ensures by_index { (levels kinds : List ℕ) →
-        valid
-        (state_of
-        numbers.now
-        levels
-        kinds
-        clauses.now
-        clause_sizes.now
-        learned_clauses.old
-        learned_clause_sizes.old
-        learned_cubes.old
-        learned_cube_sizes.old)
-        ≡ true →
+pub fn run(lent: &mut Searching<'_>, task: Task<'_>, table: &mut [u8]) -> Answer
+    requires { Ready (searching_state lent.old) task.at }
+    ensures held { SearchingHeld lent.old lent.new }
+    ensures table_len_unchanged { (length table.new ≡ length table.old)
+        × (result.lines < 2 ^ 63)
+        × (result.budget ≤ task.entry.budget) }
+    ensures ran { valid (searching_state lent.old) ≡ true →
         Ran
-        yes
-        (state_of
-        numbers.now
-        levels
-        kinds
-        clauses.now
-        clause_sizes.now
-        learned_clauses.old
-        learned_clause_sizes.old
-        learned_cubes.old
-        learned_cube_sizes.old)
-        places.now
-        by_number.now
-        values.now
-        at
-        free
-        budget
+        task.entry.yes
+        (searching_state lent.old)
+        task.entry.places.now
+        task.entry.kinds.now
+        task.entry.values.now
+        task.entry.at
+        task.entry.free
+        task.entry.budget
         table.old
         result
-        (state_of
-        numbers.now
-        levels
-        kinds
-        clauses.now
-        clause_sizes.now
-        learned_clauses.new
-        learned_clause_sizes.new
-        learned_cubes.new
-        learned_cube_sizes.new)
+        (searching_left lent.old lent.new)
         table.new }
 {
-    if budget <= 1 {
+    let spent = task.budget <= 1;
+    if spent {
         return ended(Verdict::Mixed, 0);
     }
-    let start = at_start(
-        clauses,
-        clause_sizes,
-        learned_clauses,
-        learned_clause_sizes,
-        learned_cubes,
-        learned_cube_sizes,
-        places,
-        by_number,
-        values,
-        at,
-    );
+    let left = task.budget - 1;
+    let start = at_start(lent.lent(), task);
     match start {
-        Start::No => ended(Verdict::No, budget - 1),
-        Start::Yes => ended(Verdict::Yes, budget - 1),
-        Start::Open => {
-            searched(
-                numbers,
-                clauses,
-                clause_sizes,
-                learned_clauses,
-                learned_clause_sizes,
-                learned_cubes,
-                learned_cube_sizes,
-                places,
-                by_number,
-                values,
-                at,
-                free,
-                table,
-                yes,
-                budget,
-            )
-        }
+        Start::No => ended(Verdict::No, left),
+        Start::Yes => ended(Verdict::Yes, left),
+        Start::Open => searched(lent, task, table),
     }
 }

@@ -1,4 +1,4 @@
-// A table of bench cases, other cases and figures of open flags, on the compiled code: the answer of every call, one to a line.
+// Paper 01's table of bench cases, its other cases, and wish 5's figures, on the compiled code: the answer of every call, one to a line.
 #![tactic(auto)]
 
 ghost use Rattle.std.specs.Prelude.{◌≤◌};
@@ -258,7 +258,7 @@ fn others() {
     forget(card::<3>(query(rule(m, &[1]), &[1], &[0; 0])));
 }
 
-// Flags the logger did not record, on book A; an open query between two full ones.
+// Wish 5's figures: flags the logger did not record, on book A; an open query between two full ones.
 fn open_flags() {
     title(b"A, flag 1 or 2 recorded alone, or none");
     let a = query(query(book_a(1, 2), &[2], &[0; 0]), &[0; 0], &[2]);

@@ -113,3 +113,9 @@ pub all_same : {f g : ℕ → Bool} (n : ℕ) → ((i : ℕ) → i < n → f i �
 unfolding all_below
 all_same zero h = refl
 all_same (suc n) h = ap₂ ◌&&◌ (all_same n (λ i p. h i (le_trans p (le-suc n)))) (h n (le_refl (suc n)))
+
+pub least_same : {f g : ℕ → Bool} (n : ℕ) → ((i : ℕ) → i < n → f i ≡ g i) → least_below f n ≡ least_below g n
+unfolding least_below
+least_same zero h = refl
+least_same {f = f} {g = g} (suc n) h =
+    ap₂ (λ (t : Bool) (m : ℕ). cond t zero (suc m)) (h zero (zero-lt-suc n)) (least_same n (λ i p. h (suc i) (suc-le-suc p)))

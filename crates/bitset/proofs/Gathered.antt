@@ -1,14 +1,15 @@
--- Words gathered by one operation: in one word, or in four, of which each has every fourth. Assumes nothing.
-use mathlib.Core.Path.{◌≡◌, sym, ap, ap₂, ◌∙◌}
+-- Words gathered by one operation in one word. Assumes nothing.
+use mathlib.Core.Path.{◌≡◌, refl, sym, ap, ap₂, ◌∙◌}
 use mathlib.Core.Logic.{⊎_elim}
 use mathlib.Core.Bool.{Bool, not, ◌&&◌, ◌||◌, true≢false, false≢true}
 use Prim.Native.Nat.{ℕ, zero, suc, ◌+◌, ◌-◌, ◌*◌, ◌/◌, ◌%◌, ◌^◌, ◌<◌}
-use native.Mathlib.Nat.{add-suc, add-zero, mod-lt, zero-lt-suc}
+use native.Mathlib.Nat.{mod-lt, zero-lt-suc}
+use native.Mathlib.Numerals.{add-one}
 use native.Mathlib.Omega.{arith}
 use lib.Arith.{digits_mod, digits_div, digits_lt}
 use lib.Pow.{pow_pos, ones_lt}
 use lib.Dec.{eqb}
-use lib.Bits.{bit_and, bit_or, and_self, or_lt, and_lt}
+use lib.Bits.{bit_and, bit_or, or_lt, and_lt}
 use borrow.Author.Tests.{eq-eqb, ne_eqb}
 use Rattle.bitset.specs.Rows.{width, all_below, some_below}
 use Rattle.bitset.proofs.Digits.{has, has_or, has_and, has_none, has_ones, same_members}
@@ -18,40 +19,13 @@ unfoldable pub gathered : (ℕ → ℕ → ℕ) → ℕ → (ℕ → ℕ) → �
 gathered op z f zero = z
 gathered op z f (suc n) = op (gathered op z f n) (f n)
 
--- four words as one
-abbrev pub joined : (ℕ → ℕ → ℕ) → ℕ → ℕ → ℕ → ℕ → ℕ
-joined op a b c d = op (op a b) (op c d)
+pub gathered_none : (op : ℕ → ℕ → ℕ) (z : ℕ) (f : ℕ → ℕ) → z ≡ gathered op z f 0
+unfolding gathered
+gathered_none op z f = refl
 
-module _ (op : ℕ → ℕ → ℕ) (assoc : (a b c : ℕ) → op (op a b) c ≡ op a (op b c)) (comm : (a b : ℕ) → op a b ≡ op b a) where
-  swap : (a b c d : ℕ) → op (op a b) (op c d) ≡ op (op a c) (op b d)
-  swap a b c d =
-      assoc a b (op c d)
-      ∙ ap (op a) (sym (assoc b c d) ∙ ap (λ (x : ℕ). op x d) (comm b c) ∙ assoc c b d)
-      ∙ sym (assoc a c (op b d))
-
-  next_four : (z : ℕ) (f : ℕ → ℕ) (j : ℕ)
-      → gathered op z f (j + 4) ≡ op (op (op (op (gathered op z f j) (f j)) (f (j + 1))) (f (j + 2))) (f (j + 3))
-  unfolding gathered
-  next_four z f j =
-      ap (gathered op z f) (add-suc j 3)
-      ∙ ap (λ (x : ℕ). op x (f (j + 3))) (ap (gathered op z f) (add-suc j 2)
-      ∙ ap (λ (x : ℕ). op x (f (j + 2))) (ap (gathered op z f) (add-suc j 1)
-      ∙ ap (λ (x : ℕ). op x (f (j + 1))) (ap (gathered op z f) (add-suc j 0 ∙ ap suc (add-zero j)))))
-
-  -- each of the four words has taken its part of four words more
-  pub four_more : (z : ℕ) (f : ℕ → ℕ) (j a b c d x y v w : ℕ)
-      → joined op a b c d ≡ gathered op z f j
-      → x ≡ op a (f j) → y ≡ op b (f (j + 1)) → v ≡ op c (f (j + 2)) → w ≡ op d (f (j + 3))
-      → joined op x y v w ≡ gathered op z f (j + 4)
-  four_more z f j a b c d x y v w e ex ey ev ew =
-      ap₂ op (ap₂ op ex ey) (ap₂ op ev ew)
-      ∙ ap₂ op (swap a (f j) b (f (j + 1))) (swap c (f (j + 2)) d (f (j + 3)))
-      ∙ swap (op a b) (op (f j) (f (j + 1))) (op c d) (op (f (j + 2)) (f (j + 3)))
-      ∙ ap (λ (u : ℕ). op u (op (op (f j) (f (j + 1))) (op (f (j + 2)) (f (j + 3))))) e
-      ∙ sym (assoc (gathered op z f j) (op (f j) (f (j + 1))) (op (f (j + 2)) (f (j + 3))))
-      ∙ sym (assoc (op (gathered op z f j) (op (f j) (f (j + 1)))) (f (j + 2)) (f (j + 3)))
-      ∙ ap (λ (u : ℕ). op (op u (f (j + 2))) (f (j + 3))) (sym (assoc (gathered op z f j) (f j) (f (j + 1))))
-      ∙ sym (next_four z f j)
+pub gathered_more : (op : ℕ → ℕ → ℕ) (z : ℕ) (f : ℕ → ℕ) (n w x : ℕ) → w ≡ gathered op z f n → x ≡ f n → op w x ≡ gathered op z f (n + 1)
+unfolding gathered
+gathered_more op z f n w x ew ex = ap₂ op ew ex ∙ ap (gathered op z f) (sym (add-one n))
 
 -- ---- the words of a row: what is gathered says whether some number, or every, is in the row
 abbrev pub full : ℕ
@@ -131,7 +105,3 @@ module _ (f : ℕ → ℕ) (fits : (k : ℕ) → f k < 2 ^ 64) where
       ∙ e))
       ∙ sym e)
       (bool_cases (all_below in_row (n * width)))
-
--- four empty words, and four full ones, are one
-pub joined_full : joined bit_and full full full full ≡ full
-joined_full = ap₂ bit_and (and_self full) (and_self full) ∙ and_self full

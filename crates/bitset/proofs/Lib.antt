@@ -5,3 +5,4 @@ pub mod Gathered
 pub mod Members
 pub mod Outside
 pub mod Uniting
+pub mod Parts

@@ -12,6 +12,8 @@ use lib.Dec.{eqb}
 use lib.ListN.{length, get_or, set, length-set}
 use lib.Seq.{get_or-set_same, get_or-set_other}
 use lib.Bits.{bit_or}
+use Rattle.std.proofs.Common.{replicate}
+use Rattle.std.proofs.lemmas.List.{get_or-replicate, get_or_past, length-replicate}
 use borrow.Author.Tests.{eqb-true, eqb-false, eq-eqb, ne_eqb}
 use Rattle.bitset.specs.Rows.{width, member, outside, Kept, Inserted, Cleared}
 use Rattle.bitset.specs.Words.{rest_at}
@@ -152,8 +154,15 @@ module _ (t : List ℕ) (to : ℕ) (f : ℕ → ℕ) where
   written_row n i h w =
       member_has (written t to f n) to i ∙ ap (has (i % width)) (written_at n (i / width) (omega arith) w)
 
-pub cleared : (t : List ℕ) (from n : ℕ) → from + n ≤ length t → Cleared from n t (written t from (λ k. 0) n)
-cleared t from n w = record {
-  empty = λ i h. written_row t from (λ k. 0) n i h w ∙ has_none (i % width);
-  kept = written_kept t from (λ k. 0) n;
+pub cleared : (row row' : List ℕ) → row' ≡ replicate (length row) 0 → Cleared 0 (length row) row row'
+cleared row row' e = record {
+  empty = λ i h.
+      member_has row' 0 i
+      ∙ ap (λ (xs : List ℕ). has (i % width) (get_or xs (0 + i / width) 0)) e
+      ∙ ap (has (i % width)) (get_or-replicate (length row) (0 + i / width) 0 0 (omega arith))
+      ∙ has_none (i % width);
+  kept = kept_of 0 (length row) row row'
+      (ap length e ∙ length-replicate {A = ℕ} (length row) 0)
+      (λ x h. absurd (omega arith))
+      (λ x h. get_or_past row' x 0 (omega (arith, ap length e, length-replicate {A = ℕ} (length row) 0)) ∙ sym (get_or_past row x 0 (omega arith)));
 }

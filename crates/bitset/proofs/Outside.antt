@@ -1,72 +1,51 @@
 -- Two rows compared word by word: whether a number is in one and not in the other, and which is the least. Assumes nothing.
-use mathlib.Core.Path.{◌≡◌, refl, sym, ap, ap₂, ◌∙◌, subst, fun_ext}
+use mathlib.Core.Path.{◌≡◌, sym, ap, ap₂, ◌∙◌, subst, fun_ext}
 use mathlib.Core.Logic.{⊎_elim}
 use mathlib.Core.Bool.{Bool, false, not}
 use mathlib.Core.List.{List}
 use Prim.Native.Nat.{ℕ, ◌+◌, ◌*◌, ◌/◌, ◌%◌, ◌^◌, ◌<◌}
-use native.Mathlib.Nat.{add_assoc}
+use native.Mathlib.Nat.{zero-add}
 use native.Mathlib.Omega.{arith}
 use lib.Arith.{digits_mod, digits_div}
 use lib.Pow.{pow_pos}
 use lib.Dec.{eqb}
 use lib.ListN.{get_or}
-use lib.Bits.{bit_and, bit_or, or_comm, and_lt, xor_lt}
+use lib.Bits.{bit_and, bit_or, and_lt, xor_lt}
 use lib.Count.{count_trailing_zeros}
-use Rattle.bitset.specs.declared.rows.Four.{Four}
 use Rattle.bitset.specs.Rows.{width, outside, some_below, least_below}
-use Rattle.bitset.specs.Words.{rest, rest_at, GatheredFour}
-use Rattle.bitset.proofs.Digits.{has, has_none, same_members, or_assoc, trailing_least}
+use Rattle.bitset.specs.Words.{rest, rest_at}
+use Rattle.bitset.proofs.Digits.{has, has_none, same_members, trailing_least}
 use Rattle.bitset.proofs.Below.{Least, least, least_is, lt_or_ge}
-use Rattle.bitset.proofs.Gathered.{gathered, joined, four_more, some_word}
+use Rattle.bitset.proofs.Gathered.{gathered, some_word}
 use Rattle.bitset.proofs.Members.{outside_has}
 
 pub rest_lt : (a b : ℕ) → a < 2 ^ 64 → b < 2 ^ 64 → rest a b < 2 ^ 64
 rest_lt a b ha hb = xor_lt 64 a (bit_and a b) ha (and_lt 64 a b ha hb)
 
-module _ (a : List ℕ) (a₀ : ℕ) (b : List ℕ) (b₀ : ℕ) where
+module _ (a b : List ℕ) where
   -- word k of the numbers that are in the one and not in the other
   abbrev pub rests : ℕ → ℕ
-  rests k = rest_at a (a₀ + k) b (b₀ + k)
+  rests k = rest_at a k b k
 
-  -- four words have the first j
-  pub record Gathers (j : ℕ) (w : Four) : Type 0 where
-    pub words : joined bit_or w.w0 w.w1 w.w2 w.w3 ≡ gathered bit_or 0 rests j
-
-  pub gathers_none : Gathers 0 (record { w0 = 0; w1 = 0; w2 = 0; w3 = 0 })
-  unfolding gathered
-  gathers_none = record { words = refl }
-
-  rests_at : (j m : ℕ) → rest_at a (a₀ + j + m) b (b₀ + j + m) ≡ rests (j + m)
-  rests_at j m = ap₂ (λ (x y : ℕ). rest_at a x b y) (add_assoc a₀ j m) (add_assoc b₀ j m)
-
-  pub gathers_four : (j : ℕ) (w r : Four) → Gathers j w → GatheredFour a (a₀ + j) b (b₀ + j) w r → Gathers (j + 4) r
-  gathers_four j w r g s = record {
-    words = four_more bit_or or_assoc or_comm 0 rests j
-        w.w0 w.w1 w.w2 w.w3 r.w0 r.w1 r.w2 r.w3
-        g.words
-        s.w0
-        (s.w1 ∙ ap (bit_or w.w1) (rests_at j 1))
-        (s.w2 ∙ ap (bit_or w.w2) (rests_at j 2))
-        (s.w3 ∙ ap (bit_or w.w3) (rests_at j 3));
-  }
+  row_outside : (i : ℕ) → outside a 0 b 0 i ≡ has (i % width) (rests (i / width))
+  row_outside i = outside_has a 0 b 0 i ∙ ap (λ (k : ℕ). has (i % width) (rests k)) (zero-add (i / width))
 
   module _ (fa : (k : ℕ) → get_or a k 0 < 2 ^ 64) (fb : (k : ℕ) → get_or b k 0 < 2 ^ 64) where
     rests_lt : (k : ℕ) → rests k < 2 ^ 64
-    rests_lt k = rest_lt (get_or a (a₀ + k) 0) (get_or b (b₀ + k) 0) (fa (a₀ + k)) (fb (b₀ + k))
+    rests_lt k = rest_lt (get_or a k 0) (get_or b k 0) (fa k) (fb k)
 
-    pub gathers_all : (n : ℕ) (w : Four) → Gathers n w
-        → not (eqb (joined bit_or w.w0 w.w1 w.w2 w.w3) 0) ≡ some_below (outside a a₀ b b₀) (n * width)
+    pub gathers_all : (n w : ℕ) → w ≡ gathered bit_or 0 rests n → not (eqb w 0) ≡ some_below (outside a 0 b 0) (n * width)
     gathers_all n w g =
-        ap (λ (x : ℕ). not (eqb x 0)) g.words
+        ap (λ (x : ℕ). not (eqb x 0)) g
         ∙ some_word rests rests_lt n
-        ∙ ap (λ (f : ℕ → Bool). some_below f (n * width)) (fun_ext (λ i. sym (outside_has a a₀ b b₀ i)))
+        ∙ ap (λ (f : ℕ → Bool). some_below f (n * width)) (fun_ext (λ i. sym (row_outside i)))
 
     -- ---- the least: no number of the first j words is outside
     abbrev pub Passed : ℕ → Type 0
-    Passed j = (i : ℕ) → i < j * width → outside a a₀ b b₀ i ≡ false
+    Passed j = (i : ℕ) → i < j * width → outside a 0 b 0 i ≡ false
 
-    outside_in : (j i : ℕ) → i / width ≡ j → outside a a₀ b b₀ i ≡ has (i % width) (rests j)
-    outside_in j i e = outside_has a a₀ b b₀ i ∙ ap (λ (k : ℕ). has (i % width) (rests k)) e
+    outside_in : (j i : ℕ) → i / width ≡ j → outside a 0 b 0 i ≡ has (i % width) (rests j)
+    outside_in j i e = row_outside i ∙ ap (λ (k : ℕ). has (i % width) (rests k)) e
 
     pub passed_more : (j w : ℕ) → Passed j → w ≡ rests j → w ≡ 0 → Passed (j + 1)
     passed_more j w p e z i h =
@@ -75,8 +54,8 @@ module _ (a : List ℕ) (a₀ : ℕ) (b : List ℕ) (b₀ : ℕ) where
         (λ q. outside_in j i (omega arith) ∙ ap (has (i % width)) (sym e ∙ z) ∙ has_none (i % width))
         (lt_or_ge i (j * width))
 
-    pub passed_all : (n : ℕ) → Passed n → n * width ≡ least_below (outside a a₀ b b₀) (n * width)
-    passed_all n p = sym (least_is (outside a a₀ b b₀) (n * width) (n * width) (omega arith) p (λ h. absurd (omega arith)))
+    pub passed_all : (n : ℕ) → Passed n → n * width ≡ least_below (outside a 0 b 0) (n * width)
+    passed_all n p = sym (least_is (outside a 0 b 0) (n * width) (n * width) (omega arith) p (λ h. absurd (omega arith)))
 
     module _ (j w : ℕ) (p : Passed j) (e : w ≡ rests j) (some : w ≡ 0 → ⊥) where
       abbrev low : ℕ
@@ -93,17 +72,17 @@ module _ (a : List ℕ) (a₀ : ℕ) (b : List ℕ) (b₀ : ℕ) where
           (λ i q. low_is.before i (omega arith) ∙ sym (has_none i)))))
           (lt_or_ge low 64)
 
-      found : (i : ℕ) → i < j * width + low → outside a a₀ b b₀ i ≡ false
+      found : (i : ℕ) → i < j * width + low → outside a 0 b 0 i ≡ false
       found i h =
           ⊎_elim
           (p i)
           (λ q. outside_in j i (omega (arith, low_lt)) ∙ ap (has (i % width)) (sym e) ∙ low_is.before (i % width) (omega (arith, low_lt)))
           (lt_or_ge i (j * width))
 
-      pub first_is : (n : ℕ) → j < n → j * width + count_trailing_zeros 64 w ≡ least_below (outside a a₀ b b₀) (n * width)
+      pub first_is : (n : ℕ) → j < n → j * width + count_trailing_zeros 64 w ≡ least_below (outside a 0 b 0) (n * width)
       first_is n h =
           ap (λ (x : ℕ). j * width + x) (trailing_least 64 w)
-          ∙ sym (least_is (outside a a₀ b b₀) (n * width) (j * width + low) (omega (arith, low_lt)) found (λ q.
+          ∙ sym (least_is (outside a 0 b 0) (n * width) (j * width + low) (omega (arith, low_lt)) found (λ q.
           outside_in j (j * width + low) (digits_div j low_lt)
           ∙ ap₂ has (digits_mod j low_lt) (sym e)
           ∙ low_is.at low_lt))

@@ -1,6 +1,6 @@
 -- Sets of numbers as rows of words in a table. A row begins at a word, and may be as long as the table goes on; rows of one table do not
 -- overlap where their words do not. Nothing outside this crate speaks of a word's digits: `member` is all that a caller sees of a row.
-use Rattle.std.specs.Prelude.{ℕ, zero, suc, ◌+◌, ◌*◌, ◌/◌, ◌%◌, ◌≤◌, ◌<◌, ◌≡◌, Bool, true, false, cond, not, ◌&&◌, ◌||◌, List, length, get_or, eqb}
+use Rattle.std.specs.Prelude.{ℕ, zero, suc, ◌+◌, ◌*◌, ◌/◌, ◌%◌, ◌≤◌, ◌<◌, ◌≡◌, Bool, true, false, cond, not, ◌&&◌, ◌||◌, List, length, get_or, take, drop, eqb}
 
 -- how many numbers a word has room for
 abbrev pub width : ℕ
@@ -14,6 +14,10 @@ digit (suc i) w = digit i (w / 2)
 -- number i is in the row that begins at word `from`: digit (i % 64) of the word from + i / 64
 unfoldable pub member : List ℕ → ℕ → ℕ → Bool
 member table from i = eqb (digit (i % width) (get_or table (from + i / width) 0)) 1
+
+-- the n words from a word on, as a row alone
+abbrev pub row : List ℕ → ℕ → ℕ → List ℕ
+row table from n = take n (drop from table)
 
 -- in the first row and not in the second
 abbrev pub outside : List ℕ → ℕ → List ℕ → ℕ → ℕ → Bool

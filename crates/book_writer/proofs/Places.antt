@@ -1,6 +1,6 @@
 -- The variables by their tables, one place after the other.
-use Prim.Native.Nat.{ℕ, zero, suc, ◌+◌, ◌-◌, ◌<◌, ◌≤◌}
-use mathlib.Core.Path.{◌≡◌, refl, sym, ap, ◌∙◌}
+use Prim.Native.Nat.{ℕ, zero, suc, ◌+◌, ◌-◌, ◌<◌, ◌≤◌, min}
+use mathlib.Core.Path.{◌≡◌, refl, sym, ap, ap₂, ◌∙◌}
 use mathlib.Core.Bool.{Bool, true, false, cond}
 use mathlib.Core.List.{List, [], ◌++◌}
 use native.Mathlib.Omega.{arith}
@@ -18,39 +18,20 @@ use Rattle.layout.specs.Output.{decimal}
 use Rattle.booktext.specs.Books.{heading_text, variable_text, rest_text}
 use Rattle.book_writer.specs.Tables.{most_heading, head_text}
 
--- ---- codes of one quantifier
-code_free : (b : ℕ) → eqb b 0 ≡ is_free (quantifier_of b)
-code_free zero = refl
-code_free (suc b) = ne_eqb (suc b) 0 (λ e. omega (arith, e)) ∙ sym (bound b)
-  where
-    bound : (b : ℕ) → is_free (quantifier_of (suc b)) ≡ false
-    bound zero = refl
-    bound (suc b) = refl
+-- ---- codes of one quantifier: each above that of exists is one of forall
+low : (n : ℕ) → min (suc (suc n)) 2 ≡ 2
+low n = omega arith
 
-code_exists : (b : ℕ) → eqb b 1 ≡ is_exists (quantifier_of b)
-code_exists zero = refl
-code_exists (suc zero) = refl
-code_exists (suc (suc b)) = ne_eqb (suc (suc b)) 1 (λ e. omega (arith, e))
-
-code_forall : (b : ℕ) → ltb 1 b ≡ is_forall (quantifier_of b)
-code_forall zero = refl
-code_forall (suc zero) = refl
-code_forall (suc (suc b)) = leb-suc-suc 1 (suc b) ∙ leb-suc-suc 0 b ∙ leb-zero b
-
-module _ (a b : ℕ) where
-  pub same_free : a ≡ 0 → eqb b 0 ≡ same_quantifier (quantifier_of a) (quantifier_of b)
-  same_free e = code_free b ∙ ap (λ (n : ℕ). same_quantifier (quantifier_of n) (quantifier_of b)) (sym e)
-
-  pub same_exists : a ≡ 1 → eqb b 1 ≡ same_quantifier (quantifier_of a) (quantifier_of b)
-  same_exists e = code_exists b ∙ ap (λ (n : ℕ). same_quantifier (quantifier_of n) (quantifier_of b)) (sym e)
-
-  pub same_forall : (a ≡ 0 → ⊥) → (a ≡ 1 → ⊥) → ltb 1 b ≡ same_quantifier (quantifier_of a) (quantifier_of b)
-  same_forall f g = code_forall b ∙ by a f g
-    where
-      by : (a : ℕ) → (a ≡ 0 → ⊥) → (a ≡ 1 → ⊥) → is_forall (quantifier_of b) ≡ same_quantifier (quantifier_of a) (quantifier_of b)
-      by zero f g = absurd (f refl)
-      by (suc zero) f g = absurd (g refl)
-      by (suc (suc a)) f g = refl
+pub same_codes : (a b : ℕ) → eqb (min a 2) (min b 2) ≡ same_quantifier (quantifier_of a) (quantifier_of b)
+same_codes zero zero = refl
+same_codes zero (suc zero) = refl
+same_codes zero (suc (suc b)) = ap (eqb 0) (low b)
+same_codes (suc zero) zero = refl
+same_codes (suc zero) (suc zero) = refl
+same_codes (suc zero) (suc (suc b)) = ap (eqb 1) (low b)
+same_codes (suc (suc a)) zero = ap (λ (n : ℕ). eqb n 0) (low a)
+same_codes (suc (suc a)) (suc zero) = ap (λ (n : ℕ). eqb n 1) (low a)
+same_codes (suc (suc a)) (suc (suc b)) = ap₂ eqb (low a) (low b)
 
 -- ---- a heading
 module _ (k : ℕ) where

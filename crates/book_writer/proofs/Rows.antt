@@ -99,33 +99,33 @@ module _ (cells : List ℤ) (sizes : List ℕ) where
   rules_step : {k : ℕ} → k < get_or sizes 0 0 → drop k all_rules ≡ row paper.literals cells sizes k ∷ drop (suc k) all_rules
   rules_step {k} h = rw (rows_listed paper.literals cells sizes (get_or sizes 0 0)) (listed_drop (row paper.literals cells sizes) (get_or sizes 0 0) k h)
 
-  -- the part of the table that holds a row
-  abbrev pub part : ℕ → ℕ → Clause
-  part k len = take (k * paper.literals + len - k * paper.literals) (drop (k * paper.literals) cells)
-
-  part_is : (k : ℕ) {len : ℕ} → len ≡ get_or sizes (k + 1) 0 → part k len ≡ row paper.literals cells sizes k
-  part_is k {len} e = ap (λ (n : ℕ). take n (drop (k * paper.literals) cells)) (only_length ∙ e ∙ ap (λ (j : ℕ). get_or sizes j 0) (add-one k))
-    where
-      only_length : k * paper.literals + len - k * paper.literals ≡ len
-      only_length = omega arith
-
-  pub rules_next : {k len : ℕ} → k < get_or sizes 0 0 → len ≡ get_or sizes (k + 1) 0
-      → rules_text (drop k all_rules) ≡ rule_text (part k len) ++ rules_text (drop (k + 1) all_rules)
+  pub rules_next : {k : ℕ} {r : Clause} → k < get_or sizes 0 0 → r ≡ row paper.literals cells sizes k
+      → rules_text (drop k all_rules) ≡ rule_text r ++ rules_text (drop (k + 1) all_rules)
   unfolding rules_text
-  rules_next {k} h e = rw (add-one k, rules_step h, part_is k e)
+  rules_next {k} h e = rw (add-one k, rules_step h, e)
 
   pub rules_end : (k : ℕ) → get_or sizes 0 0 ≤ k → rules_text (drop k all_rules) ≡ []
   unfolding rules_text
   rules_end k h = rw (drop_of_length-le all_rules {i = k} (omega (arith, h, rows_length paper.literals cells sizes (get_or sizes 0 0))))
 
+  -- ---- clause k, as a part of the table
   module _ (s : Standing cells sizes) {k len : ℕ} (h : k < get_or sizes 0 0) (e : len ≡ get_or sizes (k + 1) 0) where
-    pub row_short : len ≤ paper.literals
+    row_short : len ≤ paper.literals
     row_short = omega (arith, s.short k h, e, ap (λ (j : ℕ). get_or sizes j 0) (add-one k))
+
+    abbrev part : Clause
+    part = take (k * paper.literals + len - k * paper.literals) (drop (k * paper.literals) cells)
+
+    pub part_is : part ≡ row paper.literals cells sizes k
+    part_is = ap (λ (n : ℕ). take n (drop (k * paper.literals) cells)) (only_length ∙ e ∙ ap (λ (j : ℕ). get_or sizes j 0) (add-one k))
+      where
+        only_length : k * paper.literals + len - k * paper.literals ≡ len
+        only_length = omega arith
 
     pub row_within : k * paper.literals + len ≤ length cells
     row_within = omega (arith, s.room, row_short, h)
 
-    pub part_short : length (part k len) ≤ paper.literals
+    pub part_short : length part ≤ paper.literals
     part_short = simp (length-take, length-drop) (omega (arith, row_short))
 
 -- the rows of a table of any capacity

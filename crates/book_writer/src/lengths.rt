@@ -7,8 +7,9 @@ ghost use Rattle.layout.specs.Words.{space};
 ghost use Rattle.layout.specs.Opening.{variable};
 ghost use Rattle.layout.specs.Output.{decimal, literal_text, items_text};
 ghost use Rattle.booktext.specs.Books.{variable_text, rest_text, rules_text, written_text};
-ghost use Rattle.book_writer.specs.Tables.{formula_of, head_text, Standing, Counted, most_count, most_digits, most_heading, most_variable, most_literal, most_literals, most_rule};
+ghost use Rattle.book_writer.specs.Tables.{formula_of, head_text, Counted, most_count, most_digits, most_heading, most_variable, most_literal, most_literals, most_rule};
 
+use crate::clauses::Clauses;
 use crate::variables::same_kind;
 use literal::{Place, cell_at, number_of};
 use state::kinds::kind_at;
@@ -106,6 +107,7 @@ fn literal_length(lit: i16) -> usize
     ON + number
 }
 
+// stays (no plainer): `length lits ≤ paper.literals` is what the clause's table says of it where it is read, at one call
 fn literals_length(lits: &[i16]) -> usize
     requires { length lits.now ≤ paper.literals }
     ensures { Counted (items_text lits.now) most_literals result }
@@ -117,22 +119,21 @@ fn literals_length(lits: &[i16]) -> usize
     bytes
 }
 
-fn rules_length(cells: &[i16], sizes: &[u16]) -> usize
-    requires { Standing cells.now sizes.now }
-    ensures { Counted (rules_text (rows_of paper.literals cells.now sizes.now)) (most_count * most_rule) result }
+fn rules_length(clauses: Clauses<'_>) -> usize
+    ensures { Counted
+        (rules_text (rows_of paper.literals clauses.entry.cells.now clauses.entry.sizes.now))
+        (most_count * most_rule)
+        result }
 {
-    let count = cell_at(sizes, 0) as usize;
+    let count = clauses.count();
     let mut bytes: usize = 0;
     for k in 0..count {
-        let from = k * tables::LITERALS;
-        let end = from + cell_at(sizes, k + 1) as usize;
-        bytes += RULE + literals_length(&cells[from..end]);
+        bytes += RULE + literals_length(clauses.clause(k));
     }
     bytes
 }
 
-pub fn formula_length(variables: Variables<'_>, clauses: &[i16], clause_sizes: &[u16]) -> usize
-    requires { Standing clauses.now clause_sizes.now }
+pub fn formula_length(variables: Variables<'_>, clauses: Clauses<'_>) -> usize
     ensures { result
         ≡ length
         (written_text
@@ -140,10 +141,10 @@ pub fn formula_length(variables: Variables<'_>, clauses: &[i16], clause_sizes: &
         variables.entry.numbers.now
         variables.entry.levels.now
         variables.entry.kinds.now
-        clauses.now
-        clause_sizes.now)) }
+        clauses.entry.cells.now
+        clauses.entry.sizes.now)) }
 {
     let lines = variables_length(variables);
-    let rules = rules_length(clauses, clause_sizes);
+    let rules = rules_length(clauses);
     FIRST + lines + rules + LAST
 }

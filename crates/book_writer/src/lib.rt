@@ -7,16 +7,17 @@ ghost use Rattle.qbf.specs.Card.{zero_table};
 ghost use Rattle.refusal.specs.Refusal.{number_of};
 ghost use Rattle.writer.specs.Wrote.{Wrote};
 ghost use Rattle.state.specs.Lent.{lent_state};
-ghost use Rattle.state.specs.Reading.{state_of};
 ghost use Rattle.booktext.specs.Books.{written_to, write_refused, written_text};
-ghost use Rattle.book_writer.specs.Tables.{formula_of, Standing};
+ghost use Rattle.book_writer.specs.Tables.{formula_of};
 ghost use Rattle.book_writer.specs.Made.{WrittenAs};
 ghost use Rattle.book_writer.specs.Writes.{answered, told, Writes};
 
+pub mod clauses; // the clauses of a formula, in a table that is lent
 mod lengths; // how many bytes a text has
 mod rules; // the lines of the rules
 mod variables; // the lines of the variables
 
+use clauses::Clauses;
 use refusal::Refusal;
 use state::prefix::Variables;
 use state::{Lent, State};
@@ -66,17 +67,11 @@ fn refused(table: &mut [u8], refusal: Refusal) -> Written
 
 // The text, line after line, at the start of the table.
 #[tactic(auto, using(booktext_laws::proofs::Room::parts_length))]
-fn put_formula(
-    table: &mut [u8],
-    variables: Variables<'_>,
-    clauses: &[i16],
-    clause_sizes: &[u16],
-) -> usize
-    requires { Standing clauses.now clause_sizes.now
-        × (length
+fn put_formula(table: &mut [u8], variables: Variables<'_>, clauses: Clauses<'_>) -> usize
+    requires { length
         (written_text
-        (formula_of variables.numbers.now variables.levels.now variables.kinds.now clauses.now clause_sizes.now))
-        ≤ length table.old) }
+        (formula_of variables.numbers.now variables.levels.now variables.kinds.now clauses.cells.now clauses.sizes.now))
+        ≤ length table.old }
     ensures { Wrote
         table.old
         0
@@ -85,8 +80,8 @@ fn put_formula(
         variables.entry.numbers.now
         variables.entry.levels.now
         variables.entry.kinds.now
-        clauses.now
-        clause_sizes.now))
+        clauses.entry.cells.now
+        clauses.entry.sizes.now))
         table.new
         result }
 {
@@ -96,19 +91,13 @@ fn put_formula(
     };
     out.put_word(b"(book 1)\n(flags");
     variables::put_variables(&mut out, variables);
-    rules::put_rules(&mut out, clauses, clause_sizes);
+    rules::put_rules(&mut out, clauses);
     out.put_word(b"(end)\n");
     out.at
 }
 
 // The formula of the tables, whatever its limits are.
-pub fn write_formula(
-    variables: Variables<'_>,
-    clauses: &[i16],
-    clause_sizes: &[u16],
-    table: &mut [u8],
-) -> Written
-    requires { Standing clauses.now clause_sizes.now }
+pub fn write_formula(variables: Variables<'_>, clauses: Clauses<'_>, table: &mut [u8]) -> Written
     ensures { answered result.refusal result.length table.new
         ≡ told
         (written_to
@@ -118,14 +107,14 @@ pub fn write_formula(
         variables.entry.numbers.now
         variables.entry.levels.now
         variables.entry.kinds.now
-        clauses.now
-        clause_sizes.now))) }
+        clauses.entry.cells.now
+        clauses.entry.sizes.now))) }
 {
-    let n = lengths::formula_length(variables, clauses, clause_sizes);
+    let n = lengths::formula_length(variables, clauses);
     if n > table.len() {
         return refused(table, Refusal::TableTooShort);
     }
-    let end = put_formula(table, variables, clauses, clause_sizes);
+    let end = put_formula(table, variables, clauses);
     cover::clear(&mut table[end..]);
     Written::from(Ok(end))
 }
@@ -145,59 +134,16 @@ pub fn write_lent(lent: Lent<'_>, table: &mut [u8]) -> Written
         clause_sizes,
         ..
     } = lent;
-    write_formula(
-        Variables {
-            numbers,
-            levels,
-            kinds,
-        },
-        clauses,
-        clause_sizes,
-        table,
-    )
-}
-
-// .. of tables lent one by one.
-pub fn write<'a>(
-    numbers: &'a [u16; tables::BY_NUMBER],
-    levels: &'a [u16; tables::BY_NUMBER],
-    kinds: &'a [u16; tables::BY_NUMBER],
-    clauses: &'a [i16; tables::CLAUSE_CELLS],
-    clause_sizes: &'a [u16; tables::CLAUSE_SIZES],
-    learned_clauses: &'a [i16; tables::CONSTRAINT_CELLS],
-    learned_clause_sizes: &'a [u16; tables::LEARNED_CLAUSE_SIZES],
-    learned_cubes: &'a [i16; tables::CONSTRAINT_CELLS],
-    learned_cube_sizes: &'a [u16; tables::CONSTRAINT_SIZES],
-    table: &mut [u8],
-) -> Written
-    ensures { Writes
-        (state_of
-        numbers.now
-        levels.now
-        kinds.now
-        clauses.now
-        clause_sizes.now
-        learned_clauses.now
-        learned_clause_sizes.now
-        learned_cubes.now
-        learned_cube_sizes.now)
-        (length table.old)
-        result.refusal
-        result.length
-        table.new }
-{
-    let lent = Lent {
+    let variables = Variables {
         numbers,
         levels,
         kinds,
-        clauses,
-        clause_sizes,
-        learned_clauses,
-        learned_clause_sizes,
-        learned_cubes,
-        learned_cube_sizes,
     };
-    write_lent(lent, table)
+    let clauses = Clauses {
+        cells: clauses,
+        sizes: clause_sizes,
+    };
+    write_formula(variables, clauses, table)
 }
 
 // The book of a state by value.

@@ -7,9 +7,9 @@ ghost use Rattle.layout.specs.Words.{space};
 ghost use Rattle.layout.specs.Output.{literal_text, items_text};
 ghost use Rattle.booktext.specs.Books.{rule_text, rules_text};
 ghost use Rattle.writer.specs.Appended.{Appended, Room};
-ghost use Rattle.book_writer.specs.Tables.{Standing};
 
-use literal::{cell_at, number_of};
+use crate::clauses::Clauses;
+use literal::number_of;
 use writer::Output;
 
 // "positive means on, its negation off"
@@ -47,15 +47,15 @@ fn put_rule(out: &mut Output<'_>, lits: &[i16])
     out.put_word(b")\n");
 }
 
-pub fn put_rules(out: &mut Output<'_>, cells: &[i16], sizes: &[u16])
-    requires standing { Standing cells.now sizes.now }
-    requires room { Room out.old (rules_text (rows_of paper.literals cells.now sizes.now)) }
-    ensures { Appended out.old (rules_text (rows_of paper.literals cells.now sizes.now)) out.new }
+pub fn put_rules(out: &mut Output<'_>, clauses: Clauses<'_>)
+    requires { Room out.old (rules_text (rows_of paper.literals clauses.cells.now clauses.sizes.now)) }
+    ensures { Appended
+        out.old
+        (rules_text (rows_of paper.literals clauses.entry.cells.now clauses.entry.sizes.now))
+        out.new }
 {
-    let count = cell_at(sizes, 0) as usize;
+    let count = clauses.count();
     for k in 0..count {
-        let from = k * tables::LITERALS;
-        let end = from + cell_at(sizes, k + 1) as usize;
-        put_rule(out, &cells[from..end]);
+        put_rule(out, clauses.clause(k));
     }
 }

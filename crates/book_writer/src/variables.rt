@@ -12,17 +12,12 @@ use state::kinds::kind_at;
 use state::prefix::Variables;
 use writer::Output;
 
-// Two codes of one quantifier.
+// Two codes of one quantifier: each above that of exists is one of forall.
+// stays (no plainer): so many codes are of one quantifier that no derived equality is this one
 pub fn same_kind(a: u16, b: u16) -> bool
     ensures { result ≡ same_quantifier (quantifier_of a) (quantifier_of b) }
 {
-    if a == tables::FREE {
-        return b == tables::FREE;
-    }
-    if a == tables::EXISTS {
-        return b == tables::EXISTS;
-    }
-    b > tables::EXISTS
+    a.min(tables::FORALL) == b.min(tables::FORALL)
 }
 
 // The end of a line of the kind `line`, and the word of the next, where that one's kind is another.

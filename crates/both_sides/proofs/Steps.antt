@@ -1,5 +1,5 @@
 -- Both sides of a node: what step 5 gives, by the verdicts of the two.
-use Prim.Native.Nat.{ℕ, suc, ◌≤◌, zero-le}
+use Prim.Native.Nat.{ℕ, suc, ◌≤◌}
 use native.Mathlib.Omega.{arith}
 use mathlib.Core.Path.{◌≡◌, refl, sym, ap, subst, ◌∙◌}
 use mathlib.Core.Bool.{Bool, true, false, cond}
@@ -19,7 +19,7 @@ use Rattle.node.specs.declared.Answer.{Answer}
 use Rattle.both_sides.specs.declared.both.Step.TheVariants as step
 use Rattle.search_entry.specs.Entry.{entry_at, Bounded}
 use Rattle.search_entry.specs.declared.Bounds.{Bounds}
-use Rattle.node.specs.Node.{bounds_of, stored_by, entry_of, mixed_of, rebound_of, Reads, Ended, onward_of, resolvent_of, Fits, Finished, Joined, Grown}
+use Rattle.node.specs.Node.{bounds_of, stored_by, entry_of, mixed_of, rebound_of, Reads, Ended, onward_of, resolvent_of, Fits, Joined, Grown}
 use Rattle.node.specs.Step.{alone}
 use Rattle.both_sides.specs.Step.{step_of, joined_of, stored_of, JoinedSides, OfSide}
 
@@ -219,10 +219,6 @@ module _ (D : Prefix) (R : List Clause) (κ : Quantifier) (s : Node) (st : Store
           (same_verdict true on both at long r.verdict (entry_at (bounds_of r) cls qs' up) verdict j);
       stored = rw (same_stored true on both at long) (record { shown = record { clauses = shown.shown.clauses; cubes = j.stored }; since = shown.since; records = shown.records });
     }
-
--- the counts are the on side's
-pub finished_mixed : (on : Answer) → Finished on (mixed_of on)
-finished_mixed on = record { bounded = record { short = zero-le; inside = zero-le }; budget = refl; lines = refl }
 
 pub side_same : (on : Answer) → Bounded (bounds_of on) → OfSide on on
 side_same on h = record { counts = record { bounded = h; budget = refl; lines = refl }; verdict = refl }

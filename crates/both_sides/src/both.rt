@@ -1,8 +1,12 @@
 // What the verdicts of both sides ask for.
 ghost use Rattle.std.specs.Prelude.{◌≡◌};
+ghost use Rattle.qbf.specs.Formula.{Quantifier};
+ghost use Rattle.tables.specs.Views.{quantifier_code};
 ghost use Rattle.node.specs.Node.{mixed_of};
+ghost use Rattle.node.specs.Step.{alone};
 ghost use Rattle.both_sides.specs.Step.{step_of};
 
+use node::side::is_enough;
 use node::{Answer, Verdict};
 use search_entry::Source;
 
@@ -16,12 +20,12 @@ pub enum Step {
 }
 
 // "two Yes give Yes, two No give No, anything else Mixed", unless the on side is enough.
-pub fn step_of(first: Verdict, second: Verdict, enough: bool) -> Step
-    ensures { result ≡ step_of first second enough }
+pub fn step_of(first: Verdict, second: Verdict, kind: u16) -> Step
+    ensures { (κ : Quantifier) → quantifier_code κ ≡ kind → result ≡ step_of first second (alone second κ) }
 {
     match (first, second) {
         (Verdict::Mixed, _) | (_, Verdict::Mixed) => Step::Mixed,
-        _ if enough => Step::On,
+        _ if is_enough(second, kind) => Step::On,
         (Verdict::Yes, Verdict::Yes) => Step::Cubes,
         (Verdict::No, Verdict::No) => Step::Clauses,
         _ => Step::Mixed,

@@ -4,25 +4,20 @@ ghost use Rattle.qbf.specs.Formula.{paper, Prefix};
 ghost use Rattle.qbf.specs.Learning.{Constraint, resolvent, last_place};
 ghost use Rattle.qbf.specs.Calls.{in_order};
 ghost use Rattle.tables.specs.Codes.{codes, Quantified};
-ghost use Rattle.shelf.specs.Standing.{Kept, Room, rows, newest};
+ghost use Rattle.shelf.specs.Standing.{Room, rows, newest};
 ghost use Rattle.search_entry.specs.Entry.{entry_at, Bounded};
 ghost use Rattle.node.specs.Node.{bounds_of, rebound_of, is_of, Fits};
 ghost use Rattle.both_sides.specs.Step.{JoinedSides, OfSide};
 
+use crate::Aside;
 use node::side::is_of;
 use node::{Answer, bounds_of};
 use resolution::{ends_next, resolve, store};
 use search_entry::{Bounds, Matrix, entry};
 use shelf::Shelf;
 
-// The off side's constraint, which a node of `at` places put aside.
-#[derive(Clone, Copy)]
-pub struct Aside<'a> {
-    pub at: usize,
-    pub codes: &'a [u16],
-}
-
 // The answer with another constraint.
+// stays (speed): a struct of the three inside an answer is copied whole at each node, which took 4 to 10 % of a visit (docs/DECISIONS.md)
 fn with_bounds(on: Answer, b: Bounds) -> Answer
     ensures { result ≡ rebound_of on b }
 {
@@ -34,6 +29,7 @@ fn with_bounds(on: Answer, b: Bounds) -> Answer
     }
 }
 
+// stays (no plainer): `Bounded (bounds_of on` is asked of an answer as it comes up; a fact of the type would be asked of each visit that makes one
 // "the on side's entry goes up if it lacks v, else the two are joined"; the resolvent goes up as its row. The shelf is that of the on side's polarity.
 pub fn join<'a>(
     off: Aside<'a>,
@@ -44,11 +40,8 @@ pub fn join<'a>(
 ) -> Answer
     requires { Bounded (bounds_of on)
         × (length off.codes.now ≤ paper.numbers)
-        × (off.at < suc paper.numbers)
-        × Kept learned.old
         × Room learned.old }
     ensures { OfSide on result
-        × Kept learned.new
         × (newest learned.new ≤ suc (newest learned.old))
         × ((D : Prefix) (e f : Constraint) (es : List Constraint)
         → Quantified D matrix.now.quantifiers
@@ -72,7 +65,7 @@ pub fn join<'a>(
         (newest learned.old)
         (newest learned.new)) }
 {
-    let row = entry(matrix, learned, area, bounds_of(on));
+    let row = entry(&matrix.rows, &learned.cells, area, bounds_of(on));
     let ends = ends_next(row, off.at);
     let lacks = !ends;
     if lacks {

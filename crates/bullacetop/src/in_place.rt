@@ -97,6 +97,7 @@ pub fn bullacetop_keep_card_in_place(
 }
 
 // The reading on the card that differs from a given one in the fewest flags. Its bytes stand first in the lent reading, and zeros behind them.
+// stays (C): the export of this name has these parameters behind the tables of the state, as the header declares
 pub fn bullacetop_closest_in_place(
     lent: &mut Searching<'_>,
     on: &[i16],
@@ -129,17 +130,6 @@ pub fn bullacetop_closest_in_place(
 pub fn bullacetop_write_in_place(lent: Lent<'_>, table: &mut [u8]) -> Written
     ensures { Writes (lent_state lent.entry) (length table.old) result.refusal result.length table.new }
 {
-    let written = book_writer::write(
-        lent.numbers,
-        lent.levels,
-        lent.kinds,
-        lent.clauses,
-        lent.clause_sizes,
-        lent.learned_clauses,
-        lent.learned_clause_sizes,
-        lent.learned_cubes,
-        lent.learned_cube_sizes,
-        table,
-    );
+    let written = book_writer::write_lent(lent, table);
     written
 }

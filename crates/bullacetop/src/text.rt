@@ -12,7 +12,7 @@ ghost use Rattle.answer_text.specs.Shown.{no_card};
 ghost use Rattle.serve.specs.Books.{PrintsCard};
 ghost use Rattle.session_line.specs.Line.{ServesLine};
 
-use answer_text::shown::Shown;
+use answer_text::shown::{Held, Shown};
 use book_writer::Written;
 use edition_conversion::Converted;
 use edition_opening::{Editions, open_editions};
@@ -70,6 +70,7 @@ pub fn bullacetop_no_card() -> Shown
 }
 
 // One line of a session, without its byte 10, and its number in the input. The lines of the card answered last stand in the lent table of cards.
+// stays (C): the export of this name has these parameters, which the header declares
 pub fn bullacetop_line(
     x: State,
     line: &[u8],
@@ -80,5 +81,6 @@ pub fn bullacetop_line(
 ) -> Spoken
     ensures { ServesLine x line.now number shown cards.old out.old result cards.new out.new }
 {
-    session_line::serve_line(x, line, number, shown, cards, out)
+    let before = Held { state: x, shown };
+    session_line::serve_line(before, line, number, cards, out)
 }

@@ -1,6 +1,5 @@
 -- The search over the lines of a table, from the last to the first.
 use Prim.Native.Nat.{ℕ, suc, ◌+◌, ◌*◌, ◌-◌, ◌≤◌, ◌<◌}
-use native.Mathlib.Nat.{mul-le-mul_right}
 use native.Mathlib.Numerals.{add-one}
 use native.Mathlib.Omega.{arith}
 use mathlib.Core.Path.{◌≡◌, refl, sym, ap, ◌∙◌, subst, subst₂}
@@ -8,17 +7,13 @@ use mathlib.Core.Logic.{inl, inr}
 use mathlib.Core.Bool.{Bool, true, false, cond}
 use mathlib.Core.List.{List, [], ◌∷◌}
 use mathlib.Core.Option.{Option, none, some}
-use lib.ListN.{length, take, drop, length-take, length-drop}
+use lib.ListN.{length, drop, length-take, length-drop}
 use lib.Seq.{drop-drop}
 use lib.Dec.{leb}
 use borrow.Author.Tests.{le-leb}
 use Rattle.qbf.specs.Formula.{Node}
 use Rattle.qbf.specs.Closest.{distance, Found, nearest, on_line, nearer, closest_in}
 use Rattle.closest.specs.Table.{line_in, lines_in, row_at, Best, SoFar}
-
--- the rows of whole lines end within the table
-pub row_within : (k lines f n : ℕ) → k < lines → lines * f ≤ n → k * f + f ≤ n
-row_within k lines f n h e = omega (arith, mul-le-mul_right f h)
 
 module _ (f lines : ℕ) (table : List ℕ) (t : Node) where
   -- the lines from k on are line k and those after it
@@ -64,10 +59,6 @@ module _ (f lines : ℕ) (table : List ℕ) (t : Node) where
   pub best_last : (k line number : ℕ) → k ≡ 0 → 0 < lines → SoFar f lines table t k line number → Best f lines table t 0 line number
   best_last k line number z h (inl (p, q)) = absurd (omega arith)
   best_last k line number z h (inr b) = subst (λ (i : ℕ). Best f lines table t i line number) z b
-
--- a part of a table is the row
-pub row_part : (f j at end : ℕ) (table : List ℕ) → at ≡ j * f → end ≡ at + f → take (end - at) (drop at table) ≡ row_at f table j
-row_part f j at end table p q = let z : end - at ≡ f = omega arith in ap (λ (n : ℕ). take n (drop at table)) z ∙ ap (λ (n : ℕ). take f (drop n table)) p
 
 pub row_length : (f j : ℕ) (table : List ℕ) → j * f + f ≤ length table → length (row_at f table j) ≡ f
 row_length f j table h = omega (arith, length-take f (drop (j * f) table), length-drop (j * f) table)

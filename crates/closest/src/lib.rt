@@ -4,7 +4,7 @@
 ghost use Rattle.std.specs.Prelude.{◌≡◌, cond, map, ◌++◌, ◌*◌, ◌≤◌, ◌<◌, length, take, drop, leb};
 ghost use Rattle.qbf.specs.Card.{byte_of};
 ghost use Rattle.qbf.specs.Closest.{differs, distance, closest_in as closestOf};
-ghost use Rattle.closest.specs.Table.{value_in, values_in, line_in, lines_in, answer_of, reading_after, Best as BestLine};
+ghost use Rattle.closest.specs.Table.{value_in, values_in, line_in, lines_in, answer_of, reading_after, row_at, Best as BestLine};
 
 // A line, counted from 0, and its number.
 #[derive(Clone, Copy)]
@@ -75,41 +75,58 @@ fn closer(best: Best, line: usize, number: usize) -> Best
     }
 }
 
-// The first line with the least number, from the last line to the first.
-fn best_line(table: &[u8], lines: usize, given: &[u8]) -> Best
-    requires lines_nonzero { 0 < lines }
-    requires given_in_bounds { lines * length given.now ≤ length table.now }
-    ensures { BestLine (length given.now) lines table.now (values_in given.now) 0 result.line result.number }
-{
-    let f = given.len();
-    let mut best = Best { line: 0, number: f };
-    for k in (0..lines).rev() {
-        let at = k * f;
-        let end = at + f;
-        let n = line_distance(&table[at..end], given);
-        best = closer(best, k, n);
-    }
-    best
+// The lines of a card, which its table holds, and the full reading that is given.
+#[derive(Clone, Copy)]
+pub struct Sought<'a> {
+    pub table: &'a [u8],
+    pub lines: usize,
+    pub given: &'a [u8],
+    pub ghost within: { lines * length given.now ≤ length table.now },
 }
 
-// "Given a full reading, return a reading on the swap card that differs from it in the fewest flags, and that number." The table
-// holds the card's lines; a card without a line gives none.
-pub fn closest(table: &[u8], lines: usize, given: &[u8], reading: &mut [u8]) -> Option<usize>
-    requires given_in_bounds { lines * length given.now ≤ length table.now }
-    requires reading_len { length reading.old ≡ length given.now }
-    ensures value { result ≡ answer_of (closestOf (lines_in (length given.now) lines table.now) (values_in given.now)) }
-    ensures reading_after { reading.new ≡ reading_after (closestOf (lines_in (length given.now) lines table.now) (values_in given.now)) reading.old }
-{
-    if lines == 0 {
-        return None;
+impl<'a> Sought<'a> {
+    // Line k.
+    fn row(self, k: usize) -> &'a [u8]
+        requires { k < self.lines }
+        ensures { (result.now ≡ row_at (length self.entry.given.now) self.entry.table.now k) × (length result.now ≡ length self.entry.given.now) }
+    {
+        let f = self.given.len();
+        let at = k * f;
+        let end = at + f;
+        &self.table[at..end]
     }
-    let best = best_line(table, lines, given);
-    let f = given.len();
-    let at = best.line * f;
-    let end = at + f;
-    let row = &table[at..end];
-    let set = set_flags(row);
-    show(given, reading);
-    show(&row[..set], reading);
-    Some(best.number)
+
+    // The first line with the least number, from the last line to the first.
+    fn best(self) -> Best
+        requires { 0 < self.lines }
+        ensures { BestLine (length self.entry.given.now) self.entry.lines self.entry.table.now (values_in self.entry.given.now) 0 result.line result.number }
+    {
+        let mut best = Best {
+            line: 0,
+            number: self.given.len(),
+        };
+        for k in (0..self.lines).rev() {
+            let n = line_distance(self.row(k), self.given);
+            best = closer(best, k, n);
+        }
+        best
+    }
+
+    // "Given a full reading, return a reading on the swap card that differs from it in the fewest flags, and that number." A card without a line gives
+    // none.
+    pub fn closest(self, reading: &mut [u8]) -> Option<usize>
+        requires { length reading.old ≡ length self.given.now }
+        ensures value { result ≡ answer_of (closestOf (lines_in (length self.entry.given.now) self.entry.lines self.entry.table.now) (values_in self.entry.given.now)) }
+        ensures reading_after { reading.new ≡ reading_after (closestOf (lines_in (length self.entry.given.now) self.entry.lines self.entry.table.now) (values_in self.entry.given.now)) reading.old }
+    {
+        if self.lines == 0 {
+            return None;
+        }
+        let best = self.best();
+        let row = self.row(best.line);
+        let set = set_flags(row);
+        show(self.given, reading);
+        show(&row[..set], reading);
+        Some(best.number)
+    }
 }

@@ -1,4 +1,4 @@
--- What the answer of the call for the closest reading says, in numbers.
+-- What the answer of the call for the closest reading says, in the paper's numbers. Paper 02, wish 9.
 use Rattle.std.specs.Prelude.{ℕ, ◌-◌, List, [], ◌++◌, map, length, Result, Ok, Err}
 use Rattle.std.proofs.Math.Option.{Option, none, some}
 use Rattle.qbf.specs.Formula.{most_free}

@@ -1,4 +1,4 @@
-// The call for the closest reading on lent tables, open to outsiders.
+// The call for the closest reading on lent tables, open to outsiders. Paper 02, wish 9.
 #![tactic(auto)]
 
 ghost use Rattle.std.specs.Prelude.{◌≡◌, List, ◌++◌, ℕ, ◌*◌, ◌≤◌, length, take, drop};
@@ -17,6 +17,8 @@ ghost use Rattle.closest_call.specs.Nearest.{nearest_said, returned, found_said,
 
 use answers::in_place::card_of;
 use answers::lent::Searching;
+use closest::Sought;
+use reading::Flags;
 use reading::placed::by_place;
 use refusal::Refusal;
 use state::kinds::free_count;
@@ -60,6 +62,7 @@ fn clear_reading(reading: &mut [u8; tables::MOST_FREE])
 }
 
 // From the lines of the card, which the table holds. The reading is written over the first of the lent bytes.
+// stays (no plainer): the table is cleared where the card has no line, so that it is lent with its lines for the search alone
 fn on_lines<'a>(
     table: &mut [u8],
     lines: usize,
@@ -83,7 +86,12 @@ fn on_lines<'a>(
     ensures reading_len_unchanged { length reading.new ≡ length reading.old }
 {
     let free = given.len();
-    match closest::closest(table, lines, given, &mut reading[..free]) {
+    let sought = Sought {
+        table,
+        lines,
+        given,
+    };
+    match sought.closest(&mut reading[..free]) {
         Some(differs) => Nearest::of(differs, lines, visits),
         None => {
             cover::clear(table);
@@ -95,6 +103,7 @@ fn on_lines<'a>(
 // "Given a full reading, return a reading on the swap card that differs from it in the fewest flags, and that number." "It works from a card made
 // under a ceiling, whose count .. it also returns and whose lines the table then holds." The reading's bytes are the first of the lent ones, off 1 or
 // on 2 for each free variable in place order, and all others are zero.
+// stays (no plainer): six tables and numbers of an open call, each lent or chosen by the caller for itself
 pub fn closest(
     lent: &mut Searching<'_>,
     on: &[i16],
@@ -134,12 +143,16 @@ pub fn closest(
         kinds,
     });
     let mut values = [tables::OPEN; tables::BY_NUMBER];
-    let named = reading::read(&mut values, numbers, &prefix.places, free, on, off);
-    if !named.ok {
+    let flags = Flags {
+        numbers,
+        places: &prefix.places,
+        free,
+    };
+    let Ok(full) = reading::read(flags, &mut values, on, off) else {
         cover::clear(table);
         return Nearest::refused(Refusal::NotFree, 0);
-    }
-    if !named.full {
+    };
+    if !full {
         cover::clear(table);
         return Nearest::refused(Refusal::NotFree, 0);
     }

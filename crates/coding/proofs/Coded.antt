@@ -7,7 +7,7 @@ use mathlib.Core.Logic.{◌⊎◌, inl, inr}
 use mathlib.Core.Bool.{false}
 use mathlib.Core.List.{List, [], ◌∷◌, ◌++◌}
 use lib.ListN.{length, get_or, take, length-map}
-use lib.Seq.{length-take-le, take-take, get_or-take}
+use lib.Seq.{length-take-le, take-length, take-take, get_or-take}
 use lib.Dec.{eqb}
 use borrow.Author.Tests.{eq-eqb, ne_eqb}
 use Rattle.qbf.specs.Formula.{Prefix, Literal}
@@ -29,6 +29,10 @@ last_of q (k ∷ cs) c = last_of k cs c
 pub last_cell : (cs : List ℕ) (n : ℕ) → (n ≡ 0 → ⊥) → n ≤ length cs → get_or cs (n - 1) 0 ≡ last_code (take n cs)
 last_cell cs n h k =
     sym (ap last_code (take_last cs n 0 (omega (arith, h)) k) ∙ last_of 0 (take (n - 1) cs) (get_or cs (n - 1) 0))
+
+-- the last of all is the code before the end
+pub last_whole : (cs : List ℕ) → (length cs ≡ 0 → ⊥) → {c : ℕ} → c ≡ get_or cs (length cs - 1) 0 → c ≡ last_code cs
+last_whole cs h is = is ∙ last_cell cs (length cs) h (omega arith) ∙ ap last_code (take-length cs)
 
 -- it is below k where the first n are
 pub last_below : (cs : List ℕ) (n k : ℕ) → 0 < k → n ≤ length cs → ((i : ℕ) → i < n → get_or cs i 0 < k) → last_code (take n cs) < k

@@ -1,9 +1,9 @@
 // A literal's code, twice its place and one more where it is positive; and a code's literal.
-ghost use Rattle.std.specs.Prelude.{◌≡◌, true, [], ℕ, ◌/◌, ◌≤◌, ◌<◌, length, get_or, take};
+ghost use Rattle.std.specs.Prelude.{◌≡◌, Bool, true, not, [], ℕ, ◌/◌, ◌≤◌, ◌<◌, length, get_or, take};
 ghost use Rattle.qbf.specs.Formula.{paper, Prefix, Literal, place};
 ghost use Rattle.qbf.specs.Calls.{numbers_are_ok};
 ghost use Rattle.tables.specs.Views.{Places, Numbers};
-ghost use Rattle.tables.specs.Codes.{code_of, codes, last_code};
+ghost use Rattle.tables.specs.Codes.{code_at, code_of, codes, last_code};
 ghost use Rattle.tables.specs.Shelves.{code_count};
 
 use literal::{byte_at, cell_at, literal_place};
@@ -13,6 +13,20 @@ pub fn place_of(code: u16) -> usize
     ensures { result ≡ code / 2 }
 {
     (code / 2) as usize
+}
+
+// The code of the opposite literal.
+// stays (no plainer): `code < code_count` is of one cell: a type for it would be taken off at each table that is read by it and put on at each cell of a row.
+pub fn opposite(code: u16) -> u16
+    requires { code < code_count }
+    ensures low { result < code_count }
+    ensures there { (p : ℕ) (b : Bool) → code ≡ code_at p b → result ≡ code_at p (not b) }
+    ensures back { (p : ℕ) (b : Bool) → result ≡ code_at p b → code ≡ code_at p (not b) }
+{
+    if code % 2 == 0 {
+        return code + 1;
+    }
+    code - 1
 }
 
 // A cell of a table by code; 0 where the code is of no place that a variable can have.
@@ -54,6 +68,7 @@ pub fn encode(cells: &mut [u16], lits: &[i16], places: &[u16])
 }
 
 // The literal of a code; 0 where its place has no variable.
+// stays (no plainer): it is written into a table of literals, whose 0 is no literal
 pub fn literal_of<'a>(numbers: &'a [u16], code: u16) -> i16
     ensures { (D : Prefix) (l : Literal)
         → Numbers D numbers.now

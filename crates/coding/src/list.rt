@@ -1,23 +1,22 @@
 // Lists of codes: the last one, the first of a status, reduction, and a copy.
 ghost use Rattle.std.specs.Prelude.{◌≡◌, ◌≤◌, ◌<◌, length, get_or, take, eqb};
-ghost use Rattle.qbf.specs.Formula.{Quantifier, Prefix};
-ghost use Rattle.qbf.specs.Learning.{Constraint, dropped, reduce};
-ghost use Rattle.tables.specs.Views.{quantifier_code};
+ghost use Rattle.qbf.specs.Formula.{Prefix};
+ghost use Rattle.qbf.specs.Learning.{Constraint, reduce};
 ghost use Rattle.tables.specs.Codes.{last_code, codes, Quantified};
 ghost use Rattle.coding.specs.First.{FirstWith};
 
 use crate::code::cell;
+use literal::drops;
 
-// The last of the first n codes; 0 where there is none.
+// The last code; 0 where there is none.
 // stays (no plainer): the definition's last code of an empty list is 0 too, and tables by code have a cell for it
-pub fn last_code(cells: &[u16], n: usize) -> u16
-    requires { n ≤ length cells.now }
-    ensures { result ≡ last_code (take n cells.now) }
+pub fn last_code(cells: &[u16]) -> u16
+    ensures { result ≡ last_code cells.now }
 {
-    if n == 0 {
-        return 0;
+    match cells.last() {
+        Some(code) => *code,
+        None => 0,
     }
-    cells[n - 1]
 }
 
 // A byte in a wider number, where more than bytes are to be told apart.
@@ -39,33 +38,17 @@ pub fn first_with(cells: &[u16], statuses: &[u8; tables::CODES], want: u8) -> Op
     None
 }
 
-// Whether reduction drops a literal whose variable has the quantifier of this code.
-fn drops(kind: u8, cube: bool) -> bool
-    ensures { (κ : Quantifier) → kind ≡ quantifier_code κ → result ≡ dropped cube κ }
-{
-    if cube {
-        kind == tables::EXISTS as u8
-    } else {
-        kind == tables::FORALL as u8
-    }
-}
-
-// How many of the first n codes are left under reduction.
-pub fn reduced_first(
-    cells: &[u16],
-    n: usize,
-    quantifiers: &[u8; tables::CODES],
-    cube: bool,
-) -> usize
-    requires { n ≤ length cells.now }
-    ensures { (result ≤ n)
+// How many of the codes are left under reduction.
+pub fn reduced_len(cells: &[u16], quantifiers: &[u8; tables::CODES], cube: bool) -> usize
+    ensures { (result ≤ length cells.now)
         × ((D : Prefix) (e : Constraint)
         → Quantified D quantifiers.now
-        → take n cells.now ≡ codes D e
+        → cells.now ≡ codes D e
         → take result cells.now ≡ codes D (reduce D cube e)) }
 {
-    for i in (0..n).rev() {
-        if !drops(cell(quantifiers, cells[i]), cube) {
+    // stays (proof): with `rposition` both returns stay open, since no lemma of std reads off what its run from the back says of the items
+    for i in (0..cells.len()).rev() {
+        if !drops(wide(cell(quantifiers, cells[i])), cube) {
             return i + 1;
         }
     }
@@ -78,7 +61,5 @@ pub fn write(cells: &mut [u16], row: &[u16])
     ensures { (length cells.new ≡ length cells.old)
         × (take (length row.now) cells.new ≡ row.now) }
 {
-    for (i, code) in row.iter().enumerate() {
-        cells[i] = *code;
-    }
+    cells[..row.len()].copy_from_slice(row);
 }

@@ -20,6 +20,7 @@ fn kind_at<'a>(numbers: &'a [u16], kinds: &'a [u16], place: usize) -> u8
 }
 
 // The quantifier of a place, for its two codes.
+// stays (no plainer): `place ≤ paper.numbers` is that the place's two codes lie within a table of fixed length, asked where it is an index
 fn put(table: &mut [u8; tables::CODES], place: usize, kind: u8)
     requires { place ≤ paper.numbers }
     ensures { table.new ≡ set (set table.old (code_at place false) kind) (code_at place true) kind }

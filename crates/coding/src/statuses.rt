@@ -15,6 +15,7 @@ pub struct Was {
 }
 
 // The variable of a place is given a value.
+// stays (no plainer): `place ≤ paper.numbers` is that the place's two codes lie within a table of fixed length, asked where it is an index
 pub fn give(statuses: &mut [u8; tables::CODES], place: usize, value: u8) -> Was
     requires { place ≤ paper.numbers }
     ensures { (statuses.new ≡ given place value statuses.old)
@@ -51,6 +52,7 @@ fn value_at<'a>(numbers: &'a [u16], values: &'a [u8], place: usize) -> u8
 }
 
 // The statuses at the node whose values by number are given: the first `at` places have them.
+// stays (no plainer): `at ≤ paper.numbers` is of one number that says how far a table is read; a type for it would be taken off at that table
 pub fn statuses_of<'a>(numbers: &'a [u16], values: &'a [u8], at: usize) -> [u8; tables::CODES]
     requires { at ≤ paper.numbers }
     ensures { (D : Prefix) (s : Node)

@@ -1,12 +1,12 @@
--- One row written from its front: what the loops of `clear` and `write_line` keep.
-use Prim.Native.Nat.{ℕ, zero, suc, ◌+◌, ◌<◌}
+-- One row written from its front: what the loop of `write_line` keeps.
+use Prim.Native.Nat.{ℕ, zero, suc, ◌+◌, ◌≤◌, ◌<◌}
 use native.Mathlib.Numerals.{add-one}
 use native.Mathlib.Omega.{arith}
 use mathlib.Core.Path.{◌≡◌, refl, sym, ap, ◌∙◌}
 use mathlib.Core.Bool.{true}
 use mathlib.Core.List.{List, [], ◌∷◌, ◌++◌, append_assoc, append-nil}
-use lib.ListN.{length, get_or, set, drop, replicate, length-append, length-replicate, replicate-append-replicate}
-use lib.Seq.{set_at, drop-cons, drop-length}
+use lib.ListN.{length, get_or, set, take, drop, drop_of_length-le, length-append}
+use lib.Seq.{set_at, drop-cons, length-take-le}
 use Rattle.tables.specs.Codes.{code_at}
 use Rattle.cover.specs.Cover.{first_bytes}
 
@@ -16,20 +16,6 @@ extended row xs i v e h =
     ap (λ (ys : List ℕ). set (xs ++ ys) i v) (drop-cons row i 0 h)
     ∙ set_at xs (get_or row i 0) (drop (suc i) row) v i e
     ∙ sym (append_assoc xs (v ∷ []) (drop (i + 1) row) ∙ ap (λ (n : ℕ). xs ++ v ∷ drop n row) (add-one i))
-
--- ---- zeros
-snoc_zero : (n : ℕ) → ◌++◌ {A = ℕ} (replicate n 0) (0 ∷ []) ≡ replicate (n + 1) 0
-snoc_zero n = replicate-append-replicate n 1 0
-
-pub zeros_more : (row now : List ℕ) (i : ℕ) → i < length row → now ≡ replicate i 0 ++ drop i row → set now i 0 ≡ replicate (i + 1) 0 ++ drop (i + 1) row
-zeros_more row now i h e =
-    ap (λ (l : List ℕ). set l i 0) e
-    ∙ extended row (replicate i 0) i 0 (length-replicate i 0) h
-    ∙ ap (λ (xs : List ℕ). xs ++ drop (i + 1) row) (snoc_zero i)
-
-pub zeros_all : (row now : List ℕ) (i : ℕ) → i ≡ length row → now ≡ replicate i 0 ++ drop i row → now ≡ replicate (length row) 0
-zeros_all row now i z e =
-    e ∙ ap (λ (n : ℕ). replicate n 0 ++ drop n row) z ∙ ap (λ (l : List ℕ). replicate (length row) 0 ++ l) (drop-length row) ∙ append-nil (replicate (length row) 0)
 
 -- ---- values
 module _ (t : List ℕ) where
@@ -52,6 +38,15 @@ module _ (t : List ℕ) where
       ap (λ (l : List ℕ). set l i v) e
       ∙ extended row (first_bytes t i) i v (first_length i) h
       ∙ ap (λ (xs : List ℕ). xs ++ drop (i + 1) row) (next i v w)
+
+  -- all that are written, before the others
+  pub values_whole : (row now : List ℕ) (i k : ℕ) → i ≡ k → k ≤ length row → now ≡ first_bytes t i ++ drop i (take k row) → now ++ drop k row ≡ first_bytes t k ++ drop k row
+  values_whole row now i k z h e =
+      ap (λ (xs : List ℕ). xs ++ drop k row)
+      (e
+      ∙ ap (λ (n : ℕ). first_bytes t n ++ drop n (take k row)) z
+      ∙ ap (λ (ys : List ℕ). first_bytes t k ++ ys) (drop_of_length-le (take k row) (omega (arith, length-take-le k row h)))
+      ∙ append-nil (first_bytes t k))
 
   pub values_last : (row now : List ℕ) (i k v : ℕ) → i ≡ k → k < length row → now ≡ first_bytes t i ++ drop i row → set now k v ≡ first_bytes t k ++ (v ∷ drop (suc k) row)
   values_last row now i k v z h e =

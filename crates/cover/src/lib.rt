@@ -9,6 +9,13 @@ ghost use Rattle.qbf.specs.Card.{byte_of, zero_table};
 ghost use Rattle.tables.specs.Codes.{Statuses};
 ghost use Rattle.cover.specs.Cover.{Covers, first_bytes};
 
+// The lines of a card, which stand at the start of its table: how many there are, and how many bytes each has.
+#[derive(Clone, Copy)]
+pub struct CardLines {
+    pub count: usize,
+    pub free: usize,
+}
+
 // "A refusal .. zeroes the card table."
 pub fn clear(table: &mut [u8])
     ensures { table.new ≡ zero_table (length table.old) }
@@ -18,13 +25,13 @@ pub fn clear(table: &mut [u8])
 
 // "The table holds its length divided by f, rounded down; with f = 0 a line is empty and always fits." The product could be too
 // large for a usize.
-pub fn fits(size: usize, free: usize, lines: usize) -> bool
-    ensures { result ≡ leb (lines * free) size }
+pub fn fits(size: usize, lines: CardLines) -> bool
+    ensures { result ≡ leb (lines.count * lines.free) size }
 {
-    if free == 0 {
+    if lines.free == 0 {
         return true;
     }
-    lines <= size / free
+    lines.count <= size / lines.free
 }
 
 // "A line is f bytes in place order": the statuses of the positive literals of the first k places are their bytes, then comes the value of the
@@ -34,8 +41,8 @@ fn write_line(row: &mut [u8], statuses: &[u8; tables::CODES], k: usize, value: u
     requires k_lt_numbers { k < paper.numbers }
     ensures { row.new ≡ first_bytes statuses.now k ++ (value ∷ drop (suc k) row.old) }
 {
-    for i in 0..k {
-        row[i] = statuses[i * 2 + 3];
+    for (i, byte) in row[..k].iter_mut().enumerate() {
+        *byte = statuses[i * 2 + 3];
     }
     row[k] = value;
 }
@@ -43,42 +50,41 @@ fn write_line(row: &mut [u8], statuses: &[u8; tables::CODES], k: usize, value: u
 // One line more: the node of k places whose statuses are given, and the value of the next place.
 pub fn push_line(
     table: &mut [u8],
-    lines: usize,
-    free: usize,
+    lines: CardLines,
     statuses: &[u8; tables::CODES],
     k: usize,
     value: u8,
 )
-    requires free_le_numbers { free ≤ paper.numbers }
-    requires k_lt_free { k < free }
+    requires free_le_numbers { lines.free ≤ paper.numbers }
+    requires k_lt_free { k < lines.free }
     ensures table_len_unchanged { length table.new ≡ length table.old }
     ensures covers { (s : Node) (b : Bool) (ls : List Node)
         → Statuses s statuses.now
         → length s ≡ k
         → value ≡ byte_of b
-        → length ls ≡ lines
-        → Covers free table.old ls
-        → Covers free table.new (ls ++ ((s ▹ b) ∷ [])) }
+        → length ls ≡ lines.count
+        → Covers lines.free table.old ls
+        → Covers lines.free table.new (ls ++ ((s ▹ b) ∷ [])) }
 {
-    if lines < table.len() / free {
-        let at = lines * free;
-        let end = at + free;
+    if lines.count < table.len() / lines.free {
+        let at = lines.count * lines.free;
+        let end = at + lines.free;
         write_line(&mut table[at..end], statuses, k, value);
     }
 }
 
 // The last line is taken back.
-pub fn pop_line(table: &mut [u8], lines: usize, free: usize)
-    requires { 1 ≤ lines }
+pub fn pop_line(table: &mut [u8], lines: CardLines)
+    requires { 1 ≤ lines.count }
     ensures table_len_unchanged { length table.new ≡ length table.old }
     ensures covers { (ls : List Node) (s : Node)
-        → length ls + 1 ≡ lines
-        → Covers free table.old (ls ++ (s ∷ []))
-        → Covers free table.new ls }
+        → length ls + 1 ≡ lines.count
+        → Covers lines.free table.old (ls ++ (s ∷ []))
+        → Covers lines.free table.new ls }
 {
-    if fits(table.len(), free, lines) {
-        let at = (lines - 1) * free;
-        let end = at + free;
+    if fits(table.len(), lines) {
+        let at = (lines.count - 1) * lines.free;
+        let end = at + lines.free;
         clear(&mut table[at..end]);
     }
 }

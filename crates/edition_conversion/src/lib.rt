@@ -56,6 +56,7 @@ fn answer(written: Result<usize, RefusedAt>, table: &mut [u8]) -> Converted
 }
 
 // "and last a converted text over its table or 65,536 bytes is 31 at line 0"
+// stays (no plainer): `length text ≤ text_bytes` is what reading the text has told; a type for it would be made anew from the same bytes and hold no more.
 fn write(to: To, text: &[u8], table: &mut [u8]) -> Result<usize, RefusedAt>
     requires { length text.now ≤ text_bytes }
     ensures { WrittenAs (fitted (length table.old) (text_to to text.now)) result table.new }

@@ -25,14 +25,14 @@ use Rattle.editions.specs.Opening.{line_fault}
 use Rattle.opening.specs.declared.stage.Stage.TheVariants as stages
 use Rattle.opening.specs.Stages.{rank_of, placed}
 use Rattle.rules.specs.Rules.{change_said}
-use Rattle.opening.specs.Opened.{Standing}
+use Rattle.opening.specs.Standing.{Standing}
 use Rattle.opening.proofs.Taking.{read_is}
 use Rattle.edition_opening.specs.declared.book.EditionBook.{EditionBook}
 use Rattle.edition_opening.specs.Editions.{accepted, edition_of}
-use Rattle.edition_opening.specs.Lines.{Stood, OneTook}
+use Rattle.edition_opening.specs.Lines.{OneTook}
 use Rattle.edition_opening.proofs.Taking.{refused_line, misplaced, placed_fault}
 
-module _ (z : EditionBook) (s : Stood z) (lits : List ℤ) where
+module _ (z : EditionBook) (lits : List ℤ) where
   abbrev x : State
   x = z.book.state
 
@@ -42,7 +42,7 @@ module _ (z : EditionBook) (s : Stood z) (lits : List ℤ) where
   -- the call was answered by r and left x'
   module _ {u : Unit {0}} (v : Ok u ≡ placed (allowed (rank_of z.book.stage) 3)) (r : Result (Unit {0}) Refusal) {x' : State} (w : Serves x (one_call lits) (change_said r) x') where
     formed : well_formed (fresh (formula_in x)) ≡ true
-    formed = fresh_formed (formula_in x) s.reached.facts
+    formed = fresh_formed (formula_in x) z.book.stands.reached.facts
 
     fault_is : one_fault (formula_in x) lits ≡ fault_in r
     fault_is = sym refused
@@ -53,7 +53,7 @@ module _ (z : EditionBook) (s : Stood z) (lits : List ℤ) where
 
         refused : fault_in r ≡ one_fault (formula_in x) lits
         refused =
-            ap (λ (q : Said). q.refusal) w.answered ∙ ap (λ (o : Option Read). (said_of (out_of o (one_call lits))).refusal) s.read
+            ap (λ (q : Said). q.refusal) w.answered ∙ ap (λ (o : Option Read). (said_of (out_of o (one_call lits))).refusal) z.book.stands.read
             ∙ ap (λ (u : Bool). (said_of (guarded u (fresh (formula_in x)) (one_call lits)).out).refusal) formed ∙ reply (one_fault (formula_in x) lits)
 
     judged : (ls : List Literal) → one_fault (formula_in x) lits ≡ one_fault (formula_in x) ls → line_fault (accepted z.accepts) (edition_of z.edition) (rank_of z.book.stage) (formula_in x) (one ls) ≡ fault_in r
@@ -68,27 +68,27 @@ module _ (z : EditionBook) (s : Stood z) (lits : List ℤ) where
 
       next_read : read_state x' ≡ some (fresh (with_one none (formula_in x) lits))
       next_read =
-          w.next ∙ ap (λ (o : Option Read). next_of o (one_call lits)) s.read ∙ ap (λ (u : Bool). some (guarded u (fresh (formula_in x)) (one_call lits)).state) formed
+          w.next ∙ ap (λ (o : Option Read). next_of o (one_call lits)) z.book.stands.read ∙ ap (λ (u : Bool). some (guarded u (fresh (formula_in x)) (one_call lits)).state) formed
           ∙ ap (λ (o : Option ℕ). some (record { formula = with_one o (formula_in x) lits; store = store_after_rule o empty_store })) fine
 
       formula_after : formula_in x' ≡ with_one none (formula_in x) lits
       formula_after = ap (λ (y : Read). y.formula) (read_is x' (fresh (with_one none (formula_in x) lits)) next_read)
 
-      stands : Standing 3 x'
-      stands =
+      pub one_stands : Standing 3 x'
+      one_stands =
           record {
             read = next_read ∙ ap (λ (b : Formula). some (fresh b)) (sym formula_after);
             reached = record {
               few = omega arith;
-              facts = subst FormulaFacts (ap (λ (o : Option ℕ). with_one o (formula_in x) lits) fine ∙ sym formula_after) (one_formed (formula_in x) s.reached.facts lits);
+              facts = subst FormulaFacts (ap (λ (o : Option ℕ). with_one o (formula_in x) lits) fine ∙ sym formula_after) (one_formed (formula_in x) z.book.stands.reached.facts lits);
               no_variables = λ h. absurd (omega (arith, h));
               no_clauses = λ h. absurd (omega (arith, h));
             };
           }
 
-      pub one_taken : OneTook z lits (Ok (record { accepts = z.accepts; edition = z.edition; book = record { stage = stages.Rule; state = x' } }))
-      one_taken = λ ls p q.
+      pub one_taken : (t : Standing 3 x') → OneTook z lits (Ok (record { accepts = z.accepts; edition = z.edition; book = record { stage = stages.Rule; state = x'; stands = t } }))
+      one_taken t = λ ls p q.
           record {
             fault = judged ls p ∙ sym (ap fault_in e);
-            advanced = record { formula = formula_after ∙ ap (with_one none (formula_in x)) (q (sym p ∙ fine)); stage = refl; edition = refl; accepts = refl; stands = stands };
+            advanced = record { formula = formula_after ∙ ap (with_one none (formula_in x)) (q (sym p ∙ fine)); stage = refl; edition = refl; accepts = refl };
           }

@@ -23,7 +23,7 @@ use Rattle.opening.specs.Opened.{TookForm, BlockTook}
 use Rattle.opening.proofs.Judging as own
 use Rattle.edition_opening.specs.declared.book.EditionBook.{EditionBook}
 use Rattle.edition_opening.specs.Editions.{accepted, edition_of}
-use Rattle.edition_opening.specs.Lines.{Stood, kept_with, TookOn, Took, PlainTook, TaggedTook, OneTook}
+use Rattle.edition_opening.specs.Lines.{kept_with, TookOn, Took, PlainTook, TaggedTook, OneTook}
 use Rattle.edition_opening.proofs.Taking.{block_kept}
 use Rattle.edition_opening.proofs.Judged.{one_cut, one_cut_same}
 
@@ -38,7 +38,7 @@ first_kept (z ∷ out) e room k = ap (λ (l : List ℤ). get_or l 0 (pos 0)) k.f
 abbrev pub TookHere : EditionBook → Option form.Line → Result EditionBook Refusal → Type 0
 TookHere z o r = Took (accepted z.accepts) (edition_of z.edition) (rank_of z.book.stage) (formula_in z.book.state) o r
 
-module _ (z : EditionBook) (s : Stood z) {o : Option form.Line} where
+module _ (z : EditionBook) {o : Option form.Line} where
   line_some : (r : Result EditionBook Refusal) (f : form.Line) → o ≡ some f → TookOn z f r → TookHere z o r
   line_some r f q h = subst (λ (p : Option form.Line). Took (accepted z.accepts) (edition_of z.edition) (rank_of z.book.stage) (formula_in z.book.state) p r) (sym q) h
 
@@ -51,7 +51,7 @@ module _ (z : EditionBook) (s : Stood z) {o : Option form.Line} where
 
     pub line_block : (t : Result Book Refusal) (κ n : ℕ) {m : ℕ} → m ≡ min n (suc paper.numbers) → LineIs o (line.Block κ n) out → BlockTook (rank_of z.book.stage) z.book.state κ (take m out) t → TookHere z o (kept_with z t)
     line_block t κ n p (q, c, (ns, h, k)) w =
-        line_some (kept_with z t) (says (block q ns)) h (block_kept z (block q ns) t (own.line_block s {o = some (block q ns)} {out = out} {r = t} room κ n p (q, c, (ns, refl, k)) w) refl refl)
+        line_some (kept_with z t) (says (block q ns)) h (block_kept z (block q ns) t (own.line_block z.book.stands {o = some (block q ns)} {out = out} {r = t} room κ n p (q, c, (ns, refl, k)) w) refl refl)
 
     pub line_rule : (r : Result EditionBook Refusal) (n : ℕ) {m : ℕ} → m ≡ min n (suc paper.numbers) → LineIs o (line.Rule n) out → PlainTook z (take m out) r → TookHere z o r
     line_rule r n p (ls, h, k) w =

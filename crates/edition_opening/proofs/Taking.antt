@@ -27,13 +27,14 @@ use Rattle.opening.specs.declared.book.Book.{Book}
 use Rattle.opening.specs.declared.stage.Stage.TheVariants as stages
 use Rattle.opening.specs.Stages as stage_ranks
 use Rattle.opening.specs.Stages.{placed}
-use Rattle.opening.specs.Opened.{Standing, TookForm, RuleTook}
+use Rattle.opening.specs.Standing.{Standing}
+use Rattle.opening.specs.Opened.{TookForm, RuleTook}
 use Rattle.edition_opening.specs.declared.Edition.{Edition}
 use Rattle.edition_opening.specs.declared.book.EditionBook.{EditionBook}
 use Rattle.edition_opening.specs.declared.Editions.{Editions as Accepted}
 use Rattle.edition_opening.specs.declared.Editions.TheVariants.{First, Second, Both}
 use Rattle.edition_opening.specs.Editions.{accepted, edition_of, EditionRead}
-use Rattle.edition_opening.specs.Lines.{Stood, kept_with, TookLine, TookOn, PlainTook, TaggedTook, out_of_range}
+use Rattle.edition_opening.specs.Lines.{kept_with, TookLine, TookOn, PlainTook, TaggedTook, out_of_range}
 
 -- ---- refusals
 module _ (a : Editions) (e stage : ℕ) (b : Formula) (f : Line) where
@@ -71,7 +72,7 @@ module _ (z : EditionBook) (f : Form) where
       → edition_after (edition_of z.edition) (says f) ≡ edition_of z.edition → TookOn z (says f) (kept_with z r)
   block_kept (Err q) w k s = record { fault = k ∙ w.fault; advanced = tt }
   block_kept (Ok y) w k s =
-      record { fault = k ∙ w.fault; advanced = record { formula = w.advanced.formula; stage = w.advanced.stage; edition = sym s; accepts = refl; stands = w.advanced.stands } }
+      record { fault = k ∙ w.fault; advanced = record { formula = w.advanced.formula; stage = w.advanced.stage; edition = sym s; accepts = refl } }
 
 -- ---- the book's line
 either : (a : Accepted) (e : ℕ) → accepted a e ≡ true → e ≤ 2
@@ -108,7 +109,7 @@ same_taken a e = by (accepted a (narrow e)) refl
             small = omega (arith, either a e p)
         more false p = q ∙ sym p
 
-module _ (z : EditionBook) (s : Stood z) where
+module _ (z : EditionBook) where
   pub book_misplaced : {q : Refusal} → Err q ≡ placed (allowed (stage_ranks.rank_of z.book.stage) 0) → (e : ℕ) → TookOn z (says (book e)) (Err q)
   book_misplaced k e = misplaced (accepted z.accepts) (edition_of z.edition) (stage_ranks.rank_of z.book.stage) (formula_in z.book.state) (says (book e)) k
 
@@ -123,23 +124,13 @@ module _ (z : EditionBook) (s : Stood z) where
         refused_line (accepted z.accepts) (edition_of z.edition) (stage_ranks.rank_of z.book.stage) (formula_in z.book.state) (says (book e))
         (fault_is ∙ ap (λ (y : Bool). given (not y) 2) w.1 ∙ ap (λ (r : Refusal). some (number_of r)) (sym w.0))
 
-    pub book_taken : {d : Edition} → EditionRead (accepted z.accepts) m (Ok d)
-        → TookOn z (says (book e)) (Ok (record { accepts = z.accepts; edition = Some d; book = record { stage = stages.Flags; state = z.book.state } }))
-    book_taken {d} w =
+    pub book_taken : {d : Edition} → EditionRead (accepted z.accepts) m (Ok d) → (t : Standing 1 z.book.state)
+        → TookOn z (says (book e)) (Ok (record { accepts = z.accepts; edition = Some d; book = record { stage = stages.Flags; state = z.book.state; stands = t } }))
+    book_taken {d} w t =
         record {
           fault = fault_is ∙ ap (λ (y : Bool). given (not y) 2) w.1;
-          advanced = record { formula = refl; stage = refl; edition = w.0 ∙ p ∙ narrow_small e (subst (λ (n : ℕ). n ≤ 2) p (either z.accepts m w.1)); accepts = refl; stands = stands };
+          advanced = record { formula = refl; stage = refl; edition = w.0 ∙ p ∙ narrow_small e (subst (λ (n : ℕ). n ≤ 2) p (either z.accepts m w.1)); accepts = refl };
         }
-      where
-        at_book : stage_ranks.rank_of z.book.stage ≡ 0
-        at_book = by (allowed (stage_ranks.rank_of z.book.stage) 0) refl k
-          where
-            by : (t : Bool) → allowed (stage_ranks.rank_of z.book.stage) 0 ≡ t → Ok u ≡ placed t → stage_ranks.rank_of z.book.stage ≡ 0
-            by true q g = let w = allowed_is (stage_ranks.rank_of z.book.stage) 0 q in omega (arith, w.0)
-            by false q g = cc
-
-        stands : Standing 1 z.book.state
-        stands = record { read = s.read; reached = record { few = s.reached.few; facts = s.reached.facts; no_variables = λ w. s.reached.no_variables (omega (arith, at_book)); no_clauses = λ w. s.reached.no_clauses (omega (arith, at_book)) } }
 
 -- ---- rules
 module _ (z : EditionBook) (lits : List ℤ) where
@@ -194,4 +185,4 @@ module _ (z : EditionBook) (lits : List ℤ) where
 
           by : (r : Result Book Refusal) (ls : List Literal) → TookForm (stage_ranks.rank_of z.book.stage) (formula_in z.book.state) (clause ls) r → TookOn z (tagged k ls) (kept_with z r)
           by (Err q) ls w = record { fault = judged ls ∙ w.fault; advanced = tt }
-          by (Ok y) ls w = record { fault = judged ls ∙ w.fault; advanced = record { formula = w.advanced.formula; stage = w.advanced.stage; edition = refl; accepts = refl; stands = w.advanced.stands } }
+          by (Ok y) ls w = record { fault = judged ls ∙ w.fault; advanced = record { formula = w.advanced.formula; stage = w.advanced.stage; edition = refl; accepts = refl } }

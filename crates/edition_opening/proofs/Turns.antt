@@ -29,7 +29,7 @@ use Rattle.opening.proofs.Turns.{empty_formed, not_end}
 use Rattle.edition_opening.specs.declared.Editions.{Editions as Accepts}
 use Rattle.edition_opening.specs.declared.book.EditionBook.{EditionBook}
 use Rattle.edition_opening.specs.Editions.{accepted, edition_of}
-use Rattle.edition_opening.specs.Lines.{Stood, Begun, Took, lines_open, edition_opens}
+use Rattle.edition_opening.specs.Lines.{Begun, Took, lines_open, edition_opens}
 
 -- ---- before the first line
 pub begun_opens : {a : Accepts} {z : EditionBook} → Begun a z → (s : Bytes) → within_text s (edition_opens z 1 (split newline s)) ≡ open_editions (accepted a) paper s
@@ -66,33 +66,31 @@ module _ (z : EditionBook) (going : stage_ranks.rank_of z.book.stage ≡ 4 → �
   unfolding read_lines onward
   line_opens n m ls = rw (ne_eqb (stage_ranks.rank_of z.book.stage) 4 going)
 
-  pub line_takes : (r : Result EditionBook Refusal) → Took a e (stage_ranks.rank_of z.book.stage) b (line_of l) r → Takes Stood edition_opens z l r
+  pub line_takes : (r : Result EditionBook Refusal) → Took a e (stage_ranks.rank_of z.book.stage) b (line_of l) r → Takes edition_opens z l r
   unfolding onward
   line_takes r w = by (line_of l) refl r w
     where
-      by : (o : Option Line) → line_of l ≡ o → (r : Result EditionBook Refusal) → Took a e (stage_ranks.rank_of z.book.stage) b o r → Takes Stood edition_opens z l r
+      by : (o : Option Line) → line_of l ≡ o → (r : Result EditionBook Refusal) → Took a e (stage_ranks.rank_of z.book.stage) b o r → Takes edition_opens z l r
       by none i (Ok y) w = cc
       by none i (Err q) w = λ n m ls.
           line_opens n m ls ∙ ap (λ (o : Option Line). read_line a n e (stage_ranks.rank_of z.book.stage) b o (onward a e n m ls)) i ∙ ap (λ (k : Refusal). refused (number_of k) n) (let v : NotInLayout ≡ q = cc in v)
       by (some f) i (Err q) w = λ n m ls.
           line_opens n m ls ∙ ap (λ (o : Option Line). read_line a n e (stage_ranks.rank_of z.book.stage) b o (onward a e n m ls)) i
           ∙ ap (λ (o : Option ℕ). refused_or n o (onward a e n m ls f (with_line b f))) w.fault
-      by (some f) i (Ok y) w = (
-        w.advanced.stands,
-        λ n m ls.
-            line_opens n m ls ∙ ap (λ (o : Option Line). read_line a n e (stage_ranks.rank_of z.book.stage) b o (onward a e n m ls)) i
-            ∙ ap (λ (o : Option ℕ). refused_or n o (onward a e n m ls f (with_line b f))) w.fault
-            ∙ ap (onward a e n m ls f) (sym w.advanced.formula)
-            ∙ ap (λ (t : Bool). cond t (at_end (suc n) (formula_in y.book.state) (m ∷ ls)) (read_lines a (suc n) (edition_after e f) (stage_after (rank_of f)) (formula_in y.book.state) (m ∷ ls))) (end_same f)
-            ∙ ap (λ (k : ℕ). lines_open a (edition_after e f) k (formula_in y.book.state) (suc n) (m ∷ ls)) (sym w.advanced.stage)
-            ∙ ap (λ (k : ℕ). lines_open a k (stage_ranks.rank_of y.book.stage) (formula_in y.book.state) (suc n) (m ∷ ls)) (sym w.advanced.edition)
-            ∙ ap (λ (k : Editions). lines_open k (edition_of y.edition) (stage_ranks.rank_of y.book.stage) (formula_in y.book.state) (suc n) (m ∷ ls)) (sym w.advanced.accepts),
-      )
+      by (some f) i (Ok y) w =
+          λ n m ls.
+          line_opens n m ls ∙ ap (λ (o : Option Line). read_line a n e (stage_ranks.rank_of z.book.stage) b o (onward a e n m ls)) i
+          ∙ ap (λ (o : Option ℕ). refused_or n o (onward a e n m ls f (with_line b f))) w.fault
+          ∙ ap (onward a e n m ls f) (sym w.advanced.formula)
+          ∙ ap (λ (t : Bool). cond t (at_end (suc n) (formula_in y.book.state) (m ∷ ls)) (read_lines a (suc n) (edition_after e f) (stage_after (rank_of f)) (formula_in y.book.state) (m ∷ ls))) (end_same f)
+          ∙ ap (λ (k : ℕ). lines_open a (edition_after e f) k (formula_in y.book.state) (suc n) (m ∷ ls)) (sym w.advanced.stage)
+          ∙ ap (λ (k : ℕ). lines_open a k (stage_ranks.rank_of y.book.stage) (formula_in y.book.state) (suc n) (m ∷ ls)) (sym w.advanced.edition)
+          ∙ ap (λ (k : Editions). lines_open k (edition_of y.edition) (stage_ranks.rank_of y.book.stage) (formula_in y.book.state) (suc n) (m ∷ ls)) (sym w.advanced.accepts)
 
 -- ---- the end
 module _ (z : EditionBook) where
   -- after the end's line nothing may stand
-  pub over_takes : stage_ranks.rank_of z.book.stage ≡ 4 → (l : Bytes) → Takes Stood edition_opens z l (Err NotInLayout)
+  pub over_takes : stage_ranks.rank_of z.book.stage ≡ 4 → (l : Bytes) → Takes edition_opens z l (Err NotInLayout)
   over_takes e [] = λ n m ls. rw (eq-eqb (stage_ranks.rank_of z.book.stage) 4 e)
   over_takes e (c ∷ l) = λ n m ls. rw (eq-eqb (stage_ranks.rank_of z.book.stage) 4 e)
 
@@ -112,5 +110,5 @@ module _ (z : EditionBook) where
 
 -- ---- by the test of the stage
 pub told_takes : (z : EditionBook) {t : Bool} → t ≡ sameb the_type z.book.stage stages.End → t ≡ false → (l : Bytes) (r : Result EditionBook Refusal)
-    → Took (accepted z.accepts) (edition_of z.edition) (stage_ranks.rank_of z.book.stage) (formula_in z.book.state) (line_of l) r → Takes Stood edition_opens z l r
+    → Took (accepted z.accepts) (edition_of z.edition) (stage_ranks.rank_of z.book.stage) (formula_in z.book.state) (line_of l) r → Takes edition_opens z l r
 told_takes z p q = line_takes z (not_end z.book.stage refl (sym (ap not p) ∙ ap not q))

@@ -20,9 +20,6 @@ use Rattle.edition_opening.specs.declared.Editions.{Editions}
 use Rattle.edition_opening.specs.declared.book.EditionBook.{EditionBook}
 use Rattle.edition_opening.specs.Editions.{accepted, edition_of}
 
-abbrev pub Stood : EditionBook → Type 0
-Stood z = own.Stood z.book
-
 -- before the first line
 pub record Begun (a : Editions) (z : EditionBook) : Type 0 where
   pub accepts : z.accepts ≡ a
@@ -40,7 +37,6 @@ pub record Advanced (a : editions.Editions) (b : Formula) (e : ℕ) (f : Line) (
   pub stage : rank_of z.book.stage ≡ stage_after (editions.rank_of f)
   pub edition : edition_of z.edition ≡ editions.edition_after e f
   pub accepts : accepted z.accepts ≡ a
-  pub stands : Stood z
 
 -- a line in an edition at a stage: its fault, or what it leaves
 pub record TookLine (a : editions.Editions) (e stage : ℕ) (b : Formula) (f : Line) (r : Result EditionBook Refusal) : Type 0 where

@@ -6,7 +6,7 @@ ghost use Rattle.reader.specs.Items.{narrow};
 ghost use Rattle.editions.specs.Lines.{says, line_of};
 ghost use Rattle.opening.specs.Stages.{rank_of};
 ghost use Rattle.edition_opening.specs.Editions.{accepted, number_of, edition_of};
-ghost use Rattle.edition_opening.specs.Lines.{Begun, Stood, kept_with, TookLine, Took, edition_opens, edition_unended};
+ghost use Rattle.edition_opening.specs.Lines.{Begun, kept_with, TookLine, Took, edition_opens, edition_unended};
 
 use crate::{Edition, Editions};
 use edition_reader::line::{Line, read_line};
@@ -55,7 +55,6 @@ impl EditionBook {
     }
 
     fn take_book(self, number: Number) -> Result<EditionBook, Refusal>
-        requires { Stood self }
         ensures { (e : ℕ) → number.0 ≡ narrow e → TookLine (accepted self.accepts) (edition_of self.edition) (rank_of self.book.stage) (formula_in self.book.state) (says (book e)) result }
     {
         self.book.stage.place(Stage::Book)?;
@@ -64,7 +63,7 @@ impl EditionBook {
             edition: Some(edition),
             book: Book {
                 stage: Stage::Flags,
-                ..self.book
+                state: self.book.state,
             },
             ..self
         })
@@ -72,7 +71,6 @@ impl EditionBook {
 
     // Of the items as many are kept as decide: one more than there are variables.
     fn take_line(self, line: &[u8]) -> Result<EditionBook, Refusal>
-        requires { Stood self }
         ensures { Took (accepted self.accepts) (edition_of self.edition) (rank_of self.book.stage) (formula_in self.book.state) (line_of line.now) result }
     {
         let mut items = [0i16; tables::BY_NUMBER];
@@ -103,8 +101,6 @@ impl EditionBook {
 }
 
 impl LineByLine for EditionBook {
-    ghost stands = { Stood };
-
     ghost opens = { edition_opens };
 
     ghost unended = { edition_unended };

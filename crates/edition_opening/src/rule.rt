@@ -5,7 +5,7 @@ ghost use Rattle.qbf.specs.Formula.{paper};
 ghost use Rattle.qbf.specs.Calls.{given, ◌or_else◌};
 ghost use Rattle.state.specs.Reading.{formula_in};
 ghost use Rattle.refusal.specs.Refusal as refusal_numbers;
-ghost use Rattle.edition_opening.specs.Lines.{Stood, out_of_range, PlainTook, TaggedTook, OneTook};
+ghost use Rattle.edition_opening.specs.Lines.{out_of_range, PlainTook, TaggedTook, OneTook};
 
 use crate::Edition;
 use crate::book::EditionBook;
@@ -44,7 +44,6 @@ fn tag_fault(rules: usize) -> Refusal
 
 impl EditionBook {
     pub fn take_plain(self, lits: &[i16]) -> Result<EditionBook, Refusal>
-        requires { Stood self }
         ensures { PlainTook self lits.now result }
     {
         if !self.is_of(Edition::First) {
@@ -54,7 +53,6 @@ impl EditionBook {
     }
 
     pub fn take_tagged(self, tag: u32, lits: &[i16]) -> Result<EditionBook, Refusal>
-        requires { Stood self }
         ensures { TaggedTook self tag lits.now result }
     {
         if !self.is_of(Edition::Second) {
@@ -69,7 +67,6 @@ impl EditionBook {
 
     // An exactly-one form, by the call for it: all of its rules are added, or none.
     pub fn take_one(self, lits: &[i16]) -> Result<EditionBook, Refusal>
-        requires { Stood self }
         ensures { OneTook self lits.now result }
     {
         self.book.stage.place(Stage::Rule)?;

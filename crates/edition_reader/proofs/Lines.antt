@@ -1,11 +1,11 @@
 -- A line of either edition by its first words.
-use Prim.Native.Nat.{ℕ, ◌+◌, ◌≤◌, ◌-◌}
+use Prim.Native.Nat.{ℕ}
 use mathlib.Core.Path.{◌≡◌, refl, sym, ap, subst, ◌∙◌}
 use mathlib.Core.Bool.{Bool, true, false, cond}
 use mathlib.Core.List.{List, [], ◌∷◌}
 use mathlib.Core.Option.{Option, none, some}
 use lib.IntN.{ℤ}
-use lib.ListN.{length, take, drop}
+use lib.ListN.{length}
 use lib.Seq.{take-nil}
 use Rattle.std.specs.Prelude.{Option as Answer, Some}
 use Rattle.qbf.specs.Formula.{Literal}
@@ -13,41 +13,40 @@ use Rattle.layout.specs.Words.{Bytes, split, space, same, number, digits, closed
 use Rattle.layout.specs.Forms.{then, items, consed, Form, rule_word, form_from, one_word}
 use Rattle.editions.specs.Lines.{says, tag_word, said, rule_line, exactly_one_line, tagged_line, rule_from, line_from, line_of}
 use Rattle.editions.specs.Lines as form
-use Rattle.reader.specs.Pieces.{pieces_from, Piece}
+use Rattle.std.specs.Borrow.{Bor}
+use Rattle.reader.specs.Pieces.{pieces, Cut}
 use Rattle.reader.specs.Items.{Filled}
 use Rattle.reader.specs.Lines as old
 use Rattle.reader.specs.declared.keyword.Line.{Line as FormLine}
 use Rattle.reader.specs.declared.keyword.Line.TheVariants as first
 use Rattle.reader.proofs.Words.{same_true}
-use Rattle.reader.proofs.Literals.{past}
-use Rattle.reader.proofs.Lines.{first_word}
 use Rattle.edition_reader.specs.Lines.{form_line, tag_from, LineRead}
 use Rattle.edition_reader.specs.declared.line.Line.{Line}
 use Rattle.edition_reader.specs.declared.line.Line.TheVariants as line
 
 -- ---- after "(tag"
-pub tag_none : (s : Bytes) (e : ℕ) → length s ≤ e → tag_from (pieces_from space s (e + 1)) ≡ none
+pub tag_none : tag_from [] ≡ none
 unfolding tag_from
-tag_none s e h = ap tag_from (past s e h)
+tag_none = refl
 
-module _ {s : Bytes} {b f : ℕ} (p : Piece space s b f) where
-  tag_is : tag_from (pieces_from space s b) ≡ tagged_line (then (closed (take (f - b) (drop b s))) number) (items true (pieces_from space s (f + 1)))
+module _ {s w : Bytes} {left : Answer (Bor Bytes)} (p : Cut space s w left) where
+  tag_is : tag_from (split space s) ≡ tagged_line (then (closed w) number) (items true (pieces space left))
   unfolding tag_from
   tag_is = ap tag_from p.is
 
-  pub tag_unread : then (closed (take (f - b) (drop b s))) number ≡ none → tag_from (pieces_from space s b) ≡ none
-  tag_unread e = tag_is ∙ ap (λ (o : Option ℕ). tagged_line o (items true (pieces_from space s (f + 1)))) e
+  pub tag_unread : then (closed w) number ≡ none → tag_from (split space s) ≡ none
+  tag_unread e = tag_is ∙ ap (λ (o : Option ℕ). tagged_line o (items true (pieces space left))) e
 
-  pub tag_no_items : {k : ℕ} → then (closed (take (f - b) (drop b s))) number ≡ some k → items true (pieces_from space s (f + 1)) ≡ none → tag_from (pieces_from space s b) ≡ none
-  tag_no_items {k} e i = tag_is ∙ ap (λ (o : Option ℕ). tagged_line o (items true (pieces_from space s (f + 1)))) e ∙ ap (tagged_line (some k)) i
+  pub tag_no_items : {k : ℕ} → then (closed w) number ≡ some k → items true (pieces space left) ≡ none → tag_from (split space s) ≡ none
+  tag_no_items {k} e i = tag_is ∙ ap (λ (o : Option ℕ). tagged_line o (items true (pieces space left))) e ∙ ap (tagged_line (some k)) i
 
-  pub tag_read : (k n : ℕ) {out : List ℤ} → then (closed (take (f - b) (drop b s))) number ≡ some k → Filled (items true (pieces_from space s (f + 1))) (Some n) out → LineRead (tag_from (pieces_from space s b)) (Some (line.Tagged k n)) out
-  tag_read k n e (ls, i, kept) = (ls, tag_is ∙ ap (λ (o : Option ℕ). tagged_line o (items true (pieces_from space s (f + 1)))) e ∙ ap (tagged_line (some k)) i, kept)
+  pub tag_read : (k n : ℕ) {out : List ℤ} → then (closed w) number ≡ some k → Filled (items true (pieces space left)) (Some n) out → LineRead (tag_from (split space s)) (Some (line.Tagged k n)) out
+  tag_read k n e (ls, i, kept) = (ls, tag_is ∙ ap (λ (o : Option ℕ). tagged_line o (items true (pieces space left))) e ∙ ap (tagged_line (some k)) i, kept)
 
 -- ---- after `rule`
-pub rule_empty : (s : Bytes) (e : ℕ) (out : List ℤ) → length s ≤ e → LineRead (rule_from (pieces_from space s (e + 1))) (Some (line.Rule 0)) out
+pub rule_empty : (out : List ℤ) → LineRead (rule_from []) (Some (line.Rule 0)) out
 unfolding rule_from
-rule_empty s e out h = ([], ap rule_from (past s e h), record { count = refl; first = sym (take-nil (length out)) })
+rule_empty out = ([], refl, record { count = refl; first = sym (take-nil (length out)) })
 
 tag_word_lem : (ws : List Bytes) → rule_from (tag_word ∷ ws) ≡ tag_from ws
 unfolding rule_from tag_from items same consed number digits
@@ -59,28 +58,29 @@ unfolding rule_from
 plain_word w [] e = refl
 plain_word w (v ∷ ws) e = ap (λ (t : Bool). cond t (tagged_line (then (closed v) number) (items true ws)) (then (items true (w ∷ v ∷ ws)) rule_line)) e
 
-module _ {s : Bytes} {b f : ℕ} (p : Piece space s b f) where
-  pub rule_tagged : (r : Answer Line) (out : List ℤ) → same (take (f - b) (drop b s)) tag_word ≡ true → LineRead (tag_from (pieces_from space s (f + 1))) r out → LineRead (rule_from (pieces_from space s b)) r out
+module _ {s w : Bytes} {left : Answer (Bor Bytes)} (p : Cut space s w left) where
+  pub rule_tagged : (r : Answer Line) (out : List ℤ) → same w tag_word ≡ true → LineRead (tag_from (pieces space left)) r out → LineRead (rule_from (split space s)) r out
   rule_tagged r out e h =
       subst (λ (o : Option form.Line). LineRead o r out)
-      (sym (ap rule_from p.is ∙ ap (λ (w : Bytes). rule_from (w ∷ pieces_from space s (f + 1))) (same_true (take (f - b) (drop b s)) tag_word e) ∙ tag_word_lem (pieces_from space s (f + 1)))) h
+      (sym (ap rule_from p.is ∙ ap (λ (v : Bytes). rule_from (v ∷ pieces space left)) (same_true w tag_word e) ∙ tag_word_lem (pieces space left))) h
 
-  plain_is : same (take (f - b) (drop b s)) tag_word ≡ false → rule_from (pieces_from space s b) ≡ then (items true (pieces_from space s b)) rule_line
-  plain_is e =
-      ap rule_from p.is ∙ plain_word (take (f - b) (drop b s)) (pieces_from space s (f + 1)) e ∙ ap (λ (ws : List Bytes). then (items true ws) rule_line) (sym p.is)
+  pub plain_is : same w tag_word ≡ false → rule_from (split space s) ≡ then (items true (split space s)) rule_line
+  plain_is e = ap rule_from p.is ∙ plain_word w (pieces space left) e ∙ ap (λ (ws : List Bytes). then (items true ws) rule_line) (sym p.is)
 
-  pub rule_unread : same (take (f - b) (drop b s)) tag_word ≡ false → items true (pieces_from space s b) ≡ none → rule_from (pieces_from space s b) ≡ none
-  rule_unread e i = plain_is e ∙ ap (λ (o : Option (List Literal)). then o rule_line) i
+-- .. whose literals are read
+module _ (ws : List Bytes) (is : rule_from ws ≡ then (items true ws) rule_line) where
+  pub rule_unread : items true ws ≡ none → rule_from ws ≡ none
+  rule_unread i = is ∙ ap (λ (o : Option (List Literal)). then o rule_line) i
 
-  pub rule_read : (n : ℕ) {out : List ℤ} → same (take (f - b) (drop b s)) tag_word ≡ false → Filled (items true (pieces_from space s b)) (Some n) out → LineRead (rule_from (pieces_from space s b)) (Some (line.Rule n)) out
-  rule_read n e (ls, i, kept) = (ls, plain_is e ∙ ap (λ (o : Option (List Literal)). then o rule_line) i, kept)
+  pub rule_read : (n : ℕ) {out : List ℤ} → Filled (items true ws) (Some n) out → LineRead (rule_from ws) (Some (line.Rule n)) out
+  rule_read n (ls, i, kept) = (ls, is ∙ ap (λ (o : Option (List Literal)). then o rule_line) i, kept)
 
 -- ---- after `one`
-pub one_unread : (s : Bytes) (e : ℕ) → items true (pieces_from space s (e + 1)) ≡ none → then (items true (pieces_from space s (e + 1))) exactly_one_line ≡ none
-one_unread s e i = ap (λ (o : Option (List Literal)). then o exactly_one_line) i
+pub one_unread : (ws : List Bytes) → items true ws ≡ none → then (items true ws) exactly_one_line ≡ none
+one_unread ws i = ap (λ (o : Option (List Literal)). then o exactly_one_line) i
 
-pub one_read : (s : Bytes) (e n : ℕ) {out : List ℤ} → Filled (items true (pieces_from space s (e + 1))) (Some n) out → LineRead (then (items true (pieces_from space s (e + 1))) exactly_one_line) (Some (line.One n)) out
-one_read s e n (ls, i, kept) = (ls, ap (λ (o : Option (List Literal)). then o exactly_one_line) i, kept)
+pub one_read : (ws : List Bytes) (n : ℕ) {out : List ℤ} → Filled (items true ws) (Some n) out → LineRead (then (items true ws) exactly_one_line) (Some (line.One n)) out
+one_read ws n (ls, i, kept) = (ls, ap (λ (o : Option (List Literal)). then o exactly_one_line) i, kept)
 
 -- ---- the first word
 pub form_unread : (o : Option Form) → o ≡ none → then o said ≡ none
@@ -92,21 +92,21 @@ form_read o (first.Block κ n) out (q, c, (ns, h, k)) = (q, c, (ns, ap (λ (x : 
 form_read o (first.Rule n) out (ls, h, k) = (ls, ap (λ (x : Option Form). then x said) h, k)
 form_read o first.End out h = ap (λ (x : Option Form). then x said) h
 
-module _ {s : Bytes} {e : ℕ} (p : Piece space s 0 e) (r : Answer Line) (out : List ℤ) where
+module _ {s w : Bytes} {left : Answer (Bor Bytes)} (p : Cut space s w left) (r : Answer Line) (out : List ℤ) where
   words_are : (o : Option form.Line) → line_from (split space s) ≡ o → LineRead o r out → LineRead (line_from (split space s)) r out
   words_are o q h = subst (λ (x : Option form.Line). LineRead x r out) (sym q) h
 
-  pub words_rule : same (take e s) rule_word ≡ true → LineRead (rule_from (pieces_from space s (e + 1))) r out → LineRead (line_from (split space s)) r out
+  pub words_rule : same w rule_word ≡ true → LineRead (rule_from (pieces space left)) r out → LineRead (line_from (split space s)) r out
   unfolding line_from
-  words_rule q h = words_are (rule_from (pieces_from space s (e + 1))) (ap line_from (first_word p) ∙ rw q) h
+  words_rule q h = words_are (rule_from (pieces space left)) (ap line_from p.is ∙ rw q) h
 
-  pub words_one : same (take e s) rule_word ≡ false → same (take e s) one_word ≡ true → LineRead (then (items true (pieces_from space s (e + 1))) exactly_one_line) r out → LineRead (line_from (split space s)) r out
+  pub words_one : same w rule_word ≡ false → same w one_word ≡ true → LineRead (then (items true (pieces space left)) exactly_one_line) r out → LineRead (line_from (split space s)) r out
   unfolding line_from
-  words_one q t h = words_are (then (items true (pieces_from space s (e + 1))) exactly_one_line) (ap line_from (first_word p) ∙ rw (q, t)) h
+  words_one q t h = words_are (then (items true (pieces space left)) exactly_one_line) (ap line_from p.is ∙ rw (q, t)) h
 
-  pub words_form : same (take e s) rule_word ≡ false → same (take e s) one_word ≡ false → LineRead (then (form_from (split space s)) said) r out → LineRead (line_from (split space s)) r out
+  pub words_form : same w rule_word ≡ false → same w one_word ≡ false → LineRead (then (form_from (split space s)) said) r out → LineRead (line_from (split space s)) r out
   unfolding line_from
-  words_form q t h = words_are (then (form_from (split space s)) said) (ap line_from (first_word p) ∙ (rw (q, t) (ap (λ (ws : List Bytes). then (form_from ws) said) (sym (first_word p))))) h
+  words_form q t h = words_are (then (form_from (split space s)) said) (ap line_from p.is ∙ (rw (q, t) (ap (λ (ws : List Bytes). then (form_from ws) said) (sym p.is)))) h
 
 -- ---- the brackets
 pub line_out : (l : Bytes) → inside l ≡ none → line_of l ≡ none

@@ -1,24 +1,16 @@
 -- Appending, where it fits and where it does not.
 use Prim.Native.Nat.{ℕ, ◌+◌, ◌-◌, ◌<◌}
 use mathlib.Core.Path.{◌≡◌, refl, sym, ap, subst, ◌∙◌}
-use mathlib.Core.Bool.{false}
 use mathlib.Core.List.{[], ◌++◌, append_assoc, append-nil}
 use native.Mathlib.Omega.{arith}
-use lib.ListN.{length, take, drop, length-append, length-take, length-drop, drop_of_length-le}
+use lib.ListN.{length, take, drop, length-append, length-drop, drop_of_length-le}
 use lib.Seq.{take_all}
-use Rattle.layout.specs.Words.{Bytes, same}
+use Rattle.layout.specs.Words.{Bytes}
 use Rattle.writer.specs.Wrote.{Wrote}
-use Rattle.reader.proofs.Words.{same_ne}
 use Rattle.edition_tags.specs.Appended.{Appended}
 
 pub appended_none : (d : Bytes) (n : ℕ) → Appended d n [] d n
 appended_none d n = record { size = refl; next = omega arith; is = λ h. sym (append-nil (take n d)) }
-
-pub appended_written : {d₀ d t : Bytes} {at r : ℕ} → Wrote d₀ at t d r → Appended d₀ at t d r
-appended_written w = record { size = w.size; next = w.next; is = λ h. w.is }
-
-pub appended_counted : (d t : Bytes) {at r : ℕ} → r ≡ at + length t → length d < r → Appended d at t d r
-appended_counted d t e h = record { size = refl; next = e; is = λ g. absurd (omega (arith, g, h)) }
 
 pub appended_then : {d₀ x d₁ y d₂ : Bytes} {at r₁ r₂ : ℕ} → Appended d₀ at x d₁ r₁ → Appended d₁ r₁ y d₂ r₂ → Appended d₀ at (x ++ y) d₂ r₂
 appended_then {d₀} {x} {d₁} {y} {d₂} {at} {r₁} {r₂} p q =
@@ -31,13 +23,6 @@ appended_then {d₀} {x} {d₁} {y} {d₂} {at} {r₁} {r₂} p q =
 pub appended_as : {d₀ d t u : Bytes} {at r : ℕ} → t ≡ u → Appended d₀ at t d r → Appended d₀ at u d r
 appended_as {d₀} {d} {t} {u} {at} {r} e w = subst (λ (x : Bytes). Appended d₀ at x d r) e w
 
--- what is too short begins with no word
-pub short_starts : (l w : Bytes) → length l < length w → same (take (length w) l) w ≡ false
-short_starts l w h = same_ne (take (length w) l) w (λ e. omega (arith, e, h, length-take (length w) l))
-
 -- the bytes from a place on
 pub rest_all : (l : Bytes) (from : ℕ) → take (length l - from) (drop from l) ≡ drop from l
 rest_all l from = take_all (length l - from) (drop from l) (omega (arith, length-drop from l))
-
-pub rest_none : (l : Bytes) (from : ℕ) → length l < from → take (length l - length l) (drop (length l) l) ≡ drop from l
-rest_none l from h = rest_all l (length l) ∙ drop_of_length-le l {i = length l} (omega arith) ∙ sym (drop_of_length-le l {i = from} (omega (arith, h)))

@@ -1,8 +1,9 @@
 -- A tag, and a line with it or without it.
 use Prim.Native.Nat.{ℕ, suc, ◌+◌, ◌≤◌}
 use mathlib.Core.Path.{◌≡◌, sym, ap, ◌∙◌}
-use mathlib.Core.Bool.{Bool, true, false, cond, not, ◌&&◌}
+use mathlib.Core.Bool.{Bool, true, false, cond, not, ◌&&◌, false≢true}
 use mathlib.Core.List.{◌++◌}
+use Rattle.std.proofs.lemmas.List.{drop-drop}
 use native.Mathlib.Omega.{arith}
 use lib.ListN.{length, take, drop, length-append, length-take, length-drop}
 use Rattle.layout.specs.Words.{Bytes, ascii, same}
@@ -13,8 +14,14 @@ use Rattle.editions_laws.proofs.Words.{same_true}
 use Rattle.writer.specs.Wrote.{Wrote}
 use Rattle.edition_tags.specs.declared.To.{To}
 use Rattle.edition_tags.specs.declared.To.TheVariants.{First, Second}
-use Rattle.edition_tags.specs.Appended.{Appended, Tagged, most_tag, most_number, rule_to, line_to}
-use Rattle.edition_tags.proofs.Appending.{appended_then, appended_as}
+use Rattle.edition_tags.specs.Tagged.{Tagged, most_tag, most_number}
+use Rattle.edition_tags.specs.Appended.{RuleRest, rule_to, line_to}
+use Rattle.std.specs.Prelude.{Option as Answer, Some, None, MatchOption}
+use Rattle.std.specs.Option.{is_some}
+use Rattle.std.specs.Borrow.{Bor}
+use lib.Pointwise.{pointwise}
+use Rattle.reader.proofs.Words.{pointwise_same}
+use lib.Dec.{eqb}
 
 -- ---- the text of a tag
 pub tag_length : (k : ℕ) → length (tag_text k) ≡ 7 + length (decimal k)
@@ -28,54 +35,54 @@ pub tagged_as : {d₀ d : Bytes} {r : ℕ} (k : ℕ) → k ≤ most_number → W
 unfolding tag_text
 tagged_as k h w = record { count = omega (arith, w.next); few = omega (arith, w.next, tag_short k h); is = w.is }
 
-pub tag_within : {k : ℕ} {d : Bytes} {r : ℕ} → Tagged k d r → r ≤ length d
-tag_within {k} {d} {r} w = omega (arith, w.count, ap length w.is, length-take r d)
-
-pub tag_counts : {k : ℕ} {d : Bytes} {r : ℕ} → Tagged k d r → r ≡ length (take r d)
-tag_counts {k} {d} {r} w = w.count ∙ sym (ap length w.is)
-
 -- ---- a rule form
 head_is : (l : Bytes) → is_rule l ≡ true → take 5 l ≡ rule_head
 unfolding is_rule
 head_is l e = same_true (take 5 l) rule_head e
 
-pub head_length : (l : Bytes) → is_rule l ≡ true → 5 ≤ length l
-head_length l e = omega (arith, ap length (head_is l e), length-take 5 l)
+begins_rule : (l : Bytes) {x : Bool} → pointwise eqb (take 5 l) rule_head ≡ x → is_rule l ≡ x
+unfolding is_rule
+begins_rule l e = sym (pointwise_same (take 5 l) rule_head) ∙ e
 
-pub has_as : {k : ℕ} {d : Bytes} {r : ℕ} (l : Bytes) → Tagged k d r → same (take (length (take r d)) (drop 5 l)) (take r d) ≡ has_tag k l
-unfolding has_tag
-has_as l w = ap (λ (t : Bytes). same (take (length t) (drop 5 l)) t) w.is
+-- what is left of a line without `(rule` before it
+pub rest_is : (l : Bytes) (r : Answer (Bor Bytes))
+    → MatchOption r (pointwise eqb (take 5 l) rule_head ≡ false) (λ x. (pointwise eqb (take 5 l) rule_head ≡ true) × (x.now ≡ drop 5 l) × (length x.now + 5 ≡ length l))
+    → RuleRest l r
+rest_is l None h = begins_rule l h
+rest_is l (Some x) (e, q, n) = (begins_rule l e, q, n)
 
-module _ {k : ℕ} {tag : Bytes} {n : ℕ} (w : Tagged k tag n) (l : Bytes) (e : is_rule l ≡ true) where
-  -- `(rule`, the tag, and the rest
-  pub inserted_as : {d₀ d₁ d₂ d₃ : Bytes} {at p q r : ℕ} → Appended d₀ at (ascii "(rule") d₁ p → Appended d₁ p (take n tag) d₂ q → Appended d₂ q (drop 5 l) d₃ r → Appended d₀ at (insert_tag k l) d₃ r
-  unfolding insert_tag
-  inserted_as a b c =
-      appended_as (ap (λ (x : Bytes). x ++ (take n tag ++ drop 5 l)) (sym (head_is l e)) ∙ ap (λ (x : Bytes). take 5 l ++ (x ++ drop 5 l)) w.is)
-      (appended_then a (appended_then b c))
+-- a rule form has a tag to lose
+module _ (k : ℕ) (l : Bytes) (rule : is_rule l ≡ true) {r t : Bytes} (e : r ≡ drop 5 l) (q : t ≡ tag_text k) where
+  begins_tag : {x : Bool} → pointwise eqb (take (length t) r) t ≡ x → has_tag k l ≡ x
+  unfolding has_tag
+  begins_tag h =
+      ap (λ (u : Bytes). same (take (length (tag_text k)) u) (tag_text k)) (sym e)
+      ∙ ap (λ (u : Bytes). same (take (length u) r) u) (sym q)
+      ∙ sym (pointwise_same (take (length t) r) t) ∙ h
 
-  pub removed_as : {d₀ d₁ d₂ : Bytes} {at p r : ℕ} → Appended d₀ at (ascii "(rule") d₁ p → Appended d₁ p (drop (5 + n) l) d₂ r → Appended d₀ at (remove_tag k l) d₂ r
-  unfolding remove_tag
-  removed_as a b =
-      appended_as (ap (λ (x : Bytes). x ++ drop (5 + n) l) (sym (head_is l e)) ∙ ap (λ (x : ℕ). take 5 l ++ drop (5 + x) l) w.count)
-      (appended_then a b)
+  pub lost_as : (o : Answer (Bor Bytes))
+      → MatchOption o (pointwise eqb (take (length t) r) t ≡ false) (λ x. (pointwise eqb (take (length t) r) t ≡ true) × (x.now ≡ drop (length t) r) × (length x.now + length t ≡ length r))
+      → (x : Bool) → is_some o ≡ not x → x ≡ (is_rule l && not (has_tag k l))
+  lost_as None h true z = rw (rule, begins_tag h)
+  lost_as None h false z = absurd (false≢true z)
+  lost_as (Some v) h true z = absurd (false≢true (sym z))
+  lost_as (Some v) h false z = rw (rule, begins_tag h.0)
+
+-- what is written of one
+module _ (to : To) (k : ℕ) (l : Bytes) where
+  pub rule_line_lem : is_rule l ≡ true → {r : Bytes} → r ≡ drop 5 l → rule_to to k r ≡ line_to to k l
+  unfolding insert_tag remove_tag
+  rule_line_lem e {r} q = by to
+    where
+      more : (n : ℕ) → drop n (drop 5 l) ≡ drop (5 + n) l
+      more n = drop-drop n 5 l
+
+      by : (to : To) → rule_to to k r ≡ line_to to k l
+      by First = rw e (ap (λ (h : Bytes). h ++ drop (length (tag_text k)) r) (sym (head_is l e)) ∙ ap (λ (u : Bytes). take 5 l ++ u) (ap (drop (length (tag_text k))) q ∙ more (length (tag_text k))))
+      by Second = rw e (ap (λ (h : Bytes). h ++ (tag_text k ++ r)) (sym (head_is l e)) ∙ ap (λ (u : Bytes). take 5 l ++ (tag_text k ++ u)) q)
 
 -- ---- a line
 module _ (to : To) (k : ℕ) (l : Bytes) where
-  pub rule_line_lem : is_rule l ≡ true → rule_to to k l ≡ line_to to k l
-  rule_line_lem e = by to
-    where
-      by : (to : To) → rule_to to k l ≡ line_to to k l
-      by First = rw e
-      by Second = rw e
-
-  pub plain_as : is_rule l ≡ false → l ≡ line_to to k l
-  plain_as e = by to
-    where
-      by : (to : To) → l ≡ line_to to k l
-      by First = rw e
-      by Second = rw e
-
   -- a line grows by a tag at most
   pub line_most : k ≤ most_number → length (line_to to k l) ≤ length l + most_tag
   unfolding insert_tag remove_tag
@@ -102,9 +109,3 @@ next_most k l = by (is_rule l)
     by : (t : Bool) → cond t (suc k) k ≤ suc k
     by true = omega arith
     by false = omega arith
-
-pub lost_as : {t u : Bool} (l : Bytes) → is_rule l ≡ true → t ≡ u → not t ≡ (is_rule l && not u)
-lost_as l e h = rw (e, h)
-
-pub unlost_as : (l : Bytes) (k : ℕ) → is_rule l ≡ false → false ≡ (is_rule l && not (has_tag k l))
-unlost_as l k e = rw e

@@ -1,21 +1,22 @@
 -- A text line by line: what is written of its conversion, and the first tag that would be lost.
-use Prim.Native.Nat.{ℕ, suc, ◌+◌, ◌*◌, ◌-◌, ◌<◌, ◌≤◌, zero-le}
+use Prim.Native.Nat.{ℕ, suc, ◌+◌, ◌*◌, ◌≤◌}
 use mathlib.Core.Path.{◌≡◌, refl, sym, ap, ◌∙◌}
 use mathlib.Core.Bool.{Bool, true, false, cond, not, ◌&&◌}
 use mathlib.Core.List.{List, [], ◌∷◌, ◌++◌, append_assoc, append-nil}
 use mathlib.Core.Option.{none, some}
 use native.Mathlib.Omega.{arith}
 use native.Mathlib.Numerals.{add-one}
-use borrow.Author.Tests.{lt-leb}
-use lib.ListN.{length, take, drop, length-take, length-drop}
+use lib.ListN.{length}
+use Rattle.std.specs.Prelude.{Option as Answer, Some, None}
+use Rattle.std.specs.Borrow.{Bor}
 use Rattle.layout.specs.Words.{Bytes, newline, split}
 use Rattle.layout.specs.Opening.{text_bytes}
 use Rattle.editions.specs.Converting.{joined, is_rule, has_tag, next, each_line, lost_from, lost_line, tagged_lines, untagged_lines, tagged_text, untagged_text}
-use Rattle.reader.specs.Pieces.{pieces_from, Piece}
-use Rattle.reader.proofs.Texts.{pieces_at}
+use Rattle.reader.specs.Pieces.{pieces, size_left, Cut}
 use Rattle.edition_tags.specs.declared.To.{To}
 use Rattle.edition_tags.specs.declared.To.TheVariants.{First, Second}
-use Rattle.edition_tags.specs.Appended.{Appended, most_bytes, most_tag, most_number, line_to, heading_to, text_to}
+use Rattle.edition_tags.specs.Tagged.{most_tag, most_number}
+use Rattle.edition_tags.specs.Appended.{Appended, most_bytes, line_to, heading_to, text_to}
 use Rattle.edition_tags.proofs.Appending.{appended_none, appended_then, appended_as}
 use Rattle.edition_tags.proofs.Tags.{line_most, next_most}
 
@@ -29,126 +30,104 @@ unfolding joined behind
 joined_behind l [] = sym (append-nil l)
 joined_behind l (m ∷ ls) = ap (λ (x : Bytes). l ++ (newline ∷ x)) (joined_behind m ls)
 
--- past the end there is no line
-no_pieces : (s : Bytes) (at : ℕ) → length s < at → pieces_from newline s at ≡ []
-unfolding pieces_from
-no_pieces s at h = rw (lt-leb at (length s) h)
-
-line_length : (s : Bytes) (at e : ℕ) → at ≤ e → e ≤ length s → length (take (e - at) (drop at s)) ≡ e - at
-line_length s at e h g = omega (arith, length-take (e - at) (drop at s), length-drop at s, h, g)
-
-module _ (s : Bytes) {e : ℕ} (p : Piece newline s 0 e) where
-  lines : split newline s ≡ take (e - 0) (drop 0 s) ∷ pieces_from newline s (e + 1)
-  lines = sym (pieces_at s 0 zero-le) ∙ p.is
-
+module _ {s w : Bytes} {left : Answer (Bor Bytes)} (p : Cut newline s w left) where
   -- ---- what is written
-  text_is : (to : To) → text_to to s ≡ heading_to to ++ behind (each_line (line_to to) 1 (pieces_from newline s (e + 1)))
+  text_is : (to : To) → text_to to s ≡ heading_to to ++ behind (each_line (line_to to) 1 (pieces newline left))
   unfolding tagged_text untagged_text
-  text_is First = ap (λ (ls : List Bytes). joined (untagged_lines ls)) lines ∙ joined_behind (heading_to First) (each_line (line_to First) 1 (pieces_from newline s (e + 1)))
-  text_is Second = ap (λ (ls : List Bytes). joined (tagged_lines ls)) lines ∙ joined_behind (heading_to Second) (each_line (line_to Second) 1 (pieces_from newline s (e + 1)))
+  text_is First = ap (λ (ls : List Bytes). joined (untagged_lines ls)) p.is ∙ joined_behind (heading_to First) (each_line (line_to First) 1 (pieces newline left))
+  text_is Second = ap (λ (ls : List Bytes). joined (tagged_lines ls)) p.is ∙ joined_behind (heading_to Second) (each_line (line_to Second) 1 (pieces newline left))
 
--- the loop: from the line at at₀ on, into the table d₀ behind its first n₀ bytes
-pub record Putting (to : To) (s d₀ : Bytes) (n₀ at₀ n at k : ℕ) (d : Bytes) : Type 0 where
+-- the loop: the first lines of those left at first are written into the table d₀ behind its first n₀ bytes
+pub record Putting (to : To) (s d₀ : Bytes) (n₀ : ℕ) (first left : Answer (Bor Bytes)) (n k : ℕ) (d : Bytes) : Type 0 where
   pub done : Bytes
-  pub low : 1 ≤ at
-  pub few : k ≤ at
-  pub room : n ≤ 13 * at
+  pub few : k + size_left left ≤ suc (length s)
+  pub room : n + 13 * size_left left ≤ 13 * suc (length s)
   pub wrote : Appended d₀ n₀ done d n
-  pub is : behind (each_line (line_to to) 1 (pieces_from newline s at₀)) ≡ done ++ behind (each_line (line_to to) k (pieces_from newline s at))
+  pub is : behind (each_line (line_to to) 1 (pieces newline first)) ≡ done ++ behind (each_line (line_to to) k (pieces newline left))
 
 heading_length : (to : To) → length (heading_to to) ≡ 8
 heading_length First = refl
 heading_length Second = refl
 
-pub put_first : (to : To) (s : Bytes) (e : ℕ) {d d₀ : Bytes} {n : ℕ} → Appended d 0 (heading_to to) d₀ n → Putting to s d₀ n (e + 1) n (e + 1) 1 d₀
-put_first to s e {d} {d₀} {n} w =
+pub put_first : {s w : Bytes} {left : Answer (Bor Bytes)} → Cut newline s w left → (to : To) {d d₀ : Bytes} {n : ℕ} → Appended d 0 (heading_to to) d₀ n → Putting to s d₀ n left left n 1 d₀
+put_first {s} {w} {left} p to {d} {d₀} {n} a =
     record {
       done = [];
-      low = omega arith;
-      few = omega arith;
-      room = omega (arith, w.next, heading_length to);
+      few = omega (arith, p.shorter);
+      room = omega (arith, p.shorter, a.next, heading_length to);
       wrote = appended_none d₀ n;
       is = refl;
     }
 
-module _ {to : To} {s d₀ : Bytes} {n₀ at₀ n at k : ℕ} {d : Bytes} (i : Putting to s d₀ n₀ at₀ n at k d) where
-  all_put : length s < at → behind (each_line (line_to to) 1 (pieces_from newline s at₀)) ≡ i.done
+module _ {to : To} {s d₀ : Bytes} {n₀ : ℕ} {first left : Answer (Bor Bytes)} {n k : ℕ} {d : Bytes} (i : Putting to s d₀ n₀ first left n k d) where
+  -- no line is left
+  pub put_end : left ≡ None → {d₁ w : Bytes} {at : Answer (Bor Bytes)} → first ≡ at → Cut newline s w at → Appended d₁ 0 (heading_to to) d₀ n₀ → Appended d₁ 0 (text_to to s) d n
   unfolding each_line behind
-  all_put h = i.is ∙ ap (λ (ls : List Bytes). i.done ++ behind (each_line (line_to to) k ls)) (no_pieces s at h) ∙ append-nil i.done
+  put_end h same p a =
+      appended_as (sym (text_is p to ∙ ap (λ (l : Answer (Bor Bytes)). heading_to to ++ behind (each_line (line_to to) 1 (pieces newline l))) (sym same) ∙ ap (λ (x : Bytes). heading_to to ++ x) (i.is ∙ ap (λ (l : Answer (Bor Bytes)). i.done ++ behind (each_line (line_to to) k (pieces newline l))) h ∙ append-nil i.done)))
+      (appended_then a i.wrote)
 
-  module _ (short : length s ≤ text_bytes) (h : at ≤ length s) where
-    pub put_number : k ≤ most_number
-    put_number = omega (arith, i.few, h, short)
+  module _ {l : Bytes} {more : Answer (Bor Bytes)} (line : (m : Bor Bytes) × (left ≡ Some m) × Cut newline m.now l more) where
+    sizes : size_left left ≡ suc (length l + size_left more)
+    sizes = ap size_left line.1 ∙ ap suc (sym line.2.shorter)
 
-    module _ {e : ℕ} (piece : at ≤ length s → Piece newline s at e) where
-      p : Piece newline s at e
-      p = piece h
+    words : pieces newline left ≡ l ∷ pieces newline more
+    words = ap (pieces newline) line.1 ∙ line.2.is
 
-      l : Bytes
-      l = take (e - at) (drop at s)
+    module _ (short : length s ≤ text_bytes) where
+      pub put_number : k ≤ most_number
+      put_number = omega (arith, i.few, sizes, short)
 
-      pub put_room : n + length (take (e - at) (drop at s)) + (most_tag + 1) ≤ most_bytes
-      put_room = omega (arith, i.room, line_length s at e p.low p.high, p.high, p.low, h, short)
-
-      pub put_more : {d₁ : Bytes} {r j : ℕ} → Appended d n (newline ∷ line_to to k (take (e - at) (drop at s))) d₁ r → j ≡ next k (take (e - at) (drop at s)) → Putting to s d₀ n₀ at₀ r (e + 1) j d₁
-      unfolding each_line behind l
-      put_more {d₁} {r} {j} w q =
+      pub put_more : {d₁ : Bytes} {r j t : ℕ} → t ≡ k → Appended d n (newline ∷ line_to to t l) d₁ r → j ≡ next t l → Putting to s d₀ n₀ first more r j d₁
+      unfolding each_line behind
+      put_more {d₁} {r} {j} {t} same w q =
           record {
-            done = i.done ++ (newline ∷ line_to to k l);
-            low = omega arith;
-            few = omega (arith, q, next_most k l, i.few, p.low);
-            room = omega (arith, w.next, i.room, line_most to k l put_number, line_length s at e p.low p.high, p.low);
+            done = i.done ++ (newline ∷ line_to to t l);
+            few = omega (arith, q, next_most t l, same, i.few, sizes);
+            room = omega (arith, w.next, i.room, line_most to t l (omega (arith, same, put_number)), sizes);
             wrote = appended_then i.wrote w;
             is =
                 i.is
-                ∙ ap (λ (ls : List Bytes). i.done ++ behind (each_line (line_to to) k ls)) p.is
-                ∙ sym (append_assoc i.done (newline ∷ line_to to k l) (behind (each_line (line_to to) (next k l) (pieces_from newline s (e + 1)))))
-                ∙ ap (λ (x : ℕ). (i.done ++ (newline ∷ line_to to k l)) ++ behind (each_line (line_to to) x (pieces_from newline s (e + 1)))) (sym q);
+                ∙ ap (λ (ls : List Bytes). i.done ++ behind (each_line (line_to to) k ls)) words
+                ∙ ap (λ (x : ℕ). i.done ++ behind (each_line (line_to to) x (l ∷ pieces newline more))) (sym same)
+                ∙ sym (append_assoc i.done (newline ∷ line_to to t l) (behind (each_line (line_to to) (next t l) (pieces newline more))))
+                ∙ ap (λ (x : ℕ). (i.done ++ (newline ∷ line_to to t l)) ++ behind (each_line (line_to to) x (pieces newline more))) (sym q);
           }
 
--- the heading before the loop, and the loop
-pub put_end : {to : To} {s d₁ d₀ d : Bytes} {e n₀ n at k : ℕ} → (0 ≤ length s → Piece newline s 0 e) → Appended d₁ 0 (heading_to to) d₀ n₀ → Putting to s d₀ n₀ (e + 1) n at k d → length s < at → Appended d₁ 0 (text_to to s) d n
-put_end {to} {s} {d₁} {d₀} {d} {e} first w i h =
-    appended_as (sym (text_is s (first zero-le) to ∙ ap (λ (x : Bytes). heading_to to ++ x) (all_put i h))) (appended_then w i.wrote)
-
 -- ---- the first tag that would be lost
-pub record Losing (s : Bytes) (at k number : ℕ) : Type 0 where
-  pub low : 1 ≤ at
-  pub few : k ≤ at
-  pub numbered : number ≤ suc at
-  pub is : lost_line (split newline s) ≡ lost_from number k (pieces_from newline s at)
+pub record Losing (s : Bytes) (left : Answer (Bor Bytes)) (k number : ℕ) : Type 0 where
+  pub few : k + size_left left ≤ suc (length s)
+  pub numbered : number + size_left left ≤ suc (suc (length s))
+  pub is : lost_line (split newline s) ≡ lost_from number k (pieces newline left)
 
-pub lose_first : (s : Bytes) {e : ℕ} → (0 ≤ length s → Piece newline s 0 e) → Losing s (e + 1) 1 2
-lose_first s {e} at = let p : Piece newline s 0 e = at zero-le in record { low = omega arith; few = omega arith; numbered = omega arith; is = ap lost_line (lines s p) }
-
-module _ {s : Bytes} {at k number : ℕ} (i : Losing s at k number) where
-  pub lose_end : length s < at → none ≡ lost_line (split newline s)
+module _ {s : Bytes} {left : Answer (Bor Bytes)} {k number : ℕ} (i : Losing s left k number) where
+  pub lose_end : left ≡ None → none ≡ lost_line (split newline s)
   unfolding lost_from
-  lose_end h = sym (i.is ∙ ap (lost_from number k) (no_pieces s at h))
+  lose_end h = sym (i.is ∙ ap (λ (l : Answer (Bor Bytes)). lost_from number k (pieces newline l)) h)
 
-  module _ (short : length s ≤ text_bytes) (h : at ≤ length s) where
-    pub lose_number : k ≤ most_number
-    lose_number = omega (arith, i.few, h, short)
+  module _ {l : Bytes} {more : Answer (Bor Bytes)} (line : (m : Bor Bytes) × (left ≡ Some m) × Cut newline m.now l more) where
+    lose_sizes : size_left left ≡ suc (length l + size_left more)
+    lose_sizes = ap size_left line.1 ∙ ap suc (sym line.2.shorter)
 
-    module _ {e : ℕ} (piece : at ≤ length s → Piece newline s at e) {t : Bool} (q : t ≡ (is_rule (take (e - at) (drop at s)) && not (has_tag k (take (e - at) (drop at s))))) where
-      onward : lost_line (split newline s) ≡ cond t (some number) (lost_from (suc number) (next k (take (e - at) (drop at s))) (pieces_from newline s (e + 1)))
+    module _ {t : ℕ} (same : t ≡ k) {x : Bool} (q : x ≡ (is_rule l && not (has_tag t l))) where
+      onward : lost_line (split newline s) ≡ cond x (some number) (lost_from (suc number) (next t l) (pieces newline more))
       unfolding lost_from
       onward =
-          i.is ∙ ap (lost_from number k) (piece h).is
-          ∙ ap (λ (b : Bool). cond b (some number) (lost_from (suc number) (next k (take (e - at) (drop at s))) (pieces_from newline s (e + 1)))) (sym q)
+          i.is ∙ ap (λ (m : Answer (Bor Bytes)). lost_from number k (pieces newline m)) line.1 ∙ ap (lost_from number k) line.2.is
+          ∙ ap (λ (y : ℕ). lost_from number y (l ∷ pieces newline more)) (sym same)
+          ∙ ap (λ (b : Bool). cond b (some number) (lost_from (suc number) (next t l) (pieces newline more))) (sym q)
 
-      pub lose_found : t ≡ true → some number ≡ lost_line (split newline s)
-      lose_found y = sym (onward ∙ ap (λ (b : Bool). cond b (some number) (lost_from (suc number) (next k (take (e - at) (drop at s))) (pieces_from newline s (e + 1)))) y)
+      pub lose_found : x ≡ true → some number ≡ lost_line (split newline s)
+      lose_found y = sym (onward ∙ ap (λ (b : Bool). cond b (some number) (lost_from (suc number) (next t l) (pieces newline more))) y)
 
-      pub lose_more : t ≡ false → {j : ℕ} → j ≡ next k (take (e - at) (drop at s)) → Losing s (e + 1) j (number + 1)
+      pub lose_more : x ≡ false → {j : ℕ} → j ≡ next t l → Losing s more j (number + 1)
       lose_more y {j} z =
           record {
-            low = omega arith;
-            few = omega (arith, z, next_most k (take (e - at) (drop at s)), i.few, (piece h).low);
-            numbered = omega (arith, i.numbered, (piece h).low);
+            few = omega (arith, z, next_most t l, same, i.few, lose_sizes);
+            numbered = omega (arith, i.numbered, lose_sizes);
             is =
                 onward
-                ∙ ap (λ (b : Bool). cond b (some number) (lost_from (suc number) (next k (take (e - at) (drop at s))) (pieces_from newline s (e + 1)))) y
-                ∙ ap (λ (x : ℕ). lost_from x (next k (take (e - at) (drop at s))) (pieces_from newline s (e + 1))) (sym (add-one number))
-                ∙ ap (λ (x : ℕ). lost_from (number + 1) x (pieces_from newline s (e + 1))) (sym z);
+                ∙ ap (λ (b : Bool). cond b (some number) (lost_from (suc number) (next t l) (pieces newline more))) y
+                ∙ ap (λ (x : ℕ). lost_from x (next t l) (pieces newline more)) (sym (add-one number))
+                ∙ ap (λ (x : ℕ). lost_from (number + 1) x (pieces newline more)) (sym z);
           }

@@ -1,19 +1,15 @@
 -- What is written of a converted text, whether it fits or not.
-use Rattle.std.specs.Prelude.{ℕ, ◌+◌, ◌≤◌, ◌≡◌, ◌++◌, length, take}
+use Rattle.std.specs.Prelude.{ℕ, ◌+◌, ◌≤◌, ◌≡◌, true, false, ◌++◌, length, take, drop}
+use Rattle.std.specs.Prelude.{Option as Answer, Some, None}
+use Rattle.std.specs.Borrow.{Bor}
 use Rattle.layout.specs.Words.{Bytes, ascii}
-use Rattle.editions.specs.Converting.{tag_text, insert_tag, remove_tag, tag_line, untag_line, tagged_text, untagged_text}
+use Rattle.editions.specs.Converting.{is_rule, tag_text, tag_line, untag_line, tagged_text, untagged_text}
 use Rattle.edition_tags.specs.declared.To.{To}
 use Rattle.edition_tags.specs.declared.To.TheVariants.{First, Second}
 
--- no conversion of a text of 65,536 bytes has more bytes, no tag is longer, and no rule form has a higher number
+-- no conversion of a text of 65,536 bytes has more bytes
 abbrev pub most_bytes : ℕ
 most_bytes = 1048576
-
-abbrev pub most_tag : ℕ
-most_tag = 12
-
-abbrev pub most_number : ℕ
-most_number = 65537
 
 -- the text t goes behind the first `at` bytes of the table, where it fits; r counts its bytes in any case
 pub record Appended (d₀ : Bytes) (at : ℕ) (t : Bytes) (d : Bytes) (r : ℕ) : Type 0 where
@@ -21,16 +17,16 @@ pub record Appended (d₀ : Bytes) (at : ℕ) (t : Bytes) (d : Bytes) (r : ℕ) 
   pub next : r ≡ at + length t
   pub is : r ≤ length d₀ → take r d ≡ take at d₀ ++ t
 
--- the text of the tag k stands in the first r bytes
-pub record Tagged (k : ℕ) (d : Bytes) (r : ℕ) : Type 0 where
-  pub count : r ≡ length (tag_text k)
-  pub few : r ≤ most_tag
-  pub is : take r d ≡ tag_text k
+-- what stands behind `(rule`, where a line begins so
+abbrev pub RuleRest : Bytes → Answer (Bor Bytes) → Type 0
+RuleRest l None = is_rule l ≡ false
+RuleRest l (Some r) = (is_rule l ≡ true) × (r.now ≡ drop 5 l) × (length r.now + 5 ≡ length l)
 
 -- ---- by the edition that a text is converted to
+-- a rule form by what stands behind its `(rule`
 abbrev pub rule_to : To → ℕ → Bytes → Bytes
-rule_to First k l = remove_tag k l
-rule_to Second k l = insert_tag k l
+rule_to First k r = ascii "(rule" ++ drop (length (tag_text k)) r
+rule_to Second k r = ascii "(rule" ++ (tag_text k ++ r)
 
 abbrev pub line_to : To → ℕ → Bytes → Bytes
 line_to First k l = untag_line k l

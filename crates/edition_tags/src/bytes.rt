@@ -1,9 +1,7 @@
-// Appending bytes, and the start of a line.
-ghost use Rattle.std.specs.Prelude.{◌≡◌, ◌+◌, ◌≤◌, length, take, drop};
-ghost use Rattle.layout.specs.Words.{same};
+// Appending bytes, and what stands from a place on.
+ghost use Rattle.std.specs.Prelude.{◌≡◌, ◌+◌, ◌≤◌, length, drop};
 ghost use Rattle.edition_tags.specs.Appended.{Appended, most_bytes};
 
-use reader::word::same_word;
 use writer::Output;
 
 // What does not fit is not written.
@@ -18,16 +16,6 @@ pub fn append(d: &mut [u8], at: usize, w: &[u8]) -> usize
         return out.at;
     }
     end
-}
-
-pub fn starts(l: &[u8], w: &[u8]) -> bool
-    ensures { result ≡ same (take (length w.now) l.now) w.now }
-{
-    let n = w.len();
-    if l.len() < n {
-        return false;
-    }
-    same_word(&l[..n], w)
 }
 
 // The bytes from a place on, none past the end.

@@ -2,9 +2,9 @@
 // that the length alone decides refusal 31.
 #![tactic(auto)]
 
-mod bytes; // appending, and the start of a line
+mod bytes; // appending
 mod line; // one line
-mod tag; // the text of a tag
+mod tag; // a tag
 pub mod text; // a whole text
 
 // The edition that a text is converted to.

@@ -1,94 +1,65 @@
-// One line of a readable text, the next rule form being the k-th.
-ghost use Rattle.std.specs.Prelude.{◌≡◌, true, not, ◌&&◌, ◌∷◌, ◌+◌, ◌≤◌, length};
+// One line of a readable text, with the tag of the next rule form.
+ghost use Rattle.std.specs.Prelude.{◌≡◌, not, ◌&&◌, ◌∷◌, ◌+◌, ◌≤◌, length};
 ghost use Rattle.layout.specs.Words.{newline};
-ghost use Rattle.editions.specs.Converting.{is_rule, has_tag, insert_tag, remove_tag};
+ghost use Rattle.editions.specs.Converting.{is_rule, has_tag};
 ghost use Rattle.editions.specs.Converting as converting;
-ghost use Rattle.edition_tags.specs.Appended.{Appended, most_bytes, most_tag, most_number, rule_to, line_to};
+ghost use Rattle.edition_tags.specs.Tagged.{most_tag};
+ghost use Rattle.edition_tags.specs.Appended.{Appended, RuleRest, most_bytes, rule_to, line_to};
 
 use crate::To;
-use crate::bytes::{after, append, starts};
-use crate::tag::{TAG, put_tag};
+use crate::bytes::{after, append};
+use crate::tag::Tag;
 
-// `(rule`
-const RULE: usize = 5;
-
-fn is_rule(l: &[u8]) -> bool
-    ensures { result ≡ is_rule l.now }
+// What stands behind `(rule` in a rule form.
+fn rule_rest(l: &[u8]) -> Option<&[u8]>
+    ensures { RuleRest l.now result }
 {
-    starts(l, b"(rule")
+    l.strip_prefix(b"(rule")
 }
 
-// "exactly-one forms not counted"
-pub fn next(l: &[u8], k: usize) -> usize
-    requires { k ≤ most_number }
-    ensures { result ≡ converting.next k l.now }
+// The number of the rule form after the line. "exactly-one forms not counted"
+pub fn next(l: &[u8], tag: &Tag) -> usize
+    ensures { result ≡ converting.next tag.now.number l.now }
 {
-    if is_rule(l) {
-        return k + 1;
+    match rule_rest(l) {
+        Some(_) => tag.number + 1,
+        None => tag.number,
     }
-    k
-}
-
-fn has_tag(l: &[u8], k: usize) -> bool
-    requires { k ≤ most_number }
-    ensures { result ≡ has_tag k l.now }
-{
-    let mut tag = [0u8; TAG];
-    let n = put_tag(k, &mut tag);
-    starts(after(l, RULE), &tag[..n])
 }
 
 // A rule form with another tag.
-pub fn is_lost(l: &[u8], k: usize) -> bool
-    requires { k ≤ most_number }
-    ensures { result ≡ (is_rule l.now && not (has_tag k l.now)) }
+pub fn is_lost(l: &[u8], tag: &Tag) -> bool
+    ensures { result ≡ (is_rule l.now && not (has_tag tag.now.number l.now)) }
 {
-    if is_rule(l) {
-        return !has_tag(l, k);
+    match rule_rest(l) {
+        Some(rest) => rest.strip_prefix(tag.text()).is_none(),
+        None => false,
     }
-    false
-}
-
-fn put_tagged(l: &[u8], k: usize, d: &mut [u8], at: usize) -> usize
-    requires { (is_rule l.now ≡ true) × (k ≤ most_number) × (at + length l.now + most_tag ≤ most_bytes) }
-    ensures { Appended d.old at (insert_tag k l.now) d.new result }
-{
-    let mut tag = [0u8; TAG];
-    let n = put_tag(k, &mut tag);
-    let p = append(d, at, b"(rule");
-    let q = append(d, p, &tag[..n]);
-    append(d, q, after(l, RULE))
-}
-
-fn put_untagged(l: &[u8], k: usize, d: &mut [u8], at: usize) -> usize
-    requires { (is_rule l.now ≡ true) × (k ≤ most_number) × (at + length l.now + most_tag ≤ most_bytes) }
-    ensures { Appended d.old at (remove_tag k l.now) d.new result }
-{
-    let mut tag = [0u8; TAG];
-    let n = put_tag(k, &mut tag);
-    let p = append(d, at, b"(rule");
-    append(d, p, after(l, RULE + n))
 }
 
 // `(rule` stays; the tag goes in or out behind it.
-fn put_rule(to: To, l: &[u8], k: usize, d: &mut [u8], at: usize) -> usize
-    requires { (is_rule l.now ≡ true) × (k ≤ most_number) × (at + length l.now + most_tag ≤ most_bytes) }
-    ensures { Appended d.old at (rule_to to k l.now) d.new result }
+fn put_rule(to: To, rest: &[u8], tag: &Tag, d: &mut [u8], at: usize) -> usize
+    requires { at + length rest.now + (5 + most_tag) ≤ most_bytes }
+    ensures { Appended d.old at (rule_to to tag.now.number rest.now) d.new result }
 {
+    let p = append(d, at, b"(rule");
     match to {
-        To::First => put_untagged(l, k, d, at),
-        To::Second => put_tagged(l, k, d, at),
+        To::First => append(d, p, after(rest, tag.length)),
+        To::Second => {
+            let q = append(d, p, tag.text());
+            append(d, q, rest)
+        }
     }
 }
 
 // Behind a byte 10 the line in the other edition.
-pub fn put_line(to: To, l: &[u8], k: usize, d: &mut [u8], at: usize) -> usize
-    requires { (k ≤ most_number) × (at + length l.now + (most_tag + 1) ≤ most_bytes) }
-    ensures { Appended d.old at (newline ∷ line_to to k l.now) d.new result }
+pub fn put_line(to: To, l: &[u8], tag: &Tag, d: &mut [u8], at: usize) -> usize
+    requires { at + length l.now + (most_tag + 1) ≤ most_bytes }
+    ensures { Appended d.old at (newline ∷ line_to to tag.now.number l.now) d.new result }
 {
     let p = append(d, at, b"\n");
-    if is_rule(l) {
-        return put_rule(to, l, k, d, p);
+    match rule_rest(l) {
+        Some(rest) => put_rule(to, rest, tag, d, p),
+        None => append(d, p, l),
     }
-    append(d, p, l)
 }

@@ -9,7 +9,9 @@ ghost use Rattle.edition_tags.specs.Appended.{Appended, heading_to, text_to};
 use crate::To;
 use crate::bytes::append;
 use crate::line::{is_lost, next, put_line};
-use reader::text::line_end;
+use crate::tag::Tag;
+use reader::text::Lines;
+use reader::word::{NEWLINE, cut};
 
 fn put_heading(to: To, d: &mut [u8]) -> usize
     ensures { Appended d.old 0 (heading_to to) d.new result }
@@ -21,18 +23,19 @@ fn put_heading(to: To, d: &mut [u8]) -> usize
 }
 
 // The text in the other edition: its length, and its bytes where they fit.
+// stays (no plainer): `length text ≤ text_bytes` is what reading the text has told; a type for it would be made anew from the same bytes and hold no more.
 pub fn put_text(to: To, text: &[u8], d: &mut [u8]) -> usize
     requires { length text.now ≤ text_bytes }
     ensures { Appended d.old 0 (text_to to text.now) d.new result }
 {
+    let (_, left) = cut(text, NEWLINE);
+    let lines = Lines { left };
     let mut n = put_heading(to, d);
-    let mut at = line_end(text, 0) + 1;
     let mut k: usize = 1;
-    while at <= text.len() {
-        let end = line_end(text, at);
-        n = put_line(to, &text[at..end], k, d, n);
-        k = next(&text[at..end], k);
-        at = end + 1;
+    for line in lines {
+        let tag = Tag::of(k);
+        n = put_line(to, line, &tag, d, n);
+        k = next(line, &tag);
     }
     n
 }
@@ -42,16 +45,16 @@ pub fn lost_line(text: &[u8]) -> Option<usize>
     requires { length text.now ≤ text_bytes }
     ensures { num_of result ≡ lost_line (split newline text.now) }
 {
-    let mut at = line_end(text, 0) + 1;
+    let (_, left) = cut(text, NEWLINE);
+    let lines = Lines { left };
     let mut k: usize = 1;
     let mut number: usize = 2;
-    while at <= text.len() {
-        let end = line_end(text, at);
-        if is_lost(&text[at..end], k) {
+    for line in lines {
+        let tag = Tag::of(k);
+        if is_lost(line, &tag) {
             return Some(number);
         }
-        k = next(&text[at..end], k);
-        at = end + 1;
+        k = next(line, &tag);
         number += 1;
     }
     None

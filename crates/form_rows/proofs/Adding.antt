@@ -1,17 +1,18 @@
 -- The clauses of an exactly-one form, one after the other behind those that stand.
-use Prim.Native.Nat.{ℕ, ◌+◌, ◌≤◌, ◌<◌}
+use Prim.Native.Nat.{ℕ, ◌+◌, ◌-◌, ◌≤◌, ◌<◌}
 use native.Mathlib.Omega.{arith}
 use mathlib.Core.Path.{◌≡◌, refl, sym, ap, subst, ◌∙◌}
 use mathlib.Core.List.{List, [], ◌∷◌, ◌++◌, map, append_assoc, append-nil}
 use lib.IntN.{ℤ, pos}
-use lib.ListN.{length, get_or, drop, length-append, drop_of_length-le}
+use lib.ListN.{length, get_or, take, drop, length-append, drop_of_length-le}
+use Rattle.std.proofs.lemmas.List.{take_all, length-drop, get_or-drop}
 use Rattle.qbf.specs.Formula.{paper, Literal, Clause}
 use Rattle.qbf.specs.One.{both_negated, pairs_with, pairs, one_count}
 use Rattle.qbf.specs.Calls.{clause_of}
 use Rattle.theory.proofs.OneCount.{forms_count}
 use Rattle.tables.specs.Views.{Table, rows_of}
 use Rattle.constraint.proofs.Lists.{drop_more}
-use Rattle.rule_rows.specs.Accepted.{Added}
+use Rattle.rule_rows.specs.Accepted.{Added, Named}
 
 -- ---- clauses one after the other
 map_append : {A B : Type 0} (f : A → B) (xs ys : List A) → map f (xs ++ ys) ≡ map f xs ++ map f ys
@@ -39,9 +40,6 @@ pub record Adding (f₀ : List ℤ) (l₀ places : List ℕ) (all left : List (L
   pub room : get_or l 0 0 + length left ≤ paper.clauses
   pub ends : {f₁ : List ℤ} {l₁ : List ℕ} → Added f l left places f₁ l₁ → Added f₀ l₀ all places f₁ l₁
 
-pub adding_all : {f : List ℤ} {l places : List ℕ} {cs : List (List Literal)} → Table paper.literals paper.clauses f l → get_or l 0 0 + length cs ≤ paper.clauses → Adding f l places cs cs f l
-adding_all t h = record { table = t; room = h; ends = λ {f₁} {l₁} a. a }
-
 module _ {f₀ f : List ℤ} {l₀ l places : List ℕ} {all left : List (List Literal)} (w : Adding f₀ l₀ places all left f l) where
   pub adding_end : left ≡ [] → Added f₀ l₀ all places f l
   adding_end e = w.ends (subst (λ (cs : List (List Literal)). Added f l cs places f l) (sym e) (added_none w.table))
@@ -61,11 +59,8 @@ module _ {f₀ f : List ℤ} {l₀ l places : List ℕ} {all left : List (List L
         ends : {f₂ : List ℤ} {l₂ : List ℕ} → Added f₁ l₁ ds places f₂ l₂ → Added f₀ l₀ all places f₂ l₂
         ends {f₂} {l₂} b = w.ends (subst (λ (xs : List (List Literal)). Added f l xs places f₂ l₂) (sym e) (added_more a b))
 
--- ---- the pairs of the literal at i and each later one; the next is the one at j
-module _ (ls : List Literal) (i j : ℕ) where
-  abbrev first : Literal
-  first = get_or ls i (pos 0)
-
+-- ---- the pairs of a literal and each of the others; the next is the one at j
+module _ (first : Literal) (ls : List Literal) (j : ℕ) where
   pub pairs_with_end : length ls ≤ j → {f₀ f : List ℤ} {l₀ l places : List ℕ} {all : List (List Literal)} → Adding f₀ l₀ places all (pairs_with first (drop j ls)) f l → Added f₀ l₀ all places f l
   pairs_with_end h w = adding_end w (ap (pairs_with first) (drop_of_length-le ls h))
 
@@ -74,9 +69,6 @@ module _ (ls : List Literal) (i j : ℕ) where
     next = ap (pairs_with first) (drop_more ls j (pos 0) h)
 
     module _ {f₀ f : List ℤ} {l₀ l places : List ℕ} {all : List (List Literal)} (w : Adding f₀ l₀ places all (pairs_with first (drop j ls)) f l) where
-      pub pairs_with_room : get_or l 0 0 < paper.clauses
-      pairs_with_room = omega (arith, adding_room w (both_negated first (get_or ls j (pos 0)) ∷ []) (pairs_with first (drop (j + 1) ls)) next)
-
       pub pairs_with_more : {pair : List Literal} → pair ≡ both_negated first (get_or ls j (pos 0)) → {f₁ : List ℤ} {l₁ : List ℕ} → Added f l (pair ∷ []) places f₁ l₁
           → Adding f₀ l₀ places all (pairs_with first (drop (j + 1) ls)) f₁ l₁
       pairs_with_more e {f₁} {l₁} a =
@@ -99,10 +91,18 @@ module _ (ls : List Literal) (i : ℕ) where
       pub pairs_more : {f₁ : List ℤ} {l₁ : List ℕ} → Added f l (pairs_with (get_or ls i (pos 0)) (drop (i + 1) ls)) places f₁ l₁ → Adding f₀ l₀ places all (pairs (drop (i + 1) ls)) f₁ l₁
       pairs_more a = adding_more w (pairs_with (get_or ls i (pos 0)) (drop (i + 1) ls)) (pairs (drop (i + 1) ls)) here a
 
+-- ---- the literals behind the one at i, as the code takes them
+pub rest_taken : (ls : List Literal) (i : ℕ) → take (length ls - (i + 1)) (drop (i + 1) ls) ≡ drop (i + 1) ls
+rest_taken ls i = take_all (length ls - (i + 1)) (drop (i + 1) ls) (omega (arith, length-drop (i + 1) ls))
+
+pub named_rest : (ls : List Literal) (i : ℕ) → Named ls → Named (drop i ls)
+named_rest ls i n k h = rw (get_or-drop i ls k (pos 0)) (n (i + k) (omega (arith, h, length-drop i ls)))
+
+pub added_with : {l m : Literal} {xs ys : List Literal} → l ≡ m → xs ≡ ys → {f f' : List ℤ} {s s' places : List ℕ} → Added f s (pairs_with l xs) places f' s' → Added f s (pairs_with m ys) places f' s'
+added_with {l} {m} {xs} {ys} e q {f} {f'} {s} {s'} {places} a =
+    subst (λ (k : Literal). Added f s (pairs_with k ys) places f' s') e (subst (λ (zs : List Literal). Added f s (pairs_with l zs) places f' s') q a)
+
 -- ---- a form: there is room for the rule of all its literals, and then for the pairs
 module _ (ls : List Literal) (l : List ℕ) (h : get_or l 0 0 + one_count (length ls) ≤ paper.clauses) where
-  pub first_room : get_or l 0 0 < paper.clauses
-  first_room = omega (arith, h)
-
   pub rest_room : {f f₁ : List ℤ} {l₁ places : List ℕ} → Added f l (ls ∷ []) places f₁ l₁ → get_or l₁ 0 0 + length (pairs ls) ≤ paper.clauses
   rest_room a = omega (arith, h, a.count, forms_count ls)

@@ -8,13 +8,10 @@ use mir.Syntax.{w16}
 use mir.Val.{SFits, to_z, of_z}
 use Rattle.qbf.specs.Formula.{number_of, paper}
 use Rattle.qbf.specs.One.{both_negated}
-use Rattle.literal.proofs.Signed.{back, number_least}
+use Rattle.literal.proofs.Signed.{back}
 
 -- ---- what `-lit` computes at the bits of a literal
 module _ {z : ℤ} (f : SFits w16 z) where
-  pub not_least : of_z w16 z ≡ 32768 → number_of z ≤ paper.numbers → ⊥
-  not_least e h = omega (arith, number_least z f e, h)
-
   module _ (least : of_z w16 z ≡ 32768 → ⊥) where
     is : to_z w16 0 -ℤ to_z w16 (of_z w16 z) ≡ neg_ℤ z
     is = ap (λ (y : ℤ). pos 0 -ℤ y) (back f) ∙ +ℤ_idl (neg_ℤ z)
@@ -29,9 +26,6 @@ module _ {z : ℤ} (f : SFits w16 z) where
 
     pub negation_fits : SFits w16 (to_z w16 0 -ℤ to_z w16 (of_z w16 z))
     negation_fits = subst (SFits w16) (sym is) fits
-
-    pub negation_is : to_z w16 (of_z w16 (to_z w16 0 -ℤ to_z w16 (of_z w16 z))) ≡ neg_ℤ z
-    negation_is = back negation_fits ∙ is
 
 -- ---- a pair, both negated: the bits of what `negation` answers
 negated_back : {l : ℤ} → SFits w16 l → {a : ℤ} → (number_of (to_z w16 (of_z w16 l)) ≤ paper.numbers → a ≡ neg_ℤ (to_z w16 (of_z w16 l))) → number_of l ≤ paper.numbers → to_z w16 (of_z w16 a) ≡ neg_ℤ l

@@ -2,14 +2,14 @@
 // first with third and so on, with both negated".
 #![tactic(auto)]
 
-ghost use Rattle.std.specs.Prelude.{◌≡◌, ◌+◌, ◌≤◌, ◌<◌, pos, neg_ℤ, length, get_or, drop};
+ghost use Rattle.std.specs.Prelude.{◌≡◌, ◌+◌, ◌≤◌, neg_ℤ, length, get_or};
 ghost use Rattle.qbf.specs.Formula.{paper, number_of};
 ghost use Rattle.qbf.specs.One.{pairs_with, pairs, one_forms, one_count};
-ghost use Rattle.tables.specs.Views.{Table};
-ghost use Rattle.rule_rows.specs.Accepted.{Named, Added, Accepted};
+ghost use Rattle.rule_rows.specs.Accepted.{Named};
+ghost use Rattle.rule_rows.specs.Lent.{AddedTo, AcceptedTo};
 
 use rule_rows::cells::clear;
-use rule_rows::clauses::add;
+use rule_rows::standing::{Clauses, Rule};
 
 // The one literal whose negation is not a signed 16-bit number.
 const LEAST: i16 = -32768;
@@ -24,78 +24,50 @@ fn negation(lit: i16) -> i16
     -lit
 }
 
-// The pairs of the literal at i and each later one.
-fn add_pairs_with<'a>(
-    cells: &mut [i16; tables::CLAUSE_CELLS],
-    sizes: &mut [u16; tables::CLAUSE_SIZES],
-    lits: &'a [i16],
-    i: usize,
-    places: &'a [u16; tables::BY_NUMBER],
-)
-    requires { Table paper.literals paper.clauses cells.old sizes.old
-        × (i < length lits.now)
-        × (get_or sizes.old 0 0 + length (pairs_with (get_or lits.now i (pos 0)) (drop (i + 1) lits.now)) ≤ paper.clauses)
-        × Named lits.now }
-    ensures { Added
-        cells.old
-        sizes.old
-        (pairs_with (get_or lits.now i (pos 0)) (drop (i + 1) lits.now))
-        places.now
-        cells.new
-        sizes.new }
+// The pairs of a literal and each later one.
+fn add_pairs_with(rows: &mut Clauses<'_>, lit: i16, rest: &[i16], places: &[u16; tables::BY_NUMBER])
+    requires { (get_or rows.old.sizes.now 0 0 + length (pairs_with lit rest.now) ≤ paper.clauses)
+        × (number_of lit ≤ paper.numbers)
+        × Named rest.now }
+    ensures { AddedTo rows.old (pairs_with lit rest.now) places.now rows.new }
 {
-    let first = negation(lits[i]);
-    for j in i + 1..lits.len() {
-        let pair = [first, negation(lits[j])];
-        add(cells, sizes, &pair, places);
+    let first = negation(lit);
+    for other in rest {
+        let pair = [first, negation(*other)];
+        rows.add(Rule { lits: &pair }, places);
     }
 }
 
-fn add_pairs<'a>(
-    cells: &mut [i16; tables::CLAUSE_CELLS],
-    sizes: &mut [u16; tables::CLAUSE_SIZES],
-    lits: &'a [i16],
-    places: &'a [u16; tables::BY_NUMBER],
-)
-    requires { Table paper.literals paper.clauses cells.old sizes.old
-        × (get_or sizes.old 0 0 + length (pairs lits.now) ≤ paper.clauses)
+fn add_pairs(rows: &mut Clauses<'_>, lits: &[i16], places: &[u16; tables::BY_NUMBER])
+    requires { (get_or rows.old.sizes.now 0 0 + length (pairs lits.now) ≤ paper.clauses)
         × Named lits.now }
-    ensures { Added
-        cells.old
-        sizes.old
-        (pairs lits.now)
-        places.now
-        cells.new
-        sizes.new }
+    ensures { AddedTo rows.old (pairs lits.now) places.now rows.new }
 {
-    for i in 0..lits.len() {
-        add_pairs_with(cells, sizes, lits, i, places);
+    for (i, lit) in lits.iter().enumerate() {
+        add_pairs_with(rows, *lit, &lits[i + 1..], places);
     }
 }
 
 // "All of its rules are added"; "all passes go and bars remain"
-pub fn accept_one<'a>(
-    cells: &mut [i16; tables::CLAUSE_CELLS],
-    sizes: &mut [u16; tables::CLAUSE_SIZES],
+// stays (no plainer): of the cubes' sizes only the count is set, and the table that they measure is not lent
+pub fn accept_one(
+    rows: &mut Clauses<'_>,
     cube_sizes: &mut [u16; tables::CONSTRAINT_SIZES],
-    lits: &'a [i16],
-    places: &'a [u16; tables::BY_NUMBER],
+    rule: Rule<'_>,
+    places: &[u16; tables::BY_NUMBER],
 )
-    requires { Table paper.literals paper.clauses cells.old sizes.old
-        × (get_or sizes.old 0 0 + one_count (length lits.now) ≤ paper.clauses)
-        × (length lits.now ≤ paper.literals)
-        × Named lits.now }
-    ensures { Accepted
-        cells.old
-        sizes.old
-        (one_forms lits.now)
+    requires { (get_or rows.old.sizes.now 0 0 + one_count (length rule.lits.now) ≤ paper.clauses)
+        × Named rule.lits.now }
+    ensures { AcceptedTo
+        rows.old
+        (one_forms rule.entry.lits.now)
         places.now
         cube_sizes.old
-        cells.new
-        sizes.new
+        rows.new
         cube_sizes.new }
 {
-    add(cells, sizes, lits, places);
-    add_pairs(cells, sizes, lits, places);
+    let lits = rule.lits;
+    rows.add(rule, places);
+    add_pairs(rows, lits, places);
     clear(cube_sizes);
 }

@@ -27,11 +27,6 @@ module _ (D : Prefix) (first next : Option Constraint) {x : code.Option Bounds} 
       let g = subst (λ (y : code.Option Bounds). FoundCoded D y cls cs area first) q f in
       (g.0, ap (λ (o : Option Constraint). first_of o next) g.1, g.2)
 
-  pub dying_none : x ≡ None → (y : code.Option Bounds) → FoundCoded D y cls cs area next → FoundCoded D y cls cs area (first_of first next)
-  dying_none q y g =
-      let e = subst (λ (z : code.Option Bounds). FoundCoded D z cls cs area first) q f in
-      subst (FoundCoded D y cls cs area) (sym (ap (λ (o : Option Constraint). first_of o next) e)) g
-
 pub found_bounded : {x : code.Option Bounds} {b : Bounds} → x ≡ Some b → FoundBounded x → Bounded b
 found_bounded q h = subst FoundBounded q h
 
@@ -55,9 +50,6 @@ module _ (D : Prefix) (R : List Clause) (s : Node) (next : Option (Outcome Const
   pub reached_all : b ≡ true → (at : Bounds) → entry_at at cls qs area ≡ codes D (reduce D true (implicant D s R []))
       → LeafCoded D (Yes at) cls cs qs area (satisfied_or D R s next)
   reached_all e at h = (reduce D true (implicant D s R []), tested true e, h)
-
-  pub reached_some : b ≡ false → (x : Leaf) → LeafCoded D x cls cs qs area next → LeafCoded D x cls cs qs area (satisfied_or D R s next)
-  reached_some e x h = subst (LeafCoded D x cls cs qs area) (sym (tested false e)) h
 
 -- ---- the steps in order
 first_then : (v : Verdict) (a b : Option Constraint) (next : Option (Outcome Constraint)) → conclude_by v (first_of a b) next ≡ conclude_by v a (conclude_by v b next)

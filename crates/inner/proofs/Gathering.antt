@@ -1,15 +1,16 @@
 -- The true literals of the marked places, place after place.
-use Prim.Native.Nat.{ℕ, suc, ◌+◌, ◌*◌, ◌≤◌, ◌<◌}
+use Prim.Native.Nat.{ℕ, suc, ◌+◌, ◌-◌, ◌*◌, ◌≤◌, ◌<◌}
 use native.Mathlib.Omega.{arith}
 use native.Mathlib.Numerals.{add-one}
 use mathlib.Core.Path.{◌≡◌, refl, sym, ap, ◌∙◌}
 use mathlib.Core.Bool.{Bool, true, false, cond}
 use mathlib.Core.List.{List, [], ◌∷◌, ◌++◌, append-nil}
 use mathlib.Core.Option.{some}
-use lib.ListN.{length, get_or, take, set}
+use lib.ListN.{length, get_or, take, drop, set}
 use lib.Seq.{take-suc, take-suc-set, length-take-le, take_all}
 use lib.Dec.{eqb}
-use borrow.Author.Tests.{ne_eqb}
+use mir.Val.{bool_byte}
+use Rattle.std.proofs.lemmas.List.{take-set-le, get_or-drop, get_or-take, length-drop}
 use Rattle.qbf.specs.Formula.{Node, ◌▹◌, value_at}
 use Rattle.theory.proofs.Basics.{value_some}
 use Rattle.tables.specs.Codes.{code_at, Statuses, status_of}
@@ -28,14 +29,6 @@ module _ (p : ℕ) {t : List ℕ} (s : Node) (b : Bool) (shown : Statuses s t) (
       by true e = refl
       by false e = absurd (omega arith)
 
-  -- else the negative one
-  pub true_off : (get_or t (p * 2 + 1) 0 ≡ 2 → ⊥) → p * 2 ≡ code_at p b
-  true_off h = by b (λ e. h (status_is ∙ e))
-    where
-      by : (x : Bool) → (status_of true (some x) ≡ 2 → ⊥) → p * 2 ≡ code_at p x
-      by true g = absurd (g refl)
-      by false g = omega arith
-
 -- ---- one place more
 marked_snoc : (p : ℕ) (s : Node) (b : Bool) (marks : List ℕ)
     → marked_from p (s ▹ b) marks ≡ marked_from p s marks ++ cond (eqb (get_or marks (p + length s) 0) 1) (code_at (p + length s) b ∷ []) []
@@ -49,13 +42,26 @@ marked_snoc p (x ∷ s) b marks =
     by true end e = ap (λ (cs : List ℕ). code_at p x ∷ cs) e
     by false end e = e
 
--- ---- a code put behind the others where its place is marked
-module _ (up : List ℕ) (n mark code : ℕ) where
-  pub put_there : n < length up → mark ≡ 1 → take (n + 1) (set up n code) ≡ take n up ++ cond (eqb mark 1) (code ∷ []) []
-  put_there h e = rw (e, add-one) (take-suc-set up n code h)
+-- ---- a code put behind the others, and counted where its place is marked
+module _ (up : List ℕ) (n code : ℕ) (room : n < length up) where
+  pub put_by : (b : Bool) → take (n + bool_byte b) (set up n code) ≡ take n up ++ cond b (code ∷ []) []
+  put_by true = rw add-one (take-suc-set up n code room)
+  put_by false = let z : n + 0 ≡ n = omega arith in ap (λ (k : ℕ). take k (set up n code)) z ∙ take-set-le n up n code (omega arith) ∙ sym (append-nil (take n up))
 
-  pub put_not : (mark ≡ 1 → ⊥) → take n up ≡ take n up ++ cond (eqb mark 1) (code ∷ []) []
-  put_not h = rw (ne_eqb mark 1 h) (sym (append-nil (take n up)))
+pub put_few : (n : ℕ) (b : Bool) → n + bool_byte b ≤ n + 1
+put_few n true = omega arith
+put_few n false = omega arith
+
+-- the marks from place 1 on, of `at` places
+pub mark_of : (marks : List ℕ) (at i : ℕ) → i < at → get_or (take (at + 1 - 1) (drop 1 marks)) i 0 ≡ get_or marks (i + 1) 0
+mark_of marks at i h =
+    let z : 1 + i ≡ i + 1 = omega arith in
+    get_or-take (at + 1 - 1) (drop 1 marks) i 0 (omega (arith, h)) ∙ get_or-drop 1 marks i 0 ∙ ap (λ (k : ℕ). get_or marks k 0) z
+
+pub marks_long : (marks : List ℕ) (at : ℕ) → at < length marks → length (take (at + 1 - 1) (drop 1 marks)) ≡ at
+marks_long marks at h =
+    let z : at + 1 - 1 ≤ length (drop 1 marks) = omega (arith, h, length-drop 1 marks) in
+    length-take-le (at + 1 - 1) (drop 1 marks) z ∙ omega arith
 
 -- ---- the first i places are gathered in the first n cells
 pub record Gathered (marks statuses : List ℕ) (at n i : ℕ) (up : List ℕ) : Type 0 where

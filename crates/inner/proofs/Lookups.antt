@@ -1,9 +1,9 @@
 -- The code that is looked up at an inner node, and what the lookup found.
-use Prim.Native.Nat.{ℕ, zero, suc, ◌+◌, ◌*◌, ◌-◌, ◌%◌, ◌≤◌}
+use Prim.Native.Nat.{ℕ, zero, suc, ◌+◌, ◌*◌, ◌%◌, ◌≤◌}
 use native.Mathlib.Omega.{arith}
 use native.Mathlib.Numerals.{add-one}
 use mathlib.Core.Path.{◌≡◌, refl, sym, ap, subst, ◌∙◌}
-use mathlib.Core.Bool.{Bool, true, false, not, beq, true≢false, false≢true}
+use mathlib.Core.Bool.{Bool, true, false, not, beq, true≢false}
 use mathlib.Core.List.{List, [], ◌∷◌, map}
 use mathlib.Core.Option.{Option, none, some}
 use lib.Dec.{eqb}
@@ -22,16 +22,6 @@ use Rattle.inner.proofs.LastLiteral.{coded, last_literal}
 pub opposite_up : (code : ℕ) → code % 2 ≡ 0 → (p : ℕ) (b : Bool) → code ≡ code_at p b → code + 1 ≡ code_at p (not b)
 opposite_up code e p true is = absurd (omega (arith, e, is))
 opposite_up code e p false is = omega (arith, is)
-
-pub opposite_down : (code : ℕ) → (code % 2 ≡ 0 → ⊥) → (p : ℕ) (b : Bool) → code ≡ code_at p b → code - 1 ≡ code_at p (not b)
-opposite_down code e p true is = omega (arith, is)
-opposite_down code e p false is = absurd (e (omega (arith, is)))
-
--- the literal with a truth value, by the place's value
-pub holds_in : (p : ℕ) (b cube : Bool) → cube ≡ true → {code : ℕ} → code ≡ code_at p b → code ≡ code_at p (beq b cube)
-holds_in p true true e is = is
-holds_in p false true e is = is
-holds_in p b false e is = absurd (false≢true e)
 
 pub fails_in : (p : ℕ) (b cube : Bool) → cube ≡ false → {code : ℕ} → code ≡ code_at p (not b) → code ≡ code_at p (beq b cube)
 fails_in p true false e is = is

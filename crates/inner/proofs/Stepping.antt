@@ -60,21 +60,6 @@ module _ {at code wc : ℕ} (h : Inside at code wc) where
   twice : code * 2 + 2 ≤ code_count * 2
   twice = omega (arith, h.small)
 
-  pub sets_room : code * 2 * wc + wc + wc ≤ code_count * 2 * row_words
-  sets_room =
-      let m : (code * 2 + 2) * wc ≤ code_count * 2 * row_words = mul-le-mul {n₁ = code * 2 + 2} {m₁ = wc} {n₂ = code_count * 2} {m₂ = row_words} twice h.words.few in
-      let e : (code * 2 + 2) * wc ≡ code * 2 * wc + wc + wc = two_more (code * 2) wc in
-      omega (arith, m, e)
-    where
-      two_more : (a b : ℕ) → (a + 2) * b ≡ a * b + b + b
-      two_more a b =
-          let z : a + 2 ≡ suc (suc a) = omega arith in
-          ap (λ (n : ℕ). n * b) z ∙ suc-mul (suc a) b ∙ ap (λ (n : ℕ). n + b) (suc-mul a b)
-
-  -- the parent's row, and the node's behind it
-  pub rows_next : (at - 1) * wc + wc ≡ at * wc
-  rows_next = let z : at ≡ suc (at - 1) = omega (arith, h.inner) in sym (ap (λ (n : ℕ). n * wc) z ∙ suc-mul (at - 1) wc)
-
   pub rows_room : at * wc + wc ≤ suc paper.numbers * row_words
   rows_room =
       let m : suc at * wc ≤ suc paper.numbers * row_words = mul-le-mul {n₁ = suc at} {m₁ = wc} {n₂ = suc paper.numbers} {m₂ = row_words} (omega (arith, h.within)) h.words.few in
@@ -122,9 +107,6 @@ step_kept {at = at} {marks = marks} u v put = record {
   rows = λ f i h. u.kept.below f i h;
   marked = λ i h. ap (λ (xs : List ℕ). get_or xs i 0) put ∙ get_or-set_other marks at i v 0 (λ e. omega (arith, e, h));
 }
-
-pub same_kept : (k wc : ℕ) (sat marks : List ℕ) → RowsKept k wc sat sat marks marks
-same_kept k wc sat marks = record { rows = λ f i h. refl; marked = λ i h. refl }
 
 module _ {D : Prefix} {R : List Clause} {s : Node} {at code wc k : ℕ} {sets sat sat' marks marks' : List ℕ} (given : LastGiven s at code)
     (shown : ClauseSets D R wc sets) (entered : Entered D s R wc sat marks k) {every new : Bool}

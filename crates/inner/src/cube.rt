@@ -7,21 +7,9 @@ ghost use Rattle.tables.specs.Formed.{Formed};
 ghost use Rattle.tables.specs.Sets.{MarkedSteps, marked_from};
 
 use crate::found::true_at;
-use coding::list::reduced_first;
+use coding::list::reduced_len;
 
-// Puts a code behind the first n where its place is marked.
-fn put_marked(up: &mut [u16], n: usize, mark: u8, code: u16) -> usize
-    requires { n < length up.old }
-    ensures { (result ≤ n + 1)
-        × (take result up.new ≡ take n up.old ++ cond (eqb mark 1) (code ∷ []) []) }
-{
-    if mark == 1 {
-        up[n] = code;
-        return n + 1;
-    }
-    n
-}
-
+// stays (no plainer): `at ≤ paper.numbers` is of one number that says how far a table is read; a type for it would be taken off at that table
 // The true literals of the marked places among the first `at`, in place order.
 fn marked_codes<'a>(
     marks: &'a [u8; tables::BY_NUMBER],
@@ -37,8 +25,9 @@ fn marked_codes<'a>(
         → take result up.new ≡ marked_from 1 s marks.now) }
 {
     let mut n: usize = 0;
-    for i in 0..at {
-        n = put_marked(up, n, marks[i + 1], true_at(statuses, i + 1));
+    for (i, mark) in marks[1..at + 1].iter().enumerate() {
+        up[n] = true_at(statuses, i + 1);
+        n += (*mark == 1) as usize;
     }
     n
 }
@@ -63,5 +52,5 @@ pub fn cube<'a>(
         → take result up.new ≡ codes D (reduce D true (implicant D s R []))) }
 {
     let n = marked_codes(marks, statuses, at, up);
-    reduced_first(up, n, quantifiers, true)
+    reduced_len(&up[..n], quantifiers, true)
 }

@@ -1,14 +1,15 @@
 // Step 1: "The first dead rule, in order of adding". No clause was dead above, so that one that dies at an inner node ends, under universal
 // reduction, in the literal of the node's last place that is false there, and was not satisfied above: the first such clause is looked for.
-ghost use Rattle.std.specs.Prelude.{◌≡◌, false, List, ℕ, suc, ◌*◌, ◌≤◌, ◌<◌, length};
+ghost use Rattle.std.specs.Prelude.{◌≡◌, false, List, ℕ, suc, ◌-◌, ◌*◌, ◌≤◌, ◌<◌, length};
 ghost use Rattle.std.proofs.Math.Option.{some};
 ghost use Rattle.qbf.specs.Formula.{paper, Prefix, Clause, Node};
 ghost use Rattle.qbf.specs.Learning.{Constraint, Store, lowest_dead, reduced_found};
 ghost use Rattle.tables.specs.Codes.{codes};
 ghost use Rattle.tables.specs.Formed.{Formed};
 ghost use Rattle.tables.specs.Matrices.{MatrixShown, left_at, dying_at};
-ghost use Rattle.bitset.specs.Rows.{width, some_below};
-ghost use Rattle.inner.specs.Inner.{FoundCoded, FoundBounded, Inside, LastGiven, Entered, killing};
+ghost use Rattle.tables.specs.Sets.{dying_row};
+ghost use Rattle.bitset.specs.Rows.{width, some_below, row};
+ghost use Rattle.inner.specs.Inner.{FoundCoded, FoundBounded, LastGiven, Entered, killing};
 
 use crate::Given;
 use bitset::rows::{any_outside, first_outside};
@@ -40,23 +41,39 @@ fn clause_at<'a>(rows: &'a [u16; tables::CLAUSE_ROWS], k: usize) -> Option<Bound
     None
 }
 
+// The clauses that the value given last can kill.
+fn dying_row<'a>(sets: &'a [u64; tables::CLAUSE_SETS], g: Given) -> &'a [u64]
+    ensures { (result.now ≡ row sets.now (dying_row g.words g.code) g.words) × (length result.now ≡ g.words) }
+{
+    let from = g.code as usize * 2 * g.words + g.words;
+    let end = from + g.words;
+    &sets[from..end]
+}
+
+// The clauses that were satisfied above.
+fn row_above<'a>(sat: &'a [u64; tables::SATISFIED], g: Given) -> &'a [u64]
+    ensures { (result.now ≡ row sat.now ((g.at - 1) * g.words) g.words) × (length result.now ≡ g.words) }
+{
+    let from = (g.at - 1) * g.words;
+    let end = from + g.words;
+    &sat[from..end]
+}
+
 // Whether a clause dies at an inner node: one that can die by the value given last, and that was not satisfied above.
 pub fn any_dies<'a>(
     sets: &'a [u64; tables::CLAUSE_SETS],
     sat: &'a [u64; tables::SATISFIED],
     g: Given,
 ) -> bool
-    requires { Inside g.at g.code g.words }
     ensures { result ≡ some_below (killing sets.now sat.now g.code g.at g.words) (g.words * width) }
 {
-    let dying = g.code as usize * 2 * g.words + g.words;
-    let above = (g.at - 1) * g.words;
-    any_outside(sets, dying, sat, above, g.words)
+    let dying = dying_row(sets, g);
+    let above = row_above(sat, g);
+    any_outside(dying, above)
 }
 
 // The clause that dies at an inner node, under universal reduction.
 pub fn dead<'a>(matrix: &'a Matrix, sat: &'a [u64; tables::SATISFIED], g: Given) -> Option<Bounds>
-    requires { Inside g.at g.code g.words }
     ensures found_bounded { FoundBounded result }
     ensures found_coded { (D : Prefix) (R : List Clause) (s : Node) (st : Store) (k : ℕ) (marks learned area : List ℕ)
         → LastGiven s g.at g.code
@@ -68,10 +85,8 @@ pub fn dead<'a>(matrix: &'a Matrix, sat: &'a [u64; tables::SATISFIED], g: Given)
     if !any_dies(&matrix.sets, sat, g) {
         return None;
     }
-    let dying = g.code as usize * 2 * g.words + g.words;
-    let above = (g.at - 1) * g.words;
-    clause_at(
-        &matrix.rows,
-        first_outside(&matrix.sets, dying, sat, above, g.words),
-    )
+    let dying = dying_row(&matrix.sets, g);
+    let above = row_above(sat, g);
+    let k = first_outside(dying, above);
+    clause_at(&matrix.rows, k)
 }

@@ -12,11 +12,9 @@ ghost use Rattle.qbf.specs.Formula.{paper, Prefix, Clause, Node, all, satisfied}
 ghost use Rattle.qbf.specs.Learning.{Constraint, Store, lowest_dead, reduced_found, eligible_match};
 ghost use Rattle.tables.specs.Formed.{Formed};
 ghost use Rattle.tables.specs.Codes.{codes, Statuses, Quantified};
-ghost use Rattle.tables.specs.Shelves.{code_count};
-ghost use Rattle.tables.specs.Matrices.{MatrixShown, RowLength};
+ghost use Rattle.tables.specs.Matrices.{MatrixShown};
 ghost use Rattle.tables.specs.Sets.{ClauseSets, Descended, RowsKept};
-ghost use Rattle.shelf.specs.Standing.{Kept, rows};
-ghost use Rattle.search_entry.specs.Tables.{Stand};
+ghost use Rattle.shelf.specs.Standing.{rows};
 ghost use Rattle.inner.specs.Steps.{first_of, matched, satisfied_or};
 ghost use Rattle.inner.specs.Inner.{FoundCoded, FoundBounded, LeafCoded, LeafBounded, Inside, LastGiven, Entered, NodeShown, Concluded};
 
@@ -42,6 +40,7 @@ pub struct Given {
     pub at: usize,
     pub code: u16,
     pub words: usize,
+    pub ghost inside: { Inside at code words },
 }
 
 // Steps 1 and 2: the clause that dies at the node, or the learned clause that is false there.
@@ -52,7 +51,6 @@ fn conflict<'a>(
     statuses: &'a [u8; tables::CODES],
     g: Given,
 ) -> Option<Bounds>
-    requires { Inside g.at g.code g.words × Kept learned.now }
     ensures found_bounded { FoundBounded result }
     ensures found_coded { (D : Prefix) (R : List Clause) (s : Node) (st : Store) (k : ℕ) (marks area : List ℕ)
         → Statuses s statuses.now
@@ -76,17 +74,15 @@ fn conflict<'a>(
 }
 
 // Step 4: the oldest eligible cube that is true.
-fn stored_cube<'a>(statuses: &'a [u8; tables::CODES], cubes: &'a Shelf, code: u16) -> Leaf
-    requires { Kept cubes.now × (code < code_count) }
+fn stored_cube<'a>(statuses: &'a [u8; tables::CODES], cubes: &'a Shelf, g: Given) -> Leaf
     ensures leaf_bounded { LeafBounded result }
-    ensures leaf_coded { (D : Prefix) (s : Node) (at : ℕ) (qs : List Constraint) (clauses learned area : List ℕ)
+    ensures leaf_coded { (D : Prefix) (s : Node) (qs : List Constraint) (clauses learned area : List ℕ)
         → Statuses s statuses.now
-        → LastGiven s at code
-        → 1 ≤ at
+        → LastGiven s g.at g.code
         → rows cubes.now ≡ map (codes D) qs
         → LeafCoded D result clauses learned cubes.now.cells area (matched D eqb s qs) }
 {
-    match lookup(cubes, statuses, code, true) {
+    match lookup(cubes, statuses, g.code, true) {
         Some(b) => Leaf::Yes(b),
         None => Leaf::Open,
     }
@@ -100,7 +96,6 @@ fn solution<'a>(
     trail: &mut Trail,
     g: Given,
 ) -> Leaf
-    requires { Inside g.at g.code g.words × Kept cubes.now }
     ensures leaf_bounded { LeafBounded result × RowsKept g.at g.words trail.old.sat trail.new.sat trail.old.marks trail.new.marks }
     ensures leaf_coded { (D : Prefix) (R : List Clause) (s : Node) (st : Store) (k : ℕ) (clauses learned : List ℕ)
         → Quantified D matrix.now.quantifiers
@@ -123,7 +118,7 @@ fn solution<'a>(
         );
         return Leaf::Yes(placed(Source::Area, 0, n));
     }
-    stored_cube(statuses, cubes, g.code)
+    stored_cube(statuses, cubes, g)
 }
 
 // The four steps in order, at a node that is not the start.
@@ -134,7 +129,7 @@ pub fn conclude<'a>(
     trail: &mut Trail,
     p: Position,
 ) -> Leaf
-    requires { Stand learned.now × (1 ≤ p.at) × (p.at ≤ paper.numbers) × RowLength p.words }
+    requires { (1 ≤ p.at) × (p.at ≤ paper.numbers) }
     ensures leaf_bounded { LeafBounded result × RowsKept p.at p.words trail.old.sat trail.new.sat trail.old.marks trail.new.marks }
     ensures concluded { (D : Prefix) (R : List Clause) (s : Node) (st : Store) (k : ℕ)
         → NodeShown

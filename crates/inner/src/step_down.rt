@@ -1,21 +1,32 @@
 // Step 3, first half: the clauses that are satisfied at the node are those of its parent and those that the value given last satisfies. The place
 // is marked where there is one more.
 ghost use Rattle.std.specs.Prelude.{◌≡◌, List, ℕ, suc, ◌-◌, ◌*◌, ◌≤◌, ◌<◌, length, set};
-ghost use Rattle.bitset.specs.Rows.{Unites};
+ghost use Rattle.bitset.specs.Rows.{Unites, row};
 ghost use Rattle.qbf.specs.Formula.{paper, Prefix, Clause, Node, all, satisfied};
 ghost use Rattle.tables.specs.Codes.{sign};
 ghost use Rattle.tables.specs.Sets.{ClauseSets, Descended, RowsKept, satisfying_row};
-ghost use Rattle.inner.specs.Inner.{Inside, LastGiven, Entered};
+ghost use Rattle.inner.specs.Inner.{LastGiven, Entered};
 
 use crate::Given;
 use bitset::rows::{United, unite};
 use search_entry::Trail;
 
+// The mark of a place.
+// stays (no plainer): `at ≤ paper.numbers` is of one number that says how far a table is read; a type for it would be taken off at that table
 pub fn mark(marks: &mut [u8; tables::BY_NUMBER], at: usize, fresh: bool)
     requires { at ≤ paper.numbers }
     ensures { (marks.new ≡ set marks.old at (sign fresh)) × (length marks.old ≡ suc paper.numbers) }
 {
     marks[at] = fresh as u8;
+}
+
+// The clauses that the value given last satisfies.
+fn satisfying_row<'a>(sets: &'a [u64; tables::CLAUSE_SETS], g: Given) -> &'a [u64]
+    ensures { (result.now ≡ row sets.now (satisfying_row g.words g.code) g.words) × (length result.now ≡ g.words) }
+{
+    let from = g.code as usize * 2 * g.words;
+    let end = from + g.words;
+    &sets[from..end]
 }
 
 // The node's row: its parent's, united with the clauses that the value given last satisfies.
@@ -24,7 +35,6 @@ pub fn row_down<'a>(
     sat: &mut [u64; tables::SATISFIED],
     g: Given,
 ) -> United
-    requires { Inside g.at g.code g.words }
     ensures { Unites
         ((g.at - 1) * g.words)
         (g.at * g.words)
@@ -36,19 +46,12 @@ pub fn row_down<'a>(
         result.all
         result.fresh }
 {
-    unite(
-        sat,
-        (g.at - 1) * g.words,
-        g.at * g.words,
-        sets,
-        g.code as usize * 2 * g.words,
-        g.words,
-    )
+    let by = satisfying_row(sets, g);
+    unite(sat, (g.at - 1) * g.words, g.at * g.words, by)
 }
 
 // The node's row and mark; whether every clause is satisfied there.
 pub fn step_down<'a>(sets: &'a [u64; tables::CLAUSE_SETS], trail: &mut Trail, g: Given) -> bool
-    requires { Inside g.at g.code g.words }
     ensures rows_kept { RowsKept g.at g.words trail.old.sat trail.new.sat trail.old.marks trail.new.marks }
     ensures descended { (D : Prefix) (R : List Clause) (s : Node) (k : ℕ)
         → LastGiven s g.at g.code

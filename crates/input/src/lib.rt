@@ -40,7 +40,7 @@ pub fn read_all<R: Read>(reader: &mut R, text: &mut [u8]) -> usize
     ensures { IsPrefixLen result text.new }
 {
     let mut held: usize = 0;
-    // stays (no plainer): it goes on by what each read gave, and counts nothing
+    // stays (no plainer): what is held grows by what each read gave, which no range knows
     while held < text.len() {
         let got = read_more(reader, text, held);
         if got == 0 {

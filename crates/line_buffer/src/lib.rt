@@ -5,6 +5,7 @@ ghost use Rattle.std.specs.Prelude.{◌≡◌, ◌-◌, ◌≤◌, length, take,
 ghost use Rattle.line_buffer.specs.Numbers.{next_number};
 
 // What is not used yet, at the front; how many bytes it has.
+// stays (no plainer): `held ≤ length text` is of a buffer that is read on while its lines are answered; a struct of both would have to be taken apart for each
 pub fn to_front(text: &mut [u8], at: usize, held: usize) -> usize
     requires { (at ≤ held) × (held ≤ length text.old) }
     ensures { (result ≡ held - at)

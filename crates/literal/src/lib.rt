@@ -1,9 +1,11 @@
-// Literals: the number of a literal's variable, and what the tables by number say of it.
+// Literals: the number of a literal's variable, and what the tables by number say of it. -32768 is tested before any negation.
 #![tactic(auto)]
 
-ghost use Rattle.std.specs.Prelude.{◌≡◌, cond, get_or};
-ghost use Rattle.qbf.specs.Formula.{Prefix, number_of, place};
-ghost use Rattle.tables.specs.Views.{Places, negated, status};
+ghost use Rattle.std.specs.Prelude.{◌≡◌, get_or};
+ghost use Rattle.qbf.specs.Formula.{Quantifier, Prefix, number_of, place};
+ghost use Rattle.qbf.specs.Learning.{dropped};
+ghost use Rattle.tables.specs.Codes.{wanted};
+ghost use Rattle.tables.specs.Views.{Places, negated, quantifier_code, status};
 
 // "Number, place and quantification level are separate counters and never stand in for one another."
 #[derive(Clone, Copy)]
@@ -23,6 +25,11 @@ pub struct ByNumber<'a> {
     pub values: &'a [u8],
 }
 
+// The one literal whose negation is not a signed 16-bit number.
+const LEAST: i16 = -32768;
+
+const NUMBER_OF_LEAST: usize = 32768;
+
 // What a literal is at a node; an open one is tables::OPEN.
 // stays (C): the numbers of the lent tables' cells
 pub const FALSE: u8 = tables::OFF;
@@ -30,13 +37,18 @@ pub const FALSE: u8 = tables::OFF;
 // stays (C): likewise
 pub const TRUE: u8 = tables::ON;
 
+// stays (form): -32768 is tested before any negation
 pub fn number_of(lit: i16) -> Number
     ensures { result.0 ≡ number_of lit }
 {
+    if lit == LEAST {
+        return Number(NUMBER_OF_LEAST);
+    }
     Number(lit.unsigned_abs() as usize)
 }
 
 // Off and on exchanged.
+// stays (no plainer): the exchange of three numbers is this table
 pub fn negated(value: u8) -> u8
     ensures { result ≡ negated value }
 {
@@ -50,9 +62,21 @@ pub fn negated(value: u8) -> u8
 // The status of a literal that has the truth value of the polarity: true in a cube, false in a clause.
 // stays (no plainer): the polarity is a value, and the status is it
 pub fn wanted(cube: bool) -> u8
-    ensures { result ≡ cond cube 2 1 }
+    ensures { result ≡ wanted cube }
 {
     if cube { TRUE } else { FALSE }
+}
+
+// Whether reduction drops a literal whose variable has the quantifier of this code.
+// stays (no plainer): the polarity is a value, and what is dropped is its opposite quantifier
+pub fn drops(kind: u16, cube: bool) -> bool
+    ensures { (κ : Quantifier) → kind ≡ quantifier_code κ → result ≡ dropped cube κ }
+{
+    if cube {
+        kind == tables::EXISTS
+    } else {
+        kind == tables::FORALL
+    }
 }
 
 // A cell of a table, `blank` past its end.

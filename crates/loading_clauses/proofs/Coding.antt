@@ -20,7 +20,7 @@ use Rattle.tables.specs.Shelves.{code_count}
 use Rattle.tables.specs.Matrices.{clause_row}
 use Rattle.coding.proofs.Coded.{last_cell}
 use Rattle.loading_clauses.specs.Coded.{Added, Coded, Filled, Low}
-use Rattle.lent_rows.proofs.Rows.{part_kept, part_long, put_part, row_is, row_part, table_within}
+use Rattle.lent_rows.proofs.Rows.{part_kept, part_long, put_part}
 
 -- a length before codes that stand already
 module _ (lits : List ℤ) (places quantifiers t : List ℕ) (at left : ℕ) where
@@ -79,8 +79,8 @@ module _ (lits : List ℤ) (places quantifiers xs ys : List ℕ) (at left : ℕ)
 
   pub row_written : left ≤ length lits → ((n : ℕ) → n ≤ length lits → last_code (take n ys) < code_count)
       → ((D : Prefix) → Places D places → length D ≤ paper.numbers → take (length lits) ys ≡ codes D lits)
-      → (m : ℕ) → length lits ≤ m
-      → ((D : Prefix) (e : Constraint) → Quantified D quantifiers → take (length lits) (take m (drop (at + 1) t)) ≡ codes D e
+      → (m : ℕ) → length lits ≡ m
+      → ((D : Prefix) (e : Constraint) → Quantified D quantifiers → take m (drop (at + 1) t) ≡ codes D e
       → take left (take m (drop (at + 1) t)) ≡ codes D (reduce D false e))
       → (length (set t at left) ≡ length xs)
       × (take at (set t at left) ≡ take at xs)
@@ -95,7 +95,7 @@ module _ (lits : List ℤ) (places quantifiers xs ys : List ℕ) (at left : ℕ)
         ap (λ (b : ℕ). take left (drop b t)) (sym (add-one at))
         ∙ sym (take-take left m (drop (at + 1) t) (omega arith))
         ∙ reduced D e q
-        (take-take (length lits) m (drop (at + 1) t) low
+        (ap (λ (k : ℕ). take k (drop (at + 1) t)) (sym low)
         ∙ ap (λ (b : ℕ). take (length lits) (drop b t)) (add-one at)
         ∙ h)),
   )
@@ -129,70 +129,54 @@ coded_kept {lits} {places} {quantifiers} {cells} {at} c m cells' within e = reco
     part n h = part_kept (suc at) n m cells cells' (omega arith) e
 
 -- a clause has no more literals than its size says
-pub row_short : {f : List ℤ} {l : List ℕ} → Held paper.literals paper.clauses f l → (k : ℕ) → k < get_or l 0 0 → length (row paper.literals f l k) ≤ paper.literals
-row_short {f} {l} T k low = omega (arith, T.short k low, length-take (get_or l (suc k) 0) (drop (k * paper.literals) f))
+pub row_short : {w : ℕ} {f : List ℤ} {l : List ℕ} → Held w paper.clauses f l → w ≤ paper.literals → (k : ℕ) → k < get_or l 0 0 → length (row w f l k) ≤ paper.literals
+row_short {w} {f} {l} T narrow k low = omega (arith, narrow, T.short k low, length-take (get_or l (suc k) 0) (drop (k * w) f))
 
 -- the first k clauses are in their rows
-abbrev pub CodedBelow : List ℤ → List ℕ → List ℕ → List ℕ → ℕ → List ℕ → Type 0
-CodedBelow f l places quantifiers k cells = (j : ℕ) → j < k → Coded (row paper.literals f l j) places quantifiers (j * clause_row) cells
+abbrev pub CodedBelow : ℕ → List ℤ → List ℕ → List ℕ → List ℕ → ℕ → List ℕ → Type 0
+CodedBelow w f l places quantifiers k cells = (j : ℕ) → j < k → Coded (row w f l j) places quantifiers (j * clause_row) cells
 
 -- clause k too
-pub coded_more : {f : List ℤ} {l : List ℕ} (places quantifiers : List ℕ) (k : ℕ) (cells cells' : List ℕ) → Held paper.literals paper.clauses f l → k < get_or l 0 0
-    → CodedBelow f l places quantifiers k cells
+pub coded_more : {w : ℕ} {f : List ℤ} {l : List ℕ} (places quantifiers : List ℕ) (k : ℕ) (cells cells' : List ℕ) → Held w paper.clauses f l → w ≤ paper.literals → k < get_or l 0 0
+    → CodedBelow w f l places quantifiers k cells
     → take (k * clause_row) cells' ≡ take (k * clause_row) cells
-    → Coded (row paper.literals f l k) places quantifiers (k * clause_row) cells'
-    → CodedBelow f l places quantifiers (k + 1) cells'
-coded_more {f} {l} places quantifiers k cells cells' T low inv e new j h = by (eq-or-lt_of_le (omega arith))
+    → Coded (row w f l k) places quantifiers (k * clause_row) cells'
+    → CodedBelow w f l places quantifiers (k + 1) cells'
+coded_more {w} {f} {l} places quantifiers k cells cells' T narrow low inv e new j h = by (eq-or-lt_of_le (omega arith))
   where
-    by : (j ≡ k) ⊎ (j < k) → Coded (row paper.literals f l j) places quantifiers (j * clause_row) cells'
-    by (inl q) = subst (λ (i : ℕ). Coded (row paper.literals f l i) places quantifiers (i * clause_row) cells') (sym q) new
-    by (inr m) = coded_kept (inv j m) (k * clause_row) cells' (omega (arith, row_short T j (omega arith))) e
+    by : (j ≡ k) ⊎ (j < k) → Coded (row w f l j) places quantifiers (j * clause_row) cells'
+    by (inl q) = subst (λ (i : ℕ). Coded (row w f l i) places quantifiers (i * clause_row) cells') (sym q) new
+    by (inr m) = coded_kept (inv j m) (k * clause_row) cells' (omega (arith, row_short T narrow j (omega arith))) e
 
--- ---- clause k as the code writes and reads it: a part of the literals, and a part of the cells
-module _ {f : List ℤ} {l : List ℕ} (T : Held paper.literals paper.clauses f l) (k : ℕ) (low : k < get_or l 0 0) where
-  abbrev lits : List ℤ
-  lits = row paper.literals f l k
-
+-- ---- clause k as the code reads it back: a part of the cells
+module _ {lits : List ℤ} (k : ℕ) {places quantifiers cells : List ℕ} (c : Coded lits places quantifiers (k * clause_row) cells) where
   abbrev at : ℕ
   at = k * clause_row
 
-  pub row_long : length lits ≡ get_or l (k + 1) 0
-  row_long =
-      ap length (sym (row_is paper.literals k f l))
-      ∙ part_long (k * paper.literals) (get_or l (k + 1) 0) f (table_within T k low)
+  abbrev cut : List ℕ
+  cut = take ((at + 1 + length lits) - (at + 1)) (drop (at + 1) cells)
 
-  module _ {places quantifiers cells : List ℕ}
-      (c : Coded (take ((k * paper.literals + get_or l (k + 1) 0) - k * paper.literals) (drop (k * paper.literals) f)) places quantifiers at cells) where
-    pub coded_row : Coded lits places quantifiers at cells
-    coded_row = subst (λ (x : List ℤ). Coded x places quantifiers at cells) (row_part paper.literals k f l) c
+  cut_is : cut ≡ take (length lits) (drop (suc at) cells)
+  cut_is =
+      let n : (at + 1 + length lits) - (at + 1) ≡ length lits = omega arith in
+      ap (λ (m : ℕ). take m (drop (at + 1) cells)) n ∙ ap (λ (b : ℕ). take (length lits) (drop b cells)) (add-one at)
 
-    pub left_short : get_or cells at 0 ≤ get_or l (k + 1) 0
-    left_short = omega (arith, coded_row.less, row_long)
+  pub cut_low : Low cut
+  cut_low = subst Low (sym cut_is) c.low
 
-    abbrev cut : List ℕ
-    cut = take ((at + 1 + get_or l (k + 1) 0) - (at + 1)) (drop (at + 1) cells)
+  pub cut_long : at + 1 + length lits ≤ length cells → get_or cells at 0 ≤ length cut
+  cut_long h =
+      let n : (at + 1 + length lits) - (at + 1) ≡ length lits = omega arith in
+      omega (arith, c.less, ap (λ (m : ℕ). length (take m (drop (at + 1) cells))) n, part_long (at + 1) (length lits) cells h)
 
-    cut_is : cut ≡ take (length lits) (drop (suc at) cells)
-    cut_is =
-        let n : (at + 1 + get_or l (k + 1) 0) - (at + 1) ≡ length lits = omega (arith, row_long) in
-        ap (λ (m : ℕ). take m (drop (at + 1) cells)) n ∙ ap (λ (b : ℕ). take (length lits) (drop b cells)) (add-one at)
-
-    pub cut_low : Low cut
-    cut_low = subst Low (sym cut_is) coded_row.low
-
-    pub cut_long : at + 1 + get_or l (k + 1) 0 ≤ length cells → get_or cells at 0 ≤ length cut
-    cut_long h =
-        let n : (at + 1 + get_or l (k + 1) 0) - (at + 1) ≡ get_or l (k + 1) 0 = omega arith in
-        omega (arith, left_short, ap (λ (m : ℕ). length (take m (drop (at + 1) cells))) n, part_long (at + 1) (get_or l (k + 1) 0) cells h)
-
-    pub filled : {wc : ℕ} {old sets after : List ℕ} → length cells ≡ length old → take at cells ≡ take at old
-        → Added wc cut (take (get_or cells at 0) cut) k sets after → Filled lits places quantifiers wc k old sets cells after
-    filled {wc} {old} {sets} {after} room kept a = record {
-      room = room;
-      kept = kept;
-      coded = coded_row;
-      added =
-          subst (λ (xs : List ℕ). Added wc (take (length lits) (drop (suc at) cells)) xs k sets after)
-          (take-take (get_or cells at 0) (length lits) (drop (suc at) cells) coded_row.less)
-          (subst (λ (xs : List ℕ). Added wc xs (take (get_or cells at 0) xs) k sets after) cut_is a);
-    }
+  pub filled : {wc : ℕ} {old sets after : List ℕ} → length cells ≡ length old → take at cells ≡ take at old
+      → Added wc cut (take (get_or cells at 0) cut) k sets after → Filled lits places quantifiers wc k old sets cells after
+  filled {wc} {old} {sets} {after} room kept a = record {
+    room = room;
+    kept = kept;
+    coded = c;
+    added =
+        subst (λ (xs : List ℕ). Added wc (take (length lits) (drop (suc at) cells)) xs k sets after)
+        (take-take (get_or cells at 0) (length lits) (drop (suc at) cells) c.less)
+        (subst (λ (xs : List ℕ). Added wc xs (take (get_or cells at 0) xs) k sets after) cut_is a);
+  }

@@ -46,19 +46,16 @@ opposite_same c d p b there back =
     (λ e. eq-eqb c (code_at p (not b)) (there (eqb_true (code_at p b) d e)))
     (λ e. eq-eqb (code_at p b) d (back (eqb_true c (code_at p (not b)) e)))
 
-pub opposite_even : (c : ℕ) → c < code_count → (e : ℕ) → c ≡ e * 2 → Opposite c (c + 1)
-opposite_even c low e h = record { low = omega arith; is = λ p b. by p b }
+pub opposed : {c d : ℕ} → d < code_count → ((p : ℕ) (b : Bool) → c ≡ code_at p b → d ≡ code_at p (not b)) → ((p : ℕ) (b : Bool) → d ≡ code_at p b → c ≡ code_at p (not b)) → Opposite c d
+opposed {c} {d} low there back =
+    record {
+      low = low;
+      is = λ p b. opposite_same c d p b (λ q. back p b (sym q)) (λ q. sym (there p (not b) q ∙ ap (code_at p) (twice b)));
+    }
   where
-    by : (p : ℕ) (b : Bool) → eqb (code_at p b) (c + 1) ≡ eqb c (code_at p (not b))
-    by p true = opposite_same c (c + 1) p true (λ q. omega (arith, q)) (λ q. omega (arith, q))
-    by p false = opposite_same c (c + 1) p false (λ q. absurd (omega (arith, q, h))) (λ q. absurd (omega (arith, q, h)))
-
-pub opposite_odd : (c d : ℕ) → c < code_count → (e : ℕ) → c ≡ e * 2 + 1 → d ≡ e * 2 → Opposite c d
-opposite_odd c d low e h g = record { low = omega arith; is = λ p b. by p b }
-  where
-    by : (p : ℕ) (b : Bool) → eqb (code_at p b) d ≡ eqb c (code_at p (not b))
-    by p true = opposite_same c d p true (λ q. absurd (omega (arith, q, h, g))) (λ q. absurd (omega (arith, q, h, g)))
-    by p false = opposite_same c d p false (λ q. omega (arith, q, h, g)) (λ q. omega (arith, q, h, g))
+    twice : (b : Bool) → not (not b) ≡ b
+    twice true = refl
+    twice false = refl
 
 -- ---- a clause's number into one row after the other
 any_last : {A : Type 0} (f : A → Bool) (xs : List A) (x : A) → any f (xs ++ (x ∷ [])) ≡ (any f xs || f x)

@@ -11,8 +11,7 @@ use lib.ListN.{length, get_or}
 use Rattle.bitset.specs.Rows.{width}
 use Rattle.qbf.specs.Formula.{paper, Prefix, Clause}
 use Rattle.qbf.specs.Learning.{reduce}
-use Rattle.tables.specs.Views.{Places, row, rows}
-use Rattle.tables.specs.Formed.{clauses_of}
+use Rattle.tables.specs.Views.{Places, row, rows, rows_of}
 use Rattle.lent_rows.specs.Held.{Held}
 use Rattle.tables.specs.Codes.{codes, Quantified}
 use Rattle.tables.specs.Sets.{ClauseSets}
@@ -40,47 +39,47 @@ codes_within c n words is few low =
     omega (arith, mul-le-mul_right {m = c * 2} {n = code_count * 2} words (omega arith), mul-le-mul_left {m = words} {n = row_words} (code_count * 2) (omega (arith, is, words_few n few)))
 
 -- the first k clauses are in their rows and in the sets, which had none at the start
-pub record FilledBelow (f : List ℤ) (l places quantifiers : List ℕ) (wc k : ℕ) (start cells sets : List ℕ) : Type 0 where
-  pub coded : CodedBelow f l places quantifiers k cells
+pub record FilledBelow (w : ℕ) (f : List ℤ) (l places quantifiers : List ℕ) (wc k : ℕ) (start cells sets : List ℕ) : Type 0 where
+  pub coded : CodedBelow w f l places quantifiers k cells
   pub shown : (D : Prefix) → Places D places → Quantified D quantifiers → length D ≤ paper.numbers → ClauseSets D [] wc start
-      → ClauseSets D (rows paper.literals f l k) wc sets
+      → ClauseSets D (rows w f l k) wc sets
 
-module _ {f : List ℤ} {l places quantifiers : List ℕ} {wc : ℕ} {start cells : List ℕ} where
-  pub filled_none : FilledBelow f l places quantifiers wc 0 start cells start
+module _ {w : ℕ} {f : List ℤ} {l places quantifiers : List ℕ} {wc : ℕ} {start cells : List ℕ} where
+  pub filled_none : FilledBelow w f l places quantifiers wc 0 start cells start
   filled_none = record {
     coded = λ j h. absurd (not-suc-le-zero h);
-    shown = λ D p q few g. subst (λ (R : List Clause). ClauseSets D R wc start) (sym (rows_zero paper.literals f l)) g;
+    shown = λ D p q few g. subst (λ (R : List Clause). ClauseSets D R wc start) (sym (rows_zero w f l)) g;
   }
 
   -- clause k too
-  pub filled_more : {k : ℕ} {sets cells' sets' : List ℕ} → FilledBelow f l places quantifiers wc k start cells sets → Held paper.literals paper.clauses f l → k < get_or l 0 0 → k < wc * width
-      → Filled (row paper.literals f l k) places quantifiers wc k cells sets cells' sets'
-      → FilledBelow f l places quantifiers wc (k + 1) start cells' sets'
-  filled_more {k} {sets} {cells'} {sets'} b T low small new = record {
-    coded = coded_more places quantifiers k cells cells' T low b.coded new.kept new.coded;
+  pub filled_more : {k : ℕ} {sets cells' sets' : List ℕ} → FilledBelow w f l places quantifiers wc k start cells sets → Held w paper.clauses f l → w ≤ paper.literals → k < get_or l 0 0 → k < wc * width
+      → Filled (row w f l k) places quantifiers wc k cells sets cells' sets'
+      → FilledBelow w f l places quantifiers wc (k + 1) start cells' sets'
+  filled_more {k} {sets} {cells'} {sets'} b T narrow low small new = record {
+    coded = coded_more places quantifiers k cells cells' T narrow low b.coded new.kept new.coded;
     shown = λ D p q few g.
         subst (λ (R : List Clause). ClauseSets D R wc sets')
-        (sym (rows_suc paper.literals f l k) ∙ ap (rows paper.literals f l) (sym (add-one k)))
-        (sets_next (b.shown D p q few g) (rows_length paper.literals f l k) small (row paper.literals f l k)
+        (sym (rows_suc w f l k) ∙ ap (rows w f l) (sym (add-one k)))
+        (sets_next (b.shown D p q few g) (rows_length w f l k) small (row w f l k)
         (new.coded.whole D p few) (new.coded.reduced D p q few) new.added);
   }
 
   -- all clauses
-  pub matrix_shown : {k : ℕ} {sets : List ℕ} → FilledBelow f l places quantifiers wc k start cells sets → Held paper.literals paper.clauses f l → k ≡ get_or l 0 0
+  pub matrix_shown : {k : ℕ} {sets : List ℕ} → FilledBelow w f l places quantifiers wc k start cells sets → Held w paper.clauses f l → w ≤ paper.literals → k ≡ get_or l 0 0
       → (D : Prefix) → Places D places → Quantified D quantifiers → length D ≤ paper.numbers → ClauseSets D [] wc start
-      → MatrixShown D (clauses_of f l) wc cells sets
-  matrix_shown {k} {sets} b T e D p q few g = record {
+      → MatrixShown D (rows_of w f l) wc cells sets
+  matrix_shown {k} {sets} b T narrow e D p q few g = record {
     few = omega (arith, long, T.few);
-    short = λ j h. let low : j < get_or l 0 0 = omega (arith, long) in omega (arith, (b.coded j (omega (arith, e))).less, row_short T j low);
+    short = λ j h. let low : j < get_or l 0 0 = omega (arith, long) in omega (arith, (b.coded j (omega (arith, e))).less, row_short T narrow j low);
     dying = λ j h.
         let low : j < get_or l 0 0 = omega (arith, long) in
         (b.coded j (omega (arith, e))).reduced D p q few
-        ∙ ap (λ (r : Clause). codes D (reduce D false r)) (sym (rows_at paper.literals f l (get_or l 0 0) j low));
-    by_code = subst (λ (n : ℕ). ClauseSets D (rows paper.literals f l n) wc sets) e (b.shown D p q few g);
+        ∙ ap (λ (r : Clause). codes D (reduce D false r)) (sym (rows_at w f l (get_or l 0 0) j low));
+    by_code = subst (λ (n : ℕ). ClauseSets D (rows w f l n) wc sets) e (b.shown D p q few g);
   }
     where
-      long : length (clauses_of f l) ≡ get_or l 0 0
-      long = rows_length paper.literals f l (get_or l 0 0)
+      long : length (rows_of w f l) ≡ get_or l 0 0
+      long = rows_length w f l (get_or l 0 0)
 
 -- .. by another name of the words
 pub matrix_words : {D : Prefix} {R : List Clause} {words wc : ℕ} {cells sets : List ℕ} → words ≡ wc → MatrixShown D R words cells sets → MatrixShown D R wc cells sets

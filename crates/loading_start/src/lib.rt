@@ -12,14 +12,16 @@ use bitset::rows::{clear, insert};
 use inner::Given;
 use inner::found::true_at;
 use inner::step_down::{mark, row_down};
+use node::Position;
 use search_entry::Trail;
 
 // Before the first place: the row has every number that is no clause's.
+// stays (no plainer): `count` counts the clauses, and not the words of the row
 pub fn first_row(sat: &mut [u64], words: usize, count: usize)
     requires { RowLength words × (words ≤ length sat.old) }
     ensures { FirstRow count words sat.old sat.new }
 {
-    clear(sat, 0, words);
+    clear(&mut sat[..words]);
     for i in count..words * bitset::rows::WIDTH {
         insert(sat, 0, i);
     }
@@ -49,23 +51,23 @@ fn step<'a>(
     mark(&mut trail.marks, p, step.fresh);
 }
 
-// The rows and the marks of the first `at` places, where there are `count` clauses.
+// The rows and the marks of the places before a search's start, where there are `count` clauses.
+// stays (no plainer): `count` counts the clauses, and measures no table here
 pub fn start_rows<'a>(
     sets: &'a [u64; tables::CLAUSE_SETS],
     statuses: &'a [u8; tables::CODES],
-    words: usize,
     count: usize,
-    at: usize,
+    start: Position,
     trail: &mut Trail,
 )
-    requires { RowLength words × (at ≤ paper.numbers) }
+    requires { start.at ≤ paper.numbers }
     ensures { (D : Prefix) (R : List Clause) (s : Node)
-        → StartShown D R s words at sets.now statuses.now
+        → StartShown D R s start.words start.at sets.now statuses.now
         → length R ≡ count
-        → Descended D s R words trail.new.sat trail.new.marks (length s) }
+        → Descended D s R start.words trail.new.sat trail.new.marks (length s) }
 {
-    first_row(&mut trail.sat, words, count);
-    for p in 0..at {
-        step(sets, statuses, words, p + 1, trail);
+    first_row(&mut trail.sat, start.words, count);
+    for p in 0..start.at {
+        step(sets, statuses, start.words, p + 1, trail);
     }
 }

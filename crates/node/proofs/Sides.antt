@@ -34,9 +34,6 @@ module _ {v : Verdict} (κ : Quantifier) {kind : ℕ} (h : quantifier_code κ �
   pub enough_yes : v ≡ Yes → eqb kind 1 ≡ alone v κ
   enough_yes e = rw (e, ← h) (code_yes κ)
 
-  pub enough_no : v ≡ No → eqb kind 2 ≡ alone v κ
-  enough_no e = rw (e, ← h) (code_no κ)
-
 -- ---- the off side goes up
 -- a stop leaves no budget, and goes up
 pub budget_left : (n : ℕ) → 1 ≤ n → eqb n 0 ≡ false
@@ -45,9 +42,6 @@ budget_left n h = by (eqb n 0) refl
     by : (b : Bool) → eqb n 0 ≡ b → b ≡ false
     by false e = refl
     by true e = absurd (omega (arith, h, eqb_true n 0 e))
-
-pub budget_none : (n : ℕ) → n ≡ 0 → eqb n 0 ≡ true
-budget_none n e = ap (λ (x : ℕ). eqb x 0) e
 
 pub not_mixed : (v : Verdict) → is_mixed v ≡ false → v ≡ Mixed → ⊥
 not_mixed v h e = true≢false (ap is_mixed (sym e) ∙ h)
@@ -58,12 +52,6 @@ module _ (D : Prefix) (κ : Quantifier) (p : ℕ) (cs : List ℕ) (o : Outcome C
   up_mixed Yes h r = absurd (false≢true h)
   up_mixed No h r = absurd (false≢true h)
   up_mixed Mixed h (ds, r) = rw r
-
-  -- a side that is enough does
-  pub up_enough : (v : Verdict) → alone v κ ≡ true → Reads D v cs o → true ≡ goes_up_of D κ p o
-  up_enough Yes h (e, r, k) = rw (r, h)
-  up_enough No h (e, r, k) = rw (r, h)
-  up_enough Mixed h r = absurd (false≢true h)
 
   -- m says whether the codes end at the place p, which no literal stands beyond
   pub up_lacking : (v : Verdict) → is_mixed v ≡ false → alone v κ ≡ false → {m : Bool} → ((e : Constraint) → cs ≡ codes D e → m ≡ eqb (last_place D e) p) → 1 ≤ p → Reads D v cs o → Ended D p o → not m ≡ goes_up_of D κ p o

@@ -13,7 +13,7 @@ use Rattle.search_entry.specs.declared.Source.TheVariants.{Area}
 use Rattle.search_entry.specs.declared.Bounds.{Bounds}
 use Rattle.node.specs.declared.Verdict.{Verdict}
 use Rattle.node.specs.declared.Verdict.TheVariants.{Yes, No, Mixed}
-use Rattle.node.specs.declared.Position.{Position}
+use Rattle.node.specs.declared.position.Position.{Position}
 use Rattle.node.specs.declared.Answer.{Answer}
 
 -- ---- verdicts

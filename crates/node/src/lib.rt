@@ -10,9 +10,11 @@ ghost use Rattle.search_entry.specs.Entry.{Bounded};
 ghost use Rattle.node.specs.Node.{bounds_of, entry_of, Reads, Ended, goes_up_of, NextKind};
 
 use coding::list::{wide, write};
+pub use position::{OffSide, Position};
 use resolution::ends_next;
 use search_entry::{ASIDE, Bounds, Learned, Matrix, Source, entry, placed};
 
+pub mod position; // where a visit stands
 pub mod side; // what the verdict of one side says
 
 // "two Yes give Yes, two No give No, anything else Mixed"
@@ -32,27 +34,6 @@ pub struct Answer {
     pub len: usize,
     pub budget: u64,
     pub lines: usize,
-}
-
-// Where a visit stands: the node's length, the count of the free variables, the budget, the lines so far, and the words of a row of clauses; and
-// whether the lines are Yes nodes or No nodes. The budget is one more than the visits that may still be made: a search that ends leaves 1 at least,
-// and one that was stopped leaves 0.
-#[derive(Clone, Copy)]
-pub struct Position {
-    pub at: usize,
-    pub free: usize,
-    pub budget: u64,
-    pub lines: usize,
-    pub words: usize,
-    pub yes: bool,
-}
-
-// A node of `at` places that has visited its off side: the quantifier of its next variable, and what came up from that side.
-#[derive(Clone, Copy)]
-pub struct OffSide {
-    pub at: usize,
-    pub kind: u16,
-    pub answer: Answer,
 }
 
 // The quantifier of the next place; END where none is left.
@@ -76,20 +57,20 @@ pub fn bounds_of(a: Answer) -> Bounds
 // The codes of the constraint: that part of the clauses, of the learned constraints of its polarity, or of the area.
 pub fn entry_of<'a>(
     a: Answer,
-    matrix: &'a Matrix,
-    learned: &'a Learned,
+    rows: &'a [u16; tables::CLAUSE_ROWS],
+    clauses: &'a [u16; tables::CONSTRAINT_CODES],
+    cubes: &'a [u16; tables::CONSTRAINT_CODES],
     area: &'a [u16; tables::AREA],
 ) -> &'a [u16]
     requires { Bounded (bounds_of a) }
-    ensures { (result.now ≡ entry_of a matrix.now.rows learned.now.clauses.cells learned.now.cubes.cells area.now)
-        × (length result.now ≡ a.len) }
+    ensures { (result.now ≡ entry_of a rows.now clauses.now cubes.now area.now) × (length result.now ≡ a.len) }
 {
-    entry(matrix, side::stored(a.verdict, learned), area, bounds_of(a))
+    let learned = side::stored(a.verdict, clauses, cubes);
+    entry(rows, learned, area, bounds_of(a))
 }
 
 // Whether the off side's outcome, with the constraint of that row, goes up without a further visit. A stop does.
 pub fn goes_up<'a>(off: Answer, row: &'a [u16], kind: u16, at: usize) -> bool
-    requires { at < suc paper.numbers }
     ensures { ((D : Prefix) (κ : Quantifier) (o : Outcome Constraint)
         → quantifier_code κ ≡ kind
         → Reads D off.verdict row.now o
@@ -104,6 +85,7 @@ pub fn goes_up<'a>(off: Answer, row: &'a [u16], kind: u16, at: usize) -> bool
     side::is_enough(off.verdict, kind) || !ends_next(row, at)
 }
 
+// stays (no plainer): `length row ≤ paper.numbers` is of a part of a table, and a slice keeps no fact
 // Puts the off side's constraint aside, so that it survives what is stored while the on side is visited. The rows of the nodes above stay.
 pub fn put_aside<'a>(aside: &mut [u16; ASIDE], at: usize, row: &'a [u16])
     requires { (at < paper.numbers) × (length row.now ≤ paper.numbers) }
@@ -121,7 +103,7 @@ pub fn up_or_aside<'a>(
     area: &'a [u16; tables::AREA],
     aside: &mut [u16; ASIDE],
 ) -> bool
-    requires { Bounded (bounds_of off.answer) × (off.at < paper.numbers) }
+    requires { Bounded (bounds_of off.answer) }
     ensures up { ((D : Prefix) (κ : Quantifier) (o : Outcome Constraint)
         → quantifier_code κ ≡ off.kind
         → Reads D off.answer.verdict (entry_of off.answer matrix.now.rows learned.now.clauses.cells learned.now.cubes.cells area.now) o
@@ -135,7 +117,8 @@ pub fn up_or_aside<'a>(
         → take off.answer.len (drop (off.at * paper.numbers) aside.new)
         ≡ entry_of off.answer matrix.now.rows learned.now.clauses.cells learned.now.cubes.cells area.now) }
 {
-    let row = entry_of(off.answer, matrix, learned, area);
+    let (clauses, cubes) = (&learned.clauses.cells, &learned.cubes.cells);
+    let row = entry_of(off.answer, &matrix.rows, clauses, cubes, area);
     if goes_up(off.answer, row, off.kind, off.at) {
         return true;
     }
@@ -143,48 +126,24 @@ pub fn up_or_aside<'a>(
     false
 }
 
-// The position of the off side, where this visit is counted, and of the on side.
-pub fn to_off(p: Position) -> Position
-    requires { (p.at < suc paper.numbers) × (1 ≤ p.budget) }
-    ensures { result ≡ record p { at = p.at + 1; budget = p.budget - 1 } }
-{
-    Position {
-        at: p.at + 1,
-        budget: p.budget - 1,
-        ..p
-    }
-}
-
-pub fn to_on(p: Position, budget: u64, lines: usize) -> Position
-    requires { p.at < suc paper.numbers }
-    ensures { result ≡ record p { at = p.at + 1; budget = budget; lines = lines } }
-{
-    Position {
-        at: p.at + 1,
-        budget,
-        lines,
-        ..p
-    }
-}
-
 // The answer of a visit that does not branch.
-pub fn settled(verdict: Verdict, b: Bounds, p: Position) -> Answer
-    requires { 1 ≤ p.budget }
-    ensures { result ≡ record { verdict = verdict; source = b.source; start = b.start; len = b.len; budget = p.budget - 1; lines = p.lines } }
+// stays (speed): a struct of the three inside an answer is copied whole at each node, which took 4 to 10 % of a visit (docs/DECISIONS.md)
+pub fn settled(verdict: Verdict, b: Bounds, budget: u64, lines: usize) -> Answer
+    ensures { result ≡ record { verdict = verdict; source = b.source; start = b.start; len = b.len; budget = budget - 1; lines = lines } }
 {
     Answer {
         verdict,
         source: b.source,
         start: b.start,
         len: b.len,
-        budget: p.budget - 1,
-        lines: p.lines,
+        budget: budget.saturating_sub(1),
+        lines,
     }
 }
 
 // The answer of a visit that is not made.
-pub fn stopped(p: Position) -> Answer
-    ensures { result ≡ record { verdict = Verdict.Mixed; source = Source.Area; start = 0; len = 0; budget = 0; lines = p.lines } }
+pub fn stopped(lines: usize) -> Answer
+    ensures { result ≡ record { verdict = Verdict.Mixed; source = Source.Area; start = 0; len = 0; budget = 0; lines = lines } }
 {
     Answer {
         verdict: Verdict::Mixed,
@@ -192,7 +151,7 @@ pub fn stopped(p: Position) -> Answer
         start: 0,
         len: 0,
         budget: 0,
-        lines: p.lines,
+        lines,
     }
 }
 

@@ -6,8 +6,6 @@ ghost use Rattle.node.specs.Node.{is_of, is_mixed, stored_by};
 ghost use Rattle.node.specs.Step.{alone};
 
 use super::Verdict;
-use search_entry::Learned;
-use shelf::Shelf;
 
 // Whether the verdict is Yes, or where `yes` is false whether it is No.
 pub fn is_of(v: Verdict, yes: bool) -> bool
@@ -27,12 +25,16 @@ pub fn is_mixed(v: Verdict) -> bool
 }
 
 // The learned constraints of the verdict's polarity: clauses for No, cubes for Yes.
-pub fn stored<'a>(v: Verdict, learned: &'a Learned) -> &'a Shelf
-    ensures { result.now.cells ≡ stored_by v learned.now.clauses.cells learned.now.cubes.cells }
+pub fn stored<'a>(
+    v: Verdict,
+    clauses: &'a [u16; tables::CONSTRAINT_CODES],
+    cubes: &'a [u16; tables::CONSTRAINT_CODES],
+) -> &'a [u16; tables::CONSTRAINT_CODES]
+    ensures { result.now ≡ stored_by v clauses.now cubes.now }
 {
     match v {
-        Verdict::Yes => &learned.cubes,
-        Verdict::No | Verdict::Mixed => &learned.clauses,
+        Verdict::Yes => cubes,
+        Verdict::No | Verdict::Mixed => clauses,
     }
 }
 

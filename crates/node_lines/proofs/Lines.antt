@@ -8,17 +8,13 @@ use lib.ListN.{length, length-append}
 use Rattle.qbf.specs.Formula.{Node, ◌▹◌}
 use Rattle.cover.specs.Cover.{Covers}
 use Rattle.node.specs.declared.Verdict.{Verdict}
-use Rattle.node.specs.declared.Position.{Position}
+use Rattle.node.specs.declared.position.Position.{Position}
 use Rattle.node.specs.Node.{is_of, LineTask, lined_of, settled_lines, SettledTo}
 
 -- ---- whether a side is a line
 pub lined_free : (k : ℕ) (p : Bool) (v : Verdict) {r : Bool} → k ≡ 0 → r ≡ is_of p v → r ≡ lined_of k p v
 lined_free zero p v e h = h
 lined_free (suc k) p v e h = absurd (omega arith)
-
-pub lined_other : (k : ℕ) (p : Bool) (v : Verdict) → (k ≡ 0 → ⊥) → false ≡ lined_of k p v
-lined_other zero p v h = absurd (h refl)
-lined_other (suc k) p v h = refl
 
 -- ---- after a side
 pub line_none : (b : Bool) (n : ℕ) → b ≡ false → n ≡ cond b (n + 1) n
@@ -33,41 +29,17 @@ pub covers_none : (b : Bool) (f : ℕ) (table : List ℕ) (ls ms : List Node) �
 covers_none true f table ls ms e h = absurd (true≢false e)
 covers_none false f table ls ms e h = rw append-nil h
 
-pub covers_one : (b : Bool) (f : ℕ) (table : List ℕ) (ls ms : List Node) → b ≡ true → Covers f table (ls ++ ms) → Covers f table (ls ++ cond b ms [])
-covers_one true f table ls ms e h = h
-covers_one false f table ls ms e h = absurd (false≢true e)
-
 -- ---- after both: the on side is no line, and nothing changes
 pub count_same : (a b : Bool) (n : ℕ) → b ≡ false → n ≡ settled_lines a b n
 count_same a true n e = absurd (true≢false e)
 count_same a false n e = refl
 
-pub settled_same : (a b : Bool) (s : Node) (ls : List Node) (f : ℕ) (table : List ℕ) → b ≡ false → Covers f table ls → SettledTo a b s ls f table
-settled_same a true s ls f table e cov = absurd (true≢false e)
-settled_same a false s ls f table e cov = cov
-
--- both are lines: the off side's is taken back, as `pop_line` does it
-pub count_less : (a b : Bool) (n : ℕ) → a ≡ true → b ≡ true → n - 1 ≡ settled_lines a b n
-count_less a false n h g = absurd (false≢true g)
-count_less true true n h g = refl
-count_less false true n h g = absurd (false≢true h)
-
 module _ {s : Node} {ls : List Node} {statuses before after : List ℕ} {p : Position} {lines : ℕ} (task : LineTask s ls statuses before p lines) (popped : (ms : List Node) (x : Node) → length ms + 1 ≡ lines → Covers p.free before (ms ++ (x ∷ [])) → Covers p.free after ms) where
   back : (ms : List Node) (x : Node) → ls ≡ ms ++ (x ∷ []) → Covers p.free after ms
   back ms x e = popped ms x (omega (arith, ap length e, length-append ms (x ∷ []), task.counted)) (rw e at task.covers)
-
-  pub settled_less : (a b : Bool) → a ≡ true → b ≡ true → SettledTo a b s ls p.free after
-  settled_less a false h g = absurd (false≢true g)
-  settled_less true true h g = back
-  settled_less false true h g = absurd (false≢true h)
 
 -- only the on side is a line: it is added, as `line_if` does it
 pub count_more : (a b : Bool) (n : ℕ) {r : ℕ} → a ≡ false → b ≡ true → r ≡ cond b (n + 1) n → r ≡ settled_lines a b n
 count_more a false n h g e = absurd (false≢true g)
 count_more true true n h g e = absurd (true≢false h)
 count_more false true n h g e = e
-
-pub settled_more : (a b : Bool) (s : Node) (ls : List Node) (f : ℕ) (table : List ℕ) → a ≡ false → b ≡ true → Covers f table (ls ++ cond b ((s ▹ true) ∷ []) []) → SettledTo a b s ls f table
-settled_more a false s ls f table h g cov = absurd (false≢true g)
-settled_more true true s ls f table h g cov = absurd (true≢false h)
-settled_more false true s ls f table h g cov = cov

@@ -7,6 +7,7 @@ ghost use Rattle.qbf.specs.Card.{byte_of};
 ghost use Rattle.cover.specs.Cover.{Covers};
 ghost use Rattle.node.specs.Node.{LineTask, lined_of, settled_lines, SettledTo};
 
+use cover::CardLines;
 use node::side::is_of;
 use node::{Position, Verdict};
 
@@ -24,6 +25,7 @@ pub fn lined(v: Verdict, kind: u16, yes: bool) -> bool
 }
 
 // A line more where the side with that value is one. The position says how many there are.
+// stays (no plainer): the branch would stand in the caller's cycle of visitors, where its two ways meet again
 pub fn line_if<'a>(
     one: bool,
     value: u8,
@@ -31,7 +33,7 @@ pub fn line_if<'a>(
     p: Position,
     statuses: &'a [u8; tables::CODES],
 ) -> usize
-    requires { (p.free ≤ paper.numbers) × (p.lines < 2 ^ 63) }
+    requires { p.lines < 2 ^ 63 }
     ensures table_len_unchanged { (length table.new ≡ length table.old)
         × (result ≡ cond one (p.lines + 1) p.lines)
         × (one ≡ false → table.new ≡ table.old) }
@@ -55,7 +57,7 @@ pub fn settle_lines<'a>(
     p: Position,
     statuses: &'a [u8; tables::CODES],
 ) -> usize
-    requires { (p.free ≤ paper.numbers) × (p.lines < 2 ^ 63) × (first ≡ true → second ≡ true → 1 ≤ p.lines) }
+    requires { (p.lines < 2 ^ 63) × (first ≡ true → second ≡ true → 1 ≤ p.lines) }
     ensures table_len_unchanged { (length table.new ≡ length table.old)
         × (result ≡ settled_lines first second p.lines)
         × (second ≡ false → table.new ≡ table.old) }
@@ -63,12 +65,19 @@ pub fn settle_lines<'a>(
         → LineTask s ls statuses.now table.old p p.lines
         → SettledTo first second s ls p.free table.new }
 {
-    if !second {
-        return p.lines;
+    match (first, second) {
+        (_, false) => p.lines,
+        (true, true) => {
+            let lines = CardLines {
+                count: p.lines,
+                free: p.free,
+            };
+            cover::pop_line(table, lines);
+            p.lines - 1
+        }
+        (false, true) => {
+            line::add_line(table, tables::ON, p, statuses);
+            p.lines + 1
+        }
     }
-    if first {
-        cover::pop_line(table, p.lines, p.free);
-        return p.lines - 1;
-    }
-    line_if(second, tables::ON, table, p, statuses)
 }

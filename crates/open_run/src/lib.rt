@@ -4,10 +4,12 @@
 
 ghost use Rattle.std.specs.Prelude.{◌≤◌};
 ghost use Rattle.qbf.specs.Formula.{paper};
-ghost use Rattle.tables.specs.Formed.{Clauses};
 ghost use Rattle.open_run.specs.OpenRun.{AtEmpty, Below};
-ghost use Rattle.open_run.specs.Asked.{ready, searched_as, walked_as};
+ghost use Rattle.open_run.specs.Asked.{searched_as, walked_as};
 
+pub mod asked; // the tables of a formula, and a reading
+
+use asked::Asked;
 use coding::quantifiers::quantifiers_of;
 use dead_clauses::any_dead;
 use lent_rows::LentRows;
@@ -21,27 +23,16 @@ use search_entry::Matrix;
 use search_start::Start;
 use search_start::satisfied::all_satisfied;
 
-// The tables of a formula, and the values by number of a reading of its free variables, some of them open.
-#[derive(Clone, Copy)]
-pub struct Asked<'a> {
-    pub numbers: &'a [u16; tables::BY_NUMBER],
-    pub clauses: &'a [i16; tables::CLAUSE_CELLS],
-    pub clause_sizes: &'a [u16; tables::CLAUSE_SIZES],
-    pub places: &'a [u16; tables::BY_NUMBER],
-    pub kinds: &'a [u16; tables::BY_NUMBER],
-    pub values: &'a [u8; tables::BY_NUMBER],
-    pub free: usize,
-}
-
 // The tests of the empty node, where every variable is open: "If a rule is dead: No. Else if every rule is satisfied: Yes."
-fn at_empty<'a>(
-    clauses: &'a [i16; tables::CLAUSE_CELLS],
-    clause_sizes: &'a [u16; tables::CLAUSE_SIZES],
-    kinds: &'a [u16; tables::BY_NUMBER],
-) -> Start
-    requires { Clauses clauses.now clause_sizes.now }
-    ensures { AtEmpty clauses.now clause_sizes.now kinds.now result }
+fn at_empty(asked: Asked<'_>) -> Start
+    ensures { AtEmpty asked.entry.clauses.now asked.entry.clause_sizes.now asked.entry.kinds.now result }
 {
+    let Asked {
+        clauses,
+        clause_sizes,
+        kinds,
+        ..
+    } = asked;
     let open = [tables::OPEN; tables::BY_NUMBER];
     let rows = LentRows {
         cells: clauses,
@@ -58,13 +49,14 @@ fn at_empty<'a>(
 }
 
 // The search below the empty node, over derived tables of `count` clauses.
+// stays (no plainer): `count` counts the clauses, and measures no table here
 fn below<'a>(
     matrix: &'a Matrix,
     count: usize,
     recorded: &'a [u8; tables::BY_NUMBER],
     budget: u64,
 ) -> Finding
-    requires { (count ≤ paper.clauses) × (1 ≤ budget) }
+    requires { count ≤ paper.clauses }
     ensures { (result.budget ≤ budget)
         × Below matrix.now.sets count matrix.now.quantifiers recorded.now budget result }
 {
@@ -76,7 +68,6 @@ fn below<'a>(
 
 // .. over the tables of the formula.
 fn searched(asked: Asked<'_>, budget: u64) -> Finding
-    requires { ready asked × (1 ≤ budget) }
     ensures { (result.budget ≤ budget)
         × searched_as asked.entry budget result }
 {
@@ -94,13 +85,12 @@ fn searched(asked: Asked<'_>, budget: u64) -> Finding
         sets: [0u64; tables::CLAUSE_SETS],
         quantifiers: quantifiers_of(numbers, kinds),
     };
-    load_clauses(
-        clauses,
-        clause_sizes,
-        places,
-        numbers[0] as usize,
-        &mut matrix,
-    );
+    let rows = LentRows {
+        cells: clauses,
+        sizes: clause_sizes,
+        width: tables::LITERALS,
+    };
+    load_clauses(rows, places, numbers[0] as usize, &mut matrix);
     let mut recorded = [tables::OPEN; tables::BY_NUMBER];
     by_place(&mut recorded, values, numbers, free);
     below(&matrix, clause_sizes[0] as usize, &recorded, budget)
@@ -108,7 +98,6 @@ fn searched(asked: Asked<'_>, budget: u64) -> Finding
 
 // The whole search: the empty node's own visit is made where the budget allows it.
 pub fn walk(asked: Asked<'_>, budget: u64) -> Finding
-    requires { ready asked }
     ensures { (result.budget ≤ budget)
         × walked_as asked.entry budget result }
 {
@@ -116,7 +105,7 @@ pub fn walk(asked: Asked<'_>, budget: u64) -> Finding
     if spent {
         return found(Verdict::Mixed, 0);
     }
-    let empty = at_empty(asked.clauses, asked.clause_sizes, asked.kinds);
+    let empty = at_empty(asked);
     match empty {
         Start::No => found(Verdict::No, counted(budget)),
         Start::Yes => found(Verdict::Yes, counted(budget)),

@@ -68,19 +68,8 @@ joined_sides free s a b = joined_both s a b
 joined_sides exists s a b = refl
 joined_sides forall s a b = refl
 
--- by the code of the quantifier
-pub joined_free : (κ : Quantifier) (k : ℕ) (v w : Verdict) {r : Verdict} → quantifier_code κ ≡ k → k ≡ 0 → r ≡ agreed v w → r ≡ joined_of κ v w
-joined_free free k v w h e q = q
-joined_free exists k v w h e q = absurd (omega (arith, h, e))
-joined_free forall k v w h e q = absurd (omega (arith, h, e))
-
-pub joined_other : (κ : Quantifier) (k : ℕ) (v w : Verdict) → quantifier_code κ ≡ k → (k ≡ 0 → ⊥) → w ≡ joined_of κ v w
-joined_other free k v w h e = absurd (e (sym h))
-joined_other exists k v w h e = refl
-joined_other forall k v w h e = refl
-
 -- ---- a branch: the off side has what the visit leaves of the budget, and the on side what the off side leaves
-module _ (κ : Quantifier) (f : Node → PlainResult) (s : Node) (n : ℕ) (made : 1 ≤ n) (off : Finding) (h : Found (f (s ▹ false)) (n - 1) off) where
+module _ (κ : Quantifier) (f : Node → PlainResult) (s : Node) (n : ℕ) (off : Finding) (h : Found (f (s ▹ false)) (n - 1) off) where
   abbrev whole : PlainResult
   whole = plain_branch κ f s
 
@@ -88,7 +77,7 @@ module _ (κ : Quantifier) (f : Node → PlainResult) (s : Node) (n : ℕ) (made
   spent : (r : Finding) → n - 1 ≤ (f (s ▹ false)).visits → r.budget ≡ 0 → Found whole n r
   spent r le e =
       let more : (f (s ▹ false)).visits < whole.visits = branch_off κ f s in
-      record { rest = omega (arith, le, e, more, made); verdict = λ l. absurd (omega (arith, l, le, more, made)) }
+      record { rest = omega (arith, le, e, more); verdict = λ l. absurd (omega (arith, l, le, more)) }
 
   -- whether the off side is enough, by its verdict
   ended : (f (s ▹ false)).visits < n - 1 → (x : Bool) → alone off.verdict κ ≡ x → stops κ (f (s ▹ false)).outcome ≡ x

@@ -22,7 +22,7 @@ use Rattle.node.specs.declared.Verdict.{Verdict}
 use Rattle.node.specs.declared.Verdict.TheVariants.{Yes, No}
 use Rattle.node.proofs.NextPlace.{one_code, code_small, code_known, next_inside, kind_here}
 use Rattle.inner.proofs.Stepping.{facts}
-use Rattle.open_search.specs.Searching.{Task, Opened, Found, search_at}
+use Rattle.open_search.specs.Searching.{Left, Task, Opened, Found, Visited, Branched, Entered, search_at}
 use Rattle.open_search.specs.declared.verdicts.Finding.{Finding}
 use Rattle.open_search.proofs.Plain.{step_of, decided_at, visit_dead, visit_satisfied, visit_some, open_step, open_end}
 use Rattle.open_search.proofs.Budgets.{finding, found_as, found_stopped, found_decided, found_recorded}
@@ -88,15 +88,6 @@ module _ {D : Prefix} {R : List Clause} {os : Reading} {wc : ℕ} {sets kd rec :
   recorded : (v : ℕ) → k < length D → v ≡ get_or rec (suc k) 0 → v ≡ value_code (get_or os k none)
   recorded v in_d e = e ∙ task.reads.at (suc k) (omega (arith, in_d, short))
 
-  pub enter_open : (n : ℕ) (r : Finding) (v : ℕ) → k < length D → v ≡ get_or rec (suc k) 0 → v ≡ 0 → Found (plain_branch free (search_at D R os (k + 1)) s) n r
-      → Found (enter (get_or os k none) (search_at D R os (k + 1)) s) n r
-  enter_open n r v in_d e is_open h = found_as (ap (λ (o : Option Bool). enter o (search_at D R os (k + 1)) s) (by (get_or os k none) (sym (recorded v in_d e) ∙ is_open))) h
-    where
-      by : (o : Option Bool) → value_code o ≡ 0 → o ≡ none
-      by none q = refl
-      by (some true) q = absurd (omega (arith, q))
-      by (some false) q = absurd (omega (arith, q))
-
   pub enter_recorded : (n : ℕ) (r : Finding) (v : ℕ) → k < length D → v ≡ get_or rec (suc k) 0 → (v ≡ 0 → ⊥) → Found (search_at D R os (k + 1) (s ▹ eqb v 2)) (n - 1) r
       → Found (enter (get_or os k none) (search_at D R os (k + 1)) s) n r
   enter_recorded n r v in_d e given h =
@@ -107,3 +98,18 @@ module _ {D : Prefix} {R : List Clause} {os : Reading} {wc : ℕ} {sets kd rec :
       by none q = absurd (given q)
       by (some true) q = rw q refl
       by (some false) q = rw q refl
+
+-- ---- what is left, and what is said, of the same place
+module _ {k k' wc wc' n n' : ℕ} (at : k ≡ k') (words : wc ≡ wc') (budget : n ≡ n') {r : Finding} where
+  pub left_as : {sat sat' : List ℕ} → Left k wc n r sat sat' → Left k' wc' n' r sat sat'
+  left_as {sat} {sat'} h = subst (λ (T : Type 0). T) (λ i. Left (at i) (words i) (budget i) r sat sat') h
+
+  module _ {sets kd rec sat : List ℕ} where
+    pub visited_as : {b : Bool} → Visited k wc n b r sets kd rec sat → Visited k' wc' n' b r sets kd rec sat
+    visited_as {b} h = subst (λ (T : Type 0). T) (λ i. Visited (at i) (words i) (budget i) b r sets kd rec sat) h
+
+    pub branched_as : {kind : ℕ} → Branched kind k wc n r sets kd rec sat → Branched kind k' wc' n' r sets kd rec sat
+    branched_as {kind} h = subst (λ (T : Type 0). T) (λ i. Branched kind (at i) (words i) (budget i) r sets kd rec sat) h
+
+    pub entered_as : Entered k wc n r sets kd rec sat → Entered k' wc' n' r sets kd rec sat
+    entered_as h = subst (λ (T : Type 0). T) (λ i. Entered (at i) (words i) (budget i) r sets kd rec sat) h

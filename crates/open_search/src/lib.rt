@@ -4,10 +4,11 @@
 // goes down with the visits; where none is left the visit is not made, and the other visits on the way up are not made either.
 #![tactic(auto)]
 
-ghost use Rattle.std.specs.Prelude.{suc, ◌+◌, ◌≤◌, ◌<◌, ◌≡◌, get_or};
+ghost use Rattle.std.specs.Prelude.{suc, ◌+◌, ◌-◌, ◌≤◌, ◌<◌, ◌≡◌, get_or};
 ghost use Rattle.qbf.specs.Formula.{paper, exists, forall};
 ghost use Rattle.tables.specs.Views.{quantifier_code};
 ghost use Rattle.tables.specs.Codes.{code_at};
+ghost use Rattle.tables.specs.Matrices.{RowLength};
 ghost use Rattle.tables.specs.Shelves.{code_count};
 ghost use Rattle.open_search.specs.Searching.{Inside, Left, Visited, Followed, Branched, Entered};
 
@@ -27,28 +28,66 @@ pub struct Place {
     pub at: usize,
     pub words: usize,
     pub budget: u64,
+    pub ghost inside: { Inside at words },
+}
+
+impl Place {
+    // The same where there is a next place.
+    // stays (no plainer): a struct that keeps a fact is made field by field
+    fn fork(self) -> Fork
+        requires { self.at < paper.numbers }
+        ensures { (result.at ≡ self.at) × (result.words ≡ self.words) × (result.budget ≡ self.budget) }
+    {
+        Fork {
+            at: self.at,
+            words: self.words,
+            budget: self.budget,
+        }
+    }
+}
+
+// Where a visit stands at a node that has a next place.
+#[derive(Clone, Copy)]
+pub struct Fork {
+    pub at: usize,
+    pub words: usize,
+    pub budget: u64,
+    pub ghost next: { at < paper.numbers },
+    pub ghost long: { RowLength words },
+}
+
+impl Fork {
+    // Where its sides stand: this visit is counted.
+    fn below(self) -> Place
+        ensures { (result.at ≡ self.at + 1)
+            × (result.words ≡ self.words)
+            × (result.budget ≡ self.budget - 1) }
+    {
+        Place {
+            at: self.at + 1,
+            words: self.words,
+            budget: counted(self.budget),
+        }
+    }
+
+    // What is recorded of the next place.
+    fn recorded_in<'a>(self, recorded: &'a [u8; tables::BY_NUMBER]) -> u8
+        ensures { result ≡ get_or recorded.now (suc self.at) 0 }
+    {
+        recorded[self.at + 1]
+    }
 }
 
 // The code of the literal that a place's value makes true.
+// stays (no plainer): `place ≤ paper.numbers` is that the place's two codes lie within a table of fixed length, asked where it is an index
 fn code_at(place: usize, on: bool) -> u16
     requires { place ≤ paper.numbers }
     ensures { (result ≡ code_at place on) × (result < code_count) }
 {
-    if on {
-        return (place * 2 + 1) as u16;
-    }
-    (place * 2) as u16
+    (place * 2 + on as usize) as u16
 }
 
-// What is recorded of the next place.
-fn recorded_at<'a>(recorded: &'a [u8; tables::BY_NUMBER], at: usize) -> u8
-    requires { at < paper.numbers }
-    ensures { result ≡ get_or recorded.now (suc at) 0 }
-{
-    recorded[at + 1]
-}
-
-// The search at the empty node, where no clause is dead and not all are satisfied.
+// The search at the empty node: none of the clauses is dead there, and not all are satisfied.
 pub fn start<'a>(
     matrix: &'a Matrix,
     recorded: &'a [u8; tables::BY_NUMBER],
@@ -56,7 +95,7 @@ pub fn start<'a>(
     words: usize,
     budget: u64,
 ) -> Finding
-    requires { Inside 0 words × (1 ≤ budget) }
+    requires { Inside 0 words }
     ensures { (result.budget ≤ budget)
         × Followed
         0
@@ -86,7 +125,7 @@ fn visit<'a>(
     p: Place,
     on: bool,
 ) -> Finding
-    requires { Inside p.at p.words × (1 ≤ p.at) }
+    requires { 1 ≤ p.at }
     ensures { Left p.at p.words p.budget result sat.old sat.new
         × Visited
         p.at
@@ -126,7 +165,6 @@ fn branch<'a>(
     sat: &mut [u64; tables::SATISFIED],
     p: Place,
 ) -> Finding
-    requires { Inside p.at p.words × (1 ≤ p.budget) }
     ensures { Left (suc p.at) p.words p.budget result sat.old sat.new
         × Followed
         p.at
@@ -140,25 +178,25 @@ fn branch<'a>(
 {
     let kind = next_kind(&matrix.quantifiers, p.at);
     if kind == tables::EXISTS {
-        exists(matrix, recorded, sat, p)
+        exists(matrix, recorded, sat, p.fork())
     } else if kind == tables::FORALL {
-        forall(matrix, recorded, sat, p)
+        forall(matrix, recorded, sat, p.fork())
     } else if kind == tables::FREE {
-        free(matrix, recorded, sat, p)
+        free(matrix, recorded, sat, p.fork())
     } else {
         found(Verdict::No, counted(p.budget))
     }
 }
 
 // "An exists node visits the off side and stops on Yes".
+// stays (form): the visitors of the three quantifiers are over one body
 #[cycle(branch_exists_forall_free_sides_visit)]
 fn exists<'a>(
     matrix: &'a Matrix,
     recorded: &'a [u8; tables::BY_NUMBER],
     sat: &mut [u64; tables::SATISFIED],
-    p: Place,
+    p: Fork,
 ) -> Finding
-    requires { Inside p.at p.words × (1 ≤ p.budget) × (p.at < paper.numbers) }
     ensures { Left (suc p.at) p.words p.budget result sat.old sat.new
         × Branched
         (quantifier_code exists)
@@ -175,14 +213,14 @@ fn exists<'a>(
 }
 
 // "A forall node visits the off side and stops on No".
+// stays (form): the visitors of the three quantifiers are over one body
 #[cycle(branch_exists_forall_free_sides_visit)]
 fn forall<'a>(
     matrix: &'a Matrix,
     recorded: &'a [u8; tables::BY_NUMBER],
     sat: &mut [u64; tables::SATISFIED],
-    p: Place,
+    p: Fork,
 ) -> Finding
-    requires { Inside p.at p.words × (1 ≤ p.budget) × (p.at < paper.numbers) }
     ensures { Left (suc p.at) p.words p.budget result sat.old sat.new
         × Branched
         (quantifier_code forall)
@@ -199,14 +237,14 @@ fn forall<'a>(
 }
 
 // "entering one side only at a recorded flag": its verdict is the node's. An open one: "A flag node visits both".
+// stays (form): the visitors of the three quantifiers are over one body
 #[cycle(branch_exists_forall_free_sides_visit)]
 fn free<'a>(
     matrix: &'a Matrix,
     recorded: &'a [u8; tables::BY_NUMBER],
     sat: &mut [u64; tables::SATISFIED],
-    p: Place,
+    p: Fork,
 ) -> Finding
-    requires { Inside p.at p.words × (1 ≤ p.budget) × (p.at < paper.numbers) }
     ensures { Left (suc p.at) p.words p.budget result sat.old sat.new
         × Entered
         p.at
@@ -218,16 +256,12 @@ fn free<'a>(
         recorded.now
         sat.old }
 {
-    let value = recorded_at(recorded, p.at);
+    let value = p.recorded_in(recorded);
     let open = value == tables::OPEN;
     if open {
         return sides(matrix, recorded, sat, p, tables::FREE);
     }
-    let below = Place {
-        at: p.at + 1,
-        budget: counted(p.budget),
-        ..p
-    };
+    let below = p.below();
     visit(matrix, recorded, sat, below, value == tables::ON)
 }
 
@@ -237,10 +271,9 @@ fn sides<'a>(
     matrix: &'a Matrix,
     recorded: &'a [u8; tables::BY_NUMBER],
     sat: &mut [u64; tables::SATISFIED],
-    p: Place,
+    p: Fork,
     kind: u16,
 ) -> Finding
-    requires { Inside p.at p.words × (1 ≤ p.budget) × (p.at < paper.numbers) }
     ensures { Left (suc p.at) p.words p.budget result sat.old sat.new
         × Branched
         kind
@@ -253,19 +286,13 @@ fn sides<'a>(
         recorded.now
         sat.old }
 {
-    let below = Place {
-        at: p.at + 1,
-        budget: counted(p.budget),
-        ..p
-    };
+    let below = p.below();
     let off = visit(matrix, recorded, sat, below, false);
     if is_enough(off.verdict, kind) {
         return off;
     }
-    let rest = Place {
-        budget: off.budget,
-        ..below
-    };
+    let mut rest = below;
+    rest.budget = off.budget;
     let on = visit(matrix, recorded, sat, rest, true);
     found(joined(kind, off.verdict, on.verdict), on.budget)
 }

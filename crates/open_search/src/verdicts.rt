@@ -1,5 +1,5 @@
 // The verdicts of a node's sides, and what a visit hands up.
-ghost use Rattle.std.specs.Prelude.{◌≡◌, ◌-◌, ◌≤◌};
+ghost use Rattle.std.specs.Prelude.{◌≡◌, ◌-◌};
 ghost use Rattle.qbf.specs.Formula.{Quantifier};
 ghost use Rattle.tables.specs.Views.{quantifier_code};
 ghost use Rattle.open_search.specs.Verdicts.{agreed, joined_of};
@@ -22,10 +22,9 @@ pub fn found(verdict: Verdict, budget: u64) -> Finding
 
 // "A visit counts one."
 pub fn counted(budget: u64) -> u64
-    requires { 1 ≤ budget }
     ensures { result ≡ budget - 1 }
 {
-    budget - 1
+    budget.saturating_sub(1)
 }
 
 // "two Yes give Yes, two No give No, anything else Mixed"

@@ -22,7 +22,6 @@ use Rattle.refusal.specs.Refusal.{number_of as refusal_number}
 use Rattle.layout.specs.Opening.{variable, declare_fault}
 use Rattle.layout_laws.proofs.Blocks.{Before, before_more, in_range, prefix_more}
 use Rattle.opening.specs.Blocks.{Growable, Grown, with_variables}
-use Rattle.opening.specs.Told.{told_by}
 
 -- ---- one variable
 module _ {ns ls ks : List ℕ} {kind : ℕ} (g : Growable ns ls ks kind) where
@@ -82,19 +81,7 @@ pub record Left (ns₀ ls₀ ks₀ : List ℕ) (lits : List ℤ) (kind : ℕ) (n
   pub same_fault : declare_fault paper (quantifier_of kind) (prefix_of ns₀ ls₀ ks₀) (map number_of lits) ≡ declare_fault paper (quantifier_of kind) (prefix_of ns ls ks) (map number_of (drop i lits))
   pub same_prefix : with_variables (prefix_of ns₀ ls₀ ks₀) (quantifier_of kind) lits ≡ with_variables (prefix_of ns ls ks) (quantifier_of kind) (drop i lits)
 
-pub left_all : {ns ls ks : List ℕ} {kind : ℕ} (lits : List ℤ) → Growable ns ls ks kind → Left ns ls ks lits kind ns ls ks 0
-left_all lits g = record { growable = g; same_fault = refl; same_prefix = refl }
-
 module _ {ns₀ ls₀ ks₀ : List ℕ} {lits : List ℤ} {kind : ℕ} {ns ls ks : List ℕ} {i : ℕ} (h : Left ns₀ ls₀ ks₀ lits kind ns ls ks i) where
-  -- all are declared
-  pub left_none : length lits ≤ i → Grown ns₀ ls₀ ks₀ lits kind (Ok tt) ns ls ks
-  left_none e =
-      record {
-        fault = h.same_fault ∙ ap (λ (l : List ℤ). declare_fault paper (quantifier_of kind) (prefix_of ns ls ks) (map number_of l)) (drop_end lits i e);
-        prefix = sym (h.same_prefix ∙ ap (with_variables (prefix_of ns ls ks) (quantifier_of kind)) (drop_end lits i e) ∙ append-nil (prefix_of ns ls ks));
-        sound = h.growable.sound;
-      }
-
   module _ (inside : i < length lits) {l : ℤ} (at : l ≡ get_or lits i (pos 0)) {n : ℕ} (is : n ≡ number_of l) {o : Option ℕ} {ns' ls' ks' : List ℕ} (d : Declared ns ls ks n kind o ns' ls' ks') where
     first : map number_of (drop i lits) ≡ n ∷ map number_of (drop (i + 1) lits)
     first = ap (map number_of) (drop_more lits i (pos 0) inside) ∙ ap (λ (m : ℕ). m ∷ map number_of (drop (i + 1) lits)) (sym (is ∙ ap number_of at))

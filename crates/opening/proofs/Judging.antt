@@ -22,7 +22,8 @@ use Rattle.reader.proofs.Judged.{cut_same, rule_cut, rule_cut_same, block_judged
 use Rattle.opening.specs.declared.book.Book.{Book}
 use Rattle.std.specs.Prelude.{Result}
 use Rattle.refusal.specs.declared.Refusal.{Refusal}
-use Rattle.opening.specs.Opened.{Standing, TookForm, BlockTook, RuleTook, Took}
+use Rattle.opening.specs.Standing.{Standing}
+use Rattle.opening.specs.Opened.{TookForm, BlockTook, RuleTook, Took}
 
 code_back : (q : Quantifier) → quantifier_of (quantifier_code q) ≡ q
 code_back free = refl

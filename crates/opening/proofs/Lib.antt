@@ -1,7 +1,6 @@
 pub mod Numbered
 pub mod Standing
 pub mod Growing
-pub mod Told
 pub mod Taking
 pub mod Judging
 pub mod Turns

@@ -1,13 +1,12 @@
 -- The loop over a text's lines: what is left of the text, read on what stands, opens what the whole opens.
-use Prim.Native.Nat.{ℕ, suc, ◌+◌, ◌-◌, ◌≤◌, ◌<◌, zero-le}
+use Prim.Native.Nat.{ℕ, suc, ◌+◌, ◌≤◌, ◌<◌}
 use mathlib.Core.Path.{◌≡◌, refl, sym, ap, subst, ◌∙◌}
 use mathlib.Core.List.{List, [], ◌∷◌}
 use native.Mathlib.Omega.{arith}
 use native.Mathlib.Numerals.{add-one}
-use borrow.Author.Tests.{lt-leb, lt-ltb, le-ltb}
-use lib.ListN.{length, take, drop, length-drop}
-use lib.Seq.{take_all}
-use Rattle.std.specs.Prelude.{Some, Result, Ok, Err}
+use borrow.Author.Tests.{lt-ltb, le-ltb}
+use lib.ListN.{length}
+use Rattle.std.specs.Prelude.{Some, None, Result, Ok, Err}
 use Rattle.std.specs.Borrow.{Bor}
 use Rattle.state.specs.declared.State.{State}
 use Rattle.refusal.specs.declared.Refusal.{Refusal}
@@ -15,51 +14,28 @@ use Rattle.refusal.specs.declared.Refusal.TheVariants.{TextTooLong}
 use Rattle.refusal.specs.Refusal.{number_of}
 use Rattle.layout.specs.Words.{Bytes, newline, split}
 use Rattle.layout.specs.Opening.{text_bytes, Opened, refused}
-use Rattle.reader.specs.Pieces.{pieces_from, Piece}
-use Rattle.reader.proofs.Texts.{split_some, pieces_at}
+use Rattle.reader.specs.Pieces.{Cut}
+use Rattle.reader.proofs.Texts.{split_some}
 use Rattle.opening.specs.declared.text.RefusedAt.{RefusedAt}
 use Rattle.opening.specs.Lines.{Opens, Takes, Ends, ReadAs, within_text, NextLine, at_line}
 
 -- ---- the next line
-module _ (s : Bytes) {e : ℕ} (p : Piece newline s 0 e) where
-  first_piece : split newline s ≡ take e s ∷ pieces_from newline s (e + 1)
-  first_piece = sym (pieces_at s 0 zero-le) ∙ p.is ∙ (let z : e - 0 ≡ e = omega arith in ap (λ (k : ℕ). take k s ∷ pieces_from newline s (e + 1)) z)
-
+module _ {s w : Bytes} where
   -- no byte 10 follows
-  pub next_missing : length s ≤ e → (length s ≡ 0 → ⊥) → (b : ℕ) × (l : Bytes) × (split newline s ≡ (b ∷ l) ∷ [])
-  unfolding pieces_from
-  next_missing h z = by s z (first_piece ∙ ap (λ (ws : List Bytes). take e s ∷ ws) none_left ∙ ap (λ (l : Bytes). l ∷ []) (take_all e s h))
+  pub next_missing : Cut newline s w None → (length s ≡ 0 → ⊥) → (b : ℕ) × (l : Bytes) × (split newline s ≡ (b ∷ l) ∷ [])
+  next_missing p z = by s z (p.is ∙ ap (λ (l : Bytes). l ∷ []) (sym p.bytes))
     where
-      none_left : pieces_from newline s (e + 1) ≡ []
-      none_left = rw (lt-leb (e + 1) (length s) (omega arith))
-
       by : (l : Bytes) → (length l ≡ 0 → ⊥) → split newline s ≡ l ∷ [] → (b : ℕ) × (l : Bytes) × (split newline s ≡ (b ∷ l) ∷ [])
       by [] z q = absurd (z refl)
       by (b ∷ l) z q = (b, l, q)
 
-  pub next_line : e < length s → (split newline s ≡ take e s ∷ split newline (take (length s - (e + 1)) (drop (e + 1) s))) × (length (take (length s - (e + 1)) (drop (e + 1) s)) < length s)
-  next_line h = (
-    first_piece ∙ ap (λ (ws : List Bytes). take e s ∷ ws) (pieces_at s (e + 1) (omega (arith, h)) ∙ ap (split newline) (sym left)),
-    omega (arith, ap length left, length-drop (e + 1) s, h),
-  )
-    where
-      left : take (length s - (e + 1)) (drop (e + 1) s) ≡ drop (e + 1) s
-      left = take_all (length s - (e + 1)) (drop (e + 1) s) (omega (arith, length-drop (e + 1) s))
-
 -- ---- the loop
-pub record Left {R : Type 0} (stands : R → Type 0) (opens : R → Opens) (start : R) (s : Bytes) (x : R) (number : ℕ) (rest : Bytes) : Type 0 where
-  pub stood : stands x
+pub record Left {R : Type 0} (opens : R → Opens) (start : R) (s : Bytes) (x : R) (number : ℕ) (rest : Bytes) : Type 0 where
   pub counted : number + length rest ≤ length s + 1
   pub same : opens x number (split newline rest) ≡ opens start 1 (split newline s)
 
-pub text_long : (s : Bytes) → text_bytes < length s → (o : Opened) → ReadAs (within_text s o) (Err (record { refusal = TextTooLong; line = 0 }))
-text_long s h o = rw (lt-ltb text_bytes (length s) h) (refl, refl)
-
-module _ {R : Type 0} {stands : R → Type 0} {opens : R → Opens} {start : R} {s : Bytes} where
-  pub left_whole : stands start → Left stands opens start s start 1 s
-  left_whole h = record { stood = h; counted = omega arith; same = refl }
-
-  module _ (short : length s ≤ text_bytes) {x : R} {number : ℕ} {rest : Bytes} (l : Left stands opens start s x number rest) where
+module _ {R : Type 0} {opens : R → Opens} {start : R} {s : Bytes} where
+  module _ (short : length s ≤ text_bytes) {x : R} {number : ℕ} {rest : Bytes} (l : Left opens start s x number rest) where
     answered : (r : Result State RefusedAt) → ReadAs (opens x number (split newline rest)) r → ReadAs (within_text s (opens start 1 (split newline s))) r
     answered r a = rw (le-ltb text_bytes (length s) short) (subst (λ (o : Opened). ReadAs o r) l.same a)
 
@@ -84,30 +60,29 @@ module _ {R : Type 0} {stands : R → Type 0} {opens : R → Opens} {start : R} 
             by (Ok l) n is = let z : l ≡ line = cc in (n.0 ∙ ap (λ (b : Bor Bytes). b.now ∷ split newline t) z, n.1)
             by (Err q) n is = cc
 
-        module _ (k : Result R Refusal) (took : Takes stands opens x line.now k) where
+        module _ (k : Result R Refusal) (took : Takes opens x line.now k) where
           pub line_refused : (e : RefusedAt) → Err e ≡ at_line number k → ReadAs (within_text s (opens start 1 (split newline s))) (Err e)
           line_refused e is = by k took is
             where
-              by : (k : Result R Refusal) → Takes stands opens x line.now k → Err e ≡ at_line number k → ReadAs (within_text s (opens start 1 (split newline s))) (Err e)
+              by : (k : Result R Refusal) → Takes opens x line.now k → Err e ≡ at_line number k → ReadAs (within_text s (opens start 1 (split newline s))) (Err e)
               by (Ok y) w is = cc
               by (Err q) w is =
                   let m = split_some newline t in
                   subst (λ (a : RefusedAt). ReadAs (within_text s (opens start 1 (split newline s))) (Err a)) (let z : ◌≡◌ {A = RefusedAt} (record { refusal = q; line = number }) e = cc in z)
                   (refused_here q (ap (opens x number) (whole.0 ∙ ap (λ (ws : List Bytes). line.now ∷ ws) m.2) ∙ w number m.0 m.1))
 
-          pub line_taken : (y : R) → Ok y ≡ at_line number k → Left stands opens start s y (number + 1) t
+          pub line_taken : (y : R) → Ok y ≡ at_line number k → Left opens start s y (number + 1) t
           line_taken y is = by k took is
             where
-              by : (k : Result R Refusal) → Takes stands opens x line.now k → Ok y ≡ at_line number k → Left stands opens start s y (number + 1) t
+              by : (k : Result R Refusal) → Takes opens x line.now k → Ok y ≡ at_line number k → Left opens start s y (number + 1) t
               by (Err q) w is = cc
               by (Ok z) w is =
                   let m = split_some newline t in
-                  subst (λ (v : R). Left stands opens start s v (number + 1) t) (let v : z ≡ y = cc in v)
+                  subst (λ (v : R). Left opens start s v (number + 1) t) (let v : z ≡ y = cc in v)
                   (record {
-                    stood = w.0;
                     counted = omega (arith, l.counted, whole.1);
                     same =
-                        ap (λ (i : ℕ). opens z i (split newline t)) (add-one number) ∙ ap (opens z (suc number)) m.2 ∙ sym (w.1 number m.0 m.1)
+                        ap (λ (i : ℕ). opens z i (split newline t)) (add-one number) ∙ ap (opens z (suc number)) m.2 ∙ sym (w number m.0 m.1)
                         ∙ ap (opens x number) (sym (whole.0 ∙ ap (λ (ws : List Bytes). line.now ∷ ws) m.2)) ∙ l.same;
                   })
 

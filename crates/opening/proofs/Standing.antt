@@ -18,7 +18,8 @@ use Rattle.layout.specs.Opening.{rank, allowed, stage_after, form_fault, line_fa
 use Rattle.layout_laws.proofs.Opened.{Reached, line_reached, fresh_formed}
 use Rattle.opening.specs.declared.book.Book.{Book}
 use Rattle.opening.specs.Stages.{rank_of, placed}
-use Rattle.opening.specs.Opened.{Standing, TookForm}
+use Rattle.opening.specs.Standing.{Standing}
+use Rattle.opening.specs.Opened.{TookForm}
 
 -- ---- what stands
 module _ {stage : ℕ} {x : State} (s : Standing stage x) where
@@ -62,19 +63,9 @@ module _ (stage : ℕ) (b : Formula) (f : Form) where
     pub refused_form : {q : Refusal} → form_fault b f ≡ some (number_of q) → TookForm stage b f (Err q)
     refused_form k = record { fault = standing_fault ∙ k; advanced = tt }
 
-    pub taken_form : Reached stage b → form_fault b f ≡ none → {y : Book} → formula_in y.state ≡ with_form b f → rank_of y.stage ≡ stage_after (rank f) → read_state y.state ≡ some (fresh (formula_in y.state))
-        → TookForm stage b f (Ok y)
-    taken_form i k {y} g h r =
-        record {
-          fault = standing_fault ∙ k;
-          advanced = record {
-            formula = g;
-            stage = h;
-            stands = record {
-              read = r;
-              reached =
-                  subst (λ (k : ℕ). Reached k (formula_in y.state)) (sym h)
-                  (subst (Reached (stage_after (rank f))) (sym g) (line_reached stage b f i (standing_fault ∙ k)));
-            };
-          };
-        }
+    pub taken_form : form_fault b f ≡ none → {y : Book} → formula_in y.state ≡ with_form b f → rank_of y.stage ≡ stage_after (rank f) → TookForm stage b f (Ok y)
+    taken_form k g h = record { fault = standing_fault ∙ k; advanced = record { formula = g; stage = h } }
+
+    -- a state with the form stands after it
+    pub stands_after : Reached stage b → form_fault b f ≡ none → {x : State} → formula_in x ≡ with_form b f → read_state x ≡ some (fresh (formula_in x)) → Standing (stage_after (rank f)) x
+    stands_after i k g r = record { read = r; reached = subst (Reached (stage_after (rank f))) (sym g) (line_reached stage b f i (standing_fault ∙ k)) }

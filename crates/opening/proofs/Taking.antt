@@ -9,7 +9,7 @@ use native.Mathlib.Omega.{arith}
 use borrow.Author.Tests.{ne_eqb}
 use lib.Dec.{eqb}
 use lib.IntN.{ℤ}
-use Rattle.qbf.specs.Formula.{paper, Prefix, quantifiers, Literal, all, is_free}
+use Rattle.qbf.specs.Formula.{paper, Prefix, quantifiers, Literal, number_of, all, is_free}
 use Rattle.qbf.specs.Learning.{Store, empty_store}
 use Rattle.qbf.specs.Calls.{rule, answer, rule_reply, given, rule_fault, with_rule, store_after_rule, clause_ok, constraint_ok, formula_is_ok, well_formed, guarded, State as Read}
 use Rattle.qbf.specs.Runs.{fresh}
@@ -34,28 +34,14 @@ use Rattle.opening.specs.Blocks.{block_rank, Growable, Grown}
 use Rattle.opening.specs.declared.book.Book.{Book}
 use Rattle.opening.specs.declared.stage.Stage.TheVariants as stages
 use Rattle.opening.specs.declared.stage.Stage.{Stage}
-use Rattle.opening.specs.Stages.{placed}
+use Rattle.opening.specs.Stages.{rank_of, placed}
 use Rattle.rules.specs.Rules.{change_said}
-use Rattle.opening.specs.Opened.{Standing, TookForm, BlockTook, RuleTook}
-use Rattle.opening.proofs.Standing.{standing_valid, nothing_stored, fresh_read, misplaced, refused_form, taken_form}
+use Rattle.opening.specs.Standing.{Standing}
+use Rattle.opening.specs.Opened.{TookForm, BlockTook, RuleTook}
+use Rattle.opening.proofs.Standing.{standing_valid, nothing_stored, fresh_read, misplaced, refused_form, taken_form, stands_after}
 
-abbrev book_at : Stage → State → Book
-book_at s x = record { stage = s; state = x }
-
--- ---- the book's line and the end's: the state stays
-one_only : (e : ℕ) {k : ℕ} → k ≡ narrow e → k ≡ 1 → e ≡ 1
-one_only e p q = omega (arith, p, q)
-
-module _ {stage : ℕ} {x : State} (s : Standing stage x) {u : Unit {0}} where
-  module _ (a : Ok u ≡ placed (allowed stage 0)) (e : ℕ) {m : ℕ} (p : m ≡ narrow e) where
-    pub edition_refused : (m ≡ 1 → ⊥) → TookForm stage (formula_in x) (book e) (Err Edition)
-    edition_refused h = refused_form stage (formula_in x) (book e) a (ap (λ (q : Bool). given (not q) 2) (ne_eqb e 1 (λ w. h (p ∙ ap narrow w))))
-
-    pub book_taken : m ≡ 1 → TookForm stage (formula_in x) (book e) (Ok (book_at stages.Flags x))
-    book_taken q = taken_form stage (formula_in x) (book e) a s.reached (ap (λ (m : ℕ). given (not (eqb m 1)) 2) (one_only e p q)) refl refl s.read
-
-  pub end_taken : Ok u ≡ placed (allowed stage 4) → TookForm stage (formula_in x) end (Ok (book_at stages.End x))
-  end_taken a = taken_form stage (formula_in x) end a s.reached refl refl refl s.read
+abbrev book_at : (s : Stage) (x : State) → Standing (rank_of s) x → Book
+book_at s x p = record { stage = s; state = x; stands = p }
 
 -- ---- a block
 rank_is : (kind : ℕ) (ns : List ℕ) → block_rank kind ≡ rank (block (quantifier_of kind) ns)
@@ -117,9 +103,6 @@ module _ {stage : ℕ} {x : State} (s : Standing stage x) (no_clauses : (formula
       formed = ap well_formed_read (sym grown_read) ∙ grown_valid
 
 module _ {stage : ℕ} {x : State} (s : Standing stage x) (kind : ℕ) {k : ℕ} (of : k ≡ block_rank kind) where
-  pub block_misplaced : {q : Refusal} → Err q ≡ placed (allowed stage k) → (lits : List ℤ) → BlockTook stage x kind lits (Err q)
-  block_misplaced a lits = λ ns p q. misplaced stage (formula_in x) (block (quantifier_of kind) ns) (a ∙ ap (λ (r : ℕ). placed (allowed stage r)) (of ∙ rank_is kind ns))
-
   module _ {u : Unit {0}} (a : Ok u ≡ placed (allowed stage k)) where
     stands_here : (stage ≤ block_rank kind) × (block_rank kind < 2 → stage ≡ block_rank kind)
     stands_here = allowed_is stage (block_rank kind) (by (allowed stage (block_rank kind)) (a ∙ ap (λ (r : ℕ). placed (allowed stage r)) of))
@@ -141,16 +124,20 @@ module _ {stage : ℕ} {x : State} (s : Standing stage x) (kind : ℕ) {k : ℕ}
     here ns = a ∙ ap (λ (r : ℕ). placed (allowed stage r)) (of ∙ rank_is kind ns)
 
     module _ {lits : List ℤ} {ns' ls' ks' : List ℕ} where
-      pub block_refused : {q : Refusal} → Grown x.numbers x.levels x.kinds lits kind (Err q) ns' ls' ks' → BlockTook stage x kind lits (Err q)
-      block_refused w = λ ns p q. refused_form stage (formula_in x) (block (quantifier_of kind) ns) (here ns) (sym p ∙ w.fault)
+      module _ {v : Unit {0}} (w : Grown x.numbers x.levels x.kinds lits kind (Ok v) ns' ls' ks') where
+        pub block_taken : (k : Standing 2 (grown_state x ns' ls' ks')) → BlockTook stage x kind lits (Ok (book_at stages.Block (grown_state x ns' ls' ks') k))
+        block_taken k = λ ns p q.
+            taken_form stage (formula_in x) (block (quantifier_of kind) ns) (here ns) (sym p ∙ w.fault)
+            (ap (λ (D : Prefix). record { limits = paper; prefix = D; clauses = (formula_in x).clauses })
+            (w.prefix ∙ ap (λ (ms : List ℕ). prefix_in x ++ map (variable (quantifier_of kind)) ms) (q (sym p ∙ w.fault))))
+            (stage_is kind ns)
 
-      pub block_taken : {v : Unit {0}} → Grown x.numbers x.levels x.kinds lits kind (Ok v) ns' ls' ks' → BlockTook stage x kind lits (Ok (book_at stages.Block (grown_state x ns' ls' ks')))
-      block_taken w = λ ns p q.
-          taken_form stage (formula_in x) (block (quantifier_of kind) ns) (here ns) s.reached (sym p ∙ w.fault)
-          (ap (λ (D : Prefix). record { limits = paper; prefix = D; clauses = (formula_in x).clauses })
-          (w.prefix ∙ ap (λ (ms : List ℕ). prefix_in x ++ map (variable (quantifier_of kind)) ms) (q (sym p ∙ w.fault))))
-          (stage_is kind ns)
-          (grown_read s (s.reached.no_clauses (omega (arith, stands_here.0, rank_most kind))) w.sound)
+        pub block_stands : Standing 2 (grown_state x ns' ls' ks')
+        block_stands =
+            subst (λ (k : ℕ). Standing k (grown_state x ns' ls' ks')) (sym (stage_is kind (map number_of lits)))
+            (stands_after stage (formula_in x) (block (quantifier_of kind) (map number_of lits)) (here (map number_of lits)) s.reached w.fault
+            (ap (λ (D : Prefix). record { limits = paper; prefix = D; clauses = (formula_in x).clauses }) w.prefix)
+            (grown_read s (s.reached.no_clauses (omega (arith, stands_here.0, rank_most kind))) w.sound))
 
 -- ---- a rule
 pub read_is : (x : State) (y : Read) → read_state x ≡ some y → state_in x ≡ y
@@ -166,9 +153,6 @@ read_is x y e = by (fits x) e
     by false q = absurd (let z : ◌≡◌ {A = ℕ} 0 1 = cc in omega (arith, z))
 
 module _ {stage : ℕ} {x : State} (s : Standing stage x) (lits : List ℤ) where
-  pub rule_misplaced : {q : Refusal} → Err q ≡ placed (allowed stage 3) → RuleTook stage x lits (Err q)
-  rule_misplaced a = λ ls p q. misplaced stage (formula_in x) (clause ls) a
-
   module _ {u : Unit {0}} (a : Ok u ≡ placed (allowed stage 3)) (r : Result (Unit {0}) Refusal) {x' : State} (w : Serves x (rule lits) (change_said r) x') where
     formed : well_formed (fresh (formula_in x)) ≡ true
     formed = fresh_formed (formula_in x) s.reached.facts
@@ -188,21 +172,25 @@ module _ {stage : ℕ} {x : State} (s : Standing stage x) (lits : List ℤ) wher
     pub rule_refused : {q : Refusal} → Err q ≡ r → RuleTook stage x lits (Err q)
     rule_refused e = λ ls p q. refused_form stage (formula_in x) (clause ls) a (sym p ∙ fault_is ∙ sym (ap fault_in e))
 
-    pub rule_taken : {v : Unit {0}} → Ok v ≡ r → RuleTook stage x lits (Ok (book_at stages.Rule x'))
-    rule_taken e = λ ls p q.
-        taken_form stage (formula_in x) (clause ls) a s.reached (sym p ∙ fine)
-        (ap (λ (y : Read). y.formula) (reads ls p q)) refl (w.next ∙ sym read_same)
-      where
-        fine : rule_fault (formula_in x) lits ≡ none
-        fine = fault_is ∙ sym (ap fault_in e)
+    module _ {v : Unit {0}} (e : Ok v ≡ r) where
+      fine : rule_fault (formula_in x) lits ≡ none
+      fine = fault_is ∙ sym (ap fault_in e)
 
-        next_read : read_state x' ≡ some (fresh (with_rule none (formula_in x) lits))
-        next_read =
-            w.next ∙ ap (λ (o : Option Read). next_of o (rule lits)) s.read ∙ ap (λ (u : Bool). some (guarded u (fresh (formula_in x)) (rule lits)).state) formed
-            ∙ ap (λ (o : Option ℕ). some (record { formula = with_rule o (formula_in x) lits; store = store_after_rule o empty_store })) fine
+      next_read : read_state x' ≡ some (fresh (with_rule none (formula_in x) lits))
+      next_read =
+          w.next ∙ ap (λ (o : Option Read). next_of o (rule lits)) s.read ∙ ap (λ (u : Bool). some (guarded u (fresh (formula_in x)) (rule lits)).state) formed
+          ∙ ap (λ (o : Option ℕ). some (record { formula = with_rule o (formula_in x) lits; store = store_after_rule o empty_store })) fine
 
-        reads : (ls : List Literal) → rule_fault (formula_in x) lits ≡ rule_fault (formula_in x) ls → (rule_fault (formula_in x) ls ≡ none → lits ≡ ls) → state_in x' ≡ fresh (with_rule none (formula_in x) ls)
-        reads ls p q = read_is x' (fresh (with_rule none (formula_in x) lits)) next_read ∙ ap (λ (r : List Literal). fresh (with_rule none (formula_in x) r)) (q (sym p ∙ fine))
+      reads : (ls : List Literal) → rule_fault (formula_in x) lits ≡ rule_fault (formula_in x) ls → (rule_fault (formula_in x) ls ≡ none → lits ≡ ls) → state_in x' ≡ fresh (with_rule none (formula_in x) ls)
+      reads ls p q = read_is x' (fresh (with_rule none (formula_in x) lits)) next_read ∙ ap (λ (r : List Literal). fresh (with_rule none (formula_in x) r)) (q (sym p ∙ fine))
 
-        read_same : some (fresh (formula_in x')) ≡ next_of (read_state x) (rule lits)
-        read_same = ap (λ (y : Read). some (fresh y.formula)) (read_is x' (fresh (with_rule none (formula_in x) lits)) next_read) ∙ sym next_read ∙ w.next
+      read_same : some (fresh (formula_in x')) ≡ next_of (read_state x) (rule lits)
+      read_same = ap (λ (y : Read). some (fresh y.formula)) (read_is x' (fresh (with_rule none (formula_in x) lits)) next_read) ∙ sym next_read ∙ w.next
+
+      pub rule_taken : (k : Standing 3 x') → RuleTook stage x lits (Ok (book_at stages.Rule x' k))
+      rule_taken k = λ ls p q. taken_form stage (formula_in x) (clause ls) a (sym p ∙ fine) (ap (λ (y : Read). y.formula) (reads ls p q)) refl
+
+      pub rule_stands : Standing 3 x'
+      rule_stands =
+          stands_after stage (formula_in x) (clause lits) a s.reached fine
+          (ap (λ (y : Read). y.formula) (reads lits refl (λ z. refl))) (w.next ∙ sym read_same)

@@ -29,20 +29,21 @@ use Rattle.opening.specs.declared.Opened.{Opened as Answer}
 use Rattle.opening.specs.declared.text.RefusedAt.{RefusedAt}
 use Rattle.opening.specs.Lines.{Takes, Ends, ReadAs, within_text}
 use Rattle.opening.specs.Stages.{rank_of}
-use Rattle.opening.specs.Opened.{Stood, Empty, Took, lines_open, book_opens, OpenedAs, AnsweredAs}
+use Rattle.opening.specs.Standing.{Standing}
+use Rattle.opening.specs.Opened.{Empty, Took, lines_open, book_opens, OpenedAs, AnsweredAs}
 use Rattle.opening.proofs.Taking.{read_is}
 
 -- ---- before the first line
+module _ (x : State) (e : read_state x ≡ some empty_state) where
+  empty_is : formula_in x ≡ empty_formula paper
+  empty_is = ap (λ (z : Read). z.formula) (read_is x empty_state e)
+
+  pub empty_stands : Standing 0 x
+  empty_stands = record { read = e ∙ ap (λ (b : Formula). some (fresh b)) (sym empty_is); reached = subst (Reached 0) (sym empty_is) (reached_none paper refl) }
+
 module _ {y : Book} (e : Empty y) where
   pub empty_formed : formula_in y.state ≡ empty_formula paper
-  empty_formed = ap (λ (z : Read). z.formula) (read_is y.state empty_state e.read)
-
-  pub empty_stood : Stood y
-  empty_stood =
-      record {
-        read = e.read ∙ ap (λ (b : Formula). some (fresh b)) (sym empty_formed);
-        reached = subst (λ (k : ℕ). Reached k (formula_in y.state)) (sym e.first) (subst (Reached 0) (sym empty_formed) (reached_none paper refl));
-      }
+  empty_formed = empty_is y.state e.read
 
   pub empty_opens : (s : Bytes) → within_text s (book_opens y 1 (split newline s)) ≡ open_text paper s
   unfolding open_text
@@ -74,36 +75,31 @@ module _ (y : Book) (going : rank_of y.stage ≡ 4 → ⊥) (l : Bytes) where
   unfolding read_lines onward
   line_opens n m ls = rw (ne_eqb (rank_of y.stage) 4 going)
 
-  pub book_takes : (r : Result Book Refusal) → Took (rank_of y.stage) (formula_in y.state) (form_of l) r → Takes Stood book_opens y l r
+  pub book_takes : (r : Result Book Refusal) → Took (rank_of y.stage) (formula_in y.state) (form_of l) r → Takes book_opens y l r
   unfolding onward
   book_takes r w = by (form_of l) refl r w
     where
-      by : (o : Option Form) → form_of l ≡ o → (r : Result Book Refusal) → Took (rank_of y.stage) (formula_in y.state) o r → Takes Stood book_opens y l r
+      by : (o : Option Form) → form_of l ≡ o → (r : Result Book Refusal) → Took (rank_of y.stage) (formula_in y.state) o r → Takes book_opens y l r
       by none e (Ok z) w = cc
       by none e (Err q) w = λ n m ls.
           line_opens n m ls ∙ ap (λ (o : Option Form). read_line n (rank_of y.stage) (formula_in y.state) o (onward n m ls)) e ∙ ap (λ (k : Refusal). refused (number_of k) n) (let z : NotInLayout ≡ q = cc in z)
       by (some f) e (Err q) w = λ n m ls.
           line_opens n m ls ∙ ap (λ (o : Option Form). read_line n (rank_of y.stage) (formula_in y.state) o (onward n m ls)) e
           ∙ ap (λ (o : Option ℕ). refused_or n o (onward n m ls f (with_form (formula_in y.state) f))) w.fault
-      by (some f) e (Ok z) w = (
-        w.advanced.stands,
-        λ n m ls.
-            line_opens n m ls ∙ ap (λ (o : Option Form). read_line n (rank_of y.stage) (formula_in y.state) o (onward n m ls)) e
-            ∙ ap (λ (o : Option ℕ). refused_or n o (onward n m ls f (with_form (formula_in y.state) f))) w.fault
-            ∙ ap (onward n m ls f) (sym w.advanced.formula)
-            ∙ ap (λ (t : Bool). cond t (at_end (suc n) (formula_in z.state) (m ∷ ls)) (read_lines (suc n) (stage_after (rank f)) (formula_in z.state) (m ∷ ls))) (end_same f)
-            ∙ ap (λ (k : ℕ). lines_open k (formula_in z.state) (suc n) (m ∷ ls)) (sym w.advanced.stage),
-      )
+      by (some f) e (Ok z) w =
+          λ n m ls.
+          line_opens n m ls ∙ ap (λ (o : Option Form). read_line n (rank_of y.stage) (formula_in y.state) o (onward n m ls)) e
+          ∙ ap (λ (o : Option ℕ). refused_or n o (onward n m ls f (with_form (formula_in y.state) f))) w.fault
+          ∙ ap (onward n m ls f) (sym w.advanced.formula)
+          ∙ ap (λ (t : Bool). cond t (at_end (suc n) (formula_in z.state) (m ∷ ls)) (read_lines (suc n) (stage_after (rank f)) (formula_in z.state) (m ∷ ls))) (end_same f)
+          ∙ ap (λ (k : ℕ). lines_open k (formula_in z.state) (suc n) (m ∷ ls)) (sym w.advanced.stage)
 
 -- ---- the end
 module _ (y : Book) where
   -- after the end's line nothing may stand
-  pub over_takes : rank_of y.stage ≡ 4 → (l : Bytes) → Takes Stood book_opens y l (Err NotInLayout)
+  pub over_takes : rank_of y.stage ≡ 4 → (l : Bytes) → Takes book_opens y l (Err NotInLayout)
   over_takes e [] = λ n m ls. rw (eq-eqb (rank_of y.stage) 4 e)
   over_takes e (c ∷ l) = λ n m ls. rw (eq-eqb (rank_of y.stage) 4 e)
-
-  pub over_ends : rank_of y.stage ≡ 4 → Stood y → Ends (book_opens y) (Ok y.state)
-  over_ends e s = λ n. rw (eq-eqb (rank_of y.stage) 4 e) s.read
 
   pub going_ends : (rank_of y.stage ≡ 4 → ⊥) → Ends (book_opens y) (Err NotInLayout)
   unfolding read_lines
@@ -113,7 +109,7 @@ module _ (y : Book) where
 pub told_going : (y : Book) {t : Bool} → t ≡ not (sameb the_type y.stage stages.End) → t ≡ true → Ends (book_opens y) (Err NotInLayout)
 told_going y p q = going_ends y (not_end y.stage p q)
 
-pub told_takes : (y : Book) {t : Bool} → t ≡ sameb the_type y.stage stages.End → t ≡ false → (l : Bytes) (r : Result Book Refusal) → Took (rank_of y.stage) (formula_in y.state) (form_of l) r → Takes Stood book_opens y l r
+pub told_takes : (y : Book) {t : Bool} → t ≡ sameb the_type y.stage stages.End → t ≡ false → (l : Bytes) (r : Result Book Refusal) → Took (rank_of y.stage) (formula_in y.state) (form_of l) r → Takes book_opens y l r
 told_takes y p q = book_takes y (not_end y.stage refl (sym (ap not p) ∙ ap not q))
 
 -- ---- the answer

@@ -1,5 +1,5 @@
+pub mod Standing
 pub mod Blocks
 pub mod Lines
 pub mod Opened
 pub mod Stages
-pub mod Told

@@ -17,9 +17,9 @@ abbrev pub Opens : Type 0
 Opens = ℕ → List Bytes → Opened
 
 -- a whole line: another piece follows it
-abbrev pub Takes : {R : Type 0} → (R → Type 0) → (R → Opens) → R → Bytes → Result R Refusal → Type 0
-Takes stands opens x l (Ok y) = stands y × ((n : ℕ) (m : Bytes) (ls : List Bytes) → opens x n (l ∷ m ∷ ls) ≡ opens y (suc n) (m ∷ ls))
-Takes stands opens x l (Err r) = (n : ℕ) (m : Bytes) (ls : List Bytes) → opens x n (l ∷ m ∷ ls) ≡ refused (number_of r) n
+abbrev pub Takes : {R : Type 0} → (R → Opens) → R → Bytes → Result R Refusal → Type 0
+Takes opens x l (Ok y) = (n : ℕ) (m : Bytes) (ls : List Bytes) → opens x n (l ∷ m ∷ ls) ≡ opens y (suc n) (m ∷ ls)
+Takes opens x l (Err r) = (n : ℕ) (m : Bytes) (ls : List Bytes) → opens x n (l ∷ m ∷ ls) ≡ refused (number_of r) n
 
 -- what a text opens: a state with its formula and an empty store, or the refusal with its line
 abbrev pub ReadAs : Opened → Result State RefusedAt → Type 0

@@ -1,4 +1,4 @@
--- What stands while the lines of a text are read, and what the answers say.
+-- What the lines of a text leave, and what the answers say.
 use Rattle.std.specs.Prelude.{ℕ, ◌≡◌, Bool, true, false, cond, List, [], ◌∷◌, eqb, refl, map, ℤ, Result, Ok, Err, IfOk}
 use Rattle.std.proofs.Math.Option.{Option, none, some}
 use Rattle.qbf.specs.Formula.{Formula, paper, Literal, number_of}
@@ -13,20 +13,11 @@ use Rattle.layout.specs.Words.{Bytes}
 use Rattle.layout.specs.Forms.{Form, block, clause}
 use Rattle.layout.specs.Opening.{rank, stage_after, declare_fault, line_fault, with_form, refused, opened, at_end, read_lines}
 use Rattle.layout.specs.Opening as text
-use Rattle.layout_laws.proofs.Opened.{Reached}
 use Rattle.opening.specs.declared.Opened.{Opened}
 use Rattle.opening.specs.declared.book.Book.{Book}
 use Rattle.opening.specs.declared.text.RefusedAt.{RefusedAt}
 use Rattle.opening.specs.Lines.{Opens}
 use Rattle.opening.specs.Stages.{rank_of}
-
--- the state has a formula that lines up to a stage have built, and nothing is stored
-pub record Standing (stage : ℕ) (x : State) : Type 0 where
-  pub read : read_state x ≡ some (fresh (formula_in x))
-  pub reached : Reached stage (formula_in x)
-
-abbrev pub Stood : Book → Type 0
-Stood y = Standing (rank_of y.stage) y.state
 
 -- before the first line
 pub record Empty (y : Book) : Type 0 where
@@ -37,7 +28,6 @@ pub record Empty (y : Book) : Type 0 where
 pub record Advanced (b : Formula) (f : Form) (y : Book) : Type 0 where
   pub formula : formula_in y.state ≡ with_form b f
   pub stage : rank_of y.stage ≡ stage_after (rank f)
-  pub stands : Stood y
 
 -- a form at a stage: its fault, or what it leaves
 pub record TookForm (stage : ℕ) (b : Formula) (f : Form) (r : Result Book Refusal) : Type 0 where

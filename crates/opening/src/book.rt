@@ -1,12 +1,6 @@
 // One line of a text on the state that the lines before it have built. "line by line 1, 2, then as the calls"
-ghost use Rattle.std.specs.Prelude.{ℕ, ◌≤◌, ◌≡◌};
-ghost use Rattle.qbf.specs.Formula.{forall};
-ghost use Rattle.tables.specs.Views.{quantifier_code};
-ghost use Rattle.state.specs.Reading.{formula_in};
-ghost use Rattle.layout.specs.Forms.{book, end, form_of};
-ghost use Rattle.reader.specs.Items.{narrow};
 ghost use Rattle.opening.specs.Stages.{rank_of};
-ghost use Rattle.opening.specs.Opened.{Stood, Empty, TookForm, BlockTook, RuleTook, Took, book_opens, book_unended};
+ghost use Rattle.opening.specs.Standing.{Standing};
 
 use crate::block::declare_all;
 use crate::stage::{Stage, of_block};
@@ -20,6 +14,7 @@ use rules::lent::Adding;
 use state::State;
 
 // "2 edition not 1"
+// stays (no plainer): it is the number that the text itself must give, and no code for a kind.
 const EDITION: usize = 1;
 
 // The state that the lines so far have built, and where the text stands.
@@ -27,9 +22,19 @@ const EDITION: usize = 1;
 pub struct Book {
     pub stage: Stage,
     pub state: State,
+    pub ghost stands: { Standing (rank_of stage) state },
 }
 
 impl Book {
+    ghost use Rattle.std.specs.Prelude.{ℕ, ◌≤◌, ◌≡◌};
+    ghost use Rattle.qbf.specs.Formula.{forall};
+    ghost use Rattle.tables.specs.Views.{quantifier_code};
+    ghost use Rattle.state.specs.Reading.{formula_in};
+    ghost use Rattle.layout.specs.Forms.{book, end, form_of};
+    ghost use Rattle.reader.specs.Items.{narrow};
+    ghost use Rattle.opening.specs.Stages.{rank_of};
+    ghost use Rattle.opening.specs.Opened.{Empty, TookForm, BlockTook, RuleTook, Took};
+
     // Before the first line.
     pub fn empty() -> Book
         ensures { Empty result }
@@ -41,7 +46,6 @@ impl Book {
     }
 
     fn take_book(self, edition: Number) -> Result<Book, Refusal>
-        requires { Stood self }
         ensures { (e : ℕ) → edition.0 ≡ narrow e → TookForm (rank_of self.stage) (formula_in self.state) (book e) result }
     {
         self.stage.place(Stage::Book)?;
@@ -51,12 +55,13 @@ impl Book {
         }
         Ok(Book {
             stage: Stage::Flags,
-            ..self
+            state: self.state,
         })
     }
 
+    // stays (form): `kind ≤ quantifier_code forall` is of a number that is a cell of the flat tables, handed on as it is
     pub fn take_block(self, kind: u16, lits: &[i16]) -> Result<Book, Refusal>
-        requires { Stood self × (kind ≤ quantifier_code forall) }
+        requires { kind ≤ quantifier_code forall }
         ensures { BlockTook (rank_of self.stage) self.state kind lits.now result }
     {
         self.stage.place(of_block(kind))?;
@@ -75,7 +80,6 @@ impl Book {
     }
 
     pub fn take_rule(self, lits: &[i16]) -> Result<Book, Refusal>
-        requires { Stood self }
         ensures { RuleTook (rank_of self.stage) self.state lits.now result }
     {
         self.stage.place(Stage::Rule)?;
@@ -99,19 +103,17 @@ impl Book {
     }
 
     pub fn take_end(self) -> Result<Book, Refusal>
-        requires { Stood self }
         ensures { TookForm (rank_of self.stage) (formula_in self.state) end result }
     {
         self.stage.place(Stage::End)?;
         Ok(Book {
             stage: Stage::End,
-            ..self
+            state: self.state,
         })
     }
 
     // Of the items as many are kept as decide: one more than there are variables.
     pub fn take_line(self, line: &[u8]) -> Result<Book, Refusal>
-        requires { Stood self }
         ensures { Took (rank_of self.stage) (formula_in self.state) (form_of line.now) result }
     {
         let mut items = [0i16; tables::BY_NUMBER];
@@ -134,7 +136,7 @@ impl Book {
 }
 
 impl LineByLine for Book {
-    ghost stands = { Stood };
+    ghost use Rattle.opening.specs.Opened.{book_opens, book_unended};
 
     ghost opens = { book_opens };
 

@@ -11,7 +11,6 @@ use text::{NO_LINE, RefusedAt, read_text};
 
 mod block;
 pub mod book;
-pub mod fault;
 pub mod lines;
 pub mod stage;
 pub mod text;

@@ -3,7 +3,7 @@ ghost use Rattle.opening.specs.Lines.{NextLine};
 ghost use Rattle.std.specs.Prelude.{◌≡◌, length};
 ghost use Rattle.std.specs.Iterator.{at_most};
 
-use reader::word::{NEWLINE, find};
+use reader::word::{NEWLINE, cut};
 use refusal::Refusal;
 
 // What is left of the text.
@@ -29,16 +29,15 @@ impl<'a> Iterator for Lines<'a> {
     ghost remaining = { λ s. at_most (length s.rest.now) };
 
     fn next(&mut self) -> Option<Result<&'a [u8], Refusal>> {
-        let rest = self.rest;
-        if rest.len() == 0 {
+        if self.rest.is_empty() {
             return None;
         }
-        let end = find(rest, 0, NEWLINE);
-        if rest.len() <= end {
-            self.rest = &rest[end..];
+        let (line, left) = cut(self.rest, NEWLINE);
+        let Some(rest) = left else {
+            self.rest = &[];
             return Some(Err(Refusal::NotInLayout));
-        }
-        self.rest = &rest[end + 1..];
-        Some(Ok(&rest[..end]))
+        };
+        self.rest = rest;
+        Some(Ok(line))
     }
 }

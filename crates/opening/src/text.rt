@@ -17,23 +17,21 @@ pub struct RefusedAt {
 }
 
 // "text 9", which has no line
+// stays (C): the number that stands in `Opened`, as other languages read it; `RefusedAt` has the same lines.
 pub const NO_LINE: usize = 0;
 
 // What the lines of a text have built so far.
 pub trait LineByLine: Copy {
-    ghost stands: { Self → Type 0 };
-
     // what the pieces from a number on open, read after those lines
     ghost opens: { Self → Opens };
 
     // One line more, without its byte 10.
     fn take(self, line: &[u8]) -> Result<Self, Refusal>
-        requires { stands self }
-        ensures { Takes stands opens self line.now result };
+        ensures { Takes opens self line.now result };
 
     // After the last line.
+    // stays (no plainer): no twin of `take`, which is given a line and answers what is built so far, where this answers the state.
     fn end(self) -> Result<State, Refusal>
-        requires { stands self }
         ensures { Ends (opens self) result };
 
     // a line without its byte 10 at the end is missing
@@ -51,7 +49,6 @@ pub fn at<T>(line: usize, judged: Result<T, Refusal>) -> Result<T, RefusedAt>
 
 // The state that a text's lines build, or the first refusal.
 pub fn read_text<R: LineByLine>(start: R, text: &[u8]) -> Result<State, RefusedAt>
-    requires { R.stands start }
     ensures { ReadAs (within_text text.now (R.opens start 1 (split newline text.now))) result }
 {
     if text.len() > TEXT {

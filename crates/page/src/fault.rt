@@ -3,7 +3,8 @@ ghost use Rattle.std.specs.Prelude.{◌≡◌, ltb};
 ghost use Rattle.std.specs.List.{list_any};
 ghost use Rattle.layout.specs.Page.{no_page};
 
-use crate::{MOST_LINES, pages};
+use crate::{Card, MOST_LINES, pages};
+use cover::CardLines;
 
 // A byte above 2.
 fn byte_above(lines: &[u8]) -> bool
@@ -12,20 +13,24 @@ fn byte_above(lines: &[u8]) -> bool
     lines.iter().any(|b| *b > tables::ON)
 }
 
-pub fn refused(table: &[u8], lines: usize, f: usize, number: usize) -> bool
-    ensures { result ≡ no_page table.now lines f number }
+pub fn refused(card: Card, number: usize) -> bool
+    ensures { result ≡ no_page card.entry.table.now card.entry.lines card.entry.free number }
 {
     if number == 0 {
         return true;
     }
-    if pages(lines) < number {
+    if pages(card.lines) < number {
         return true;
     }
-    if MOST_LINES < lines {
+    if MOST_LINES < card.lines {
         return true;
     }
-    if cover::fits(table.len(), f, lines) {
-        return byte_above(&table[..lines * f]);
+    let lines = CardLines {
+        count: card.lines,
+        free: card.free,
+    };
+    if cover::fits(card.table.len(), lines) {
+        return byte_above(&card.table[..card.lines * card.free]);
     }
     true
 }

@@ -7,7 +7,7 @@ ghost use Rattle.writer.specs.Appended.{Appended};
 ghost use Rattle.refusal.specs.Refusal.{number_if};
 ghost use Rattle.page.specs.Lent.{PageLent};
 
-use crate::{COLUMNS, ROWS};
+use crate::{COLUMNS, Card, ROWS};
 use cover::clear;
 use refusal::{Refusal, number_if};
 use writer::Output;
@@ -39,16 +39,10 @@ pub fn put_first(table: &mut [u8], p: [[u8; COLUMNS]; ROWS]) -> usize
 }
 
 // The page, and zeros behind it; refused, zeros alone.
-fn write_page(
-    out: &mut [u8],
-    table: &[u8],
-    lines: usize,
-    f: usize,
-    number: usize,
-) -> Option<Refusal>
-    ensures { PageLent table.now lines f number out.old (number_if result) out.new }
+fn write_page(out: &mut [u8], card: Card, number: usize) -> Option<Refusal>
+    ensures { PageLent card.entry.table.now card.entry.lines card.entry.free number out.old (number_if result) out.new }
 {
-    let refused = crate::refusal(table, lines, f, number);
+    let refused = crate::refusal(card, number);
     if refused.is_some() {
         clear(out);
         return refused;
@@ -57,15 +51,15 @@ fn write_page(
         clear(out);
         return Some(Refusal::TableTooShort);
     }
-    let p = crate::page(table, lines, f, number);
+    let p = crate::page(card, number);
     let n = put_first(out, p);
     clear(&mut out[n..]);
     None
 }
 
 // .. with the number that other languages read.
-pub fn page_into(out: &mut [u8], table: &[u8], lines: usize, f: usize, number: usize) -> u16
-    ensures { PageLent table.now lines f number out.old result out.new }
+pub fn page_into(out: &mut [u8], card: Card, number: usize) -> u16
+    ensures { PageLent card.entry.table.now card.entry.lines card.entry.free number out.old result out.new }
 {
-    number_if(write_page(out, table, lines, f, number))
+    number_if(write_page(out, card, number))
 }

@@ -7,7 +7,7 @@ ghost use Rattle.refusal.specs.Refusal.{number_if};
 
 use fault::refused;
 use refusal::Refusal;
-use row::page_row;
+use row::{Numbered, page_row};
 
 mod fault; // 36
 pub mod lent; // a page in a lent table
@@ -24,6 +24,14 @@ pub const LINES: usize = ROWS - 2;
 // "more than 99,999 lines"
 pub const MOST_LINES: usize = 99999;
 
+// A card: how many lines of how many bytes stand at the start of its table.
+#[derive(Clone, Copy)]
+pub struct Card<'a> {
+    pub table: &'a [u8],
+    pub lines: usize,
+    pub free: usize,
+}
+
 // "A card without lines is one page."
 pub fn pages(lines: usize) -> usize
     ensures { result ≡ pagesOf lines }
@@ -36,10 +44,10 @@ pub fn pages(lines: usize) -> usize
 }
 
 // "A page the card does not have, more than 99,999 lines or than the table holds, or a byte above 2 in any line is 36"
-pub fn refusal(table: &[u8], lines: usize, f: usize, number: usize) -> Option<Refusal>
-    ensures { number_if result ≡ page_refusal table.now lines f number }
+pub fn refusal(card: Card, number: usize) -> Option<Refusal>
+    ensures { number_if result ≡ page_refusal card.entry.table.now card.entry.lines card.entry.free number }
 {
-    if refused(table, lines, f, number) {
+    if refused(card, number) {
         Some(Refusal::NoPage)
     } else {
         None
@@ -47,15 +55,15 @@ pub fn refusal(table: &[u8], lines: usize, f: usize, number: usize) -> Option<Re
 }
 
 // A page of a card, or "a page of zero bytes".
-pub fn page(table: &[u8], lines: usize, f: usize, number: usize) -> [[u8; COLUMNS]; ROWS]
-    ensures { result ≡ printed table.now lines f number }
+pub fn page(card: Card, number: usize) -> [[u8; COLUMNS]; ROWS]
+    ensures { result ≡ printed card.entry.table.now card.entry.lines card.entry.free number }
 {
     let mut p = [[0u8; COLUMNS]; ROWS];
-    if refused(table, lines, f, number) {
+    if refused(card, number) {
         return p;
     }
     for (r, row) in p.iter_mut().enumerate() {
-        *row = page_row(table, lines, f, number, r);
+        *row = page_row(card, Numbered { number }, r);
     }
     p
 }

@@ -3,7 +3,7 @@ ghost use Rattle.std.specs.Prelude.{◌≡◌, [], ◌*◌, ◌≤◌, ◌<◌, 
 ghost use Rattle.layout.specs.Page.{page_rows, flag_columns, most_lines, sign_of, head_row, line_row, blank_row, page_of};
 ghost use Rattle.page.specs.Columns.{digit as digitOf};
 
-use crate::{COLUMNS, LINES, ROWS};
+use crate::{COLUMNS, Card, LINES, ROWS};
 
 // A line's number has five columns, and two are blank: the first flag's column, and how many flags have one.
 const FLAG: usize = 7;
@@ -15,7 +15,15 @@ const END: usize = COLUMNS - 1;
 // Row 24, counted from 0.
 const LAST: usize = ROWS - 1;
 
+// The number of a page or of a line: five columns hold it.
+#[derive(Clone, Copy)]
+pub struct Numbered {
+    pub number: usize,
+    pub ghost shown: { (1 ≤ number) × (number ≤ most_lines) },
+}
+
 // The last digit of a number; a blank where none is left.
+// stays (no plainer): the blank is the byte that is printed there
 fn digit(q: usize) -> u8
     ensures { result ≡ digitOf q }
 {
@@ -40,10 +48,10 @@ fn shown(n: usize) -> usize
 }
 
 // "Row 1 is the word CARD, blanks, and the page number, from 1, right-aligned in columns 67 to 71."
-fn head_row(number: usize) -> [u8; COLUMNS]
-    requires { (1 ≤ number) × (number ≤ most_lines) }
-    ensures { result ≡ head_row number }
+fn head_row(page: Numbered) -> [u8; COLUMNS]
+    ensures { result ≡ head_row page.number }
 {
+    let number = page.number;
     let mut row = [b' '; COLUMNS];
     row[0] = b'C';
     row[1] = b'A';
@@ -68,10 +76,10 @@ fn blank_row() -> [u8; COLUMNS]
 }
 
 // A line's number "right-aligned in columns 1 to 5, two blanks, then for each flag in place order a dot for open, 0 for off or 1 for on".
-fn line_row(number: usize, line: &[u8]) -> [u8; COLUMNS]
-    requires { (1 ≤ number) × (number ≤ most_lines) }
-    ensures { result ≡ line_row number line.now }
+fn line_row(numbered: Numbered, line: &[u8]) -> [u8; COLUMNS]
+    ensures { result ≡ line_row numbered.number line.now }
 {
+    let number = numbered.number;
     let mut row = [b' '; COLUMNS];
     row[0] = digit(number / 10 / 10 / 10 / 10);
     row[1] = digit(number / 10 / 10 / 10);
@@ -87,23 +95,22 @@ fn line_row(number: usize, line: &[u8]) -> [u8; COLUMNS]
 }
 
 // Row r, from 0, of a page that the card has.
-pub fn page_row(table: &[u8], lines: usize, f: usize, number: usize, r: usize) -> [u8; COLUMNS]
-    requires f_in_bounds { (lines * f ≤ length table.now) × (lines ≤ most_lines) }
-    requires le_number { (1 ≤ number) × (number ≤ most_lines) }
+pub fn page_row(card: Card, page: Numbered, r: usize) -> [u8; COLUMNS]
+    requires f_in_bounds { (card.lines * card.free ≤ length card.table.now) × (card.lines ≤ most_lines) }
     requires r_lt_page_rows { r < page_rows }
-    ensures { result ≡ get_or (page_of table.now lines f number) r [] }
+    ensures { result ≡ get_or (page_of card.entry.table.now card.entry.lines card.entry.free page.number) r [] }
 {
     if r == 0 {
-        return head_row(number);
+        return head_row(page);
     }
     if r == LAST {
         return blank_row();
     }
-    let n = (number - 1) * LINES + (r - 1);
-    if n < lines {
-        let at = n * f;
-        let end = at + f;
-        return line_row(n + 1, &table[at..end]);
+    let n = (page.number - 1) * LINES + (r - 1);
+    if n < card.lines {
+        let at = n * card.free;
+        let end = at + card.free;
+        return line_row(Numbered { number: n + 1 }, &card.table[at..end]);
     }
     blank_row()
 }

@@ -1,6 +1,7 @@
 // The program `pages`: a book on standard input, all pages of its card on standard output.
 #![tactic(auto)]
 
+use opening::text::RefusedAt;
 use printer::Made;
 use std::io;
 use std::io::Input;
@@ -8,8 +9,12 @@ use std::io::Input;
 // One byte more than a text may have.
 const ROOM: usize = reader::text::TEXT + 1;
 
-fn print_refusal(rt: &impl Print, made: Made, out: &mut [u8; page::lent::BYTES]) -> io::Result<()> {
-    let length = printer::put_refusal(out, made.refusal, made.line);
+fn print_refusal(
+    rt: &impl Print,
+    refused: RefusedAt,
+    out: &mut [u8; page::lent::BYTES],
+) -> io::Result<()> {
+    let length = printer::put_refusal(out, refused.refusal.number(), refused.line);
     output::print(rt, out, length)
 }
 
@@ -20,9 +25,14 @@ fn print_pages(
     table: &[u8],
     out: &mut [u8; page::lent::BYTES],
 ) -> io::Result<()> {
-    let last = page::pages(made.lines);
+    let card = page::Card {
+        table,
+        lines: made.lines,
+        free: made.free,
+    };
+    let last = page::pages(card.lines);
     for number in 1..=last {
-        page::lent::page_into(out, table, made.lines, made.free, number);
+        page::lent::page_into(out, card, number);
         output::print(rt, out, page::lent::BYTES)?;
     }
     Ok(())
@@ -34,11 +44,9 @@ fn print_text(
     table: &mut [u8],
     out: &mut [u8; page::lent::BYTES],
 ) -> io::Result<()> {
-    let made = printer::make_card(text, table);
-    if made.refusal == opening::NONE {
-        print_pages(rt, made, table, out)
-    } else {
-        print_refusal(rt, made, out)
+    match printer::make_card(text, table) {
+        Ok(made) => print_pages(rt, made, table, out),
+        Err(refused) => print_refusal(rt, refused, out),
     }
 }
 

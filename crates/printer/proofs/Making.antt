@@ -12,6 +12,7 @@ use Rattle.qbf.specs.Card.{table_of, zero_table}
 use Rattle.qbf.specs.Ceiling.{highest_ceiling}
 use Rattle.qbf.specs.Calls.{card, Reply, lines, card_refused, Answer, learning_card, formula_is_ok, guarded, State as Read, well_formed}
 use Rattle.qbf.specs.Runs.{fresh}
+use Rattle.theory.proofs.AcceptedRule.{some_none}
 use Rattle.theory.proofs.WellFormed.{formula_facts}
 use Rattle.tables.specs.Views.{Numbers}
 use Rattle.layout.specs.Words.{Bytes}
@@ -19,18 +20,16 @@ use Rattle.layout.specs.Opening.{Opened, refused, opened}
 use Rattle.layout_laws.proofs.Opened.{fresh_formed}
 use Rattle.editions.specs.Opening.{both, open_editions}
 use Rattle.editions_laws.proofs.Formed.{opened_formula}
-use Rattle.opening.specs.Opened.{OpenedAs}
-use Rattle.opening.specs.declared.Opened.{Opened as Answered}
-use Rattle.edition_opening.proofs.Apart.{edition_apart}
+use Rattle.opening.specs.Lines.{ReadAs}
+use Rattle.opening.specs.declared.text.RefusedAt.{RefusedAt}
 use Rattle.state.specs.declared.State.{State}
 use Rattle.state.specs.Reading.{read_state, valid, well_formed_read, prefix_in}
 use Rattle.state.specs.Derived.{Quantified}
 use Rattle.state.proofs.Valid.{valid_facts, valid_numbers, valid_quantified}
 use Rattle.serving.specs.Serves.{Said, said, said_reply, said_of, number, out_of, Serves}
 use Rattle.replies.specs.Replies.{card_said}
-use Rattle.std.specs.Prelude.{Result}
+use Rattle.std.specs.Prelude.{Result, Ok, Err}
 use Rattle.refusal.specs.declared.Refusal.{Refusal}
-use Rattle.replies.proofs.Told.{card_said_lem}
 use Rattle.serve.specs.Line.{prefix_read}
 use Rattle.serve.proofs.FreeLines.{card_lines}
 use Rattle.serve.proofs.CardTexts.{Listed, Refused, formed_cases, said_by}
@@ -62,32 +61,45 @@ module _ (x : State) (b : Formula) (e : read_state x ≡ some (fresh b)) (ok : f
     out_is : out_of (read_state x) (card highest_ceiling size) ≡ a
     out_is = ap (λ (o : Option Read). out_of o (card highest_ceiling size)) e ∙ ap (λ (g : Bool). (guarded g (fresh b) (card highest_ceiling size)).out) (opened_formed b ok)
 
-    said_is : (reply : Reply) → a.reply ≡ reply → said (card_said p 0 []).refusal 0 (card_said p 0 []).lines k tb ≡ said_reply reply a.visits
-    said_is reply z = sym (card_said_lem p k tb) ∙ s.answered ∙ ap said_of out_is ∙ said_by a reply z
+    said_is : (v : Result ℕ Refusal) → p ≡ v → (reply : Reply) → a.reply ≡ reply → card_said v k tb ≡ said_reply reply a.visits
+    said_is v q reply z = ap (λ (o : Result ℕ Refusal). card_said o k tb) (sym q) ∙ s.answered ∙ ap said_of out_is ∙ said_by a reply z
 
-    pub card_made : (r : Made) → r.refusal ≡ number (card_said p 0 []).refusal → r.line ≡ 0 → r.lines ≡ (card_said p 0 []).lines → r.free ≡ free_variables b.prefix
-        → CardMade size (opened b) r tb
-    card_made r refusal line count free = by (formed_cases highest_ceiling true size (fresh b))
+    -- lines stand in the table
+    pub lines_made : (n : ℕ) → p ≡ Ok n → (f : ℕ) → f ≡ free_variables b.prefix → CardMade size (opened b) (Ok (record { lines = n; free = f })) tb
+    lines_made n q f free = by (formed_cases highest_ceiling true size (fresh b))
       where
+        r : Result Made RefusedAt
+        r = Ok (record { lines = n; free = f })
+
+        by : Refused a.reply ⊎ Listed highest_ceiling true size (fresh b) a.reply → ReplyMade b.prefix a.reply r tb
+        by (inl (m, tb', z)) = absurd (some_none (sym (ap (λ (v : Said). v.refusal) (said_is (Ok n) q (card_refused (suc m) tb') z))))
+        by (inr (z, fits)) =
+            let w = said_is (Ok n) q shown z in
+            subst (λ (v : Reply). ReplyMade b.prefix v r tb) (sym z) (ap (λ (v : Said). v.lines) w, free, ap (λ (v : Said). v.table) w)
+
+    -- or the card is refused
+    pub refusal_made : (k : Refusal) → p ≡ Err k → CardMade size (opened b) (Err (record { refusal = k; line = 0 })) tb
+    refusal_made k q = by (formed_cases highest_ceiling true size (fresh b))
+      where
+        r : Result Made RefusedAt
+        r = Err (record { refusal = k; line = 0 })
+
         by : Refused a.reply ⊎ Listed highest_ceiling true size (fresh b) a.reply → ReplyMade b.prefix a.reply r tb
         by (inl (m, tb', z)) =
-            let w = said_is (card_refused (suc m) tb') z in
-            subst (λ (q : Reply). ReplyMade b.prefix q r tb) (sym z) (refusal ∙ ap (λ (q : Said). number q.refusal) w, line, ap (λ (q : Said). q.table) w)
-        by (inr (z, fits)) =
-            let w = said_is shown z in
-            subst (λ (q : Reply). ReplyMade b.prefix q r tb) (sym z)
-            (refusal ∙ ap (λ (q : Said). number q.refusal) w, count ∙ ap (λ (q : Said). q.lines) w, free, ap (λ (q : Said). q.table) w)
+            let w = said_is (Err k) q (card_refused (suc m) tb') z in
+            subst (λ (v : Reply). ReplyMade b.prefix v r tb) (sym z) (ap (λ (v : Said). number v.refusal) w, refl, ap (λ (v : Said). v.table) w)
+        by (inr (z, fits)) = absurd (some_none (ap (λ (v : Said). v.refusal) (said_is (Err k) q shown z)))
 
 -- ---- a text
 -- a refused one has its number and line, and a table of zeros
-pub text_refused : (size : ℕ) (o : Opened) (q : Answered) (t : Bytes) → OpenedAs o q → (q.refusal ≡ 0 → ⊥) → t ≡ zero_table size
-    → CardMade size o (record { refusal = q.refusal; line = q.line; lines = 0; free = 0 }) t
-text_refused size (refused n k) q t w h z = (w.0, w.1, z)
-text_refused size (opened b) q t w h z = absurd (h w.0)
+pub text_refused : (size : ℕ) (o : Opened) (k : RefusedAt) (t : Bytes) → ReadAs o (Err k) → t ≡ zero_table size → CardMade size o (Err k) t
+text_refused size (refused n line) k t w z = (w.0, w.1, z)
+text_refused size (opened b) k t w z = absurd w
 
-pub text_made : (s : Bytes) (size : ℕ) (q : Answered) (r : Made) (t : Bytes) → OpenedAs (open_editions both paper s) q → q.refusal ≡ 0
-    → ((b : Formula) → read_state q.state ≡ some (fresh b) → formula_is_ok b ≡ true → CardMade size (opened b) r t) → MakesCard s size r t
-text_made s size q r t w h made = by (edition_apart both s q w h)
+pub text_made : (s : Bytes) (size : ℕ) (x : State) (r : Result Made RefusedAt) (t : Bytes) → ReadAs (open_editions both paper s) (Ok x)
+    → ((b : Formula) → read_state x ≡ some (fresh b) → formula_is_ok b ≡ true → CardMade size (opened b) r t) → MakesCard s size r t
+text_made s size x r t w made = by (open_editions both paper s) refl w
   where
-    by : (b : Formula) × (open_editions both paper s ≡ opened b) → CardMade size (open_editions both paper s) r t
-    by (b, i) = subst (λ (o : Opened). CardMade size o r t) (sym i) (made b (subst (λ (o : Opened). OpenedAs o q) i w).2 (opened_formula both paper refl s b i))
+    by : (o : Opened) → open_editions both paper s ≡ o → ReadAs o (Ok x) → CardMade size o r t
+    by (refused n k) i v = absurd v
+    by (opened b) i v = made b v (opened_formula both paper refl s b i)

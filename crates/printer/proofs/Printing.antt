@@ -7,7 +7,7 @@ use mathlib.Core.Logic.{◌⊎◌, inl, inr}
 use mathlib.Core.Bool.{Bool, true, false, cond}
 use mathlib.Core.List.{List, [], ◌∷◌, ◌++◌, append-nil}
 use lib.ListN.{length}
-use lib.Dec.{eqb, ltb, eqb-suc-zero}
+use lib.Dec.{eqb, ltb}
 use borrow.Author.Tests.{le-ltb}
 use Rattle.qbf.specs.Formula.{paper, Node, Prefix, Formula}
 use Rattle.qbf.specs.Truth.{free_variables}
@@ -24,15 +24,15 @@ use Rattle.editions.specs.Opening.{both, open_editions}
 use Rattle.editions.specs.Program.{pages_program}
 use Rattle.layout.specs.Opening.{Opened, refused, opened}
 use Rattle.editions_laws.proofs.Formed.{opened_formula}
-use Rattle.opening.proofs.Apart.{NumberedText}
-use Rattle.edition_opening.proofs.Apart.{edition_numbered}
+use Rattle.std.specs.Prelude.{Result, Ok, Err}
+use Rattle.opening.specs.declared.text.RefusedAt.{RefusedAt}
 use Rattle.serving.specs.Serves.{Said, said_reply, number}
 use Rattle.serve.proofs.FreeLines.{card_lines, lines_within, one_line}
 use Rattle.serve.proofs.CardTexts.{Listed, Refused, formed_cases}
 use Rattle.page.specs.Lent.{PageLent}
 use Rattle.page.proofs.Cards.{table_printable}
 use Rattle.printer.specs.declared.Made.{Made}
-use Rattle.printer.specs.Making.{ReplyMade, CardMade, MakesCard, PagesWritten, printed_by, PagesOf}
+use Rattle.printer.specs.Making.{ListsMade, RefusalMade, ReplyMade, CardMade, MakesCard, PagesWritten, printed_by, PagesOf}
 use Rattle.printer.proofs.Making.{opened_formed}
 
 -- ---- pages
@@ -68,19 +68,19 @@ pages_joined table count f (suc k) n (d ∷ ds) ((d₀, r, e, w), h) =
     ∙ ap (λ (l : Bytes). joined (printed table count f n) ++ l) (pages_joined table count f k (suc n) ds h)
 
 -- ---- the program
-module _ (size : ℕ) (r : Made) (t : Bytes) (ds : List Bytes) (p : PagesOf r t ds) where
-  -- a number and a line, or lines
-  told : (m k : ℕ) → r.refusal ≡ suc m → r.line ≡ k → printed_by r ds ≡ refusal_text (suc m) k
-  told m k e l = (λ i. cond (eqb (e i) 0) (joined ds) (refusal_text (e i) (l i))) ∙ ap (λ (b : Bool). cond b (joined ds) (refusal_text (suc m) k)) (eqb-suc-zero m)
+module _ (size : ℕ) (t : Bytes) (ds : List Bytes) where
+  -- a number and a line
+  told : (r : Result Made RefusedAt) (n k : ℕ) (table : Bytes) → RefusalMade n k table r t → printed_by r ds ≡ refusal_text n k
+  told (Ok m) n k table w = absurd w
+  told (Err q) n k table w = λ i. refusal_text (w.0 i) (w.1 i)
 
-  listed : (ls : List Node) (table : Bytes) (f : ℕ) → r.refusal ≡ 0 → r.lines ≡ length ls → r.free ≡ f → t ≡ table → printed_by r ds ≡ pages_text table (length ls) f
-  listed ls table f e c g q =
-      ap (λ (n : ℕ). cond (eqb n 0) (joined ds) (refusal_text n r.line)) e
-      ∙ pages_joined t r.lines r.free (pages r.lines) 1 ds (p e)
-      ∙ (λ i. pages_text (q i) (c i) (g i))
+  -- or lines
+  listed : (r : Result Made RefusedAt) → PagesOf r t ds → (D : Prefix) (n : ℕ) (table : Bytes) → ListsMade D n table r t → printed_by r ds ≡ pages_text table n (free_variables D)
+  listed (Ok m) p D n table (c, g, q) = pages_joined t m.lines m.free (pages m.lines) 1 ds p ∙ (λ i. pages_text (q i) (c i) (g i))
+  listed (Err k) p D n table w = absurd w
 
-  of_reply : (b : Formula) → formula_is_ok b ≡ true → CardMade size (opened b) r t → printed_by r ds ≡ opened_pages size (opened b)
-  of_reply b ok h = by (formed_cases highest_ceiling true size (fresh b))
+  of_reply : (r : Result Made RefusedAt) → PagesOf r t ds → (b : Formula) → formula_is_ok b ≡ true → CardMade size (opened b) r t → printed_by r ds ≡ opened_pages size (opened b)
+  of_reply r p b ok h = by (formed_cases highest_ceiling true size (fresh b))
     where
       a : Reply
       a = (learning_card true b empty_store highest_ceiling size).out.reply
@@ -89,20 +89,18 @@ module _ (size : ℕ) (r : Made) (t : Bytes) (ds : List Bytes) (p : PagesOf r t 
       D = b.prefix
 
       by : Refused a ⊎ Listed highest_ceiling true size (fresh b) a → printed_by r ds ≡ pages_printed D a
-      by (inl (m, tb, z)) = let w = subst (λ (q : Reply). ReplyMade D q r t) z h in told m 0 w.0 w.1 ∙ ap (pages_printed D) (sym z)
+      by (inl (m, tb, z)) = told r (suc m) 0 tb (subst (λ (q : Reply). ReplyMade D q r t) z h) ∙ ap (pages_printed D) (sym z)
       by (inr (z, fits)) =
-          let w = subst (λ (q : Reply). ReplyMade D q r t) z h in
-          listed (card_lines (fresh b) true) (table_of (free_variables D) size (card_lines (fresh b) true)) (free_variables D) w.0 w.1 w.2 w.3 ∙ ap (pages_printed D) (sym z)
+          listed r p D (length (card_lines (fresh b) true)) (table_of (free_variables D) size (card_lines (fresh b) true)) (subst (λ (q : Reply). ReplyMade D q r t) z h) ∙ ap (pages_printed D) (sym z)
 
 -- Whatever makes the card of a text and writes each of its pages as their contracts say: all that is printed is what the program `pages` prints.
-pub printed_pages : (s : Bytes) (size : ℕ) (r : Made) (t : Bytes) (ds : List Bytes) → MakesCard s size r t → PagesOf r t ds → printed_by r ds ≡ pages_program paper size s
+pub printed_pages : (s : Bytes) (size : ℕ) (r : Result Made RefusedAt) (t : Bytes) (ds : List Bytes) → MakesCard s size r t → PagesOf r t ds → printed_by r ds ≡ pages_program paper size s
 unfolding pages_program
-printed_pages s size r t ds h p = by (open_editions both paper s) refl h (edition_numbered both paper s)
+printed_pages s size r t ds h p = by (open_editions both paper s) refl h
   where
-    by : (o : Opened) → open_editions both paper s ≡ o → CardMade size o r t → NumberedText o → printed_by r ds ≡ opened_pages size o
-    by (refused zero k) i w n = absurd n
-    by (refused (suc m) k) i w n = told size r t ds p m k w.0 w.1
-    by (opened b) i w n = of_reply size r t ds p b (opened_formula both paper refl s b i) w
+    by : (o : Opened) → open_editions both paper s ≡ o → CardMade size o r t → printed_by r ds ≡ opened_pages size o
+    by (refused n k) i w = told size t ds r n k (zero_table size) w
+    by (opened b) i w = of_reply size t ds r p b (opened_formula both paper refl s b i) w
 
 -- ---- no page is refused
 few_lines : (n f : ℕ) → n * f ≤ table_bytes → (f ≡ 0 → n ≤ 1) → n ≤ most_lines

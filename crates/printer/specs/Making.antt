@@ -1,5 +1,5 @@
 -- What making a text's card owes, for every text and every lent table, and what is printed of it.
-use Rattle.std.specs.Prelude.{ℕ, zero, suc, ◌≡◌, true, cond, List, [], ◌∷◌, length, eqb}
+use Rattle.std.specs.Prelude.{ℕ, zero, suc, ◌≡◌, true, List, [], ◌∷◌, length, Result, Ok, Err}
 use Rattle.qbf.specs.Formula.{paper, Prefix}
 use Rattle.qbf.specs.Truth.{free_variables}
 use Rattle.qbf.specs.Learning.{empty_store}
@@ -12,13 +12,23 @@ use Rattle.layout.specs.Page.{page_bytes, pages}
 use Rattle.layout.specs.Opening as opening
 use Rattle.editions.specs.Opening.{both, open_editions}
 use Rattle.page.specs.Lent.{PageLent}
+use Rattle.refusal.specs.Refusal.{number_of}
+use Rattle.opening.specs.declared.text.RefusedAt.{RefusedAt}
 use Rattle.printer.specs.declared.Made.{Made}
 
 -- ---- the card
 -- a reply with lines or a refusal, the only ones that a card has
-abbrev pub ReplyMade : Prefix → Reply → Made → Bytes → Type 0
-ReplyMade D (lines ls table) r t = (r.refusal ≡ 0) × (r.lines ≡ length ls) × (r.free ≡ free_variables D) × (t ≡ table)
-ReplyMade D (card_refused n table) r t = (r.refusal ≡ n) × (r.line ≡ 0) × (t ≡ table)
+abbrev pub ListsMade : Prefix → ℕ → Bytes → Result Made RefusedAt → Bytes → Type 0
+ListsMade D n table (Ok m) t = (m.lines ≡ n) × (m.free ≡ free_variables D) × (t ≡ table)
+ListsMade D n table (Err q) t = ⊥
+
+abbrev pub RefusalMade : ℕ → ℕ → Bytes → Result Made RefusedAt → Bytes → Type 0
+RefusalMade n line table (Ok m) t = ⊥
+RefusalMade n line table (Err q) t = (number_of q.refusal ≡ n) × (q.line ≡ line) × (t ≡ table)
+
+abbrev pub ReplyMade : Prefix → Reply → Result Made RefusedAt → Bytes → Type 0
+ReplyMade D (lines ls table) r t = ListsMade D (length ls) table r t
+ReplyMade D (card_refused n table) r t = RefusalMade n 0 table r t
 ReplyMade D done r t = ⊥
 ReplyMade D (refused n) r t = ⊥
 ReplyMade D swap r t = ⊥
@@ -26,11 +36,11 @@ ReplyMade D keep r t = ⊥
 ReplyMade D unsettled r t = ⊥
 ReplyMade D (found ls tb z) r t = ⊥
 
-abbrev pub CardMade : ℕ → opening.Opened → Made → Bytes → Type 0
-CardMade size (opening.refused n line) r t = (r.refusal ≡ n) × (r.line ≡ line) × (t ≡ zero_table size)
+abbrev pub CardMade : ℕ → opening.Opened → Result Made RefusedAt → Bytes → Type 0
+CardMade size (opening.refused n line) r t = RefusalMade n line (zero_table size) r t
 CardMade size (opening.opened b) r t = ReplyMade b.prefix (learning_card true b empty_store highest_ceiling size).out.reply r t
 
-abbrev pub MakesCard : Bytes → ℕ → Made → Bytes → Type 0
+abbrev pub MakesCard : Bytes → ℕ → Result Made RefusedAt → Bytes → Type 0
 MakesCard s size r t = CardMade size (open_editions both paper s) r t
 
 -- ---- its pages
@@ -42,8 +52,10 @@ PagesWritten table count f (suc k) n [] = ⊥
 PagesWritten table count f (suc k) n (d ∷ ds) = ((d₀ : Bytes) × (r : ℕ) × (length d₀ ≡ page_bytes) × PageLent table count f n d₀ r d) × PagesWritten table count f k (suc n) ds
 
 -- what is printed: all pages of a card, or the refusal
-abbrev pub printed_by : Made → List Bytes → Bytes
-printed_by r ds = cond (eqb r.refusal 0) (joined ds) (refusal_text r.refusal r.line)
+abbrev pub printed_by : Result Made RefusedAt → List Bytes → Bytes
+printed_by (Ok m) ds = joined ds
+printed_by (Err q) ds = refusal_text (number_of q.refusal) q.line
 
-abbrev pub PagesOf : Made → Bytes → List Bytes → Type 0
-PagesOf r t ds = r.refusal ≡ 0 → PagesWritten t r.lines r.free (pages r.lines) 1 ds
+abbrev pub PagesOf : Result Made RefusedAt → Bytes → List Bytes → Type 0
+PagesOf (Ok m) t ds = PagesWritten t m.lines m.free (pages m.lines) 1 ds
+PagesOf (Err q) t ds = Unit {0}

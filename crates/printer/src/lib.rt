@@ -12,24 +12,20 @@ ghost use Rattle.state.specs.Reading.{read_state};
 ghost use Rattle.writer.specs.Wrote.{Wrote};
 ghost use Rattle.printer.specs.Making.{CardMade, MakesCard};
 
-use edition_opening::{Editions, open_editions};
-use refusal::number_if;
+use answer_text::refused::write_refusal;
+use edition_opening::{Editions, read_editions};
+use opening::text::{NO_LINE, RefusedAt};
 use state::State;
-use writer::Output;
 
-// The lines that stand in the table, and the count of free variables; or the refusal with its line, which is 0 for a card.
+// How many lines stand in the table, and the count of free variables.
 #[derive(Clone, Copy)]
 pub struct Made {
-    pub refusal: u16,
-    pub line: usize,
     pub lines: usize,
     pub free: usize,
 }
 
-const NO_LINE: usize = 0;
-
-// The card of a state with an empty store.
-fn card_of(x: State, table: &mut [u8]) -> Made
+// The card of a state with an empty store; its refusal has no line.
+fn card_of(x: State, table: &mut [u8]) -> Result<Made, RefusedAt>
     ensures { (b : Formula) → read_state x ≡ some (fresh b) → formula_is_ok b ≡ true → CardMade (length table.old) (opened b) result table.new }
 {
     let numbers = x.numbers;
@@ -42,37 +38,31 @@ fn card_of(x: State, table: &mut [u8]) -> Made
     });
     let mut next = x;
     let shown = answers::on_state::card_of(&mut next, table, true, tables::HIGHEST_CEILING);
-    Made {
-        refusal: number_if(shown.lines.err()),
-        line: NO_LINE,
-        lines: shown.lines.unwrap_or(0),
-        free: free,
+    match shown.lines {
+        Ok(lines) => Ok(Made { lines, free }),
+        Err(refusal) => Err(RefusedAt {
+            refusal,
+            line: NO_LINE,
+        }),
     }
 }
 
 // The table is zero where the text or its card is refused.
-pub fn make_card(text: &[u8], table: &mut [u8]) -> Made
+pub fn make_card(text: &[u8], table: &mut [u8]) -> Result<Made, RefusedAt>
     ensures { MakesCard text.now (length table.old) result table.new }
 {
-    let opened = open_editions(Editions::Both, text);
-    if opened.refusal != opening::NONE {
-        cover::clear(table);
-        return Made {
-            refusal: opened.refusal,
-            line: opened.line,
-            lines: 0,
-            free: 0,
-        };
+    match read_editions(Editions::Both, text) {
+        Ok(state) => card_of(state, table),
+        Err(refused) => {
+            cover::clear(table);
+            Err(refused)
+        }
     }
-    let next = opened.state;
-    card_of(next, table)
 }
 
 // A refusal's text, in a table for a page.
 pub fn put_refusal(out: &mut [u8; page::lent::BYTES], refusal: u16, line: usize) -> usize
     ensures { Wrote out.old 0 (refusal_text refusal line) out.new result }
 {
-    let mut text = Output { bytes: out, at: 0 };
-    text.put_refusal(refusal as u64, line as u64);
-    text.at
+    write_refusal(out, refusal, line as u64)
 }

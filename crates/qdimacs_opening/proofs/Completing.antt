@@ -16,14 +16,15 @@ use Rattle.state.proofs.Valid.{prefix_numbers}
 use Rattle.state.proofs.SoundPrefix.{sound_none, valid_sound}
 use Rattle.layout_laws.proofs.Blocks.{Before}
 use Rattle.opening.specs.Blocks.{Growable}
-use Rattle.opening.specs.Opened.{Standing}
+use Rattle.opening.specs.Standing.{Standing}
 use Rattle.opening.proofs.Standing.{standing_valid}
 use Rattle.opening.proofs.Taking.{grown_state, grown_standing}
 use Rattle.qdimacs_form.specs.Opening.{flag_variables, completed, whole}
 use Rattle.qdimacs_laws.proofs.Flags.{completed_numbers}
 use Rattle.qdimacs_opening.specs.declared.head.Head.{Head}
 use Rattle.qdimacs_opening.specs.Completed.{Flagged, Joinable, Joined}
-use Rattle.qdimacs_opening.specs.Lines.{part_of, own_stage, reading_of, Grouped, Stands, Whole}
+use Rattle.qdimacs_opening.specs.Stands.{part_of, own_stage, reading_of, Grouped, Stands}
+use Rattle.qdimacs_opening.specs.Lines.{Whole}
 
 -- ---- no variable yet
 abbrev empty : List ℕ

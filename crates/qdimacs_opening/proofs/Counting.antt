@@ -15,7 +15,7 @@ use Rattle.theory.proofs.Basics.{or_false_right}
 use Rattle.constraint.proofs.Lists.{drop_more, drop_end}
 use Rattle.layout.specs.Opening.{variable, declare_fault}
 use Rattle.qdimacs_form.specs.Opening.{group_fault}
-use Rattle.qdimacs_opening.specs.Lines.{above, counted}
+use Rattle.qdimacs_opening.specs.Stands.{above, counted}
 
 -- ---- one number
 module _ (v n : ℕ) where

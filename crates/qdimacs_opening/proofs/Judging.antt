@@ -26,7 +26,8 @@ use Rattle.qdimacs_opening.specs.declared.head.Head.{Head}
 use Rattle.std.specs.Prelude.{Result}
 use Rattle.refusal.specs.declared.Refusal.{Refusal}
 use Rattle.qdimacs_opening.specs.declared.problem.Problem.{Problem}
-use Rattle.qdimacs_opening.specs.Lines.{reading_of, Stands, TookLine, GroupTook, ClauseTook, Took}
+use Rattle.qdimacs_opening.specs.Stands.{reading_of, Stands}
+use Rattle.qdimacs_opening.specs.Lines.{TookLine, GroupTook, ClauseTook, Took}
 use Rattle.qdimacs_opening.proofs.Taking.{whole_limits}
 
 -- ---- numbers of a quantifier line

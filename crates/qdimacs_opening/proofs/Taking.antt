@@ -25,7 +25,8 @@ use Rattle.layout.specs.Forms.{clause as own_clause}
 use Rattle.layout.specs.Opening.{rank, variable, declare_fault, with_block}
 use Rattle.layout.specs.Opening as ours
 use Rattle.opening.specs.declared.book.Book.{Book}
-use Rattle.opening.specs.Opened.{Standing, TookForm, BlockTook, RuleTook}
+use Rattle.opening.specs.Standing.{Standing}
+use Rattle.opening.specs.Opened.{TookForm, BlockTook, RuleTook}
 use Rattle.opening.specs.Opened as own
 use Rattle.qdimacs_form.specs.Lines.{Line, comment, header, group, clause}
 use Rattle.qdimacs_form.specs.Opening.{completed, Reading, group_fault, whole, line_fault}
@@ -33,14 +34,15 @@ use Rattle.qdimacs_opening.specs.declared.head.Head.{Head}
 use Rattle.qdimacs_opening.specs.declared.head.Part.{Part}
 use Rattle.qdimacs_opening.specs.declared.head.Part.TheVariants as part
 use Rattle.qdimacs_opening.specs.declared.problem.Problem.{Problem}
-use Rattle.qdimacs_opening.specs.Lines.{counted, part_of, own_stage, reading_of, Stands, Whole, Advanced, TookLine, GroupTook, ClauseTook}
+use Rattle.qdimacs_opening.specs.Stands.{counted, part_of, own_stage, reading_of, Stands}
+use Rattle.qdimacs_opening.specs.Lines.{Whole, Advanced, TookLine, GroupTook, ClauseTook}
 use Rattle.qdimacs_opening.proofs.Counting.{group_cut, counted_part}
 
 abbrev pub head_of : Part → ℕ → ℕ → Head
 head_of s v c = record { part = s; variables = v; clauses = c }
 
-abbrev taken : Head → State → Problem
-taken h x = record { head = h; state = x }
+abbrev taken : (h : Head) (x : State) → Stands h x → Problem
+taken h x s = record { head = h; state = x; stands = s }
 
 -- a line that is refused
 pub refused_line : (s : Reading) (f : Line) {q : Refusal} → line_fault s f ≡ some (numbers.number_of q) → TookLine s f (Err q)
@@ -48,9 +50,6 @@ refused_line s f e = record { fault = e; advanced = tt }
 
 -- ---- a comment, the header
 module _ {h : Head} {x : State} (s : Stands h x) where
-  pub comment_taken : TookLine (reading_of h x) comment (Ok (taken h x))
-  comment_taken = record { fault = refl; advanced = record { reading = refl; stands = s } }
-
   module _ (v c : ℕ) where
     pub header_misplaced : (part_of h.part ≡ 0 → ⊥) → line_fault (reading_of h x) (header v c) ≡ some 1
     header_misplaced e = rw (ne_eqb (part_of h.part) 0 e)
@@ -62,12 +61,11 @@ module _ {h : Head} {x : State} (s : Stands h x) where
       pub header_large : paper.numbers < v → line_fault (reading_of h x) (header v c) ≡ some 3
       header_large q = first ∙ ap (λ (t : Bool). given t 3) (lt-ltb paper.numbers v q)
 
-      pub header_taken : v ≤ paper.numbers → TookLine (reading_of h x) (header v c) (Ok (taken (head_of part.Groups v c) x))
-      header_taken q =
-          record {
-            fault = first ∙ ap (λ (t : Bool). given t 3) (le-ltb paper.numbers v q);
-            advanced = record { reading = refl; stands = record { stands = start; few = q; none_free = λ _. s.none_free (omega (arith, e)) } };
-          }
+      pub header_taken : v ≤ paper.numbers → (k : Stands (head_of part.Groups v c) x) → TookLine (reading_of h x) (header v c) (Ok (taken (head_of part.Groups v c) x k))
+      header_taken q k = record { fault = first ∙ ap (λ (t : Bool). given t 3) (le-ltb paper.numbers v q); advanced = record { reading = refl } }
+
+      pub header_stands : v ≤ paper.numbers → Stands (head_of part.Groups v c) x
+      header_stands q = record { stands = start; few = q; none_free = λ _. s.none_free (omega (arith, e)) }
         where
           empty : Standing 0 x
           empty = subst (λ (k : ℕ). Standing (own_stage k) x) e s.stands
@@ -149,9 +147,20 @@ module _ {h : Head} {x : State} (s : Stands h x) (kind : ℕ) (lits : List ℤ) 
           refused_line (reading_of h x) (group κ ns)
           (line_judged ns p ∙ ap (λ (r : Result Book Refusal). fault_in r or_else given (not (eqb n (length lits))) 5) k ∙ ap (λ (b : Bool). given (not b) 5) (ne_eqb n (length lits) (λ g. omega (arith, g, less))))
 
-      pub group_taken : length lits ≤ n → GroupTook (reading_of h x) kind lits (Ok (taken h y.state))
+      took_block : own.Advanced (formula_in x) (block κ ms) y
+      took_block = let w : TookForm 2 (formula_in x) (block κ ms) (Ok y) = subst (λ (r : Result Book Refusal). TookForm 2 (formula_in x) (block κ ms) r) k own_took in w.advanced
+
+      pub group_stands : Stands h y.state
+      group_stands =
+          record {
+            stands = subst (λ (k : ℕ). Standing (own_stage k) y.state) (sym e) (subst (λ (k : ℕ). Standing k y.state) (took_block.stage ∙ block_stage kind quantifies ms) y.stands);
+            few = s.few;
+            none_free = λ q. subst (λ (b : Formula). no_free (quantifiers b.prefix) ≡ true) (sym took_block.formula) (none_free_more κ (kind_quantified kind quantifies) (prefix_in x) ms (s.none_free q));
+          }
+
+      pub group_taken : length lits ≤ n → (stood : Stands h y.state) → GroupTook (reading_of h x) kind lits (Ok (taken h y.state stood))
       unfolding ms
-      group_taken more = λ ns p z. record { fault = fine ns p; advanced = next ns (z (sym p ∙ judged ∙ sym (line_judged ns p) ∙ fine ns p)) }
+      group_taken more stood = λ ns p z. record { fault = fine ns p; advanced = next ns (z (sym p ∙ judged ∙ sym (line_judged ns p) ∙ fine ns p)) }
         where
           whole_line : n ≡ length lits
           whole_line = let g = counted_part h.variables lits is in omega (arith, more, g, length-take n lits)
@@ -159,23 +168,14 @@ module _ {h : Head} {x : State} (s : Stands h x) (kind : ℕ) (lits : List ℤ) 
           fine : (ns : List ℕ) → group_fault paper h.variables κ (prefix_in x) (map number_of lits) ≡ group_fault paper h.variables κ (prefix_in x) ns → line_fault (reading_of h x) (group κ ns) ≡ none
           fine ns p = line_judged ns p ∙ ap (λ (r : Result Book Refusal). fault_in r or_else given (not (eqb n (length lits))) 5) k ∙ ap (λ (b : Bool). given (not b) 5) (eq-eqb n (length lits) whole_line)
 
-          a : own.Advanced (formula_in x) (block κ ms) y
-          a = let w : TookForm 2 (formula_in x) (block κ ms) (Ok y) = subst (λ (r : Result Book Refusal). TookForm 2 (formula_in x) (block κ ms) r) k own_took in w.advanced
-
-          next : (ns : List ℕ) → map number_of lits ≡ ns → Advanced (reading_of h x) (group κ ns) (taken h y.state)
-          next ns same = record { reading = λ i. record { stage = e i; variables = h.variables; clauses = h.clauses; formula = read i }; stands = record { stands = stands; few = s.few; none_free = quantified } }
+          next : (ns : List ℕ) → map number_of lits ≡ ns → Advanced (reading_of h x) (group κ ns) (taken h y.state stood)
+          next ns same = record { reading = λ i. record { stage = e i; variables = h.variables; clauses = h.clauses; formula = read i } }
             where
               all : ms ≡ ns
               all = ap (λ (k : ℕ). map number_of (take k lits)) whole_line ∙ ap (map number_of) (take-length lits) ∙ same
 
               read : formula_in y.state ≡ with_block κ (formula_in x) ns
-              read = a.formula ∙ ap (with_block κ (formula_in x)) all
-
-              stands : Standing (own_stage (part_of h.part)) y.state
-              stands = subst (λ (k : ℕ). Standing (own_stage k) y.state) (sym e) (subst (λ (k : ℕ). Standing k y.state) (a.stage ∙ block_stage kind quantifies ms) a.stands)
-
-              quantified : part_of h.part ≤ 1 → no_free (quantifiers (prefix_in y.state)) ≡ true
-              quantified q = subst (λ (b : Formula). no_free (quantifiers b.prefix) ≡ true) (sym a.formula) (none_free_more κ (kind_quantified kind quantifies) (prefix_in x) ms (s.none_free q))
+              read = took_block.formula ∙ ap (with_block κ (formula_in x)) all
 
 -- ---- a clause
 pub whole_limits : (s : Reading) → s.formula.limits ≡ paper → (whole s).limits ≡ paper
@@ -200,14 +200,16 @@ module _ {h : Head} {x : State} (s : Stands h x) (lits : List ℤ) where
     pub clause_refused : {q : Refusal} → RuleTook 3 y lits (Err q) → ClauseTook (reading_of h x) lits (Err q)
     clause_refused {q} took = λ ls p z. refused_line (reading_of h x) (clause ls) (clause_judged ls ∙ (clause_took (Err q) took ls p z).fault)
 
-    pub clause_taken : {t : Book} → RuleTook 3 y lits (Ok t) → ClauseTook (reading_of h x) lits (Ok (taken (head_of part.Clauses h.variables h.clauses) t.state))
-    clause_taken {t} took = λ ls p z.
+    pub clause_stands : {t : Book} → RuleTook 3 y lits (Ok t) → Stands (head_of part.Clauses h.variables h.clauses) t.state
+    clause_stands {t} took = record { stands = subst (λ (k : ℕ). Standing k t.state) (took lits refl (λ _. refl)).advanced.stage t.stands; few = s.few; none_free = λ q. absurd (omega (arith, q)) }
+
+    pub clause_taken : {t : Book} → RuleTook 3 y lits (Ok t) → (k : Stands (head_of part.Clauses h.variables h.clauses) t.state) → ClauseTook (reading_of h x) lits (Ok (taken (head_of part.Clauses h.variables h.clauses) t.state k))
+    clause_taken {t} took k = λ ls p z.
         let f = clause_took (Ok t) took ls p z in
         let a = f.advanced in
         record {
           fault = clause_judged ls ∙ f.fault;
           advanced = record {
             reading = ap (λ (b : Formula). record { stage = 2; variables = h.variables; clauses = h.clauses; formula = b }) (a.formula ∙ ap (λ (b : Formula). with_rule none b ls) w.formula);
-            stands = record { stands = subst (λ (k : ℕ). Standing k t.state) a.stage a.stands; few = s.few; none_free = λ q. absurd (omega (arith, q)) };
           };
         }

@@ -14,7 +14,7 @@ use Rattle.qbf.specs.Calls.{no_free, State as Read}
 use Rattle.qbf.specs.Runs.{fresh}
 use Rattle.tables.proofs.Laws.{rows_length}
 use Rattle.state.specs.declared.State.{State}
-use Rattle.state.specs.Reading.{formula_in, empty_state}
+use Rattle.state.specs.Reading.{read_state, formula_in, empty_state}
 use Rattle.refusal.specs.declared.Refusal.{Refusal}
 use Rattle.refusal.specs.declared.Refusal.TheVariants.{NotInLayout, Miscounted}
 use Rattle.refusal.specs.Refusal.{number_of}
@@ -23,6 +23,7 @@ use Rattle.layout.specs.Opening.{Opened, refused, opened, refused_or, empty_form
 use Rattle.layout_laws.proofs.Opened.{Reached, reached_none}
 use Rattle.opening.specs.Lines.{Takes, Ends, ReadAs, within_text}
 use Rattle.opening.proofs.Taking.{read_is}
+use Rattle.opening.proofs.Turns.{empty_stands}
 use Rattle.qdimacs_form.specs.Lines.{Line, line_of}
 use Rattle.qdimacs_form.specs.Opening.{Reading, whole, after, read_line, at_end, read_lines, read_qdimacs, open_qdimacs}
 use Rattle.qdimacs_opening.specs.contracts.head.Part.{the_type}
@@ -30,20 +31,17 @@ use Rattle.qdimacs_opening.specs.declared.head.Part.{Part}
 use Rattle.qdimacs_opening.specs.declared.head.Part.TheVariants.{Start, Groups, Clauses}
 use Rattle.qdimacs_opening.specs.declared.head.Head.{Head}
 use Rattle.qdimacs_opening.specs.declared.problem.Problem.{Problem}
-use Rattle.qdimacs_opening.specs.Lines.{part_of, reading_of, Stands, Stood, Begun, Whole, Took, problem_opens}
+use Rattle.qdimacs_opening.specs.Stands.{part_of, reading_of, Stands}
+use Rattle.qdimacs_opening.specs.Lines.{Begun, Whole, Took, problem_opens}
 
 -- ---- before the first line
+-- an empty state stands there
+pub begun_stands : (x : State) → read_state x ≡ some empty_state → Stands (record { part = Start; variables = 0; clauses = 0 }) x
+begun_stands x e = record { stands = empty_stands x e; few = zero-le; none_free = λ _. ap (λ (y : Read). no_free (quantifiers y.formula.prefix)) (read_is x empty_state e) }
+
 module _ {p : Problem} (e : Begun p) where
   empty : formula_in p.state ≡ empty_formula paper
   empty = ap (λ (y : Read). y.formula) (read_is p.state empty_state e.read)
-
-  pub begun_stood : Stood p
-  begun_stood = subst (λ (h : Head). Stands h p.state) (sym e.head)
-      (record {
-        stands = record { read = e.read ∙ ap (λ (b : Formula). some (fresh b)) (sym empty); reached = subst (Reached 0) (sym empty) (reached_none paper refl) };
-        few = zero-le;
-        none_free = λ _. ap (λ (b : Formula). no_free (quantifiers b.prefix)) empty;
-      })
 
   pub begun_opens : (s : Bytes) → within_text s (problem_opens p 1 (split newline s)) ≡ open_qdimacs paper s
   unfolding open_qdimacs read_qdimacs
@@ -55,26 +53,24 @@ unfolding read_lines
 lines_first n r [] m ws = refl
 lines_first n r (b ∷ l) m ws = refl
 
-pub line_takes : (p : Problem) (l : Bytes) (r : Result Problem Refusal) → Took (reading_of p.head p.state) (line_of l) r → Takes Stood problem_opens p l r
+pub line_takes : (p : Problem) (l : Bytes) (r : Result Problem Refusal) → Took (reading_of p.head p.state) (line_of l) r → Takes problem_opens p l r
 line_takes p l r w = by (line_of l) refl r w
   where
     s : Reading
     s = reading_of p.head p.state
 
-    by : (o : Option Line) → line_of l ≡ o → (r : Result Problem Refusal) → Took s o r → Takes Stood problem_opens p l r
+    by : (o : Option Line) → line_of l ≡ o → (r : Result Problem Refusal) → Took s o r → Takes problem_opens p l r
     by none i (Ok y) w = cc
     by none i (Err q) w = λ n m ls.
         lines_first n s l m ls ∙ ap (λ (o : Option Line). read_line n s o (λ q. read_lines (suc n) q (m ∷ ls))) i ∙ ap (λ (k : Refusal). refused (number_of k) n) (let v : NotInLayout ≡ q = cc in v)
     by (some f) i (Err q) w = λ n m ls.
         lines_first n s l m ls ∙ ap (λ (o : Option Line). read_line n s o (λ q. read_lines (suc n) q (m ∷ ls))) i
         ∙ ap (λ (o : Option ℕ). refused_or n o (read_lines (suc n) (after s f) (m ∷ ls))) w.fault
-    by (some f) i (Ok y) w = (
-      w.advanced.stands,
-      λ n m ls.
-          lines_first n s l m ls ∙ ap (λ (o : Option Line). read_line n s o (λ q. read_lines (suc n) q (m ∷ ls))) i
-          ∙ ap (λ (o : Option ℕ). refused_or n o (read_lines (suc n) (after s f) (m ∷ ls))) w.fault
-          ∙ ap (λ (t : Reading). read_lines (suc n) t (m ∷ ls)) (sym w.advanced.reading),
-    )
+    by (some f) i (Ok y) w =
+        λ n m ls.
+        lines_first n s l m ls ∙ ap (λ (o : Option Line). read_line n s o (λ q. read_lines (suc n) q (m ∷ ls))) i
+        ∙ ap (λ (o : Option ℕ). refused_or n o (read_lines (suc n) (after s f) (m ∷ ls))) w.fault
+        ∙ ap (λ (t : Reading). read_lines (suc n) t (m ∷ ls)) (sym w.advanced.reading)
 
 -- ---- the end
 module _ (h : Head) (x : State) (number : ℕ) where

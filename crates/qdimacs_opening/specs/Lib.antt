@@ -1,2 +1,3 @@
 pub mod Completed
+pub mod Stands
 pub mod Lines

@@ -1,4 +1,4 @@
--- What stands while the lines of a text are read, and what the answers of a line say.
+-- What the answers of a line say.
 use Rattle.std.specs.Prelude.{ℕ, zero, suc, ◌≤◌, ◌≡◌, Bool, true, cond, ◌&&◌, List, [], ◌∷◌, map, ℤ, leb, ltb, refl, Result, Err, IfOk}
 use Rattle.std.proofs.Math.Option.{Option, none, some}
 use Rattle.qbf.specs.Formula.{Formula, paper, quantifiers, Literal, number_of}
@@ -11,41 +11,14 @@ use Rattle.refusal.specs.Refusal.{fault_in}
 use Rattle.layout.specs.Words.{Bytes}
 use Rattle.layout.specs.Opening.{refused}
 use Rattle.opening.specs.Lines.{Opens}
-use Rattle.opening.specs.Opened.{Standing}
+use Rattle.opening.specs.Standing.{Standing}
 use Rattle.qdimacs_form.specs.Lines.{Line, group, clause}
 use Rattle.qdimacs_form.specs.Opening.{Reading, group_fault, whole, line_fault, after, read_lines}
 use Rattle.qdimacs_opening.specs.declared.head.Head.{Head}
 use Rattle.qdimacs_opening.specs.declared.head.Part.{Part}
 use Rattle.qdimacs_opening.specs.declared.head.Part.TheVariants.{Start, Groups, Clauses}
 use Rattle.qdimacs_opening.specs.declared.problem.Problem.{Problem}
-
--- ---- what stands
-abbrev pub part_of : Part → ℕ
-part_of Start = 0
-part_of Groups = 1
-part_of Clauses = 2
-
-abbrev pub reading_of : Head → State → Reading
-reading_of h x = record { stage = part_of h.part; variables = h.variables; clauses = h.clauses; formula = formula_in x }
-
--- the stage of our own text at which the same may follow
-abbrev pub own_stage : ℕ → ℕ
-own_stage zero = 0
-own_stage (suc zero) = 2
-own_stage (suc (suc n)) = 3
-
--- quantified variables alone are declared, and no clause stands
-pub record Grouped (x : State) : Type 0 where
-  pub stands : Standing 2 x
-  pub none_free : no_free (quantifiers (prefix_in x)) ≡ true
-
-pub record Stands (h : Head) (x : State) : Type 0 where
-  pub stands : Standing (own_stage (part_of h.part)) x
-  pub few : h.variables ≤ paper.numbers
-  pub none_free : part_of h.part ≤ 1 → no_free (quantifiers (prefix_in x)) ≡ true
-
-abbrev pub Stood : Problem → Type 0
-Stood p = Stands p.head p.state
+use Rattle.qdimacs_opening.specs.Stands.{reading_of}
 
 -- before the first line
 pub record Begun (p : Problem) : Type 0 where
@@ -58,19 +31,9 @@ pub record Whole (b : Formula) (y : State) : Type 0 where
   pub stands : Standing 3 y
 
 -- ---- a line
--- a variable's number above the header's count
-abbrev pub above : ℕ → ℕ → Bool
-above v n = ltb v n && leb n paper.numbers
-
--- how many numbers stand before the first such
-abbrev pub counted : ℕ → List ℕ → ℕ
-counted v [] = 0
-counted v (n ∷ ns) = cond (above v n) 0 (suc (counted v ns))
-
 -- what is read with a line
 pub record Advanced (s : Reading) (f : Line) (p : Problem) : Type 0 where
   pub reading : reading_of p.head p.state ≡ after s f
-  pub stands : Stood p
 
 pub record TookLine (s : Reading) (f : Line) (r : Result Problem Refusal) : Type 0 where
   pub fault : line_fault s f ≡ fault_in r

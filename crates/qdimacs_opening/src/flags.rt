@@ -14,21 +14,22 @@ fn declare_flag(
     levels: &mut [u16; tables::BY_NUMBER],
     kinds: &mut [u16; tables::BY_NUMBER],
     places: &[u16; tables::BY_NUMBER],
-    n: usize,
+    number: Number,
 )
-    requires { Growable numbers.old levels.old kinds.old (quantifier_code free) × (n ≤ paper.numbers) }
+    requires { Growable numbers.old levels.old kinds.old (quantifier_code free) × (number.0 ≤ paper.numbers) }
     ensures { FlagDeclared
         numbers.old
         levels.old
         kinds.old
         places.now
-        n
+        number.0
         numbers.new
         levels.new
         kinds.new }
 {
+    let n = number.0;
     if places[n] == 0 {
-        let _ = declare(numbers, levels, kinds, Number(n), tables::FREE);
+        let _ = declare(numbers, levels, kinds, number, tables::FREE);
     }
 }
 
@@ -51,6 +52,6 @@ pub fn declare_flags(
         kinds.new }
 {
     for n in 0..variables {
-        declare_flag(numbers, levels, kinds, places, n + 1);
+        declare_flag(numbers, levels, kinds, places, Number(n + 1));
     }
 }

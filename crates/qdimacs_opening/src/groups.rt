@@ -7,28 +7,28 @@ use literal::{Number, Place};
 use state::cells::{count, entry};
 use state::declare::declare;
 use state::kinds::kind_at;
+use state::prefix::Variables;
 
-pub fn declare_groups<'a>(
+pub fn declare_groups(
     numbers: &mut [u16; tables::BY_NUMBER],
     levels: &mut [u16; tables::BY_NUMBER],
     kinds: &mut [u16; tables::BY_NUMBER],
-    more: &'a [u16; tables::BY_NUMBER],
-    more_levels: &'a [u16; tables::BY_NUMBER],
-    more_kinds: &'a [u16; tables::BY_NUMBER],
+    more: Variables<'_>,
 )
-    requires sound { Sound numbers.old levels.old kinds.old × Sound more.now more_levels.now more_kinds.now }
+    requires sound { Sound numbers.old levels.old kinds.old × Sound more.numbers.now more.levels.now more.kinds.now }
     requires joinable { Joinable
         (prefix_of numbers.old levels.old kinds.old)
-        (prefix_of more.now more_levels.now more_kinds.now) }
+        (prefix_of more.numbers.now more.levels.now more.kinds.now) }
     ensures { Joined
         (prefix_of numbers.old levels.old kinds.old)
-        (prefix_of more.now more_levels.now more_kinds.now)
+        (prefix_of more.entry.numbers.now more.entry.levels.now more.entry.kinds.now)
         numbers.new
         levels.new
         kinds.new }
 {
-    for i in 0..count(more) {
-        let kind = kind_at(more_levels, more_kinds, Place(i + 1));
-        let _ = declare(numbers, levels, kinds, Number(entry(more, i)), kind);
+    for i in 0..count(more.numbers) {
+        let kind = kind_at(more.levels, more.kinds, Place(i + 1));
+        let number = Number(entry(more.numbers, i));
+        let _ = declare(numbers, levels, kinds, number, kind);
     }
 }

@@ -1,10 +1,7 @@
 // One line of a QDIMACS text on what the lines before it have built.
-ghost use Rattle.std.specs.Prelude.{◌≤◌, ◌<◌, ◌≡◌, map};
-ghost use Rattle.qbf.specs.Formula.{forall, number_of};
-ghost use Rattle.tables.specs.Views.{quantifier_code};
-ghost use Rattle.qdimacs_form.specs.Lines.{header, line_of};
-ghost use Rattle.qdimacs_form.specs.Opening.{whole};
-ghost use Rattle.qdimacs_opening.specs.Lines.{above, counted, reading_of, Begun, Stood, TookLine, GroupTook, ClauseTook, Took, Whole, problem_opens, problem_unended};
+ghost use Rattle.std.specs.Prelude.{◌≡◌, map};
+ghost use Rattle.qbf.specs.Formula.{number_of};
+ghost use Rattle.qdimacs_opening.specs.Stands.{above, counted, Stands};
 
 use crate::head::{Head, Part};
 use crate::whole::complete;
@@ -22,6 +19,7 @@ use state::State;
 pub struct Problem {
     pub head: Head,
     pub state: State,
+    pub ghost stands: { Stands head state },
 }
 
 // A variable's number above the header's count; a number that is no variable's is 3 and not 5.
@@ -48,6 +46,14 @@ fn within(lits: &[i16], variables: usize) -> usize
 }
 
 impl Problem {
+    ghost use Rattle.std.specs.Prelude.{◌≤◌, ◌<◌};
+    ghost use Rattle.qbf.specs.Formula.{forall};
+    ghost use Rattle.tables.specs.Views.{quantifier_code};
+    ghost use Rattle.qdimacs_form.specs.Lines.{header, line_of};
+    ghost use Rattle.qdimacs_form.specs.Opening.{whole};
+    ghost use Rattle.qdimacs_opening.specs.Stands.{reading_of};
+    ghost use Rattle.qdimacs_opening.specs.Lines.{Begun, TookLine, GroupTook, ClauseTook, Took, Whole};
+
     // Before the first line.
     pub fn empty() -> Problem
         ensures { Begun result }
@@ -64,7 +70,6 @@ impl Problem {
 
     // The formula that clauses are judged and added on: from the first clause on it stands.
     fn whole(self) -> State
-        requires { Stood self }
         ensures { Whole (whole (reading_of self.head self.state)) result }
     {
         if self.head.part == Part::Groups {
@@ -75,7 +80,6 @@ impl Problem {
 
     // "a header count above 40 is 3"
     fn take_header(self, variables: u32, clauses: u32) -> Result<Problem, Refusal>
-        requires { Stood self }
         ensures { TookLine (reading_of self.head self.state) (header variables clauses) result }
     {
         if self.head.part != Part::Start {
@@ -90,13 +94,14 @@ impl Problem {
                 variables: variables as usize,
                 clauses: clauses as usize,
             },
-            ..self
+            state: self.state,
         })
     }
 
     // "a variable above the count 5": the fault of the numbers before it comes first.
+    // stays (form): `kind ≤ quantifier_code forall` is of a number that is a cell of the flat tables, handed on as it is
     fn take_group(self, kind: u16, lits: &[i16]) -> Result<Problem, Refusal>
-        requires { Stood self × (0 < kind) × (kind ≤ quantifier_code forall) }
+        requires { (0 < kind) × (kind ≤ quantifier_code forall) }
         ensures { GroupTook (reading_of self.head self.state) kind lits.now result }
     {
         if self.head.part != Part::Groups {
@@ -112,13 +117,12 @@ impl Problem {
             return Err(Refusal::Undeclared);
         }
         Ok(Problem {
+            head: self.head,
             state: taken.state,
-            ..self
         })
     }
 
     fn take_clause(self, lits: &[i16]) -> Result<Problem, Refusal>
-        requires { Stood self }
         ensures { ClauseTook (reading_of self.head self.state) lits.now result }
     {
         if self.head.part == Part::Start {
@@ -140,7 +144,6 @@ impl Problem {
 
     // Of the items as many are kept as decide: one more than there are variables.
     fn take_line(self, line: &[u8]) -> Result<Problem, Refusal>
-        requires { Stood self }
         ensures { Took (reading_of self.head self.state) (line_of line.now) result }
     {
         let mut items = [0i16; tables::BY_NUMBER];
@@ -163,7 +166,7 @@ impl Problem {
 }
 
 impl LineByLine for Problem {
-    ghost stands = { Stood };
+    ghost use Rattle.qdimacs_opening.specs.Lines.{problem_opens, problem_unended};
 
     ghost opens = { problem_opens };
 

@@ -3,12 +3,14 @@ ghost use Rattle.std.specs.Prelude.{◌≤◌};
 ghost use Rattle.qbf.specs.Formula.{paper};
 ghost use Rattle.state.specs.Reading.{formula_in};
 ghost use Rattle.qdimacs_form.specs.Opening.{completed};
-ghost use Rattle.qdimacs_opening.specs.Lines.{Grouped, Whole};
+ghost use Rattle.qdimacs_opening.specs.Stands.{Grouped};
+ghost use Rattle.qdimacs_opening.specs.Lines.{Whole};
 
 use crate::flags::declare_flags;
 use crate::groups::declare_groups;
 use state::State;
 use state::numbers::places_of;
+use state::prefix::Variables;
 
 // The flags stand before the groups, though they are found after them.
 pub fn complete(x: State, variables: usize) -> State
@@ -24,9 +26,11 @@ pub fn complete(x: State, variables: usize) -> State
         &mut numbers,
         &mut levels,
         &mut kinds,
-        &x.numbers,
-        &x.levels,
-        &x.kinds,
+        Variables {
+            numbers: &x.numbers,
+            levels: &x.levels,
+            kinds: &x.kinds,
+        },
     );
     State {
         numbers,

@@ -1,5 +1,5 @@
 -- Items of a line: a word as a literal, then all of them into a table.
-use Prim.Native.Nat.{ℕ, ◌+◌, ◌≤◌, ◌<◌, ◌-◌, zero-le}
+use Prim.Native.Nat.{ℕ, ◌+◌, ◌≤◌, ◌-◌}
 use mathlib.Core.Path.{◌≡◌, refl, sym, ap, subst, ◌∙◌}
 use mathlib.Core.Bool.{Bool, true, false, cond, not, ◌&&◌, true≢false, false≢true}
 use mathlib.Core.List.{List, [], ◌∷◌}
@@ -18,23 +18,11 @@ use Rattle.layout.specs.Forms.{consed, off}
 use Rattle.reader.specs.Items.{all_narrowed, Filled}
 use Rattle.reader.proofs.Literals.{narrowed_consed, Gathered, gathered_none, gathered_bad, gathered_more, gathered_all}
 use Rattle.qdimacs_form.specs.Lines.{minus, zero_word, literal_of, literal, literals}
-use Rattle.qdimacs_reader.specs.Words.{words_from, word_then, Within, NextWord}
+use Rattle.std.specs.Borrow.{Bor}
+use Rattle.reader.specs.Pieces.{size_left}
+use Rattle.qdimacs_reader.specs.Words.{words, First}
+use Rattle.qdimacs_reader.specs.declared.word.Word.{Word}
 use Rattle.qdimacs_reader.specs.Items.{LiteralRead}
-use Rattle.qdimacs_reader.proofs.Words.{no_word, some_word}
-
--- ---- a minus
-pub off_unsigned : (g t : Bool) → not g ≡ true → false ≡ (g && t)
-off_unsigned true t h = absurd (false≢true h)
-off_unsigned false t h = refl
-
-pub off_signed : (g t : Bool) → not g ≡ false → t ≡ (g && t)
-off_signed true t h = refl
-off_signed false t h = absurd (true≢false h)
-
-pub off_none : (g : Bool) (w : Bytes) → length w ≡ 0 → false ≡ (g && eqb (get_or w 0 0) minus)
-off_none true [] h = refl
-off_none false [] h = refl
-off_none g (b ∷ w) h = absurd (omega (arith, h))
 
 -- ---- a word
 module _ (g : Bool) (w : Bytes) where
@@ -63,68 +51,54 @@ module _ (g : Bool) (w : Bytes) where
           all = take_all (length w - 1) (drop 1 w) (simp length-drop (omega arith))
 
 -- ---- all of them
--- n items are read, and the next word stands from s to e
-pub record Gathering (g : Bool) (l : Bytes) (from : ℕ) (out₀ out : List Literal) (n s e : ℕ) : Type 0 where
-  pub low : n ≤ s
-  pub within : Within l s e
-  pub gathered : Gathered (literals g (words_from l from)) (literals g (word_then (take (e - s) (drop s l)) (words_from l e))) out₀ out n
+-- n items are read, and the next word is here
+pub record Gathering (g : Bool) (line : Answer (Bor Bytes)) (out₀ out : List Literal) (n : ℕ) (here : Word) : Type 0 where
+  pub few : n + size_left here.left ≤ size_left line
+  pub gathered : Gathered (literals g (words line)) (literals g (here.word.now ∷ words here.left)) out₀ out n
 
-pub gather_none : (g : Bool) {l : Bytes} {from s e : ℕ} (out : List Literal) → NextWord l from s e → Gathering g l from out out 0 s e
-gather_none g {l} {from} out k =
+pub gather_none : (g : Bool) {line : Answer (Bor Bytes)} {here : Word} (out : List Literal) → First line here → Gathering g line out out 0 here
+gather_none g {line} {here} out k =
     record {
-      low = zero-le;
-      within = k.within;
-      gathered = subst (λ (ws : List Bytes). Gathered (literals g (words_from l from)) (literals g ws) out out 0) k.is (gathered_none (literals g (words_from l from)) out);
+      few = omega (arith, k.shorter);
+      gathered = subst (λ (ws : List Bytes). Gathered (literals g (words line)) (literals g ws) out out 0) k.is (gathered_none (literals g (words line)) out);
     }
 
-module _ {g : Bool} {l : Bytes} {from : ℕ} {out₀ out : List Literal} {n s e : ℕ} (p : Gathering g l from out₀ out n s e) where
-  pub gather_over : e ≤ s → literals g (words_from l from) ≡ none
+-- a line with no word has no items
+pub gather_over : (g : Bool) (line : Answer (Bor Bytes)) → words line ≡ [] → literals g (words line) ≡ none
+unfolding literals
+gather_over g line h = ap (literals g) h
+
+module _ {g : Bool} {line : Answer (Bor Bytes)} {out₀ out : List Literal} {n : ℕ} {here : Word} (p : Gathering g line out₀ out n here) where
+  -- no word follows: it is the terminator, or the line has none
+  pub gather_last : words here.left ≡ [] → {r : Answer ℕ} → r ≡ then_some (same here.word.now zero_word) n → Filled (literals g (words line)) r out
   unfolding literals
-  gather_over h = gathered_bad p.gathered (ap (literals g) (no_word l s e (words_from l e) h))
+  gather_last q {r} c = subst (λ (x : Answer ℕ). Filled (literals g (words line)) x out) (sym c) (by (same here.word.now zero_word) last)
+    where
+      last : literals g (here.word.now ∷ words here.left) ≡ cond (same here.word.now zero_word) (some []) none
+      last = ap (λ (ws : List Bytes). literals g (here.word.now ∷ ws)) q
 
-  module _ (h : s < e) {t f : ℕ} (k : NextWord l e t f) where
-    word : Bytes
-    word = take (e - s) (drop s l)
+      by : (z : Bool) → literals g (here.word.now ∷ words here.left) ≡ cond z (some []) none → Filled (literals g (words line)) (then_some z n) out
+      by true z = gathered_all p.gathered z
+      by false z = gathered_bad p.gathered z
 
-    here : literals g (word_then (take (e - s) (drop s l)) (words_from l e)) ≡ literals g (word ∷ word_then (take (f - t) (drop t l)) (words_from l f))
-    unfolding word
-    here = ap (literals g) (some_word p.within h (words_from l e) ∙ ap (λ (ws : List Bytes). take (e - s) (drop s l) ∷ ws) k.is)
+  -- one follows
+  module _ {next : Word} (k : First here.left next) where
+    abbrev after : List Bytes
+    after = next.word.now ∷ words next.left
 
-    -- no word follows: it is the terminator, or the line has none
-    pub gather_last : t ≡ f → {r : Answer ℕ} → r ≡ then_some (same (take (e - s) (drop s l)) zero_word) n → Filled (literals g (words_from l from)) r out
-    unfolding word literals
-    gather_last q {r} c = subst (λ (x : Answer ℕ). Filled (literals g (words_from l from)) x out) (sym c) (by (same word zero_word) last)
+    onward : literals g (here.word.now ∷ words here.left) ≡ consed (λ x. x) (literal g here.word.now) (literals g after)
+    unfolding literals
+    onward = ap (λ (ws : List Bytes). literals g (here.word.now ∷ ws)) k.is
+
+    pub gather_bad : literal g here.word.now ≡ none → literals g (words line) ≡ none
+    unfolding consed
+    gather_bad z = gathered_bad p.gathered (onward ∙ ap (λ (o : Option Literal). consed (λ x. x) o (literals g after)) z)
+
+    pub gather_more : (x : ℤ) → LiteralRead (literal g here.word.now) (Some x) → {new : List Literal} → new ≡ set out n x → Gathering g line out₀ new (n + 1) next
+    gather_more x r w = record { few = omega (arith, p.few, k.shorter); gathered = gathered_more p.gathered x step w }
       where
-        last : literals g (word_then (take (e - s) (drop s l)) (words_from l e)) ≡ cond (same word zero_word) (some []) none
-        last = here ∙ ap (λ (ws : List Bytes). literals g (word ∷ ws)) (no_word l t f (words_from l f) (omega (arith, q)))
-
-        by : (z : Bool) → literals g (word_then (take (e - s) (drop s l)) (words_from l e)) ≡ cond z (some []) none → Filled (literals g (words_from l from)) (then_some z n) out
-        by true z = gathered_all p.gathered z
-        by false z = gathered_bad p.gathered z
-
-    -- one follows
-    module _ (q : t ≡ f → ⊥) where
-      onward : literals g (word_then (take (e - s) (drop s l)) (words_from l e)) ≡ consed (λ x. x) (literal g word) (literals g (word_then (take (f - t) (drop t l)) (words_from l f)))
-      unfolding literals
-      onward = here ∙ by (word_then (take (f - t) (drop t l)) (words_from l f)) (some_word k.within (omega (arith, q, k.within.low)) (words_from l f))
-        where
-          by : (ws : List Bytes) → ws ≡ take (f - t) (drop t l) ∷ words_from l f → literals g (word ∷ ws) ≡ consed (λ x. x) (literal g word) (literals g ws)
-          by [] z = absurd (let y : ◌≡◌ {A = ℕ} 0 1 = cc in omega (arith, y))
-          by (v ∷ ws) z = refl
-
-      pub gather_bad : literal g (take (e - s) (drop s l)) ≡ none → literals g (words_from l from) ≡ none
-      unfolding word consed
-      gather_bad z = gathered_bad p.gathered (onward ∙ ap (λ (o : Option Literal). consed (λ x. x) o (literals g (word_then (take (f - t) (drop t l)) (words_from l f)))) z)
-
-      pub gather_more : (x : ℤ) → LiteralRead (literal g (take (e - s) (drop s l))) (Some x) → {new : List Literal} → new ≡ set out n x → Gathering g l from out₀ new (n + 1) t f
-      unfolding word
-      gather_more x r w = record { low = omega (arith, p.low, h, k.after); within = k.within; gathered = gathered_more p.gathered x step w }
-        where
-          left : Option (List Literal)
-          left = literals g (word_then (take (f - t) (drop t l)) (words_from l f))
-
-          step : all_narrowed (literals g (word_then (take (e - s) (drop s l)) (words_from l e))) ≡ consed (λ y. y) (some x) (all_narrowed left)
-          step =
-              ap all_narrowed (onward ∙ ap (λ (o : Option Literal). consed (λ y. y) o left) r.1)
-              ∙ narrowed_consed (λ y. y) r.0 left
-              ∙ ap (λ (y : Literal). consed (λ z. z) (some y) (all_narrowed left)) (sym r.2)
+        step : all_narrowed (literals g (here.word.now ∷ words here.left)) ≡ consed (λ y. y) (some x) (all_narrowed (literals g after))
+        step =
+            ap all_narrowed (onward ∙ ap (λ (o : Option Literal). consed (λ y. y) o (literals g after)) r.1)
+            ∙ narrowed_consed (λ y. y) r.0 (literals g after)
+            ∙ ap (λ (y : Literal). consed (λ z. z) (some y) (all_narrowed (literals g after))) (sym r.2)

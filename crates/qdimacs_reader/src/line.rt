@@ -1,7 +1,7 @@
 // A line by its first word: a comment, the header, a quantifier line or a clause.
 ghost use Rattle.std.specs.Prelude.{◌≡◌, get_or, eqb};
-ghost use Rattle.qdimacs_form.specs.Lines.{comment_byte, line_from, line_of};
-ghost use Rattle.qdimacs_reader.specs.Words.{words_from};
+ghost use Rattle.layout.specs.Words.{space, split};
+ghost use Rattle.qdimacs_form.specs.Lines.{filled, comment_byte, line_from, line_of};
 ghost use Rattle.qdimacs_reader.specs.Lines.{word_of, group_line, LineRead};
 
 use crate::header::read_header;
@@ -52,16 +52,14 @@ fn group_of(quantifier: u16, n: usize) -> Option<Line>
 
 // Only a clause has signed items; it has no keyword. "a clause line of 0 alone 7": it is in the form.
 fn read_words(l: &[u8], out: &mut [i16]) -> Option<Line>
-    ensures { LineRead (line_from (words_from l.now 0)) result out.new }
+    ensures { LineRead (line_from (filled (split space l.now))) result out.new }
 {
-    let first = next_word(l, 0);
-    let start = first.start;
-    let end = first.end;
-    match word_of(&l[start..end]) {
-        Some(Word::Header) => read_header(l, end),
-        Some(Word::Exists) => group_of(tables::EXISTS, read_literals(l, end, false, out)?),
-        Some(Word::Forall) => group_of(tables::FORALL, read_literals(l, end, false, out)?),
-        None => Some(Line::Clause(read_literals(l, 0, true, out)?)),
+    let first = next_word(Some(l))?;
+    match word_of(first.word) {
+        Some(Word::Header) => read_header(first.left),
+        Some(Word::Exists) => group_of(tables::EXISTS, read_literals(first.left, false, out)?),
+        Some(Word::Forall) => group_of(tables::FORALL, read_literals(first.left, false, out)?),
+        None => Some(Line::Clause(read_literals(Some(l), true, out)?)),
     }
 }
 

@@ -1,46 +1,31 @@
 // Words of a line. "runs of spaces stand only between items"
-ghost use Rattle.std.specs.Prelude.{◌≡◌, ◌==◌, ◌≤◌, length, not, position};
-ghost use Rattle.layout.specs.Words.{space};
+ghost use Rattle.std.specs.Prelude.{◌≡◌};
 ghost use Rattle.qdimacs_form.specs.Lines.{edged};
-ghost use Rattle.qdimacs_reader.specs.Words.{Skipped, NextWord};
+ghost use Rattle.qdimacs_reader.specs.Words.{NextWord};
 
-use reader::word::{SPACE, find};
+use reader::word::{SPACE, cut};
 
-// Where a word starts and ends; where there is none it is empty.
+// A word, and what is left of the line behind the space after it.
 #[derive(Clone, Copy)]
-pub struct Span {
-    pub start: usize,
-    pub end: usize,
+pub struct Word<'a> {
+    pub word: &'a [u8],
+    pub left: Option<&'a [u8]>,
 }
 
-// The first byte that is no space.
-fn first_item(l: &[u8]) -> Option<usize>
-    ensures { result ≡ position (λ b. not (b == space)) l.now }
+// The first word of what is left of a line.
+pub fn next_word(line: Option<&[u8]>) -> Option<Word<'_>>
+    ensures { NextWord line.entry result }
 {
-    l.iter().position(|b| *b != SPACE)
-}
-
-fn skip(l: &[u8], at: usize) -> usize
-    requires { at ≤ length l.now }
-    ensures { Skipped l.now at result }
-{
-    match first_item(&l[at..]) {
-        Some(n) => at + n,
-        None => l.len(),
+    let mut left = line;
+    while let Some(l) = left {
+        // stays (no plainer): it goes down what is left of the line, from space to space.
+        let (word, more) = cut(l, SPACE);
+        if !word.is_empty() {
+            return Some(Word { word, left: more });
+        }
+        left = more;
     }
-}
-
-// The first word from `at` on.
-pub fn next_word(l: &[u8], at: usize) -> Span
-    requires { at ≤ length l.now }
-    ensures { NextWord l.now at result.start result.end }
-{
-    let start = skip(l, at);
-    let end = find(l, start, SPACE);
-    Span {
-        start: start,
-        end: end,
-    }
+    None
 }
 
 // Whether a line has a byte, and neither its first nor its last is a space.

@@ -1,104 +1,91 @@
 -- The book of a session's input: its lines up to the first `(end)`, found one after another; and lines counted.
-use Prim.Native.Nat.{ℕ, suc, ◌+◌, ◌<◌, ◌≤◌, ◌-◌, zero-le}
-use mathlib.Core.Path.{◌≡◌, refl, sym, ap, ◌∙◌}
+use Prim.Native.Nat.{ℕ, suc, ◌+◌, ◌<◌, ◌≤◌, ◌-◌}
+use mathlib.Core.Path.{◌≡◌, refl, sym, ap, subst, ◌∙◌}
 use mathlib.Core.Bool.{Bool, true, false, cond}
 use mathlib.Core.List.{List, [], ◌∷◌, ◌++◌, append_assoc}
 use native.Mathlib.Omega.{arith}
-use borrow.Author.Tests.{lt-leb}
 use lib.Dec.{eqb}
-use lib.ListN.{length, get_or, take, drop, drop_of_length-le, length-drop}
-use lib.Seq.{take-suc, take-add, get_or-drop}
-use Rattle.std.specs.Prelude.{count_by, Some, None}
+use lib.ListN.{length, take, drop, length-append}
+use lib.Seq.{take-append_seam, drop-append_seam}
+use Rattle.std.specs.Prelude.{count_by, Option as Answer, Some, None}
+use Rattle.std.specs.Borrow.{Bor}
 use Rattle.std.proofs.lemmas.List.Recursion.{is_count_by}
 use Rattle.layout.specs.Words.{Bytes, newline, split, same}
 use Rattle.layout.specs.Session.{end_line, Parted, onto, parted}
-use Rattle.reader.specs.Pieces.{pieces_from, Piece}
+use Rattle.reader.specs.Pieces.{Cut}
 use Rattle.reader.specs.Books.{count_of_lines, BookEnd}
-use Rattle.reader.proofs.Texts.{pieces_at, piece_follows}
+use Rattle.reader.proofs.Texts.{split_some}
 
--- ---- one line
-module _ {s : Bytes} {at e : ℕ} (p : Piece newline s at e) where
-  none_left : length s ≤ e → pieces_from newline s at ≡ take (e - at) (drop at s) ∷ []
-  unfolding pieces_from
-  none_left h = p.is ∙ ap (λ (ws : List Bytes). take (e - at) (drop at s) ∷ ws) (rw (lt-leb (e + 1) (length s) (omega (arith, h))))
+-- ---- the loop: some bytes are passed, and no line of them is `(end)`
+pub record Seeking (s left : Bytes) : Type 0 where
+  pub passed : Bytes
+  pub whole : s ≡ passed ++ left
+  pub book : (parted (split newline s)).book ≡ passed ++ (parted (split newline left)).book
+  pub rest : (parted (split newline s)).rest ≡ (parted (split newline left)).rest
 
-  module _ (h : e < length s) where
-    byte : get_or (drop at s) (e - at) 0 ≡ newline
-    byte = let here : at + (e - at) ≡ e = omega (arith, p.low) in get_or-drop at s (e - at) 0 ∙ ap (λ (k : ℕ). get_or s k 0) here ∙ p.ended h
+pub seek_first : (s : Bytes) → Seeking s s
+seek_first s = record { passed = []; whole = refl; book = refl; rest = refl }
 
-    -- a whole line and its byte 10 stand behind what came before
-    whole : take (e + 1) s ≡ take at s ++ (take (e - at) (drop at s) ++ (newline ∷ []))
-    whole =
-        ap (λ (k : ℕ). take k s) count
-        ∙ take-add at (suc (e - at)) s
-        ∙ ap (λ (t : Bytes). take at s ++ t) (take-suc (drop at s) (e - at) 0 (omega (arith, h, p.low, length-drop at s)) ∙ ap (λ (b : ℕ). take (e - at) (drop at s) ++ (b ∷ [])) byte)
-      where
-        count : e + 1 ≡ at + suc (e - at)
-        count = omega (arith, p.low)
+module _ {s left : Bytes} (k : Seeking s left) {l : Bytes} where
+  -- what is left has no byte 10
+  pub seek_over : Cut newline left l None → BookEnd s None
+  unfolding parted
+  seek_over p = k.rest ∙ ap (λ (ws : List Bytes). (parted ws).rest) p.is
 
--- ---- the loop: no line before `at` is `(end)`
-pub record Seeking (s : Bytes) (at : ℕ) : Type 0 where
-  pub within : at ≤ length s
-  pub book : (parted (split newline s)).book ≡ take at s ++ (parted (pieces_from newline s at)).book
-  pub rest : (parted (split newline s)).rest ≡ (parted (pieces_from newline s at)).rest
-
-pub seek_first : (s : Bytes) → Seeking s 0
-seek_first s =
-    record { within = zero-le; book = ap (λ (ws : List Bytes). (parted ws).book) (sym (pieces_at s 0 zero-le)); rest = ap (λ (ws : List Bytes). (parted ws).rest) (sym (pieces_at s 0 zero-le)) }
-
-module _ {s : Bytes} {at : ℕ} (k : Seeking s at) where
-  pub seek_over : length s ≤ at → BookEnd s None
-  unfolding parted split
-  seek_over h = k.rest ∙ ap (λ (ws : List Bytes). (parted ws).rest) (pieces_at s at k.within ∙ ap (split newline) (drop_of_length-le s h))
-
-  module _ {e : ℕ} (lines : at ≤ length s → Piece newline s at e) where
-    p : Piece newline s at e
-    p = lines k.within
-
-    pub seek_missing : length s ≤ e → BookEnd s None
+  module _ {t : Bor Bytes} (p : Cut newline left l (Some t)) where
+    -- what a whole line adds
+    parts : {x : Bool} → x ≡ same l end_line → parted (split newline left) ≡ cond x (record { book = l ++ (newline ∷ []); count = 1; rest = split newline t.now }) (onto l (parted (split newline t.now)))
     unfolding parted
-    seek_missing h = k.rest ∙ ap (λ (ws : List Bytes). (parted ws).rest) (none_left p h)
+    parts {x} q = ap parted p.is ∙ by (split newline t.now) (split_some newline t.now)
+      where
+        by : (vs : List Bytes) → (w : Bytes) × (ws : List Bytes) × (vs ≡ w ∷ ws) → parted (l ∷ vs) ≡ cond x (record { book = l ++ (newline ∷ []); count = 1; rest = vs }) (onto l (parted vs))
+        by [] (w, ws, z) = absurd (let y : ◌≡◌ {A = ℕ} 0 1 = cc in omega (arith, y))
+        by (v ∷ vs) z = ap (λ (b : Bool). cond b (record { book = l ++ (newline ∷ []); count = 1; rest = v ∷ vs }) (onto l (parted (v ∷ vs)))) (sym q)
 
-    module _ (h : e < length s) where
-      l : Bytes
-      l = take (e - at) (drop at s)
+    -- the bytes passed with it
+    with_line : Bytes
+    with_line = k.passed ++ (l ++ (newline ∷ []))
 
-      -- what a whole line adds
-      one : (t : Bool) → t ≡ same l end_line → parted (l ∷ pieces_from newline s (e + 1)) ≡ cond t (record { book = l ++ (newline ∷ []); count = 1; rest = pieces_from newline s (e + 1) }) (onto l (parted (pieces_from newline s (e + 1))))
-      unfolding parted
-      one t q = by (pieces_from newline s (e + 1)) (piece_follows s e h)
-        where
-          by : (vs : List Bytes) → (w : Bytes) × (ws : List Bytes) × (vs ≡ w ∷ ws) → parted (l ∷ vs) ≡ cond t (record { book = l ++ (newline ∷ []); count = 1; rest = vs }) (onto l (parted vs))
-          by [] (w, ws, z) = absurd (let y : ◌≡◌ {A = ℕ} 0 1 = cc in omega (arith, y))
-          by (v ∷ vs) z = ap (λ (b : Bool). cond b (record { book = l ++ (newline ∷ []); count = 1; rest = v ∷ vs }) (onto l (parted (v ∷ vs)))) (sym q)
+    all : s ≡ with_line ++ t.now
+    unfolding with_line
+    all =
+        k.whole ∙ ap (λ (u : Bytes). k.passed ++ u) (p.bytes ∙ sym (append_assoc l (newline ∷ []) t.now))
+        ∙ sym (append_assoc k.passed (l ++ (newline ∷ [])) t.now)
 
-      parts : (t : Bool) → t ≡ same l end_line → parted (pieces_from newline s at) ≡ cond t (record { book = l ++ (newline ∷ []); count = 1; rest = pieces_from newline s (e + 1) }) (onto l (parted (pieces_from newline s (e + 1))))
-      unfolding l
-      parts t q = ap parted p.is ∙ one t q
+    pub seek_found : {x : Bool} → x ≡ same l end_line → x ≡ true → BookEnd s (Some (length s - length t.now))
+    unfolding with_line
+    seek_found {x} q z = (
+      omega arith,
+      ap (λ (n : ℕ). take n s) count ∙ ap (take (length with_line)) all ∙ take-append_seam with_line t.now ∙ sym (k.book ∙ ap (λ (y : Parted). k.passed ++ y.book) is),
+      ap (λ (n : ℕ). split newline (drop n s)) count ∙ ap (λ (u : Bytes). split newline (drop (length with_line) u)) all ∙ ap (split newline) (drop-append_seam with_line t.now)
+          ∙ sym (k.rest ∙ ap (λ (y : Parted). y.rest) is),
+      omega (arith, long, length-append k.passed (l ++ (newline ∷ [])), length-append l (newline ∷ [])),
+    )
+      where
+        long : length s ≡ length with_line + length t.now
+        long = ap length all ∙ length-append with_line t.now
 
-      pub seek_found : {t : Bool} → t ≡ same (take (e - at) (drop at s)) end_line → t ≡ true → BookEnd s (Some (e + 1))
-      unfolding l
-      seek_found {t} q z =
-          (omega (arith, h), sym (k.book ∙ ap (λ (x : Parted). take at s ++ x.book) is ∙ sym (whole p h)), sym (k.rest ∙ ap (λ (x : Parted). x.rest) is ∙ pieces_at s (e + 1) (omega (arith, h))), omega arith)
-        where
-          is : parted (pieces_from newline s at) ≡ record { book = take (e - at) (drop at s) ++ (newline ∷ []); count = 1; rest = pieces_from newline s (e + 1) }
-          is = parts true (sym z ∙ q)
+        count : length s - length t.now ≡ length with_line
+        count = omega (arith, long)
 
-      pub seek_more : {t : Bool} → t ≡ same (take (e - at) (drop at s)) end_line → t ≡ false → Seeking s (e + 1)
-      unfolding l
-      seek_more {t} q z =
-          record {
-            within = omega (arith, h);
-            book =
-                k.book ∙ ap (λ (x : Parted). take at s ++ x.book) is
-                ∙ ap (λ (x : Bytes). take at s ++ x) (sym (append_assoc (take (e - at) (drop at s)) (newline ∷ []) (parted (pieces_from newline s (e + 1))).book))
-                ∙ sym (append_assoc (take at s) (take (e - at) (drop at s) ++ (newline ∷ [])) (parted (pieces_from newline s (e + 1))).book)
-                ∙ ap (λ (x : Bytes). x ++ (parted (pieces_from newline s (e + 1))).book) (sym (whole p h));
-            rest = k.rest ∙ ap (λ (x : Parted). x.rest) is;
-          }
-        where
-          is : parted (pieces_from newline s at) ≡ onto (take (e - at) (drop at s)) (parted (pieces_from newline s (e + 1)))
-          is = parts false (sym z ∙ q)
+        is : parted (split newline left) ≡ record { book = l ++ (newline ∷ []); count = 1; rest = split newline t.now }
+        is = parts (sym z ∙ q)
+
+    pub seek_more : {x : Bool} → x ≡ same l end_line → x ≡ false → Seeking s t.now
+    unfolding with_line
+    seek_more {x} q z =
+        record {
+          passed = with_line;
+          whole = all;
+          book =
+              k.book ∙ ap (λ (y : Parted). k.passed ++ y.book) is
+              ∙ ap (λ (u : Bytes). k.passed ++ u) (sym (append_assoc l (newline ∷ []) (parted (split newline t.now)).book))
+              ∙ sym (append_assoc k.passed (l ++ (newline ∷ [])) (parted (split newline t.now)).book);
+          rest = k.rest ∙ ap (λ (y : Parted). y.rest) is;
+        }
+      where
+        is : parted (split newline left) ≡ onto l (parted (split newline t.now))
+        is = parts (sym z ∙ q)
 
 -- ---- lines counted
 pub count_is : (s : Bytes) → count_of_lines s ≡ count_by (λ b. eqb b newline) s

@@ -21,7 +21,8 @@ use Rattle.layout.specs.Opening.{text_bytes}
 use Rattle.layout.specs.Endings.{within, number_up_to}
 use Rattle.layout.specs.Program.{table_bytes}
 use Rattle.layout.specs.Session.{query_word, card_word, keep_card_word, forget_word, withdraw_word, closest_word, sized_by, rule_call, one_call, query_call, closest_call, card_call, alone, call_from, ceiled_call, call_of}
-use Rattle.reader.specs.Pieces.{pieces_from, Piece}
+use Rattle.std.specs.Borrow.{Bor}
+use Rattle.reader.specs.Pieces.{pieces, Cut}
 use Rattle.reader.specs.Numbers.{num_of}
 use Rattle.reader.specs.Items.{Filled}
 use Rattle.reader.specs.Calls.{CallUnder, call_word_of, call_signs, call_with, card_size, CallRead}
@@ -29,8 +30,8 @@ use Rattle.reader.specs.declared.call.CallWord.{CallWord}
 use Rattle.reader.specs.declared.call.CallLine.{CallLine}
 use Rattle.reader.specs.declared.call.CallWord.TheVariants as word
 use Rattle.reader.specs.declared.call.CallLine.TheVariants as line
-use Rattle.reader.proofs.Literals.{items_on, past}
-use Rattle.reader.proofs.Lines.{rest_bytes, rest_some, made, by_first}
+use Rattle.reader.proofs.Literals.{items_on}
+use Rattle.reader.proofs.Lines.{made, by_first}
 
 -- ---- words
 module _ (w : Bytes) where
@@ -137,12 +138,9 @@ size_text t = by (one_word_lem t)
     by (inl e) = sym (ap card_size e)
     by (inr e) = number_spaced t (e.4 0) ∙ sym (ap card_size e.3)
 
-pub size_whole : (s : Bytes) (e : ℕ) → length s ≤ e → some table_bytes ≡ then (card_size (pieces_from space s (e + 1))) (within table_bytes)
-size_whole s e h = sym (ap (λ (ws : List Bytes). then (card_size ws) (within table_bytes)) (past s e h))
-
-pub size_read : (s : Bytes) (e : ℕ) → e < length s → number_up_to 5 table_bytes (take (length s - (e + 1)) (drop (e + 1) s)) ≡ then (card_size (pieces_from space s (e + 1))) (within table_bytes)
+pub size_read : (t : Bytes) → number_up_to 5 table_bytes t ≡ then (card_size (split space t)) (within table_bytes)
 unfolding number_up_to
-size_read s e h = ap (λ (o : Option ℕ). then o (within table_bytes)) (five (take (length s - (e + 1)) (drop (e + 1) s)) ∙ ap number (rest_bytes s e h) ∙ size_text (drop (e + 1) s) ∙ ap card_size (rest_some s e h))
+size_read t = ap (λ (o : Option ℕ). then o (within table_bytes)) (five t ∙ size_text t)
 
 -- what a line says with a table of so many bytes
 unfoldable pub sized : {A : Type 0} → (ℕ → A) → ℕ → Option A
@@ -196,29 +194,29 @@ alone_line : (v : CallLine) (c : Call) (out : List ℤ) → CallUnder highest_ce
 alone_line v c out h [] = h
 alone_line v c out h (l ∷ ls) = subst (λ (x : Bool). CallRead none (then_some x v) out) (sym (ne_eqb (suc (length ls)) 0 (λ e. omega arith))) refl
 
-module _ {s : Bytes} {e : ℕ} (p : Piece space s 0 e) {q : Answer CallWord} (is : q ≡ call_word_of (take e s)) where
+module _ {s v : Bytes} {left : Answer (Bor Bytes)} (p : Cut space s v left) {q : Answer CallWord} (is : q ≡ call_word_of v) where
   -- another word than a call's
   pub no_word : q ≡ None → call_from (split space s) ≡ none
   no_word h = by_first call_from call_word_of call_signs call_with by_word p (sym h ∙ is)
 
   module _ {w : CallWord} (named : q ≡ Some w) {g : Bool} (is_g : g ≡ call_signs w) where
-    call_is : call_from (split space s) ≡ then (items g (pieces_from space s (e + 1))) (call_with w)
-    call_is = by_first call_from call_word_of call_signs call_with by_word p (sym named ∙ is) ∙ ap (λ (x : Bool). then (items x (pieces_from space s (e + 1))) (call_with w)) (sym is_g)
+    call_is : call_from (split space s) ≡ then (items g (pieces space left)) (call_with w)
+    call_is = by_first call_from call_word_of call_signs call_with by_word p (sym named ∙ is) ∙ ap (λ (x : Bool). then (items x (pieces space left)) (call_with w)) (sym is_g)
 
     -- no items
-    pub call_none : (r : Answer ℕ) (out : List ℤ) → Filled (items g (pieces_from space s (e + 1))) r out → r ≡ None → call_from (split space s) ≡ none
-    call_none r out f i = call_is ∙ ap (λ (o : Option (List Literal)). then o (call_with w)) (subst (λ (x : Answer ℕ). Filled (items g (pieces_from space s (e + 1))) x out) i f)
+    pub call_none : (r : Answer ℕ) (out : List ℤ) → Filled (items g (pieces space left)) r out → r ≡ None → call_from (split space s) ≡ none
+    call_none r out f i = call_is ∙ ap (λ (o : Option (List Literal)). then o (call_with w)) (subst (λ (x : Answer ℕ). Filled (items g (pieces space left)) x out) i f)
 
     -- n items
-    module _ (r : Answer ℕ) (out : List ℤ) {n : ℕ} (f : Filled (items g (pieces_from space s (e + 1))) r out) (i : r ≡ Some n) where
-      read : Filled (items g (pieces_from space s (e + 1))) (Some n) out
-      read = subst (λ (x : Answer ℕ). Filled (items g (pieces_from space s (e + 1))) x out) i f
+    module _ (r : Answer ℕ) (out : List ℤ) {n : ℕ} (f : Filled (items g (pieces space left)) r out) (i : r ≡ Some n) where
+      read : Filled (items g (pieces space left)) (Some n) out
+      read = subst (λ (x : Answer ℕ). Filled (items g (pieces space left)) x out) i f
 
       with_items : (v : CallWord) → w ≡ v → call_from (split space s) ≡ call_with v read.0
       with_items v h = call_is ∙ ap (λ (o : Option (List Literal)). then o (call_with w)) read.1 ∙ ap (λ (u : CallWord). call_with u read.0) h
 
-      no_signs : (v : CallWord) → w ≡ v → call_signs v ≡ false → items false (pieces_from space s (e + 1)) ≡ some read.0
-      no_signs v h z = ap (λ (x : Bool). items x (pieces_from space s (e + 1))) (sym (is_g ∙ ap call_signs h ∙ z)) ∙ read.1
+      no_signs : (v : CallWord) → w ≡ v → call_signs v ≡ false → items false (pieces space left) ≡ some read.0
+      no_signs v h z = ap (λ (x : Bool). items x (pieces space left)) (sym (is_g ∙ ap call_signs h ∙ z)) ∙ read.1
 
       pub rule_read : w ≡ word.Rule → CallRead (call_from (split space s)) (Some (line.Rule n)) out
       rule_read h = (read.0, with_items word.Rule h, read.2)
@@ -227,14 +225,14 @@ module _ {s : Bytes} {e : ℕ} (p : Piece space s 0 e) {q : Answer CallWord} (is
       query_read h = (read.0, with_items word.Query h, read.2)
 
       -- a card's word, by the size of its table
-      sized_is : (p : Bool) → call_from (split space s) ≡ then (items false (pieces_from space s (e + 1))) (card_call p) → (z : Answer ℕ) → num_of z ≡ then (card_size (pieces_from space s (e + 1))) (within table_bytes)
+      sized_is : (p : Bool) → call_from (split space s) ≡ then (items false (pieces space left)) (card_call p) → (z : Answer ℕ) → num_of z ≡ then (card_size (pieces space left)) (within table_bytes)
           → call_from (split space s) ≡ then (num_of z) (λ n. some (card_of p highest_ceiling n))
-      sized_is p h z k = h ∙ card_is p (pieces_from space s (e + 1)) ∙ sized_within (card_of p highest_ceiling) (card_size (pieces_from space s (e + 1))) ∙ ap (λ (o : Option ℕ). then o (λ n. some (card_of p highest_ceiling n))) (sym k)
+      sized_is p h z k = h ∙ card_is p (pieces space left) ∙ sized_within (card_of p highest_ceiling) (card_size (pieces space left)) ∙ ap (λ (o : Option ℕ). then o (λ n. some (card_of p highest_ceiling n))) (sym k)
 
-      pub card_read : w ≡ word.Card → (z : Answer ℕ) → num_of z ≡ then (card_size (pieces_from space s (e + 1))) (within table_bytes) → call_from (split space s) ≡ then (num_of z) (λ n. some (card highest_ceiling n))
+      pub card_read : w ≡ word.Card → (z : Answer ℕ) → num_of z ≡ then (card_size (pieces space left)) (within table_bytes) → call_from (split space s) ≡ then (num_of z) (λ n. some (card highest_ceiling n))
       card_read h = sized_is true (with_items word.Card h ∙ ap (λ (o : Option (List Literal)). then o (card_call true)) (sym (no_signs word.Card h refl)))
 
-      pub keep_card_read : w ≡ word.KeepCard → (z : Answer ℕ) → num_of z ≡ then (card_size (pieces_from space s (e + 1))) (within table_bytes) → call_from (split space s) ≡ then (num_of z) (λ n. some (keep_card highest_ceiling n))
+      pub keep_card_read : w ≡ word.KeepCard → (z : Answer ℕ) → num_of z ≡ then (card_size (pieces space left)) (within table_bytes) → call_from (split space s) ≡ then (num_of z) (λ n. some (keep_card highest_ceiling n))
       keep_card_read h = sized_is false (with_items word.KeepCard h ∙ ap (λ (o : Option (List Literal)). then o (card_call false)) (sym (no_signs word.KeepCard h refl)))
 
       alone_read : (v : CallWord) → w ≡ v → (u : CallLine) (c : Call) → ((ls : List Literal) → call_with v ls ≡ alone c ls) → CallUnder highest_ceiling (some c) u out

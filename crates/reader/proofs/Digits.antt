@@ -71,25 +71,6 @@ module _ (w : Bytes) (m : ℕ) where
   abbrev read : Option ℕ
   read = then (number_within m w) (within highest_ceiling)
 
-  pub number_none : length w ≡ 0 → none ≡ read
-  number_none h = rw h
-
-  pub number_long : m < length w → none ≡ read
-  number_long h = rw (lt-leb (length w) m h, and_none (leb 1 (length w)))
-    where
-      and_none : (x : Bool) → (x && false) ≡ false
-      and_none true = refl
-      and_none false = refl
-
-  pub number_one : length w ≤ m → length w ≡ 1 → then (digits 0 w) (within highest_ceiling) ≡ read
-  number_one a h = rw (le-leb (length w) m a, h)
-
-  pub number_zero : length w ≤ m → (length w ≡ 0 → ⊥) → (length w ≡ 1 → ⊥) → get_or w 0 0 ≡ 48 → none ≡ read
-  number_zero a b c d = rw (le-leb 1 (length w) (omega arith), le-leb (length w) m a, ne_eqb (length w) 1 c, d)
-
-  pub number_more : length w ≤ m → (length w ≡ 0 → ⊥) → (length w ≡ 1 → ⊥) → (get_or w 0 0 ≡ 48 → ⊥) → then (digits 0 w) (within highest_ceiling) ≡ read
-  number_more a b c d = rw (le-leb 1 (length w) (omega arith), le-leb (length w) m a, ne_eqb (length w) 1 c, ne_eqb (get_or w 0 0) 48 d)
-
 -- ---- a number of few digits is no higher than the highest ceiling
 digits_below : (w : Bytes) (v n i : ℕ) → v < 10 ^ i → digits v w ≡ some n → n < 10 ^ (i + length w)
 unfolding digits

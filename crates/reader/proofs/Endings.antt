@@ -1,54 +1,41 @@
--- An item that may end a call's line: a text cut at a space, the words before the item's, and what its line says.
-use Prim.Native.Nat.{ℕ, zero, suc, ◌+◌, ◌<◌, ◌≤◌, ◌-◌, zero-le}
+-- An item that may end a call's line: the words before the item's, and what its line says.
+use Prim.Native.Nat.{ℕ, suc, ◌+◌, ◌<◌, ◌≤◌, ◌-◌}
 use mathlib.Core.Path.{◌≡◌, refl, sym, ap, subst, ◌∙◌}
 use mathlib.Core.Bool.{Bool, true, false, cond}
-use mathlib.Core.List.{List, [], ◌∷◌, ◌++◌}
+use mathlib.Core.List.{List, [], ◌∷◌, ◌++◌, append_assoc}
 use mathlib.Core.Logic.{◌⊎◌, inl, inr}
 use mathlib.Core.Option.{Option, none, some}
 use native.Mathlib.Omega.{arith}
-use native.Mathlib.Numerals.{add-one}
-use borrow.Author.Tests.{eq-eqb, lt-leb}
-use lib.Dec.{leb-zero, eqb}
-use lib.ListN.{length, get_or, take, drop, length-append}
-use lib.Seq.{take_all}
+use borrow.Author.Tests.{eq-eqb}
+use lib.Dec.{eqb}
+use lib.ListN.{length, take, length-append}
+use lib.Seq.{take-append_seam}
 use Rattle.std.specs.Prelude.{Option as Answer, Some, None}
+use Rattle.std.specs.Borrow.{Bor}
 use Rattle.qbf.specs.Calls.{Call}
-use Rattle.theory.proofs.Basics.{le_or_lt}
 use Rattle.layout.specs.Words.{Bytes, space, on_first, split, same, closed}
 use Rattle.layout.specs.Forms.{then}
 use Rattle.layout.specs.Endings.{last_item, Ended, item, after, ended}
 use Rattle.layout.specs.Session.{takes_given, ended_call}
-use Rattle.reader.specs.Pieces.{pieces_from, Piece}
+use Rattle.reader.specs.Pieces.{pieces, cut_bytes, size_left, Cut}
 use Rattle.reader.specs.Numbers.{num_of}
-use Rattle.reader.specs.Endings.{words_before, behind, Begun, WordAt, EndedRead}
+use Rattle.reader.specs.Endings.{behind, Before, BegunRead, EndedRead}
+use Rattle.reader.specs.declared.ending.Begun.{Begun}
 use Rattle.reader.specs.declared.ending.Ending.{Ending}
-use Rattle.reader.proofs.Literals.{past}
 use Rattle.reader.proofs.Texts.{split_some}
-use Rattle.reader.proofs.Lines.{rest_some}
 
--- ---- a text cut at a byte c: the pieces before it, and those after it
-split_cut : (c : ℕ) (s : Bytes) (e : ℕ) → e < length s → get_or s e 0 ≡ c → split c s ≡ split c (take e s) ++ split c (drop (suc e) s)
+-- ---- a text of two with a byte c between them: the pieces of the one, and those of the other
+split_join : (c : ℕ) (s t : Bytes) → split c (s ++ (c ∷ t)) ≡ split c s ++ split c t
 unfolding split
-split_cut c [] e h q = absurd (omega arith)
-split_cut c (b ∷ s) zero h q = rw (eq-eqb b c q)
-split_cut c (b ∷ s) (suc e) h q = by (eqb b c) (split_cut c s e (omega arith) q) (split_some c (take e s))
+split_join c [] t = rw (eq-eqb c c refl) refl
+split_join c (b ∷ s) t = by (eqb b c) (split_join c s t) (split_some c s)
   where
-    by : (t : Bool) → split c s ≡ split c (take e s) ++ split c (drop (suc e) s) → ((w : Bytes) × (ws : List Bytes) × (split c (take e s) ≡ w ∷ ws))
-        → cond t ([] ∷ split c s) (on_first b (split c s)) ≡ cond t ([] ∷ split c (take e s)) (on_first b (split c (take e s))) ++ split c (drop (suc e) s)
+    by : (x : Bool) → split c (s ++ (c ∷ t)) ≡ split c s ++ split c t → ((w : Bytes) × (ws : List Bytes) × (split c s ≡ w ∷ ws))
+        → cond x ([] ∷ split c (s ++ (c ∷ t))) (on_first b (split c (s ++ (c ∷ t)))) ≡ cond x ([] ∷ split c s) (on_first b (split c s)) ++ split c t
     by true i p = ap (λ (ws : List Bytes). [] ∷ ws) i
     by false i (w, ws, p) =
-        ap (on_first b) (i ∙ ap (λ (us : List Bytes). us ++ split c (drop (suc e) s)) p)
-        ∙ ap (λ (us : List Bytes). on_first b us ++ split c (drop (suc e) s)) (sym p)
-
--- what stands before the same end is the same
-cancel : (us bs ps : List Bytes) → us ++ ps ≡ bs ++ ps → us ≡ bs
-cancel [] [] ps e = refl
-cancel [] (b ∷ bs) ps e = let n : length ps ≡ suc (length (bs ++ ps)) = ap length e in absurd (omega (arith, n, length-append bs ps))
-cancel (a ∷ us) [] ps e = let n : suc (length (us ++ ps)) ≡ length ps = ap length e in absurd (omega (arith, n, length-append us ps))
-cancel (a ∷ us) (b ∷ bs) ps e =
-    let head : a ≡ b = cc in
-    let tail : us ++ ps ≡ bs ++ ps = cc in
-    ap (λ (x : Bytes). x ∷ us) head ∙ ap (λ (xs : List Bytes). b ∷ xs) (cancel us bs ps tail)
+        ap (on_first b) (i ∙ ap (λ (us : List Bytes). us ++ split c t) p)
+        ∙ ap (λ (us : List Bytes). on_first b us ++ split c t) (sym p)
 
 append_nil : (us : List Bytes) → us ++ [] ≡ us
 append_nil [] = refl
@@ -57,22 +44,6 @@ append_nil (a ∷ us) = ap (λ (xs : List Bytes). a ∷ xs) (append_nil us)
 append_one : (us : List Bytes) (w : Bytes) (ps : List Bytes) → us ++ (w ∷ ps) ≡ (us ++ (w ∷ [])) ++ ps
 append_one [] w ps = refl
 append_one (a ∷ us) w ps = ap (λ (xs : List Bytes). a ∷ xs) (append_one us w ps)
-
--- ---- words before a place
--- the words of a text are those before a place and those from it on
-abbrev Begins : Bytes → ℕ → Type 0
-Begins s at = split space s ≡ words_before s at ++ pieces_from space s at
-
-begins_after : (s : Bytes) (e : ℕ) → e ≤ length s → (e < length s → get_or s e 0 ≡ space) → split space s ≡ split space (take e s) ++ pieces_from space s (e + 1)
-begins_after s e high ended = by (le_or_lt (length s) e)
-  where
-    by : (length s ≤ e) ⊎ (e < length s) → split space s ≡ split space (take e s) ++ pieces_from space s (e + 1)
-    by (inl h) = sym (append_nil (split space s)) ∙ ap (λ (t : Bytes). split space t ++ []) (sym (take_all e s h)) ∙ ap (λ (ws : List Bytes). split space (take e s) ++ ws) (sym (past s e h))
-    by (inr h) = split_cut space s e h (ended h) ∙ ap (λ (ws : List Bytes). split space (take e s) ++ ws) (ap (λ (k : ℕ). split space (drop k s)) (sym (add-one e)) ∙ rest_some s e h)
-
-begins_next : {s : Bytes} {at e : ℕ} → Piece space s at e → Begins s (e + 1)
-begins_next {s} {at} {e} p =
-    subst (λ (k : ℕ). split space s ≡ words_before s k ++ pieces_from space s (e + 1)) (sym (add-one e)) (begins_after s e p.high p.ended)
 
 -- words that begin no item
 behind_one : (ws : List Bytes) (w : Bytes) (o : Option Ended) → behind (ws ++ (w ∷ [])) o ≡ behind ws (then o (after w))
@@ -87,10 +58,6 @@ behind_none : (ws : List Bytes) → behind ws none ≡ none
 behind_none [] = refl
 behind_none (w ∷ ws) = ap (λ (p : Option Ended). then p (after w)) (behind_none ws)
 
-none_left : (s : Bytes) (r : ℕ) → length s < r → pieces_from space s r ≡ []
-unfolding pieces_from
-none_left s r h = rw (lt-leb r (length s) h)
-
 module _ (word : Bytes) (number : Bytes → Option ℕ) where
   pub other_word : (w : Bytes) (ws : List Bytes) → same w word ≡ false → ended word number (w ∷ ws) ≡ then (ended word number ws) (after w)
   unfolding ended
@@ -104,104 +71,96 @@ module _ (word : Bytes) (number : Bytes → Option ℕ) where
   unfolding ended
   no_words = refl
 
--- ---- the scan: no word before `at` is the item's
-pub record Scanned (word s : Bytes) (at : ℕ) : Type 0 where
-  pub high : at ≤ suc (length s)
-  pub begins : Begins s at
-  pub is : (number : Bytes → Option ℕ) → ended word number (split space s) ≡ behind (words_before s at) (ended word number (pieces_from space s at))
+-- ---- the scan: no word before those that are left is the item's
+-- the words passed are those of the bytes before what is left
+abbrev Passed : Bytes → List Bytes → Answer (Bor Bytes) → Type 0
+Passed s ws None = Unit {0}
+Passed s ws (Some t) = ((ws ≡ []) × (s ≡ t.now)) ⊎ ((b : Bytes) × (s ≡ b ++ (space ∷ t.now)) × (split space b ≡ ws))
 
-pub scan_none : (word s : Bytes) → Scanned word s 0
-unfolding pieces_from
-scan_none word s = record { high = zero-le; begins = rw leb-zero; is = λ number. rw leb-zero }
+pub record Scanned (word s : Bytes) (left : Answer (Bor Bytes)) : Type 0 where
+  pub words : List Bytes
+  pub begins : split space s ≡ words ++ pieces space left
+  pub is : (number : Bytes → Option ℕ) → ended word number (split space s) ≡ behind words (ended word number (pieces space left))
+  pub passed : Passed s words left
+  pub few : size_left left ≤ suc (length s)
 
-module _ {word s : Bytes} {at : ℕ} (p : Scanned word s at) where
-  pub scan_more : {e : ℕ} → Piece space s at e → same (take (e - at) (drop at s)) word ≡ false → Scanned word s (e + 1)
-  scan_more {e} q h = record { high = omega (arith, q.high); begins = begins_next q; is = is }
-    where
-      before : List Bytes
-      before = words_before s at
+pub scan_none : (word : Bytes) (s : Bor Bytes) → Scanned word s.now (Some s)
+scan_none word s = record { words = []; begins = refl; is = λ number. refl; passed = inl (refl, refl); few = omega arith }
 
-      w : Bytes
-      w = take (e - at) (drop at s)
+-- what stands before the words that are left
+before_left : (s : Bytes) (ws : List Bytes) (t : Bor Bytes) → Passed s ws (Some t) → (b : Answer (Bor Bytes)) → Before s (length t.now) b → pieces space b ≡ ws
+before_left s ws t (inl (e, q)) None h = sym e
+before_left s ws t (inl (e, q)) (Some b) h = let n : length s ≡ length t.now = ap length q in absurd (omega (arith, n, h.0))
+before_left s ws t (inr (u, q, e)) None h = let n : length s ≡ length (u ++ (space ∷ t.now)) = ap length q in absurd (omega (arith, n, h, length-append u (space ∷ t.now)))
+before_left s ws t (inr (u, q, e)) (Some b) h =
+    let n : length s ≡ length (u ++ (space ∷ t.now)) = ap length q in
+    let k : length s - length t.now - 1 ≡ length u = omega (arith, n, length-append u (space ∷ t.now)) in
+    ap (split space) (h.1 ∙ ap (λ (k : ℕ). take k s) k ∙ ap (take (length u)) q ∙ take-append_seam u (space ∷ t.now)) ∙ e
 
-      rest : List Bytes
-      rest = pieces_from space s (e + 1)
+module _ {word s : Bytes} {left : Answer (Bor Bytes)} (p : Scanned word s left) where
+  module _ {t : Bor Bytes} (here : left ≡ Some t) {w : Bytes} {more : Answer (Bor Bytes)} (q : Cut space t.now w more) where
+    words_here : pieces space left ≡ w ∷ pieces space more
+    words_here = ap (pieces space) here ∙ q.is
 
-      words : before ++ (w ∷ []) ≡ words_before s (e + 1)
-      words = cancel (before ++ (w ∷ [])) (words_before s (e + 1)) rest (sym (append_one before w rest) ∙ ap (λ (ws : List Bytes). before ++ ws) (sym q.is) ∙ sym p.begins ∙ begins_next q)
+    passed_more : (more : Answer (Bor Bytes)) → t.now ≡ cut_bytes space w more → Passed s p.words (Some t) → Passed s (p.words ++ (w ∷ [])) more
+    passed_more None e h = tt
+    passed_more (Some r) e (inl (n, z)) = inr (w, z ∙ e, q.alone ∙ ap (λ (ws : List Bytes). ws ++ (w ∷ [])) (sym n))
+    passed_more (Some r) e (inr (b, z, n)) =
+        inr (
+          b ++ (space ∷ w),
+          z ∙ ap (λ (u : Bytes). b ++ (space ∷ u)) e ∙ sym (append_assoc b (space ∷ w) (space ∷ r.now)),
+          split_join space b w ∙ ap (λ (ws : List Bytes). split space b ++ ws) q.alone ∙ ap (λ (ws : List Bytes). ws ++ (w ∷ [])) n,
+        )
 
-      is : (number : Bytes → Option ℕ) → ended word number (split space s) ≡ behind (words_before s (e + 1)) (ended word number (pieces_from space s (e + 1)))
-      is number =
-          p.is number ∙ ap (behind before) (ap (ended word number) q.is ∙ other_word word number w rest h)
-          ∙ sym (behind_one before w (ended word number rest))
-          ∙ ap (λ (ws : List Bytes). behind ws (ended word number rest)) words
+    pub scan_more : same w word ≡ false → Scanned word s more
+    scan_more h =
+        record {
+          words = p.words ++ (w ∷ []);
+          begins = p.begins ∙ ap (λ (ws : List Bytes). p.words ++ ws) words_here ∙ append_one p.words w (pieces space more);
+          is = λ number.
+              p.is number ∙ ap (behind p.words) (ap (ended word number) words_here ∙ other_word word number w (pieces space more) h)
+              ∙ sym (behind_one p.words w (ended word number (pieces space more)));
+          passed = passed_more more q.bytes (subst (Passed s p.words) here p.passed);
+          few = omega (arith, p.few, ap size_left here, q.shorter);
+        }
 
-  pub scan_found : at ≤ length s → {e : ℕ} → Piece space s at e → same (take (e - at) (drop at s)) word ≡ true → WordAt word s (Some at)
-  scan_found j {e} q h = record { high = j; is = p.is; found = (e, q, h) }
+    pub scan_found : same w word ≡ true → (b : Begun) → Before s (length t.now) b.before → b.left ≡ more → BegunRead word s (Some b)
+    scan_found h b k e = λ number.
+        p.is number ∙ ap (behind p.words) (ap (ended word number) words_here ∙ its_word word number w (pieces space more) h)
+        ∙ ap (λ (ws : List Bytes). behind ws (then (last_item number (pieces space more)) item)) (sym (before_left s p.words t (subst (Passed s p.words) here p.passed) b.before k))
+        ∙ ap (λ (l : Answer (Bor Bytes)). behind (pieces space b.before) (then (last_item number (pieces space l)) item)) (sym e)
 
   -- no item is given
-  pub scan_end : length s < at → WordAt word s None
+  pub scan_end : left ≡ None → BegunRead word s None
   scan_end h = λ number.
-      p.is number ∙ ap (λ (ws : List Bytes). behind (words_before s at) (ended word number ws)) (none_left s at h)
-      ∙ ap (behind (words_before s at)) (no_words word number)
-      ∙ behind_some (words_before s at) (record { words = []; last = none })
-      ∙ ap (λ (ws : List Bytes). some (record { words = ws; last = none })) (append_nil (words_before s at) ∙ all_before)
-    where
-      past_end : at ≡ suc (length s)
-      past_end = omega (arith, p.high, h)
-
-      all_before : words_before s at ≡ split space s
-      all_before = ap (words_before s) past_end ∙ ap (split space) (take_all (length s) s (omega arith))
+      p.is number ∙ ap (λ (l : Answer (Bor Bytes)). behind p.words (ended word number (pieces space l))) h
+      ∙ ap (behind p.words) (no_words word number)
+      ∙ behind_some p.words (record { words = []; last = none })
+      ∙ ap (λ (ws : List Bytes). some (record { words = ws; last = none })) (sym (p.begins ∙ ap (λ (l : Answer (Bor Bytes)). p.words ++ pieces space l) h))
 
 -- ---- the item
-module _ (number : Bytes → Option ℕ) where
-  pub item_none : (s : Bytes) (e : ℕ) → length s ≤ e → none ≡ last_item number (pieces_from space s (e + 1))
-  item_none s e h = sym (ap (last_item number) (past s e h))
-
-  module _ {s : Bytes} {b f : ℕ} (p : Piece space s b f) where
-    pub item_more : f < length s → none ≡ last_item number (pieces_from space s b)
-    item_more h = sym (ap (last_item number) p.is ∙ two (split_some space (drop (f + 1) s)))
-      where
-        two : ((w : Bytes) × (ws : List Bytes) × (split space (drop (f + 1) s) ≡ w ∷ ws)) → last_item number (take (f - b) (drop b s) ∷ pieces_from space s (f + 1)) ≡ none
-        two (w, ws, e) = ap (λ (vs : List Bytes). last_item number (take (f - b) (drop b s) ∷ vs)) (sym (rest_some s f h) ∙ e)
-
-    pub item_one : length s ≤ f → then (closed (take (f - b) (drop b s))) number ≡ last_item number (pieces_from space s b)
-    item_one h = sym (ap (last_item number) p.is ∙ ap (λ (vs : List Bytes). last_item number (take (f - b) (drop b s) ∷ vs)) (past s f h))
+module _ (number : Bytes → Option ℕ) {s w : Bytes} where
+  pub item_more : {t : Bor Bytes} → Cut space s w (Some t) → none ≡ last_item number (split space s)
+  item_more {t} p = sym (ap (last_item number) p.is ∙ two (split_some space t.now))
+    where
+      two : ((v : Bytes) × (ws : List Bytes) × (split space t.now ≡ v ∷ ws)) → last_item number (w ∷ split space t.now) ≡ none
+      two (v, ws, e) = ap (λ (vs : List Bytes). last_item number (w ∷ vs)) e
 
 -- ---- the answer
-module _ {word s : Bytes} {r : ℕ} (number : Bytes → Option ℕ) (p : Begun word s r) where
-  -- the words from the item's on
-  module _ {e : ℕ} (q : Piece space s r e) where
-    from_item : ended word number (pieces_from space s r) ≡ then (last_item number (pieces_from space s (e + 1))) item
-    from_item = by p.found
-      where
-        by : ((d : ℕ) × Piece space s r d × (same (take (d - r) (drop r s)) word ≡ true)) → ended word number (pieces_from space s r) ≡ then (last_item number (pieces_from space s (e + 1))) item
-        by (d, g, h) =
-            let both : take (d - r) (drop r s) ∷ pieces_from space s (d + 1) ≡ take (e - r) (drop r s) ∷ pieces_from space s (e + 1) = sym g.is ∙ q.is in
-            let first : take (d - r) (drop r s) ≡ take (e - r) (drop r s) = cc in
-            ap (ended word number) q.is ∙ its_word word number (take (e - r) (drop r s)) (pieces_from space s (e + 1)) (subst (λ (w : Bytes). same w word ≡ true) first h)
+module _ (word s : Bytes) (b : Begun) (number : Bytes → Option ℕ) (p : BegunRead word s (Some b)) where
+  -- what follows its word is no item
+  pub no_number : none ≡ last_item number (pieces space b.left) → EndedRead (ended word number (split space s)) None
+  no_number i = inl (p number ∙ ap (λ (o : Option ℕ). behind (pieces space b.before) (then o item)) (sym i) ∙ behind_none (pieces space b.before))
 
-    -- what follows its word is no item
-    pub no_number : (z : Answer ℕ) → num_of z ≡ last_item number (pieces_from space s (e + 1)) → z ≡ None → EndedRead (ended word number (split space s)) None
-    no_number z i h = inl (p.is number ∙ ap (behind (words_before s r)) (from_item ∙ ap (λ (o : Option ℕ). then o item) (sym i ∙ ap num_of h)) ∙ behind_none (words_before s r))
+  module _ {n : ℕ} (i : some n ≡ last_item number (pieces space b.left)) where
+    given : ended word number (split space s) ≡ some (record { words = pieces space b.before; last = some n })
+    given =
+        p number ∙ ap (λ (o : Option ℕ). behind (pieces space b.before) (then o item)) (sym i)
+        ∙ behind_some (pieces space b.before) (record { words = []; last = some n })
+        ∙ ap (λ (ws : List Bytes). some (record { words = ws; last = some n })) (append_nil (pieces space b.before))
 
-    module _ (z : Answer ℕ) {n : ℕ} (i : num_of z ≡ last_item number (pieces_from space s (e + 1))) (h : z ≡ Some n) where
-      given : ended word number (split space s) ≡ some (record { words = words_before s r; last = some n })
-      given =
-          p.is number ∙ ap (behind (words_before s r)) (from_item ∙ ap (λ (o : Option ℕ). then o item) (sym i ∙ ap num_of h))
-          ∙ behind_some (words_before s r) (record { words = []; last = some n })
-          ∙ ap (λ (ws : List Bytes). some (record { words = ws; last = some n })) (append_nil (words_before s r))
-
-      -- nothing stands before it
-      pub none_before : r ≡ 0 → EndedRead (ended word number (split space s)) None
-      none_before k = inr (n, given ∙ ap (λ (j : ℕ). some (record { words = words_before s j; last = some n })) k)
-
-      pub item_given : (r ≡ 0 → ⊥) → ended word number (split space s) ≡ some (record { words = split space (take (r - 1) s); last = some n })
-      item_given k = given ∙ ap (λ (ws : List Bytes). some (record { words = ws; last = some n })) (before r k)
-        where
-          before : (k : ℕ) → (k ≡ 0 → ⊥) → words_before s k ≡ split space (take (k - 1) s)
-          before zero h = absurd (h refl)
-          before (suc k) h = let one : k ≡ suc k - 1 = omega arith in ap (λ (j : ℕ). split space (take j s)) one
+    pub item_given : {t : Bor Bytes} → b.before ≡ Some t → ended word number (split space s) ≡ some (record { words = split space t.now; last = some n })
+    item_given k = given ∙ ap (λ (l : Answer (Bor Bytes)). some (record { words = pieces space l; last = some n })) k
 
 -- ---- the call
 -- the call of a line's words, by the answer of its item

@@ -113,9 +113,6 @@ cut_same n m out room = by (dec_lt m n)
     by (no h) = ap (λ (k : ℕ). take k out) (let e : min n m ≡ n = omega (arith, h) in e)
     by (yes h) = take_all (min n m) out (omega (arith, h, room)) ∙ sym (take_all n out (omega (arith, h, room)))
 
-pub cut_count : (n m : ℕ) (out : List ℤ) → length out ≡ m → min n m ≡ length (take (min n m) out)
-cut_count n m out room = omega (arith, room, length-take (min n m) out)
-
 -- A rule is judged by the items that stand in a table with one cell more than there are numbers, and so more than a rule may have.
 module _ (b : Formula) (is_paper : b.limits ≡ paper) (n : ℕ) (out : List ℤ) (ls : List Literal) (room : length out ≡ suc paper.numbers) (k : Kept n out ls) where
   more_than : {m : ℕ} → paper.literals < m → b.limits.literals < m

@@ -13,7 +13,8 @@ use Rattle.std.specs.Bool.{then_some}
 use Rattle.qbf.specs.Formula.{Literal, free, exists, forall, number_of}
 use Rattle.layout.specs.Words.{Bytes, same, split, space, number}
 use Rattle.layout.specs.Forms.{then, consed, items, book_word, flags_word, exists_word, forall_word, rule_word, end_word, Form, book_form, flags_form, block_form, rule_form, end_form, form_from}
-use Rattle.reader.specs.Pieces.{pieces_from, Piece}
+use Rattle.std.specs.Borrow.{Bor}
+use Rattle.reader.specs.Pieces.{pieces, Cut}
 use Rattle.reader.specs.Items.{Kept}
 use Rattle.reader.specs.Lines.{pick, word_of, signs, form_with, line_of, LineRead}
 use Rattle.reader.specs.declared.keyword.Word.{Word}
@@ -112,20 +113,20 @@ line_form : (w : Word) (ls : List Literal) (n : ℕ) (out : List ℤ) → (signs
 line_form w ls n out u k =
     subst (λ (m : ℕ). LineRead (form_with w ls) (line_of w m) out) (sym k.count) (by_count w ls out u (subst (λ (m : ℕ). Kept m out ls) k.count k))
 
-module _ {s : Bytes} {e : ℕ} (p : Piece space s 0 e) {o : Answer Word} (is : o ≡ word_of (take e s)) where
+module _ {s v : Bytes} {left : Answer (Bor Bytes)} (p : Cut space s v left) {o : Answer Word} (is : o ≡ word_of v) where
   -- another word than a keyword
   pub form_unnamed : o ≡ None → form_from (split space s) ≡ none
   form_unnamed h = by_first form_from word_of signs form_with by_word p (sym h ∙ is)
 
   module _ {w : Word} (h : o ≡ Some w) {g : Bool} (is_g : g ≡ signs w) where
-    form_is : form_from (split space s) ≡ then (items g (pieces_from space s (e + 1))) (form_with w)
-    form_is = by_first form_from word_of signs form_with by_word p (sym h ∙ is) ∙ ap (λ (x : Bool). then (items x (pieces_from space s (e + 1))) (form_with w)) (sym is_g)
+    form_is : form_from (split space s) ≡ then (items g (pieces space left)) (form_with w)
+    form_is = by_first form_from word_of signs form_with by_word p (sym h ∙ is) ∙ ap (λ (x : Bool). then (items x (pieces space left)) (form_with w)) (sym is_g)
 
-    pub form_none : items g (pieces_from space s (e + 1)) ≡ none → form_from (split space s) ≡ none
+    pub form_none : items g (pieces space left) ≡ none → form_from (split space s) ≡ none
     form_none q = form_is ∙ ap (λ (o : Option (List Literal)). then o (form_with w)) q
 
-    pub form_some : {ls : List Literal} {n : ℕ} {out : List ℤ} {r : Answer Line} → items g (pieces_from space s (e + 1)) ≡ some ls → Kept n out ls → r ≡ line_of w n
+    pub form_some : {ls : List Literal} {n : ℕ} {out : List ℤ} {r : Answer Line} → items g (pieces space left) ≡ some ls → Kept n out ls → r ≡ line_of w n
         → LineRead (form_from (split space s)) r out
     form_some {ls} {n} {out} {r} q k t =
         subst (λ (o : Option Form). LineRead o r out) (sym (form_is ∙ ap (λ (o : Option (List Literal)). then o (form_with w)) q))
-        (subst (λ (x : Answer Line). LineRead (form_with w ls) x out) (sym t) (line_form w ls n out (λ z. unsigned (pieces_from space s (e + 1)) ls (ap (λ (x : Bool). items x (pieces_from space s (e + 1))) (sym (is_g ∙ z)) ∙ q)) k))
+        (subst (λ (x : Answer Line). LineRead (form_with w ls) x out) (sym t) (line_form w ls n out (λ z. unsigned (pieces space left) ls (ap (λ (x : Bool). items x (pieces space left)) (sym (is_g ∙ z)) ∙ q)) k))

@@ -13,37 +13,10 @@ use Rattle.std.specs.Prelude.{Option as Answer, Some, None}
 use Rattle.qbf.specs.Formula.{Literal}
 use Rattle.layout.specs.Words.{Bytes, split, space, closed, inside}
 use Rattle.layout.specs.Forms.{then, items, form_from, form_of}
-use Rattle.reader.specs.Pieces.{pieces_from, Piece}
-use Rattle.reader.specs.Items.{Filled}
-use Rattle.reader.proofs.Literals.{past}
+use Rattle.std.specs.Borrow.{Bor}
+use Rattle.reader.specs.Pieces.{pieces, Cut}
 
 -- ---- the first word, and those after it
-pub rest_none : (g : Bool) (s : Bytes) (e : ℕ) (out : List Literal) → length s ≤ e → Filled (items g (pieces_from space s (e + 1))) (Some 0) out
-unfolding items
-rest_none g s e out h = ([], ap (items g) (past s e h), record { count = refl; first = sym (take-nil (length out)) })
-
-pub rest_some : (s : Bytes) (e : ℕ) → e < length s → split space (drop (e + 1) s) ≡ pieces_from space s (e + 1)
-unfolding pieces_from
-rest_some s e h = rw (le-leb (e + 1) (length s) (omega arith))
-
-pub rest_bytes : (s : Bytes) (e : ℕ) → e < length s → take (length s - (e + 1)) (drop (e + 1) s) ≡ drop (e + 1) s
-rest_bytes s e h = take_all (length s - (e + 1)) (drop (e + 1) s) (simp length-drop (omega arith))
-
-pub rest_part : (g : Bool) (s : Bytes) (e : ℕ) (r : Answer ℕ) (out : List Literal) → e < length s
-    → Filled (items g (split space (take (length s - (e + 1)) (drop (e + 1) s)))) r out → Filled (items g (pieces_from space s (e + 1))) r out
-rest_part g s e r out h p =
-    subst (λ (ws : List Bytes). Filled (items g ws) r out) (ap (split space) (rest_bytes s e h) ∙ rest_some s e h) p
-
-pub first_word : {s : Bytes} {e : ℕ} → Piece space s 0 e → split space s ≡ take e s ∷ pieces_from space s (e + 1)
-unfolding pieces_from
-first_word {s} {e} p = sym start ∙ p.is ∙ ap (λ (k : ℕ). take k s ∷ pieces_from space s (e + 1)) zero_off
-  where
-    start : pieces_from space s 0 ≡ split space s
-    start = rw leb-zero
-
-    zero_off : e - 0 ≡ e
-    zero_off = omega arith
-
 -- What a line's words make is what the first of them, a keyword w with or without signs, makes of the items after it.
 abbrev pub made : {A W : Type 0} → (W → Bool) → (W → List Literal → Option A) → List Bytes → Answer W → Option A
 made signs with ws None = none
@@ -51,12 +24,8 @@ made signs with ws (Some w) = then (items (signs w) ws) (with w)
 
 module _ {A W : Type 0} (from : List Bytes → Option A) (word : Bytes → Answer W) (signs : W → Bool) (with : W → List Literal → Option A)
     (by_word_lem : (v : Bytes) (vs : List Bytes) → from (v ∷ vs) ≡ made signs with vs (word v)) where
-  pub by_first : {s : Bytes} {e : ℕ} → Piece space s 0 e → {o : Answer W} → o ≡ word (take e s)
-      → from (split space s) ≡ made signs with (pieces_from space s (e + 1)) o
-  by_first {s} {e} p {o} is =
-      ap from (first_word p)
-      ∙ by_word_lem (take e s) (pieces_from space s (e + 1))
-      ∙ ap (made signs with (pieces_from space s (e + 1))) (sym is)
+  pub by_first : {s w : Bytes} {left : Answer (Bor Bytes)} → Cut space s w left → {o : Answer W} → o ≡ word w → from (split space s) ≡ made signs with (pieces space left) o
+  by_first {s} {w} {left} p {o} is = ap from p.is ∙ by_word_lem w (pieces space left) ∙ ap (made signs with (pieces space left)) (sym is)
 
 -- ---- brackets
 module _ (l : Bytes) where

@@ -20,7 +20,9 @@ use Rattle.qbf.specs.Formula.{Literal}
 use Rattle.theory.proofs.Basics.{and_right}
 use Rattle.layout.specs.Words.{Bytes, space, split, same, digits, number, closed}
 use Rattle.layout.specs.Forms.{then, consed, items, no_word, off}
-use Rattle.reader.specs.Pieces.{pieces_from, Piece}
+use Rattle.std.specs.Prelude.{Option as Answer, Some, None}
+use Rattle.std.specs.Borrow.{Bor}
+use Rattle.reader.specs.Pieces.{pieces, cut_bytes, size_left, Cut}
 use Rattle.reader.specs.Items.{narrowed, all_narrowed, Kept}
 use Rattle.reader.proofs.Words.{same_true}
 
@@ -43,27 +45,34 @@ unfolding consed all_narrowed
 narrowed_consed f a none = refl
 narrowed_consed f a (some ls) = refl
 
--- no word follows the last
-pub past : (s : Bytes) (e : ℕ) → length s ≤ e → pieces_from space s (e + 1) ≡ []
-unfolding pieces_from
-past s e h = rw (lt-leb (e + 1) (length s) (omega arith))
-
-module _ {s : Bytes} {at e : ℕ} (p : Piece space s at e) (g : Bool) where
-  pub literal_alone : length s ≤ e → (g && same (take (e - at) (drop at s)) no_word) ≡ true → items g (pieces_from space s at) ≡ none
+-- ---- the first item of some words
+module _ {s w : Bytes} {left : Answer (Bor Bytes)} (p : Cut space s w left) (g : Bool) where
+  pub literal_alone : left ≡ None → (g && same w no_word) ≡ true → items g (split space s) ≡ none
   unfolding items consed
-  literal_alone h q = ap (items g) (p.is ∙ ap (λ (ws : List Bytes). take (e - at) (drop at s) ∷ ws) (past s e h))
-      ∙ ap (λ (o : Option ℕ). consed pos o (some [])) (ap number (same_true (take (e - at) (drop at s)) no_word (and_right g (same (take (e - at) (drop at s)) no_word) q)) ∙ no_number)
+  literal_alone h q = ap (items g) (p.is ∙ ap (λ (l : Answer (Bor Bytes)). w ∷ pieces space l) h)
+      ∙ ap (λ (o : Option ℕ). consed pos o (some [])) (ap number (same_true w no_word (and_right g (same w no_word) q)) ∙ no_number)
 
-  pub literal_on : (g && same (take (e - at) (drop at s)) no_word) ≡ false → {o : Option ℕ} → o ≡ number (take (e - at) (drop at s))
-      → items g (pieces_from space s at) ≡ consed pos o (items g (pieces_from space s (e + 1)))
-  literal_on q {o} k = ap (items g) p.is ∙ items_on g (take (e - at) (drop at s)) (pieces_from space s (e + 1)) q ∙ ap (λ (o : Option ℕ). consed pos o (items g (pieces_from space s (e + 1)))) (sym k)
+  pub literal_on : (g && same w no_word) ≡ false → {o : Option ℕ} → o ≡ number w → items g (split space s) ≡ consed pos o (items g (pieces space left))
+  literal_on q {o} k = ap (items g) p.is ∙ items_on g w (pieces space left) q ∙ ap (λ (o : Option ℕ). consed pos o (items g (pieces space left))) (sym k)
 
-  pub literal_off : {f : ℕ} → Piece space s (e + 1) f → (g && same (take (e - at) (drop at s)) no_word) ≡ true → {o : Option ℕ} → o ≡ then (closed (take (f - (e + 1)) (drop (e + 1) s))) number
-      → items g (pieces_from space s at) ≡ consed off o (items g (pieces_from space s (f + 1)))
-  literal_off {f} r q {o} k =
-      ap (items g) (p.is ∙ ap (λ (ws : List Bytes). take (e - at) (drop at s) ∷ ws) r.is)
-      ∙ items_off g (take (e - at) (drop at s)) (take (f - (e + 1)) (drop (e + 1) s)) (pieces_from space s (f + 1)) q
-      ∙ ap (λ (o : Option ℕ). consed off o (items g (pieces_from space s (f + 1)))) (sym k)
+  pub literal_off : {t : Bor Bytes} → left ≡ Some t → {v : Bytes} {more : Answer (Bor Bytes)} → Cut space t.now v more → (g && same w no_word) ≡ true → {o : Option ℕ} → o ≡ then (closed v) number
+      → items g (split space s) ≡ consed off o (items g (pieces space more))
+  literal_off {t} h {v} {more} r q {o} k =
+      ap (items g) (p.is ∙ ap (λ (l : Answer (Bor Bytes)). w ∷ pieces space l) h ∙ ap (λ (ws : List Bytes). w ∷ ws) r.is)
+      ∙ items_off g w v (pieces space more) q
+      ∙ ap (λ (o : Option ℕ). consed off o (items g (pieces space more))) (sym k)
+
+-- what is left behind a word, or behind two
+pub behind_one : {s w : Bytes} {left : Answer (Bor Bytes)} → Cut space s w left → (u : Bytes) × (s ≡ cut_bytes space u left)
+behind_one {s} {w} p = (w, p.bytes)
+
+pub behind_two : {s w : Bytes} {left : Answer (Bor Bytes)} → Cut space s w left → {t : Bor Bytes} → left ≡ Some t → {v : Bytes} {more : Answer (Bor Bytes)} → Cut space t.now v more
+    → (u : Bytes) × (s ≡ cut_bytes space u more)
+behind_two {s} {w} p h {v} {more} q = (w ++ (space ∷ v), p.bytes ∙ ap (cut_bytes space w) h ∙ ap (λ (u : Bytes). w ++ (space ∷ u)) q.bytes ∙ by more)
+  where
+    by : (m : Answer (Bor Bytes)) → w ++ (space ∷ cut_bytes space v m) ≡ cut_bytes space (w ++ (space ∷ v)) m
+    by None = refl
+    by (Some r) = sym (append_assoc w (space ∷ v) (space ∷ r.now))
 
 pub consed_none : (f : ℕ → Literal) (o : Option (List Literal)) → consed f none o ≡ none
 unfolding consed
@@ -160,25 +169,27 @@ module _ {whole left : Option (List Literal)} {out₀ out : List Literal} {n : �
       let r = all_narrowed_some whole p.done (p.is ∙ ap (λ (o : Option (List Literal)). followed p.done (all_narrowed o)) e ∙ ap some (append-nil p.done)) in
       (r.0, r.1, record { count = p.count ∙ ap length (sym r.2) ∙ length-map r.0 narrowed; first = p.filled ∙ ap (take (length out)) (sym r.2) })
 
--- n literals are read, and the words from at on are left
-pub record Reading (g : Bool) (s : Bytes) (out₀ out : List Literal) (at n : ℕ) : Type 0 where
-  pub low : n ≤ at
-  pub high : at ≤ length s + 1
-  pub gathered : Gathered (items g (split space s)) (items g (pieces_from space s at)) out₀ out n
+-- n literals are read, and some words are left
+pub record Reading (g : Bool) (words : Answer (Bor Bytes)) (out₀ out : List Literal) (left : Answer (Bor Bytes)) (n : ℕ) : Type 0 where
+  pub few : n + size_left left ≤ size_left words
+  pub gathered : Gathered (items g (pieces space words)) (items g (pieces space left)) out₀ out n
 
-pub read_none : (g : Bool) (s : Bytes) (out : List Literal) → Reading g s out out 0 0
-unfolding pieces_from
-read_none g s out = record { low = zero-le; high = zero-le; gathered = rw leb-zero (gathered_none (items g (split space s)) out) }
+pub read_none : (g : Bool) (words : Answer (Bor Bytes)) (out : List Literal) → Reading g words out out words 0
+read_none g words out = record { few = omega arith; gathered = gathered_none (items g (pieces space words)) out }
 
-module _ {g : Bool} {s : Bytes} {out₀ out : List Literal} {at n : ℕ} (p : Reading g s out₀ out at n) where
-  pub read_bad : items g (pieces_from space s at) ≡ none → items g (split space s) ≡ none
-  read_bad = gathered_bad p.gathered
+module _ {g : Bool} {words : Answer (Bor Bytes)} {out₀ out : List Literal} {left : Answer (Bor Bytes)} {n : ℕ} (p : Reading g words out₀ out left n) where
+  pub read_bad : {t : Bor Bytes} → left ≡ Some t → items g (split space t.now) ≡ none → items g (pieces space words) ≡ none
+  read_bad {t} h e = gathered_bad p.gathered (ap (λ (l : Answer (Bor Bytes)). items g (pieces space l)) h ∙ e)
 
-  pub read_more : (l : Literal) {next : ℕ} → at < next → next ≤ length s + 1
-      → all_narrowed (items g (pieces_from space s at)) ≡ consed (λ x. x) (some l) (all_narrowed (items g (pieces_from space s next)))
-      → {new : List Literal} → new ≡ set out n l → Reading g s out₀ new next (n + 1)
-  read_more l h k e w = record { low = omega (arith, p.low); high = k; gathered = gathered_more p.gathered l e w }
+  pub read_more : {t : Bor Bytes} → left ≡ Some t → (l : Literal) {next : Answer (Bor Bytes)} → size_left next ≤ length t.now
+      → all_narrowed (items g (split space t.now)) ≡ consed (λ x. x) (some l) (all_narrowed (items g (pieces space next)))
+      → {new : List Literal} → new ≡ set out n l → Reading g words out₀ new next (n + 1)
+  read_more {t} h l {next} k e w =
+      record {
+        few = omega (arith, p.few, k, ap size_left h);
+        gathered = gathered_more p.gathered l (ap (λ (l : Answer (Bor Bytes)). all_narrowed (items g (pieces space l))) h ∙ e) w;
+      }
 
-  pub read_end : length s < at → (ls : List Literal) × (items g (split space s) ≡ some ls) × Kept n out ls
-  unfolding pieces_from items
-  read_end h = gathered_all p.gathered (rw (lt-leb at (length s) h))
+  pub read_end : left ≡ None → (ls : List Literal) × (items g (pieces space words) ≡ some ls) × Kept n out ls
+  unfolding items
+  read_end h = gathered_all p.gathered (ap (λ (l : Answer (Bor Bytes)). items g (pieces space l)) h)

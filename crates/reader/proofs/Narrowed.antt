@@ -1,11 +1,11 @@
--- Literals in 16 bits: a small number and its negation by their bits, and a literal that is narrowed.
+-- Literals in 16 bits, and a literal that is narrowed.
 use Prim.Native.Nat.{ℕ, zero, suc, ◌<◌, ◌≤◌, min}
-use mathlib.Core.Path.{◌≡◌, refl, sym, ap, subst, ◌∙◌}
+use mathlib.Core.Path.{◌≡◌, refl, ap, ◌∙◌}
 use native.Mathlib.Omega.{arith}
-use lib.IntN.{ℤ, pos, ◌-ℤ◌, +ℤ_idl}
+use lib.IntN.{ℤ, pos}
 use lib.Signed.{mag}
 use mir.Syntax.{w16}
-use mir.Val.{SFits, to_z, of_z}
+use mir.Val.{to_z, of_z}
 use mir.Facts.{to_z-of_z}
 use Rattle.qbf.specs.Formula.{paper}
 use Rattle.layout.specs.Forms.{off}
@@ -14,25 +14,6 @@ use Rattle.reader.specs.Items.{narrow, narrowed}
 -- a signed number of 16 bits is read back from its bits
 pub back16 : {z : ℤ} → mag z < 32768 → to_z w16 (of_z w16 z) ≡ z
 back16 h = to_z-of_z {w = w16} (record { sfits = h })
-
--- ---- small numbers
-module _ (n : ℕ) (small : n ≤ suc paper.numbers) where
-  pub on_back : to_z w16 n ≡ pos n
-  on_back = to_z-of_z {w = w16} {z = pos n} (record { sfits = omega arith })
-
-  off_fits : (k : ℕ) → k ≤ suc paper.numbers → SFits w16 (off k)
-  off_fits zero h = record { sfits = omega arith }
-  off_fits (suc k) h = record { sfits = omega arith }
-
-  -- what `-n` computes
-  off_is : pos 0 -ℤ to_z w16 n ≡ off n
-  off_is = ap (λ (z : ℤ). pos 0 -ℤ z) on_back ∙ +ℤ_idl (off n)
-
-  pub off_sfits : SFits w16 (pos 0 -ℤ to_z w16 n)
-  off_sfits = subst (SFits w16) (sym off_is) (off_fits n small)
-
-  pub off_back : to_z w16 (of_z w16 (pos 0 -ℤ to_z w16 n)) ≡ off n
-  off_back = to_z-of_z {w = w16} off_sfits ∙ off_is
 
 -- ---- narrowed literals
 pub narrow_small : (v : ℕ) {n : ℕ} → n ≡ narrow v → n ≤ suc paper.numbers

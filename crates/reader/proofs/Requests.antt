@@ -2,7 +2,7 @@
 use Prim.Native.Nat.{ℕ, ◌+◌, ◌<◌, ◌≤◌, ◌-◌}
 use mathlib.Core.Path.{◌≡◌, refl, sym, ap, subst, ◌∙◌}
 use mathlib.Core.Bool.{Bool, true, false, cond}
-use mathlib.Core.List.{List, ◌∷◌}
+use mathlib.Core.List.{List, [], ◌∷◌}
 use mathlib.Core.Option.{Option, none, some}
 use native.Mathlib.Omega.{arith}
 use borrow.Author.Tests.{le-ltb, lt-ltb, leb-true}
@@ -17,15 +17,14 @@ use Rattle.layout.specs.Endings.{within, number_up_to}
 use Rattle.layout.specs.Program.{table_bytes}
 use Rattle.layout.specs.Session.{call_from, ceiled_call, call_of}
 use Rattle.sessions.specs.Session.{Request, write, page, write_word, page_word, write_request, page_request, call_request, request_from, request_of}
-use Rattle.reader.specs.Pieces.{pieces_from, Piece}
+use Rattle.std.specs.Borrow.{Bor}
+use Rattle.reader.specs.Pieces.{pieces, Cut}
 use Rattle.reader.specs.Calls.{card_size}
 use Rattle.reader.specs.Requests.{Asked, from_items, from_words, from_line, RequestRead}
 use Rattle.reader.specs.declared.request.RequestLine.{RequestLine}
 use Rattle.reader.specs.declared.request.RequestLine.TheVariants as line
 use Rattle.reader.proofs.Words.{same_true}
-use Rattle.reader.proofs.Literals.{past}
 use Rattle.reader.proofs.Texts.{split_some}
-use Rattle.reader.proofs.Lines.{rest_bytes, rest_some, first_word}
 use Rattle.reader.proofs.Ceilings.{word_none}
 use Rattle.reader.proofs.Calls.{sized, sized_within, one_item, size_is, size_text, size_read}
 
@@ -54,21 +53,18 @@ module _ (w : Bytes) (ws : List Bytes) where
   unfolding request_from
   other_word e d = rw (e, d)
 
-module _ {s : Bytes} {e : ℕ} (p : Piece space s 0 e) where
-  abbrev words : List Bytes
-  words = take e s ∷ pieces_from space s (e + 1)
+module _ {s w : Bytes} {left : Answer (Bor Bytes)} (p : Cut space s w left) where
+  as_words : (r : Answer RequestLine) → RequestRead (from_words (w ∷ pieces space left)) r → RequestRead (from_words (split space s)) r
+  as_words r h = subst (λ (ws : List Bytes). RequestRead (from_words ws) r) (sym p.is) h
 
-  as_words : (r : Answer RequestLine) → RequestRead (from_words words) r → RequestRead (from_words (split space s)) r
-  as_words r h = subst (λ (ws : List Bytes). RequestRead (from_words ws) r) (sym (first_word p)) h
+  pub read_other : same w write_word ≡ false → same w page_word ≡ false → RequestRead (from_words (split space s)) None
+  read_other h k = as_words None (other_word w (pieces space left) h k)
 
-  pub read_other : same (take e s) write_word ≡ false → same (take e s) page_word ≡ false → RequestRead (from_words (split space s)) None
-  read_other h k = as_words None (other_word (take e s) (pieces_from space s (e + 1)) h k)
+  pub read_write : (r : Answer RequestLine) → same w write_word ≡ true → RequestRead (from_items write_request (pieces space left)) r → RequestRead (from_words (split space s)) r
+  read_write r h q = as_words r (subst (λ (a : Asked). RequestRead a r) (sym (write_word_lem w (pieces space left) h)) q)
 
-  pub read_write : (r : Answer RequestLine) → same (take e s) write_word ≡ true → RequestRead (from_items write_request (pieces_from space s (e + 1))) r → RequestRead (from_words (split space s)) r
-  read_write r h q = as_words r (subst (λ (a : Asked). RequestRead a r) (sym (write_word_lem (take e s) (pieces_from space s (e + 1)) h)) q)
-
-  pub read_page : (r : Answer RequestLine) → same (take e s) page_word ≡ true → RequestRead (from_items page_request (pieces_from space s (e + 1))) r → RequestRead (from_words (split space s)) r
-  read_page r h q = as_words r (subst (λ (a : Asked). RequestRead a r) (sym (page_word_lem (take e s) (pieces_from space s (e + 1)) h)) q)
+  pub read_page : (r : Answer RequestLine) → same w page_word ≡ true → RequestRead (from_items page_request (pieces space left)) r → RequestRead (from_words (split space s)) r
+  read_page r h q = as_words r (subst (λ (a : Asked). RequestRead a r) (sym (page_word_lem w (pieces space left) h)) q)
 
 -- ---- the items
 -- a number that is within the largest table
@@ -80,54 +76,48 @@ low n (some m) q = by (leb m table_bytes) refl q
     by true k q = let same : n ≡ m = cc in omega (arith, same, leb-true m table_bytes k)
     by false k q = absurd (let z : ◌≡◌ {A = ℕ} 0 1 = cc in omega (arith, z))
 
-module _ (s : Bytes) (e : ℕ) where
-  abbrev rest : List Bytes
-  rest = pieces_from space s (e + 1)
+-- no item
+pub write_whole : RequestRead (from_items write_request []) (Some line.Whole)
+unfolding items
+write_whole = refl
 
-  -- no item
-  pub write_whole : length s ≤ e → RequestRead (from_items write_request rest) (Some line.Whole)
-  unfolding items
-  write_whole low = ap (λ (ws : List Bytes). then (items false ws) write_request) (past s e low)
+pub page_none : RequestRead (from_items page_request []) None
+unfolding items
+page_none = refl
 
-  pub page_none : length s ≤ e → RequestRead (from_items page_request rest) None
-  unfolding items
-  page_none low = ap (λ (ws : List Bytes). then (items false ws) page_request) (past s e low)
+-- the number that the bytes after the word are
+module _ (t : Bytes) where
+  numbered : (says : List Literal → Option Request) (told : ℕ → Option Request) → ((w : Bytes) (ws : List Bytes) → then (items false (w ∷ ws)) says ≡ then (card_size (w ∷ ws)) told)
+      → then (items false (split space t)) says ≡ then (card_size (split space t)) told
+  numbered says told one = some_word (split_some space t)
+    where
+      some_word : ((w : Bytes) × (vs : List Bytes) × (split space t ≡ w ∷ vs)) → then (items false (split space t)) says ≡ then (card_size (split space t)) told
+      some_word (w, vs, g) =
+          ap (λ (us : List Bytes). then (items false us) says) g ∙ one w vs ∙ ap (λ (us : List Bytes). then (card_size us) told) (sym g)
 
-  -- the number that the bytes after the word are
-  module _ (high : e < length s) where
-    numbered : (says : List Literal → Option Request) (told : ℕ → Option Request) → ((w : Bytes) (ws : List Bytes) → then (items false (w ∷ ws)) says ≡ then (card_size (w ∷ ws)) told)
-        → then (items false rest) says ≡ then (card_size rest) told
-    numbered says told one =
-        let r = split_some space (drop (e + 1) s) in
-        some_word rest (r.0, r.1, sym (rest_some s e high) ∙ r.2)
-      where
-        some_word : (ws : List Bytes) → ((w : Bytes) × (vs : List Bytes) × (ws ≡ w ∷ vs)) → then (items false ws) says ≡ then (card_size ws) told
-        some_word ws (w, vs, g) =
-            ap (λ (us : List Bytes). then (items false us) says) g ∙ one w vs ∙ ap (λ (us : List Bytes). then (card_size us) told) (sym g)
+  -- .. as the size of a table
+  write_is : (o : Option ℕ) → o ≡ number_up_to 5 table_bytes t → then (items false (split space t)) write_request ≡ then o (λ n. some (write (some n)))
+  write_is o is =
+      numbered write_request (sized (λ n. write (some n))) (size_is (write none) (λ n. write (some n)))
+      ∙ sized_within (λ n. write (some n)) (card_size (split space t))
+      ∙ ap (λ (p : Option ℕ). then p (λ n. some (write (some n)))) (sym (is ∙ size_read t))
 
-    -- .. as the size of a table
-    write_is : (o : Option ℕ) → o ≡ number_up_to 5 table_bytes (take (length s - (e + 1)) (drop (e + 1) s)) → then (items false rest) write_request ≡ then o (λ n. some (write (some n)))
-    write_is o is =
-        numbered write_request (sized (λ n. write (some n))) (size_is (write none) (λ n. write (some n)))
-        ∙ sized_within (λ n. write (some n)) (card_size rest)
-        ∙ ap (λ (p : Option ℕ). then p (λ n. some (write (some n)))) (sym (is ∙ size_read s e high))
+  pub write_size : (n : ℕ) → some n ≡ number_up_to 5 table_bytes t → RequestRead (from_items write_request (split space t)) (Some (line.Into n))
+  write_size n is = (write_is (some n) is, low n (card_size (split space t)) (is ∙ size_read t))
 
-    pub write_size : (n : ℕ) → some n ≡ number_up_to 5 table_bytes (take (length s - (e + 1)) (drop (e + 1) s)) → RequestRead (from_items write_request rest) (Some (line.Into n))
-    write_size n is = (write_is (some n) is, low n (card_size rest) (is ∙ size_read s e high))
+  pub write_none : none ≡ number_up_to 5 table_bytes t → RequestRead (from_items write_request (split space t)) None
+  write_none is = write_is none is
 
-    pub write_none : none ≡ number_up_to 5 table_bytes (take (length s - (e + 1)) (drop (e + 1) s)) → RequestRead (from_items write_request rest) None
-    write_none is = write_is none is
+  page_is : (o : Option ℕ) → o ≡ number t → then (items false (split space t)) page_request ≡ then o (λ n. some (page n))
+  page_is o is =
+      numbered page_request (λ n. some (page n)) (one_item page_request (λ n. some (page n)) (λ n. refl) (λ l m ls. refl))
+      ∙ ap (λ (p : Option ℕ). then p (λ n. some (page n))) (sym (size_text t) ∙ sym is)
 
-    page_is : (o : Option ℕ) → o ≡ number (take (length s - (e + 1)) (drop (e + 1) s)) → then (items false rest) page_request ≡ then o (λ n. some (page n))
-    page_is o is =
-        numbered page_request (λ n. some (page n)) (one_item page_request (λ n. some (page n)) (λ n. refl) (λ l m ls. refl))
-        ∙ ap (λ (p : Option ℕ). then p (λ n. some (page n))) (ap card_size (sym (rest_some s e high)) ∙ sym (size_text (drop (e + 1) s)) ∙ ap number (sym (rest_bytes s e high)) ∙ sym is)
+  pub page_number_lem : (n : ℕ) → some n ≡ number t → RequestRead (from_items page_request (split space t)) (Some (line.Page n))
+  page_number_lem n is = page_is (some n) is
 
-    pub page_number_lem : (n : ℕ) → some n ≡ number (take (length s - (e + 1)) (drop (e + 1) s)) → RequestRead (from_items page_request rest) (Some (line.Page n))
-    page_number_lem n is = page_is (some n) is
-
-    pub page_other : none ≡ number (take (length s - (e + 1)) (drop (e + 1) s)) → RequestRead (from_items page_request rest) None
-    page_other is = page_is none is
+  pub page_other : none ≡ number t → RequestRead (from_items page_request (split space t)) None
+  page_other is = page_is none is
 
 -- ---- the line
 module _ (l : Bytes) where

@@ -1,34 +1,31 @@
 -- An item that may end a call's line: where its word stands, the words before it, and what the answer of its line says.
-use Rattle.std.specs.Prelude.{ℕ, zero, suc, ◌≤◌, ◌-◌, ◌≡◌, true, List, [], ◌∷◌, ◌⊎◌, length, take, drop}
+use Rattle.std.specs.Prelude.{ℕ, ◌<◌, ◌-◌, ◌≡◌, List, [], ◌∷◌, ◌⊎◌, length, take}
 use Rattle.std.specs.Prelude.{Option as Answer, Some, None}
 use Rattle.std.proofs.Math.Option.{Option, none, some}
-use Rattle.layout.specs.Words.{Bytes, space, split, same}
+use Rattle.layout.specs.Words.{Bytes, space, split}
 use Rattle.layout.specs.Forms.{then}
-use Rattle.layout.specs.Endings.{Ended, ended, after}
-use Rattle.reader.specs.Pieces.{pieces_from, Piece}
+use Rattle.layout.specs.Endings.{last_item, Ended, item, ended, after}
+use Rattle.std.specs.Borrow.{Bor}
+use Rattle.reader.specs.Pieces.{pieces}
 use Rattle.reader.specs.declared.ending.Ending.{Ending}
+use Rattle.reader.specs.declared.ending.Begun.{Begun}
 use Rattle.reader.specs.Numbers.{num_of}
 
--- the words before the one that begins at a place
-abbrev pub words_before : Bytes → ℕ → List Bytes
-words_before s zero = []
-words_before s (suc k) = split space (take k s)
+-- what stands before the last n bytes of a text, and before the space in front of them; nothing where they are all of it
+abbrev pub Before : Bytes → ℕ → Answer (Bor Bytes) → Type 0
+Before s n None = length s ≡ n
+Before s n (Some b) = (n < length s) × (b.now ≡ take (length s - n - 1) s)
 
 -- words that begin no item, before others
 abbrev pub behind : List Bytes → Option Ended → Option Ended
 behind [] o = o
 behind (w ∷ ws) o = then (behind ws o) (after w)
 
--- r is where the item's word begins
-pub record Begun (word s : Bytes) (r : ℕ) : Type 0 where
-  pub high : r ≤ length s
-  pub is : (number : Bytes → Option ℕ) → ended word number (split space s) ≡ behind (words_before s r) (ended word number (pieces_from space s r))
-  pub found : (e : ℕ) × Piece space s r e × (same (take (e - r) (drop r s)) word ≡ true)
-
 -- where the item's word begins, or none begins
-abbrev pub WordAt : Bytes → Bytes → Answer ℕ → Type 0
-WordAt word s None = (number : Bytes → Option ℕ) → ended word number (split space s) ≡ some (record { words = split space s; last = none })
-WordAt word s (Some r) = Begun word s r
+abbrev pub BegunRead : Bytes → Bytes → Answer Begun → Type 0
+BegunRead word s None = (number : Bytes → Option ℕ) → ended word number (split space s) ≡ some (record { words = split space s; last = none })
+BegunRead word s (Some b) =
+    (number : Bytes → Option ℕ) → ended word number (split space s) ≡ behind (pieces space b.before) (then (last_item number (pieces space b.left)) item)
 
 -- Outside the form: what follows the item's word is no item, or no word stands before it.
 abbrev pub EndedRead : Option Ended → Answer Ending → Type 0

@@ -1,11 +1,11 @@
 -- What the answers of items say, and how the literals of a text are kept in 16 bits.
-use Rattle.std.specs.Prelude.{ℕ, suc, ◌+◌, ◌≤◌, ◌<◌, min, ◌≡◌, Bool, List, map, length, take, ℤ, pos, negsuc}
+use Rattle.std.specs.Prelude.{ℕ, suc, ◌≤◌, min, ◌≡◌, Bool, List, map, length, take, ℤ, pos, negsuc}
 use Rattle.std.specs.Prelude.{Option as Answer, Some, None}
 use Rattle.std.proofs.Math.Option.{Option, none, some}
 use Rattle.qbf.specs.Formula.{Literal, paper}
-use Rattle.layout.specs.Words.{Bytes, space}
+use Rattle.layout.specs.Words.{Bytes, space, split}
 use Rattle.layout.specs.Forms.{consed, items}
-use Rattle.reader.specs.Pieces.{pieces_from}
+use Rattle.reader.specs.Pieces.{pieces, cut_bytes, size_left}
 use Rattle.reader.specs.declared.item.Item.{Item}
 
 -- ---- 16 bits
@@ -22,12 +22,13 @@ all_narrowed none = none
 all_narrowed (some ls) = some (map narrowed ls)
 
 -- ---- one item
--- the literal at a place, narrowed, and the place of the next word, one past the end where there is none
-abbrev pub ItemRead : Bool → Bytes → ℕ → Answer Item → Type 0
-ItemRead signed s at None = items signed (pieces_from space s at) ≡ none
-ItemRead signed s at (Some i) =
-    (at < i.next) × (i.next ≤ length s + 1)
-    × (all_narrowed (items signed (pieces_from space s at)) ≡ consed (λ x. x) (some i.literal) (all_narrowed (items signed (pieces_from space s i.next))))
+-- the first literal of some words, narrowed, and the words that are left behind it
+abbrev pub ItemRead : Bool → Bytes → Answer Item → Type 0
+ItemRead signed s None = items signed (split space s) ≡ none
+ItemRead signed s (Some i) =
+    (size_left i.left ≤ length s)
+    × (all_narrowed (items signed (split space s)) ≡ consed (λ x. x) (some i.literal) (all_narrowed (items signed (pieces space i.left))))
+    × ((w : Bytes) × (s ≡ cut_bytes space w i.left))
 
 -- ---- all items of a line
 -- n literals are told, and as many of them as the table holds stand in it, narrowed

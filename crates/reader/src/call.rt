@@ -1,19 +1,19 @@
 // A call of a session on one line, without its byte 10: `(rule ..)`, `(query ..)`, `(card)`, `(card 4)`, `(keep-card)`, `(keep-card 4)`,
 // `(forget)`, `(withdraw)`, `(one ..)` or `(closest ..)`.
-ghost use Rattle.std.specs.Prelude.{◌≡◌, ◌+◌, ◌≤◌, length};
+ghost use Rattle.std.specs.Prelude.{◌≡◌};
 ghost use Rattle.layout.specs.Words.{space, split};
 ghost use Rattle.layout.specs.Forms.{then};
 ghost use Rattle.layout.specs.Program.{table_bytes};
 ghost use Rattle.layout.specs.Endings.{within};
 ghost use Rattle.layout.specs.Session.{call_from};
 ghost use Rattle.reader.specs.Numbers.{num_of};
-ghost use Rattle.reader.specs.Pieces.{pieces_from};
+ghost use Rattle.reader.specs.Pieces.{pieces};
 ghost use Rattle.reader.specs.Calls.{call_word_of, call_signs, card_size, CallRead};
 
-use crate::items::rest;
+use crate::items::read_items;
 use crate::limit::SIZE;
 use crate::number::read_up_to;
-use crate::word::{SPACE, find, same_word};
+use crate::word::{SPACE, cut, same_word};
 
 // "The program's card table has 65,536 bytes"
 pub const TABLE: usize = 65536;
@@ -86,30 +86,29 @@ impl CallWord {
     }
 }
 
-// The size that a card whose word ends at e gives for its table: the whole table, or a number. It is read from the bytes, since
-// the items are narrowed.
-fn card_size(s: &[u8], e: usize) -> Option<u32>
-    requires { e ≤ length s.now }
-    ensures { num_of result ≡ then (card_size (pieces_from space s.now (e + 1))) (within table_bytes) }
+// The size that a card gives for its table behind its word: the whole table, or a number. It is read from the bytes, since the items
+// are narrowed.
+fn card_size(left: Option<&[u8]>) -> Option<u32>
+    ensures { num_of result ≡ then (card_size (pieces space left.entry)) (within table_bytes) }
 {
-    if s.len() <= e {
-        return Some(TABLE as u32);
+    match left {
+        Some(words) => read_up_to(words, SIZE),
+        None => Some(TABLE as u32),
     }
-    read_up_to(&s[e + 1..], SIZE)
 }
 
 // The call of the words before the size of its table and its ceiling, with the whole table and under the highest.
 pub fn read_words(s: &[u8], out: &mut [i16]) -> Option<CallLine>
     ensures { CallRead (call_from (split space s.now)) result out.new }
 {
-    let e = find(s, 0, SPACE);
-    let w = call_word(&s[..e])?;
-    let n = rest(s, e, w.takes_signs(), out)?;
+    let (word, left) = cut(s, SPACE);
+    let w = call_word(word)?;
+    let n = read_items(left, w.takes_signs(), out)?;
     match w {
         CallWord::Rule => Some(CallLine::Rule(n)),
         CallWord::Query => Some(CallLine::Query(n)),
-        CallWord::Card => Some(CallLine::Card(card_size(s, e)? as usize)),
-        CallWord::KeepCard => Some(CallLine::KeepCard(card_size(s, e)? as usize)),
+        CallWord::Card => Some(CallLine::Card(card_size(left)? as usize)),
+        CallWord::KeepCard => Some(CallLine::KeepCard(card_size(left)? as usize)),
         CallWord::Forget => (n == 0).then_some(CallLine::Forget),
         CallWord::Withdraw => (n == 0).then_some(CallLine::Withdraw),
         CallWord::One => Some(CallLine::One(n)),

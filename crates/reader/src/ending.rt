@@ -1,15 +1,15 @@
 // An item that may end a call's line, by its word and the form of its number: "an optional last item `(ceiling N)`", and before it
 // `(bytes B)`.
-ghost use Rattle.std.specs.Prelude.{◌≡◌, ◌+◌, ◌≤◌, length};
+ghost use Rattle.std.specs.Prelude.{◌≡◌, ◌≤◌, length};
 ghost use Rattle.layout.specs.Words.{space, split};
 ghost use Rattle.layout.specs.Endings.{number_up_to, last_item, ended};
 ghost use Rattle.reader.specs.Numbers.{num_of};
-ghost use Rattle.reader.specs.Pieces.{pieces_from};
-ghost use Rattle.reader.specs.Endings.{WordAt, EndedRead};
+ghost use Rattle.reader.specs.Pieces.{pieces};
+ghost use Rattle.reader.specs.Endings.{Before, BegunRead, EndedRead};
 
 use crate::limit::Limit;
 use crate::number::closed_within;
-use crate::word::{SPACE, find, same_word};
+use crate::word::{SPACE, cut, same_word};
 
 // The words before such an item, all of them where there is none, and its number.
 #[derive(Clone, Copy)]
@@ -18,53 +18,68 @@ pub struct Ending<'a> {
     pub number: Option<u32>,
 }
 
-// Where the item's word stands, if it does.
-fn word_at(s: &[u8], word: &[u8]) -> Option<usize>
-    ensures { WordAt word.now s.now result }
+// Where the item's word stands: the words before it, none where it is the first, and what is left behind it.
+#[derive(Clone, Copy)]
+struct Begun<'a> {
+    before: Option<&'a [u8]>,
+    left: Option<&'a [u8]>,
+}
+
+// The words before the last ones.
+fn before<'a>(s: &'a [u8], words: &[u8]) -> Option<&'a [u8]>
+    requires { length words.now ≤ length s.now }
+    ensures { Before s.now (length words.now) result }
 {
-    let mut at: usize = 0;
-    while at <= s.len() {
-        let e = find(s, at, SPACE);
-        if same_word(&s[at..e], word) {
-            return Some(at);
+    let at = s.len() - words.len();
+    if at == 0 {
+        return None;
+    }
+    Some(&s[..at - 1])
+}
+
+// The first word that is the item's, if one is.
+fn first_item<'a>(s: &'a [u8], word: &[u8]) -> Option<Begun<'a>>
+    ensures { BegunRead word.now s.now result }
+{
+    let mut left = Some(s);
+    while let Some(words) = left {
+        // stays (no plainer): it goes down the words that are left, which are also what it answers.
+        let (first, behind) = cut(words, SPACE);
+        if same_word(first, word) {
+            return Some(Begun {
+                before: before(s, words),
+                left: behind,
+            });
         }
-        at = e + 1;
+        left = behind;
     }
     None
 }
 
-// The number in the one word after that word, which ends at e.
-fn last_item(s: &[u8], e: usize, limit: Limit) -> Option<u32>
-    requires { e ≤ length s.now }
-    ensures { num_of result ≡ last_item (number_up_to limit.digits limit.top) (pieces_from space s.now (e + 1)) }
+// The number in the one word that is left behind the item's.
+fn last_item(left: Option<&[u8]>, limit: Limit) -> Option<u32>
+    ensures { num_of result ≡ last_item (number_up_to limit.digits limit.top) (pieces space left.entry) }
 {
-    if s.len() <= e {
-        return None;
+    let (word, more) = cut(left?, SPACE);
+    match more {
+        Some(_) => None,
+        None => closed_within(word, limit),
     }
-    let f = find(s, e + 1, SPACE);
-    if f < s.len() {
-        return None;
-    }
-    closed_within(&s[e + 1..f], limit)
 }
 
 // Words outside the form have no answer.
 pub fn ended<'a>(s: &'a [u8], word: &[u8], limit: Limit) -> Option<Ending<'a>>
     ensures { EndedRead (ended word.now (number_up_to limit.digits limit.top) (split space s.now)) result }
 {
-    let Some(at) = word_at(s, word) else {
+    let Some(item) = first_item(s, word) else {
         return Some(Ending {
             words: s,
             number: None,
         });
     };
-    let e = find(s, at, SPACE);
-    let n = last_item(s, e, limit)?;
-    if at == 0 {
-        return None;
-    }
+    let n = last_item(item.left, limit)?;
     Some(Ending {
-        words: &s[..at - 1],
+        words: item.before?,
         number: Some(n),
     })
 }

@@ -1,18 +1,18 @@
 // An item of a line, `3` or `(no 3)`, as a literal of 16 bits.
-ghost use Rattle.std.specs.Prelude.{◌≡◌, suc, ◌≤◌, ◌&&◌, pos, length};
+ghost use Rattle.std.specs.Prelude.{◌≡◌, suc, ◌≤◌, ◌&&◌, pos};
 ghost use Rattle.qbf.specs.Formula.{paper};
 ghost use Rattle.layout.specs.Words.{same};
 ghost use Rattle.layout.specs.Forms.{no_word, off};
 ghost use Rattle.reader.specs.Items.{ItemRead, narrow};
 
 use crate::number::{closed_number, read_number};
-use crate::word::{SPACE, find, same_word};
+use crate::word::{SPACE, cut, same_word};
 
-// A literal, and the place of the next word.
+// A literal, and the words that are left behind it.
 #[derive(Clone, Copy)]
-pub struct Item {
+pub struct Item<'a> {
     pub literal: i16,
-    pub next: usize,
+    pub left: Option<&'a [u8]>,
 }
 
 // A number in 16 bits. It is judged before it is narrowed: one that is no variable's becomes the first that is none.
@@ -27,6 +27,7 @@ pub fn narrow(v: u32) -> u16
 }
 
 // "positive means on, its negation off"
+// stays (no plainer): it is the cast of a small number, and its contract says so once for its three callers.
 pub fn on(n: u16) -> i16
     requires { n ≤ suc paper.numbers }
     ensures { result ≡ pos n }
@@ -45,30 +46,25 @@ pub fn off(n: u16) -> i16
 fn is_no(w: &[u8], signed: bool) -> bool
     ensures { result ≡ (signed && same w.now no_word) }
 {
-    if signed { same_word(w, b"(no") } else { false }
+    signed && same_word(w, b"(no")
 }
 
-// The item that starts at a place.
-pub fn read_item(s: &[u8], at: usize, signed: bool) -> Option<Item>
-    requires { at ≤ length s.now }
-    ensures { ItemRead signed s.now at result }
+// The first item of some words. A negated one takes two of them, where signs are allowed.
+pub fn read_item(words: &[u8], signed: bool) -> Option<Item<'_>>
+    ensures { ItemRead signed words.now result }
 {
-    let e = find(s, at, SPACE);
-    if !is_no(&s[at..e], signed) {
-        let v = read_number(&s[at..e])?;
+    let (word, left) = cut(words, SPACE);
+    if is_no(word, signed) {
+        let (number, left) = cut(left?, SPACE);
+        let v = closed_number(number)?;
         return Some(Item {
-            literal: on(narrow(v)),
-            next: e + 1,
+            literal: off(narrow(v)),
+            left,
         });
     }
-    if s.len() <= e {
-        return None;
-    }
-    let b = e + 1;
-    let f = find(s, b, SPACE);
-    let v = closed_number(&s[b..f])?;
+    let v = read_number(word)?;
     Some(Item {
-        literal: off(narrow(v)),
-        next: f + 1,
+        literal: on(narrow(v)),
+        left,
     })
 }

@@ -1,13 +1,14 @@
 // The items of a line. A line has up to 32,768 of them; they are all judged and counted, and as many kept as the lent table holds.
-ghost use Rattle.std.specs.Prelude.{◌≡◌, ◌+◌, ◌≤◌, length, set};
-ghost use Rattle.layout.specs.Words.{space, split};
+ghost use Rattle.std.specs.Prelude.{◌≡◌, set};
+ghost use Rattle.layout.specs.Words.{space};
 ghost use Rattle.layout.specs.Forms.{items};
-ghost use Rattle.reader.specs.Pieces.{pieces_from};
+ghost use Rattle.reader.specs.Pieces.{pieces};
 ghost use Rattle.reader.specs.Items.{Filled};
 
 use crate::item::read_item;
 
 // Stores a literal, where the table has the place.
+// stays (no plainer): n is the place of the one cell that is written, not a length.
 pub fn put_literal(out: &mut [i16], n: usize, l: i16)
     ensures { out.new ≡ set out.old n l }
 {
@@ -16,28 +17,18 @@ pub fn put_literal(out: &mut [i16], n: usize, l: i16)
     }
 }
 
-// How many items there are.
-fn read_items(s: &[u8], signed: bool, out: &mut [i16]) -> Option<usize>
-    ensures { Filled (items signed (split space s.now)) result out.new }
+// The items of the words that are left: how many there are.
+pub fn read_items(words: Option<&[u8]>, signed: bool, out: &mut [i16]) -> Option<usize>
+    ensures { Filled (items signed (pieces space words.entry)) result out.new }
 {
-    let mut at: usize = 0;
+    let mut left = words;
     let mut n: usize = 0;
-    while at <= s.len() {
-        let item = read_item(s, at, signed)?;
+    while let Some(next) = left {
+        // stays (no plainer): it goes down the words that are left, of which an item takes one or two.
+        let item = read_item(next, signed)?;
         put_literal(out, n, item.literal);
         n += 1;
-        at = item.next;
+        left = item.left;
     }
     Some(n)
-}
-
-// The items after the word that ends at e.
-pub fn rest(s: &[u8], e: usize, signed: bool, out: &mut [i16]) -> Option<usize>
-    requires { e ≤ length s.now }
-    ensures { Filled (items signed (pieces_from space s.now (e + 1))) result out.new }
-{
-    if s.len() <= e {
-        return Some(0);
-    }
-    read_items(&s[e + 1..], signed, out)
 }

@@ -6,17 +6,17 @@ ghost use Rattle.layout.specs.Forms.{form_from, form_of};
 ghost use Rattle.reader.specs.Lines.{LineRead};
 
 use crate::brackets::inside;
-use crate::items::rest;
+use crate::items::read_items;
 use crate::keyword::{Line, line_of, word_of};
-use crate::word::{SPACE, find};
+use crate::word::{SPACE, cut};
 
 // The form between a line's brackets.
 pub fn read_form(s: &[u8], out: &mut [i16]) -> Option<Line>
     ensures { LineRead (form_from (split space s.now)) result out.new }
 {
-    let e = find(s, 0, SPACE);
-    let w = word_of(&s[..e])?;
-    let n = rest(s, e, w.takes_signs(), out)?;
+    let (word, left) = cut(s, SPACE);
+    let w = word_of(word)?;
+    let n = read_items(left, w.takes_signs(), out)?;
     line_of(w, n)
 }
 

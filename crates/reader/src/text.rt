@@ -2,10 +2,11 @@
 ghost use Rattle.std.specs.Prelude.{◌≡◌, ◌≤◌, length};
 ghost use Rattle.layout.specs.Words.{newline, same};
 ghost use Rattle.layout.specs.Session.{end_line};
-ghost use Rattle.reader.specs.Books.{count_of_lines, BookEnd};
-ghost use Rattle.reader.specs.Pieces.{Piece};
+ghost use Rattle.std.specs.Iterator.{at_most};
+ghost use Rattle.reader.specs.Books.{count_of_lines, NextLine, BookEnd};
+ghost use Rattle.reader.specs.Pieces.{Piece, size_left};
 
-use crate::word::{NEWLINE, find, same_word};
+use crate::word::{NEWLINE, cut, find, same_word};
 
 // "text over 65,536 bytes"
 pub const TEXT: usize = 65536;
@@ -20,6 +21,26 @@ pub fn line_end(text: &[u8], at: usize) -> usize
     find(text, at, NEWLINE)
 }
 
+// The lines of a text that are left, without their bytes 10; the last of them is what stands behind the last byte 10.
+#[derive(Drop)]
+pub struct Lines<'a> {
+    pub left: Option<&'a [u8]>,
+}
+
+impl<'a> Iterator for Lines<'a> {
+    type Item = &'a [u8];
+
+    ghost next_gives = { λ s r t. NextLine s.left r t.left };
+
+    ghost remaining = { λ s. at_most (size_left s.left) };
+
+    fn next(&mut self) -> Option<&'a [u8]> {
+        let (line, left) = cut(self.left?, NEWLINE);
+        self.left = left;
+        Some(line)
+    }
+}
+
 fn is_end(line: &[u8]) -> bool
     ensures { result ≡ same line.now end_line }
 {
@@ -30,18 +51,16 @@ fn is_end(line: &[u8]) -> bool
 pub fn book_end(text: &[u8]) -> Option<usize>
     ensures { BookEnd text.now result }
 {
-    let mut at: usize = 0;
-    while at < text.len() {
-        let end = line_end(text, at);
-        if text.len() <= end {
-            return None;
+    let mut lines = text;
+    loop {
+        // stays (no plainer): it goes down the lines that are left, by whose length the book's is known.
+        let (line, left) = cut(lines, NEWLINE);
+        let next = left?;
+        if is_end(line) {
+            return Some(text.len() - next.len());
         }
-        if is_end(&text[at..end]) {
-            return Some(end + 1);
-        }
-        at = end + 1;
+        lines = next;
     }
-    None
 }
 
 // How many lines the text has: bytes 10.

@@ -1,7 +1,7 @@
 // Words of a line: where one ends, and whether it is a given one.
 ghost use Rattle.std.specs.Prelude.{◌≡◌, ◌==◌, ◌≤◌, length, position};
 ghost use Rattle.layout.specs.Words.{same};
-ghost use Rattle.reader.specs.Pieces.{Piece};
+ghost use Rattle.reader.specs.Pieces.{Cut, Piece};
 
 pub const NEWLINE: u8 = b'\n';
 
@@ -28,6 +28,17 @@ pub fn find(s: &[u8], at: usize, c: u8) -> usize
     }
 }
 
+// What stands before the first byte c of a text, and what is left behind that byte, where there is one.
+pub fn cut(s: &[u8], c: u8) -> (&[u8], Option<&[u8]>)
+    ensures { Cut c s.now result.0.now result.1 }
+{
+    match first(s, c) {
+        Some(n) => (&s[..n], Some(&s[n + 1..])),
+        None => (s, None),
+    }
+}
+
+// stays (no plainer): `==` says what the definition `same` does, and its law is cited here once for all words.
 pub fn same_word(w: &[u8], v: &[u8]) -> bool
     ensures { result ≡ same w.now v.now }
 {

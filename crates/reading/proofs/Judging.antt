@@ -2,9 +2,9 @@
 use Prim.Native.Nat.{ℕ, ◌<◌}
 use native.Mathlib.Nat.{not-suc-le-zero}
 use mathlib.Core.Path.{◌≡◌, refl, sym, ap, ◌∙◌, subst}
-use mathlib.Core.Bool.{Bool, true, false, not, ◌||◌, false≢true}
+use mathlib.Core.Bool.{Bool, true, false, not, ◌||◌}
 use mathlib.Core.List.{List}
-use lib.ListN.{get_or, set}
+use lib.ListN.{get_or}
 use lib.Dec.{T, eqb, ltb}
 use lib.IntN.{pos, negsuc}
 use lib.Signed.{lt_z}
@@ -14,7 +14,7 @@ use borrow.Author.Tests.{ltb-true, eq-eqb, ne_eqb, lt-ltb, le-ltb}
 use Prim.Native.Nat.{◌≤◌}
 use Rattle.qbf.specs.Formula.{Literal, number_of, positive}
 use Rattle.literal.proofs.Signed.{tested}
-use Rattle.reading.specs.Marking.{barred, Marked}
+use Rattle.reading.specs.Marking.{barred}
 
 is_positive : (l : Literal) → lt_z l (pos 0) ≡ false → positive l ≡ true
 is_positive (pos n) e = refl
@@ -53,11 +53,3 @@ module _ (places : List ℕ) (free : ℕ) (values : List ℕ) {l : Literal} (f :
 
       pub barred_again : p ≤ free → again ≡ barred places free values l
       barred_again h = sym (declared ∙ ap (λ (b : Bool). b || again) (le-ltb free p h))
-
--- ---- a literal marked
-module _ (places : List ℕ) (free v : ℕ) (values : List ℕ) (l : Literal) {b : Bool} (is : b ≡ barred places free values l) where
-  pub marked_not : b ≡ true → Marked places free v values l false values
-  marked_not e = record { told = sym (ap not (sym is ∙ e)); shown = λ z. absurd (false≢true z) }
-
-  pub marked_so : b ≡ false → {after : List ℕ} → after ≡ set values (number_of l) v → Marked places free v values l true after
-  marked_so e put = record { told = sym (ap not (sym is ∙ e)); shown = λ z. put }

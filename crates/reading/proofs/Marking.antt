@@ -14,7 +14,7 @@ use lib.IntN.{pos}
 use borrow.Author.Tests.{not-true, not-false}
 use Rattle.qbf.specs.Formula.{Literal, number_of}
 use Rattle.theory.proofs.Basics.{le_or_lt, or_false_left, or_false_right}
-use Rattle.reading.specs.Marking.{barred, any_barred, named, Marked, Named, open_after, FullBy}
+use Rattle.reading.specs.Marking.{barred, any_barred, named, Marked, Named, open_after}
 
 module _ (places : List ℕ) (free v : ℕ) where
   -- ---- one literal more
@@ -45,9 +45,6 @@ module _ (places : List ℕ) (free v : ℕ) where
       pub room : length values ≡ length start
       pub told : any_barred places free v start ls ≡ any_barred places free v values (drop i ls)
       pub reached : named v start ls ≡ named v values (drop i ls)
-
-    pub marking_none : Marking start 0
-    marking_none = record { low = zero-le; room = refl; told = refl; reached = refl }
 
     module _ {values : List ℕ} {i : ℕ} (m : Marking values i) where
       pub marking_end : length ls ≤ i → Named places free v start ls true values
@@ -103,15 +100,9 @@ module _ (values ns : List ℕ) (free : ℕ) where
       here : b ≡ open_after values ns i
       here = is ∙ ap (λ (k : ℕ). eqb (get_or values k 0) 0) at
 
-      pub filled_not : b ≡ true → FullBy values ns free false
-      filled_not e = (i, more, sym here ∙ e)
-
       pub filled_more : b ≡ false → Filled (i + 1)
       filled_more e = rw add-one (record { low = more; so_far = λ j z. by j (le_or_lt i j) z })
         where
           by : (j : ℕ) → (i ≤ j) ⊎ (j < i) → j < suc i → open_after values ns j ≡ false
           by j (inl h) z = ap (open_after values ns) (omega (arith, h, z)) ∙ sym here ∙ e
           by j (inr h) z = f.so_far j h
-
-    pub filled_end : free ≤ i → FullBy values ns free true
-    filled_end h j z = f.so_far j (omega (arith, h, z))

@@ -1,15 +1,12 @@
 -- The recorded values by place: the loop after the first i, and the reading that they show.
-use Prim.Native.Nat.{ℕ, zero, suc, ◌+◌, ◌≤◌, ◌<◌, zero-le}
-use native.Mathlib.Nat.{not-suc-le-zero}
-use native.Mathlib.Numerals.{add-one}
+use Prim.Native.Nat.{ℕ, zero, suc, ◌≤◌, ◌<◌}
 use native.Mathlib.Omega.{arith}
 use mathlib.Core.Path.{◌≡◌, refl, sym, ap, ◌∙◌}
 use mathlib.Core.Logic.{◌⊎◌, inl, inr}
 use mathlib.Core.Bool.{true}
 use mathlib.Core.List.{List, [], ◌∷◌}
 use mathlib.Core.Option.{none}
-use lib.ListN.{length, get_or, set, length-set, length-map, get_or-eq_default}
-use lib.Seq.{get_or-set_same, get_or-set_other}
+use lib.ListN.{length, get_or, length-map, get_or-eq_default}
 use Rattle.qbf.specs.Formula.{Limits, Prefix, quantifiers}
 use Rattle.qbf.specs.Truth.{free_variables}
 use Rattle.qbf.specs.Open.{Reading}
@@ -18,7 +15,7 @@ use Rattle.theory.proofs.Basics.{and_left, le_or_lt}
 use Rattle.theory.proofs.Prefixes.{numbers, place_of_number}
 use Rattle.theory.proofs.Starting.{free_fit}
 use Rattle.tables.specs.Views.{value_code, Numbers, Recorded}
-use Rattle.reading.specs.Placed.{value_after, Placed, ShownByPlace}
+use Rattle.reading.specs.Placed.{Placed, ShownByPlace}
 
 -- ---- the loop
 module _ (values ns start : List ℕ) (free : ℕ) where
@@ -26,55 +23,6 @@ module _ (values ns start : List ℕ) (free : ℕ) where
     pub low : i ≤ free
     pub room : length t ≡ length start
     pub so_far : Placed values ns i start t
-
-  pub placing_none : Placing start 0
-  placing_none = record { low = zero-le; room = refl; so_far = record { at = λ i z. absurd (not-suc-le-zero z); rest = λ p h. refl } }
-
-  module _ {t : List ℕ} {i : ℕ} (f : Placing t i) where
-    pub placing_more : free < length start → i < free → {n v : ℕ} {after : List ℕ} → n ≡ get_or ns (suc i) 0 → v ≡ get_or values n 0 → after ≡ set t (i + 1) v → Placing after (i + 1)
-    placing_more wide more {n} {v} {after} is val put =
-        rw add-one
-        (record {
-          low = more;
-          room = ap length now ∙ length-set t (suc i) v ∙ f.room;
-          so_far = record { at = λ j z. by j (le_or_lt i j) z; rest = λ p h. ap (λ (u : List ℕ). get_or u p 0) now ∙ get_or-set_other t (suc i) p v 0 (other p h) ∙ f.so_far.rest p (before p h) };
-        })
-      where
-        now : after ≡ set t (suc i) v
-        now = put ∙ ap (λ (k : ℕ). set t k v) (add-one i)
-
-        other : (p : ℕ) → (p ≡ 0) ⊎ (suc i < p) → p ≡ suc i → ⊥
-        other p (inl e) q = omega (arith, e, q)
-        other p (inr e) q = omega (arith, e, q)
-
-        before : (p : ℕ) → (p ≡ 0) ⊎ (suc i < p) → (p ≡ 0) ⊎ (i < p)
-        before p (inl e) = inl e
-        before p (inr e) = inr (omega (arith, e))
-
-        by : (j : ℕ) → (i ≤ j) ⊎ (j < i) → j < suc i → get_or after (suc j) 0 ≡ value_after values ns j
-        by j (inl h) z =
-            let e : j ≡ i = omega (arith, h, z) in
-            ap (λ (k : ℕ). get_or after (suc k) 0) e
-            ∙ ap (λ (u : List ℕ). get_or u (suc i) 0) now
-            ∙ get_or-set_same t (suc i) v 0 (omega (arith, more, wide, f.room))
-            ∙ val
-            ∙ ap (λ (k : ℕ). get_or values k 0) is
-            ∙ sym (ap (value_after values ns) e)
-        by j (inr h) z =
-            ap (λ (u : List ℕ). get_or u (suc j) 0) now
-            ∙ get_or-set_other t (suc i) (suc j) v 0 (λ q. omega (arith, q, h))
-            ∙ f.so_far.at j h
-
-    pub placing_end : free ≤ i → Placed values ns free start t
-    placing_end h = ends (omega (arith, h, f.low))
-      where
-        ends : i ≡ free → Placed values ns free start t
-        ends e =
-            record { at = λ j z. f.so_far.at j (omega (arith, z, e)); rest = λ p q. f.so_far.rest p (from p q) }
-          where
-            from : (p : ℕ) → (p ≡ 0) ⊎ (free < p) → (p ≡ 0) ⊎ (i < p)
-            from p (inl q) = inl q
-            from p (inr q) = inr (omega (arith, q, e))
 
 -- ---- the reading that they show
 pub placed_reading : (L : Limits) (D : Prefix) → prefix_is_ok L D ≡ true → (ns : List ℕ) → Numbers D ns → (os : Reading) → length os ≡ free_variables D

@@ -6,6 +6,8 @@ use mathlib.Core.Bool.{Bool, true, false, false≢true}
 use mathlib.Core.List.{List, [], ◌++◌, append-nil}
 use mathlib.Core.Option.{none, some}
 use lib.ListN.{length}
+use Rattle.std.specs.Prelude.{Result, Ok, Err}
+use Rattle.refusal.specs.declared.Refusal.{Refusal}
 use borrow.Author.Tests.{not-true, not-false}
 use Rattle.qbf.specs.Formula.{Limits, Prefix, Literal, Formula, quantifiers}
 use Rattle.qbf.specs.Truth.{free_variables}
@@ -13,7 +15,7 @@ use Rattle.qbf.specs.Open.{reading_of, is_full}
 use Rattle.qbf.specs.Calls.{numbers_are_ok, free_first, query_fault}
 use Rattle.theory.proofs.Basics.{and_left}
 use Rattle.tables.specs.Views.{Places, Recorded}
-use Rattle.reading.specs.Reading.{Ready, QueryRead}
+use Rattle.reading.specs.Reading.{Ready, QueryRead, ReadAs}
 use Rattle.reading.specs.Marking.{any_barred, named, Named, FullBy}
 use Rattle.reading.proofs.Faults.{seen_none, Passed, fault_told, fault_passed}
 use Rattle.reading.proofs.Recording.{named_length, both_recorded, full_told, full_values}
@@ -100,3 +102,8 @@ module _ (L : Limits) (D : Prefix) (f : ℕ) (ns places values : List ℕ) (r : 
 
             is_full_lem : full ≡ is_full (reading_of on off D)
             is_full_lem = full_told L D distinct ns r.numbered f r.counted on off last shows full h
+
+-- arguments that were not read are refused
+pub read_refused : {D : Prefix} {on off : List Literal} (r : Result Bool Refusal) {values : List ℕ} → ReadAs D on off r values → ((full : Bool) → r ≡ Ok full → ⊥) → QueryRead D on off false false values
+read_refused (Ok full) k h = absurd (h full refl)
+read_refused (Err e) k h = k.1

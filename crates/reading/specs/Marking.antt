@@ -1,5 +1,7 @@
 -- What the tables say of a query's literals, one after the other, and of the numbers at the first places.
-use Rattle.std.specs.Prelude.{ℕ, suc, ◌<◌, ◌≡◌, Bool, true, false, not, ◌||◌, List, [], ◌∷◌, get_or, set, eqb, ltb}
+use Rattle.std.specs.Prelude.{ℕ, suc, ◌<◌, ◌≡◌, Bool, true, false, not, ◌||◌, List, [], ◌∷◌, get_or, set, eqb, ltb, Result, Ok, Err}
+use Rattle.refusal.specs.declared.Refusal.{Refusal}
+use Rattle.refusal.specs.declared.Refusal.TheVariants as refusal
 use Rattle.qbf.specs.Formula.{Literal, number_of, positive}
 
 -- a literal that a query may not have: negative, not declared, not free, or named before
@@ -25,6 +27,15 @@ pub record Marked (places : List ℕ) (free v : ℕ) (values : List ℕ) (l : Li
 pub record Named (places : List ℕ) (free v : ℕ) (values : List ℕ) (ls : List Literal) (ok : Bool) (after : List ℕ) : Type 0 where
   pub told : ok ≡ not (any_barred places free v values ls)
   pub shown : ok ≡ true → after ≡ named v values ls
+
+-- .. or their refusal
+abbrev pub MarkedAs : List ℕ → ℕ → ℕ → List ℕ → Literal → Result Unit Refusal → List ℕ → Type 0
+MarkedAs places free v values l (Ok u) after = Marked places free v values l true after
+MarkedAs places free v values l (Err r) after = (r ≡ refusal.NotFree) × Marked places free v values l false after
+
+abbrev pub NamedAs : List ℕ → ℕ → ℕ → List ℕ → List Literal → Result Unit Refusal → List ℕ → Type 0
+NamedAs places free v values ls (Ok u) after = Named places free v values ls true after
+NamedAs places free v values ls (Err r) after = (r ≡ refusal.NotFree) × Named places free v values ls false after
 
 -- the variable after i others is open
 abbrev pub open_after : List ℕ → List ℕ → ℕ → Bool

@@ -1,6 +1,8 @@
 -- What the reading of a query's arguments says.
-use Rattle.std.specs.Prelude.{ℕ, ◌<◌, ◌≡◌, Bool, true, false, List, [], ◌++◌, length, get_or}
+use Rattle.std.specs.Prelude.{ℕ, ◌<◌, ◌≡◌, Bool, true, false, List, [], ◌++◌, length, get_or, Result, Ok, Err}
 use Rattle.std.proofs.Math.Option.{none, some}
+use Rattle.refusal.specs.declared.Refusal.{Refusal}
+use Rattle.refusal.specs.declared.Refusal.TheVariants as refusal
 use Rattle.qbf.specs.Formula.{Limits, Prefix, Literal, Formula}
 use Rattle.qbf.specs.Truth.{free_variables}
 use Rattle.qbf.specs.Open.{reading_of, is_full}
@@ -26,3 +28,8 @@ pub record QueryRead (D : Prefix) (on off : List Literal) (ok full : Bool) (valu
   pub told : ok ≡ true → full ≡ is_full (reading_of on off D)
   -- those of a full reading are the start node's
   pub shown : ok ≡ true → full ≡ true → Values D (start_node on D) values
+
+-- whether they name all, or their refusal
+abbrev pub ReadAs : Prefix → List Literal → List Literal → Result Bool Refusal → List ℕ → Type 0
+ReadAs D on off (Ok full) values = QueryRead D on off true full values
+ReadAs D on off (Err r) values = (r ≡ refusal.NotFree) × QueryRead D on off false false values

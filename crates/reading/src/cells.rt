@@ -1,29 +1,31 @@
 // Cells of the tables, read and written where they are.
 ghost use Rattle.std.specs.Prelude.{◌≡◌, suc, get_or, set, eqb};
 
-pub fn is_open<'a>(values: &'a [u8], n: usize) -> bool
-    ensures { result ≡ eqb (get_or values.now n 0) 0 }
+use literal::Number;
+
+pub fn is_open<'a>(values: &'a [u8], number: Number) -> bool
+    ensures { result ≡ eqb (get_or values.now number.0 0) 0 }
 {
-    literal::byte_at(values, n) == tables::OPEN
+    literal::byte_at(values, number.0) == tables::OPEN
 }
 
 // The number of the variable after i others; 0 past the table.
-pub fn number_after<'a>(numbers: &'a [u16], i: usize) -> usize
-    ensures { result ≡ get_or numbers.now (suc i) 0 }
+// stays (no plainer): the definitions read 0 there too, which is the number of no variable
+pub fn number_after<'a>(numbers: &'a [u16], i: usize) -> Number
+    ensures { result.0 ≡ get_or numbers.now (suc i) 0 }
 {
     if i < numbers.len() {
         let place = i + 1;
-        if place < numbers.len() {
-            return numbers[place] as usize;
-        }
+        return Number(literal::cell_at(numbers, place) as usize);
     }
-    0
+    Number(0)
 }
 
-pub fn put(values: &mut [u8], n: usize, value: u8)
-    ensures { values.new ≡ set values.old n value }
+// A cell that is there is written.
+pub fn put(values: &mut [u8], i: usize, value: u8)
+    ensures { values.new ≡ set values.old i value }
 {
-    if n < values.len() {
-        values[n] = value;
+    if i < values.len() {
+        values[i] = value;
     }
 }

@@ -7,47 +7,32 @@ mod named;
 pub mod placed; // the reading by place
 
 ghost use Rattle.qbf.specs.Formula.{Limits, Prefix};
-ghost use Rattle.reading.specs.Reading.{Ready, QueryRead};
+ghost use Rattle.reading.specs.Reading.{Ready, ReadAs};
 
 use crate::full::is_full;
 use crate::named::mark_all;
+use refusal::Refusal;
 
-// Whether the arguments name free variables, each once; and whether they name all of them.
+// The flags of a state are its free variables, which have the first places.
 #[derive(Clone, Copy)]
-pub struct Reading {
-    pub ok: bool,
-    pub full: bool,
+pub struct Flags<'a> {
+    // of the variable at each place
+    pub numbers: &'a [u16],
+    // of each number
+    pub places: &'a [u16],
+    pub free: usize,
 }
 
-// Writes what is recorded of each variable into the lent values, which are all open.
-pub fn read<'a>(
-    values: &mut [u8],
-    numbers: &'a [u16],
-    places: &'a [u16],
-    free: usize,
-    on: &'a [i16],
-    off: &'a [i16],
-) -> Reading
+// Whether the arguments name all flags; or their refusal, where one names no flag, or a flag twice. What is recorded of each variable is written into the
+// lent values, which are all open.
+pub fn read(flags: Flags<'_>, values: &mut [u8], on: &[i16], off: &[i16]) -> Result<bool, Refusal>
     ensures { (L : Limits)
         (D : Prefix)
-        → Ready L D free numbers.now places.now values.old
-        → QueryRead D on.now off.now result.ok result.full values.new }
+        → Ready L D flags.entry.free flags.entry.numbers.now flags.entry.places.now values.old
+        → ReadAs D on.now off.now result values.new }
 {
-    if !mark_all(values, places, free, on, tables::ON) {
-        return Reading {
-            ok: false,
-            full: false,
-        };
-    }
-    if !mark_all(values, places, free, off, tables::OFF) {
-        return Reading {
-            ok: false,
-            full: false,
-        };
-    }
-    let full = is_full(values, numbers, free);
-    Reading {
-        ok: true,
-        full: full,
-    }
+    mark_all(values, flags, on, tables::ON)?;
+    mark_all(values, flags, off, tables::OFF)?;
+    let full = is_full(values, flags);
+    Ok(full)
 }

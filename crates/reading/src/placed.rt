@@ -16,6 +16,6 @@ pub fn by_place<'a>(recorded: &mut [u8], values: &'a [u8], numbers: &'a [u16], f
         recorded.new }
 {
     for i in 0..free {
-        put(recorded, i + 1, byte_at(values, number_after(numbers, i)));
+        put(recorded, i + 1, byte_at(values, number_after(numbers, i).0));
     }
 }

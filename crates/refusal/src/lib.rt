@@ -46,6 +46,7 @@ pub enum Refusal {
 }
 
 impl Refusal {
+    // stays (no plainer): the contract is this table of numbers, which are not the variants' places
     pub fn number(self) -> u16
         ensures { result ≡ number_of self }
     {
@@ -78,6 +79,7 @@ impl Refusal {
 }
 
 // The number that other languages read: 0 where nothing is refused.
+// stays (C): the exported structs hold it
 pub fn number_if(refused: Option<Refusal>) -> u16
     ensures { result ≡ number_if refused }
 {

@@ -1,4 +1,4 @@
--- What the answer of a query or a card says, in numbers.
+-- What the answer of a query or a card says, in the paper's numbers.
 use Rattle.std.specs.Prelude.{ℕ, ◌+◌, Bool, cond, List, [], Result, Ok, Err}
 use Rattle.std.proofs.Math.Option.{none, some}
 use Rattle.refusal.specs.declared.Refusal.{Refusal}

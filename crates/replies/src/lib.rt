@@ -1,4 +1,4 @@
-// What query, card and keep card answer; and the budget of a search under a ceiling.
+// What query, card and keep card answer, in the paper's words and numbers; and the budget of a search under a ceiling.
 #![tactic(auto)]
 
 ghost use Rattle.std.specs.Prelude.{◌≡◌, List, [], ℕ, suc, ◌+◌, ◌<◌, ◌≤◌, ◌^◌};
@@ -21,6 +21,7 @@ pub enum Ruling {
 
 impl Ruling {
     // The number by which other languages read it.
+    // stays (C): this is the conversion to a number itself
     pub fn number(self) -> u16
         ensures { result ≡ ruling_number self }
     {
@@ -36,6 +37,7 @@ impl Ruling {
 impl From<Verdict> for Ruling {
     ghost from_gives = { λ v r. r ≡ ruling_for v };
 
+    // stays (no plainer): this is the conversion itself
     fn from(v: Verdict) -> Ruling {
         match v {
             Verdict::Yes => Ruling::Swap,

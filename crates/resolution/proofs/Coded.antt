@@ -1,5 +1,5 @@
 -- Constraints as codes: the last place by the last code, and what is left without the last place.
-use Prim.Native.Nat.{ℕ, zero, suc, ◌+◌, ◌-◌, ◌/◌, ◌≤◌}
+use Prim.Native.Nat.{ℕ, zero, suc, ◌+◌, ◌-◌, ◌/◌, ◌≤◌, ◌<◌, min}
 use native.Mathlib.Omega.{arith}
 use native.Mathlib.Numerals.{add-one}
 use mathlib.Core.Path.{◌≡◌, refl, sym, ap, ◌∙◌}
@@ -8,7 +8,8 @@ use mathlib.Core.List.{List, [], ◌∷◌, map}
 use lib.ListN.{length, take, length-map}
 use lib.Seq.{length-take-le, take-take}
 use lib.Dec.{eqb}
-use borrow.Author.Tests.{eqb-true}
+use borrow.Author.Tests.{eqb-true, eq-eqb}
+use Rattle.std.specs.Cmp.{both_ways}
 use Rattle.qbf.specs.Formula.{Prefix, place, positive}
 use Rattle.qbf.specs.Learning.{Constraint, without, last_place, last_place_from}
 use Rattle.qbf.specs.Calls.{in_order}
@@ -28,18 +29,23 @@ last_from_code D (l ∷ e) c d h = last_from_code D e (code_of D l) (place D l) 
 pub last_place_code : (D : Prefix) (e : Constraint) → last_place D e ≡ last_code (codes D e) / 2
 last_place_code D e = sym (last_from_code D e 0 0 refl)
 
--- ---- whether the first n cells end in a code of the place after `at`
-module _ (cells : List ℕ) (n at : ℕ) {c p : ℕ} (last : c ≡ last_code (take n cells)) (of : p ≡ c / 2) where
+-- no place is that of the largest number
+pub next_test : (p at r : ℕ) → p < 65536 → r ≡ min (at + 1) 18446744073709551615 → eqb p r ≡ eqb p (at + 1)
+next_test p at r low e =
+    both_ways (eqb p r) (eqb p (at + 1)) (λ h. eq-eqb p (at + 1) (omega (arith, eqb-true p r h, e, low))) (λ h. eq-eqb p r (omega (arith, eqb-true p (at + 1) h, e, low)))
+
+-- ---- whether the cells end in a code of the place after `at`
+module _ (cells : List ℕ) (at : ℕ) {c p : ℕ} (last : c ≡ last_code cells) (of : p ≡ c / 2) where
   -- then there is one
-  pub ends_some : eqb p (at + 1) ≡ true → 1 ≤ n
-  ends_some h = by n last
+  pub ends_some : eqb p (at + 1) ≡ true → 1 ≤ length cells
+  ends_some h = by cells last
     where
-      by : (m : ℕ) → c ≡ last_code (take m cells) → 1 ≤ m
-      by zero e = omega (arith, e, of, eqb-true p (at + 1) h)
-      by (suc m) e = omega arith
+      by : (cs : List ℕ) → c ≡ last_code cs → 1 ≤ length cs
+      by [] e = absurd (omega (arith, e, of, eqb-true p (at + 1) h))
+      by (k ∷ cs) e = omega arith
 
   -- that is whether the constraint ends at that place
-  pub ends_place : (D : Prefix) (e : Constraint) → take n cells ≡ codes D e → eqb p (at + 1) ≡ eqb (last_place D e) (suc at)
+  pub ends_place : (D : Prefix) (e : Constraint) → cells ≡ codes D e → eqb p (at + 1) ≡ eqb (last_place D e) (suc at)
   ends_place D e h =
       let q : p ≡ last_place D e = of ∙ ap (λ (x : ℕ). x / 2) (last ∙ ap last_code h) ∙ sym (last_place_code D e) in
       rw (q, add-one)

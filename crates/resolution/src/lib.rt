@@ -8,12 +8,12 @@ ghost use Rattle.qbf.specs.Learning.{Constraint, push, without, resolvent, last_
 ghost use Rattle.qbf.specs.Calls.{in_order};
 ghost use Rattle.tables.specs.Codes.{codes, last_code, Quantified};
 ghost use Rattle.tables.specs.Shelves.{code_count};
-ghost use Rattle.shelf.specs.Standing.{Kept, Room, rows, newest};
+ghost use Rattle.shelf.specs.Standing.{Room, rows, newest};
 ghost use Rattle.search_entry.specs.Entry.{Bounded};
 ghost use Rattle.resolution.specs.Stored.{Stored};
 
 use coding::code::place_of;
-use coding::list::{last_code, reduced_first};
+use coding::list::{last_code, reduced_len};
 use coding::union::unite;
 use search_entry::{Bounds, Source, placed};
 use shelf::Shelf;
@@ -27,18 +27,16 @@ pub struct Resolvent {
 
 // Whether the last of the codes is of the place after `at`; then there is one.
 pub fn ends_next<'a>(row: &'a [u16], at: usize) -> bool
-    requires { at < suc paper.numbers }
     ensures { (result ≡ true → 1 ≤ length row.now)
         × ((D : Prefix) (e : Constraint)
         → row.now ≡ codes D e
         → result ≡ eqb (last_place D e) (suc at)) }
 {
-    place_of(last_code(row, row.len())) == at + 1
+    place_of(last_code(row)) == at.saturating_add(1)
 }
 
 // The codes without the place after `at`, which can only be the last.
 fn trimmed<'a>(row: &'a [u16], at: usize) -> &'a [u16]
-    requires { at < suc paper.numbers }
     ensures { (length result.now ≤ length row.now)
         × ((D : Prefix) (e : Constraint)
         → row.now ≡ codes D e
@@ -60,7 +58,7 @@ pub fn resolve<'a>(
     quantifiers: &'a [u8; tables::CODES],
     cube: bool,
 ) -> Resolvent
-    requires { (length off.now ≤ paper.numbers) × (length on.now ≤ paper.numbers) × (at < suc paper.numbers) }
+    requires { (length off.now ≤ paper.numbers) × (length on.now ≤ paper.numbers) }
     ensures { (result.len ≤ length result.cells)
         × ((D : Prefix) (e f : Constraint)
         → Quantified D quantifiers.now
@@ -74,16 +72,15 @@ pub fn resolve<'a>(
 {
     let mut cells = [0u16; tables::AREA];
     let united = unite(&mut cells, trimmed(off, at), trimmed(on, at));
-    let len = reduced_first(&cells, united, quantifiers, cube);
+    let len = reduced_len(&cells[..united], quantifiers, cube);
     Resolvent { cells, len }
 }
 
 // A row is stored: its bounds. A constraint has at most one literal of a variable, so that there is always room for its codes, and its last code has
 // a link; the tests keep that from being asked of every caller.
 pub fn store<'a>(learned: &mut Shelf, row: &'a [u16]) -> Bounds
-    requires { Kept learned.old × Room learned.old }
+    requires { Room learned.old }
     ensures { Bounded result
-        × Kept learned.new
         × (newest learned.new ≤ suc (newest learned.old))
         × (length row.now ≤ paper.numbers
         → last_code row.now < code_count
@@ -91,7 +88,7 @@ pub fn store<'a>(learned: &mut Shelf, row: &'a [u16]) -> Bounds
         × (rows learned.new ≡ push paper.constraints row.now (rows learned.old))
         × (newest learned.new ≡ suc (newest learned.old))) }
 {
-    let last = last_code(row, row.len()) as usize;
+    let last = last_code(row) as usize;
     if tables::NUMBERS < row.len() || tables::CODES <= last {
         return placed(Source::Area, 0, 0);
     }

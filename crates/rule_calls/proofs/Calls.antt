@@ -6,6 +6,10 @@ use mathlib.Core.List.{List}
 use mathlib.Core.Option.{Option, none, some}
 use lib.IntN.{ℤ}
 use lib.ListN.{get_or}
+use Rattle.std.specs.Prelude.{Result, Ok, Err}
+use Rattle.refusal.specs.declared.Refusal.{Refusal}
+use Rattle.state_parts.specs.declared.limits.Layout.{Layout}
+use Rattle.state_parts.specs.Layout.{CheckedIn}
 use Rattle.qbf.specs.Formula.{Limits, highest}
 use Rattle.qbf.specs.Calls.{Call, Answer, answer, refusal, guarded, State as Read}
 use Rattle.qbf.specs.Demands.{refusal_of}
@@ -20,6 +24,11 @@ use Rattle.rule_calls.specs.ServesAt.{ServesAt}
 -- what is computed from limits that were read is computed from the state's
 pub placed : (cells : List ℕ) (f : Limits → ℕ) {n m a : ℕ} → n ≡ get_or cells 0 0 → m ≡ get_or cells 1 0 → a ≡ f (own n m) → a ≡ f (limits_of cells)
 placed cells f {n} {m} p q e = e ∙ ap (λ (i : ℕ). f (own i m)) p ∙ ap (λ (j : ℕ). f (own (get_or cells 0 0) j)) q
+
+-- a state that was not checked is malformed
+pub malformed_by : (cells : List ℕ) (literals : List ℤ) (r : Result Layout Refusal) (places kinds : List ℕ) → CheckedIn cells literals r places kinds → ((l : Layout) → r ≡ Ok l → ⊥) → valid_at cells literals ≡ false
+malformed_by cells literals (Ok l) places kinds k h = absurd (h l refl)
+malformed_by cells literals (Err e) places kinds k h = sym k.1.said
 
 module _ (c : Call) where
   -- "22 the state is malformed"

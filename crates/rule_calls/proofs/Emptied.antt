@@ -10,6 +10,7 @@ use lib.ListN.{get_or, set, length-set}
 use lib.Seq.{get_or-set_same, get_or-set_other}
 use lib.Dec.{leb}
 use borrow.Author.Tests.{le-leb}
+use Rattle.std.specs.Prelude.{Ok}
 use Rattle.qbf.specs.Formula.{Limits}
 use Rattle.qbf.specs.Calls.{forget}
 use Rattle.qbf.specs.Learning.{empty_store}
@@ -153,14 +154,14 @@ module _ (cells : List ℕ) (literals : List ℤ) (v : valid_at cells literals �
       ∙ fits_read
       ∙ ap some reads
 
-  forgotten : ServesAt cells literals forget (change_said 0) t₂ literals
+  forgotten : ServesAt cells literals forget (change_said (Ok tt)) t₂ literals
   forgotten = served cells literals forget v t₂ literals read_after refl
 
   -- where the counts stand, as they were computed
-  pub forgotten_at : {a b : ℕ} → a ≡ learned_clause_sizes_at L → b ≡ learned_cube_sizes_at L → ServesAt cells literals forget (change_said 0) (set (set cells a 0) b 0) literals
+  pub forgotten_at : {a b : ℕ} → a ≡ learned_clause_sizes_at L → b ≡ learned_cube_sizes_at L → ServesAt cells literals forget (change_said (Ok tt)) (set (set cells a 0) b 0) literals
   forgotten_at {a} {b} e f =
-      subst (λ (k : ℕ). ServesAt cells literals forget (change_said 0) (set (set cells a 0) k 0) literals) (plain (learned_cube_sizes_at L) ∙ sym f)
-      (subst (λ (k : ℕ). ServesAt cells literals forget (change_said 0) (set (set cells k 0) (learned_cube_sizes_at L + 0) 0) literals) (plain (learned_clause_sizes_at L) ∙ sym e) forgotten)
+      subst (λ (k : ℕ). ServesAt cells literals forget (change_said (Ok tt)) (set (set cells a 0) k 0) literals) (plain (learned_cube_sizes_at L) ∙ sym f)
+      (subst (λ (k : ℕ). ServesAt cells literals forget (change_said (Ok tt)) (set (set cells k 0) (learned_cube_sizes_at L + 0) 0) literals) (plain (learned_clause_sizes_at L) ∙ sym e) forgotten)
     where
       plain : (n : ℕ) → n + 0 ≡ n
       plain n = omega arith

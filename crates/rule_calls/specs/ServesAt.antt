@@ -1,9 +1,11 @@
 -- What a call owes on a state in two lent tables: what `Serves` says, of the state read under its own limits.
-use Rattle.std.specs.Prelude.{ℕ, ◌≡◌, List, [], ℤ}
+use Rattle.std.specs.Prelude.{ℕ, ◌≡◌, List, [], ℤ, Result}
 use Rattle.std.proofs.Math.Option.{some}
+use Rattle.refusal.specs.declared.Refusal.{Refusal}
+use Rattle.refusal.specs.Refusal.{fault_in}
 use Rattle.qbf.specs.Calls.{Call}
 use Rattle.qbf.specs.Demands.{AfterSearch, refusal_of}
-use Rattle.serving.specs.Serves.{Said, said, said_of, fault_of, out_of, next_of}
+use Rattle.serving.specs.Serves.{Said, said, said_of, out_of, next_of}
 use Rattle.state_parts.specs.Parts.{read_at}
 
 -- the call c on the state of two tables was answered by a and left them as given last
@@ -13,6 +15,6 @@ pub record ServesAt (cells : List ℕ) (literals : List ℤ) (c : Call) (a : Sai
   -- "A refusal returns .. the state as given .. Only 21 differs", and 34: every cell of it
   pub kept : (n : ℕ) → refusal_of (out_of (read_at cells literals) c).reply ≡ some n → (AfterSearch n → ⊥) → (cells' ≡ cells) × (literals' ≡ literals)
 
--- the answer of a call without a search, as code gives it: the number of a refusal, 0 where there is none
-abbrev pub change_said : ℕ → Said
-change_said r = said (fault_of r) 0 0 0 []
+-- the answer of a call without a search, in the paper's numbers
+abbrev pub change_said : Result Unit Refusal → Said
+change_said r = said (fault_in r) 0 0 0 []

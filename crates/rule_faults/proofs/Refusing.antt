@@ -1,6 +1,5 @@
 -- The faults of a rule and of an exactly-one form: of one literal, and of the literals from the left.
-use Prim.Native.Nat.{ℕ, zero, suc, ◌+◌, ◌*◌, ◌-◌, ◌≤◌, ◌<◌}
-use native.Mathlib.Nat.{mul-le-mul_right}
+use Prim.Native.Nat.{ℕ, zero, suc, ◌+◌, ◌≤◌, ◌<◌}
 use native.Mathlib.Numerals.{add-one}
 use native.Mathlib.Omega.{arith}
 use mathlib.Core.Path.{◌≡◌, refl, sym, ap, ◌∙◌}
@@ -102,5 +101,3 @@ module _ {lits : List ℤ} {places : List ℕ} {named : List Bool} {i : ℕ} (w 
           })
 
 -- ---- an exactly-one form
-pub pairs_few : (n : ℕ) → n ≤ paper.literals → n * (n - 1) ≤ 256
-pairs_few n h = omega (arith, h, mul-le-mul_right (n - 1) h)

@@ -1,5 +1,5 @@
 // The refusals of an exactly-one form, in their order.
-ghost use Rattle.std.specs.Prelude.{◌≡◌, ◌≤◌, slice_index_or};
+ghost use Rattle.std.specs.Prelude.{◌≡◌, ◌≤◌};
 ghost use Rattle.qbf.specs.Formula.{paper, Prefix};
 ghost use Rattle.qbf.specs.One.{one_count};
 ghost use Rattle.tables.specs.Views.{Places};
@@ -20,20 +20,20 @@ fn one_count(n: usize) -> usize
     1 + n * (n - 1) / 2
 }
 
-// "7, in this form before 20", which "counts them together"
+// "7, in this form before 20", which "counts them together" with the clauses that stand
 pub fn judge_form(
-    sizes: &[u16; tables::CLAUSE_SIZES],
+    standing: u16,
     lits: &[i16],
     places: &[u16; tables::BY_NUMBER],
 ) -> Result<(), Refusal>
     ensures { (D : Prefix) →
         Places D places.now →
-        fault_in result ≡ one_fault_after (slice_index_or sizes.now 0 0) D lits.now }
+        fault_in result ≡ one_fault_after standing D lits.now }
 {
     if lits.len() < FEWEST || lits.len() > tables::LITERALS {
         return Err(Refusal::RuleLength);
     }
-    let count = sizes[0] as usize;
+    let count = standing as usize;
     if tables::CLAUSES < count + one_count(lits.len()) {
         return Err(Refusal::RulesFull);
     }

@@ -3,3 +3,4 @@
 
 pub mod cells; // literals, and that no row stands
 pub mod clauses; // an accepted rule
+pub mod standing; // the tables of the clauses

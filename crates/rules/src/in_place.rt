@@ -11,15 +11,17 @@ use rule_faults::forms::judge_form;
 use rule_faults::refusals::judge_rule;
 use rule_rows::cells::clear;
 use rule_rows::clauses::accept;
+use rule_rows::standing::{Clauses, Rule};
 use withdrawal::leave;
+use withdrawal::standing::Left;
 
 // "Forget empties the store."
 pub fn forget(tables: &mut Emptying<'_>) -> Result<(), Refusal>
     ensures held { EmptyingHeld tables.old tables.new }
     ensures serves { Serves (emptying_state tables.old) forget (change_said result) (emptying_left tables.old tables.new) }
 {
-    let lent = tables.lent();
-    lent.check()?;
+    let whole = tables.lent();
+    whole.check()?;
     clear(tables.learned_clause_sizes);
     clear(tables.learned_cube_sizes);
     Ok(())
@@ -30,34 +32,33 @@ pub fn rule(tables: &mut Adding<'_>, lits: &[i16]) -> Result<(), Refusal>
     ensures held { AddingHeld tables.old tables.new }
     ensures serves { Serves (adding_state tables.old) (rule lits.now) (change_said result) (adding_left tables.old tables.new) }
 {
-    let lent = tables.lent();
-    let places = lent.check()?.places;
-    judge_rule(tables.clause_sizes, lits, &places)?;
-    accept(
-        tables.clauses,
-        tables.clause_sizes,
-        tables.learned_cube_sizes,
-        lits,
-        &places,
-    );
+    let whole = tables.lent();
+    let places = whole.check()?.places;
+    judge_rule(tables.clause_sizes[0], lits, &places)?;
+    let mut rows = Clauses {
+        cells: tables.clauses,
+        sizes: tables.clause_sizes,
+    };
+    let rule = Rule { lits };
+    accept(&mut rows, tables.learned_cube_sizes, rule, &places);
     Ok(())
 }
 
 // "An exactly-one form added by a call .. All of its rules are added, or none."
+// stays (no plainer): the refusals and what is added are each call's own; a function of both would take them as two closures
 pub fn one(tables: &mut Adding<'_>, lits: &[i16]) -> Result<(), Refusal>
     ensures held { AddingHeld tables.old tables.new }
     ensures serves { Serves (adding_state tables.old) (one lits.now) (change_said result) (adding_left tables.old tables.new) }
 {
     let lent = tables.lent();
     let places = lent.check()?.places;
-    judge_form(tables.clause_sizes, lits, &places)?;
-    accept_one(
-        tables.clauses,
-        tables.clause_sizes,
-        tables.learned_cube_sizes,
-        lits,
-        &places,
-    );
+    judge_form(tables.clause_sizes[0], lits, &places)?;
+    let mut rows = Clauses {
+        cells: tables.clauses,
+        sizes: tables.clause_sizes,
+    };
+    let rule = Rule { lits };
+    accept_one(&mut rows, tables.learned_cube_sizes, rule, &places);
     Ok(())
 }
 
@@ -73,7 +74,11 @@ pub fn withdraw(tables: &mut Withdrawing<'_>) -> Result<(), Refusal>
         return Err(Refusal::NoRule);
     }
     let remain = count - 1;
-    leave(tables.learned_clauses, tables.learned_clause_sizes, remain);
+    let mut left = Left {
+        cells: tables.learned_clauses,
+        sizes: tables.learned_clause_sizes,
+    };
+    leave(&mut left, remain);
     tables.clause_sizes[0] = remain;
     Ok(())
 }

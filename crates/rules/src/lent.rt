@@ -48,6 +48,7 @@ pub struct Emptying<'a> {
 }
 
 impl<'a> Adding<'a> {
+    // stays (no plainer): the calls differ in the tables that they may write, and a struct is of `&` or of `&mut`
     pub fn lent(&self) -> Lent<'_>
         ensures { lent_state result ≡ adding_state self.now }
     {
@@ -66,6 +67,7 @@ impl<'a> Adding<'a> {
 }
 
 impl<'a> Withdrawing<'a> {
+    // stays (no plainer): likewise
     pub fn lent(&self) -> Lent<'_>
         ensures { lent_state result ≡ withdrawing_state self.now }
     {
@@ -84,6 +86,7 @@ impl<'a> Withdrawing<'a> {
 }
 
 impl<'a> Emptying<'a> {
+    // stays (no plainer): likewise
     pub fn lent(&self) -> Lent<'_>
         ensures { lent_state result ≡ emptying_state self.now }
     {

@@ -1,24 +1,23 @@
 -- Room and counts of the visitors, without a prefix: n places are left below the node, n + 1 at it.
-use Prim.Native.Nat.{ℕ, suc, ◌+◌, ◌-◌, ◌*◌, ◌^◌, ◌≤◌, ◌<◌, zero-le}
+use Prim.Native.Nat.{ℕ, ◌+◌, ◌-◌, ◌^◌, ◌≤◌, ◌<◌}
 use native.Mathlib.Omega.{arith}
 use mathlib.Core.Path.{◌≡◌, sym, ap, ◌∙◌, subst}
 use mathlib.Core.Bool.{Bool, true, false, cond, true≢false}
 use mathlib.Core.List.{List}
 use Rattle.qbf.specs.Formula.{paper, Prefix, Node}
 use Rattle.qbf.specs.Ceiling.{Attempt}
-use Rattle.tables.specs.Shelves.{Shelves, newest_of}
+use Rattle.tables.specs.Shelves.{newest_of}
 use Rattle.tables.specs.Records.{Ledger}
 use Rattle.search_entry.specs.Entry.{Bounded}
 use Rattle.search_entry.specs.declared.Bounds.{Bounds}
-use Rattle.search_entry.specs.declared.Source.TheVariants.{Area}
 use Rattle.node.specs.Node.{bounds_of, Finished, Grown, settled_lines}
 use Rattle.inner.specs.Inner.{LeafBounded}
 use Rattle.inner.specs.declared.Leaf.{Leaf}
 use Rattle.inner.specs.declared.Leaf.TheVariants as found
-use Rattle.search.specs.Search.{left, side_at, Room, Asked, AskedOpen, AskedBelow, Counts, Result, is_open, concluded_of}
+use Rattle.search.specs.Search.{side_at, AskedOpen, AskedBelow, Counts, Result, is_open, concluded_of}
 use Rattle.node.specs.declared.Verdict.{Verdict}
-use Rattle.node.specs.declared.Verdict.TheVariants.{Yes, No, Mixed}
-use Rattle.node.specs.declared.Position.{Position}
+use Rattle.node.specs.declared.Verdict.TheVariants.{Yes, No}
+use Rattle.node.specs.declared.position.Position.{Position}
 use Rattle.node.specs.declared.Answer.{Answer}
 
 -- the positions of the sides, and an answer, as the code makes them
@@ -50,12 +49,6 @@ module _ (p : Position) where
       subst (λ (x : Answer). Counts cl ql p x cl ql) (sym e)
       (record { bounded = h; lines_more = omega arith; lines_fewer = omega arith; clauses = omega arith; cubes = omega arith })
 
-  -- a visit that is not made
-  pub counts_stopped : {cl ql : List ℕ} (r : Answer) → r ≡ record { verdict = Mixed; source = Area; start = 0; len = 0; budget = 0; lines = p.lines } → Counts cl ql p r cl ql
-  counts_stopped {cl} {ql} r e =
-      subst (λ (x : Answer). Counts cl ql p x cl ql) (sym e)
-      (record { bounded = record { short = zero-le; inside = zero-le }; lines_more = omega arith; lines_fewer = omega arith; clauses = omega arith; cubes = omega arith })
-
   -- a step decided the node
   pub counts_concluded : {cl ql : List ℕ} (l : Leaf) → is_open l ≡ false → LeafBounded l → (r : Answer) → r ≡ concluded_of l p → Counts cl ql p r cl ql
   counts_concluded (found.No b) h bounded r e = counts_settled r No b e bounded
@@ -64,48 +57,14 @@ module _ (p : Position) where
 
   module _ (more : p.at < paper.numbers) where
     -- what a side asks
-    side_asked : {cs cl qs ql cs' cl' qs' ql' : List ℕ} (saved n v l : ℕ) → AskedOpen saved cs cl qs ql p → Shelves cs' cl' qs' ql' → n ≤ paper.numbers
+    side_asked : {cl ql cl' ql' : List ℕ} (v l : ℕ) → AskedOpen cl ql p
         → l + (v + v) ≤ 2 ^ 62 → newest_of cl' + v ≤ 2 ^ 62 → newest_of ql' + v ≤ 2 ^ 62
-        → AskedBelow n saved cs' cl' qs' ql' (below p v l)
-    side_asked saved n v l a shelves hn hl hc hq =
-        let h = a.room in
-        let e : left p ≡ suc (paper.numbers - (p.at + 1)) = omega arith in
-        record {
-          asked = record {
-            shelves = shelves;
-            room = record { within = omega arith; free = h.free; words = h.words; aside = omega (arith, h.aside, e); lines = hl; clauses = hc; cubes = hq };
-          };
-          inner = omega arith;
-          used = hn;
-          own = omega (arith, h.aside, e);
-        }
-
-    pub off_asked : {cs cl qs ql : List ℕ} (saved : ℕ) (q : Position) → q ≡ below p (p.budget - 1) p.lines → AskedOpen saved cs cl qs ql p → AskedBelow 0 saved cs cl qs ql q
-    off_asked {cs} {cl} {qs} {ql} saved q e a =
-        let h = a.room in
-        subst (AskedBelow 0 saved cs cl qs ql) (sym e)
-        (side_asked saved 0 (p.budget - 1) p.lines a a.shelves (omega arith) (omega (arith, h.lines)) (omega (arith, h.clauses)) (omega (arith, h.cubes)))
-
-    -- room to put one constraint aside
-    pub aside_room : {cl ql : List ℕ} (saved : ℕ) → Room saved cl ql p → paper.numbers ≤ saved
-    aside_room saved h =
-        let e : left p ≡ suc (paper.numbers - (p.at + 1)) = omega arith in
-        omega (arith, h.aside, e)
-
-    pub falls_side : (q : Position) (v l : ℕ) → q ≡ below p v l → 5 * (paper.numbers - q.at) + 4 < 5 * (paper.numbers - p.at)
-    falls_side q v l e = let z : q.at ≡ p.at + 1 = ap (λ (x : Position). x.at) e in omega arith
+        → AskedBelow cl' ql' (below p v l)
+    side_asked v l a hl hc hq = record { room = record { within = omega arith; lines = hl; clauses = hc; cubes = hq }; inner = omega arith }
 
     module _ {cl ql cl₁ ql₁ : List ℕ} (q : Position) (eq : q ≡ below p (p.budget - 1) p.lines) (off : Answer) (counts : Counts cl ql q off cl₁ ql₁) where
       c : Counts cl ql (below p (p.budget - 1) p.lines) off cl₁ ql₁
       c = subst (λ (x : Position). Counts cl ql x off cl₁ ql₁) eq counts
-
-      pub on_asked : {cs cs₁ qs qs₁ : List ℕ} (saved saved' l n : ℕ) (q' : Position) → q' ≡ below p off.budget l → l ≤ off.lines + 1 → saved' ≡ saved → n ≤ paper.numbers
-          → AskedOpen saved cs cl qs ql p → Shelves cs₁ cl₁ qs₁ ql₁ → AskedBelow n saved' cs₁ cl₁ qs₁ ql₁ q'
-      on_asked {cs} {cs₁} {qs} {qs₁} saved saved' l n q' e hl same hn a shelves =
-          let h = a.room in
-          subst (λ (k : ℕ). AskedBelow n k cs₁ cl₁ qs₁ ql₁ q') (sym same)
-          (subst (AskedBelow n saved cs₁ cl₁ qs₁ ql₁) (sym e)
-          (side_asked saved n off.budget l a shelves hn (omega (arith, h.lines, c.lines_fewer, hl, a.made)) (omega (arith, h.clauses, c.clauses)) (omega (arith, h.cubes, c.cubes))))
 
       pub counts_up : Counts cl ql p off cl₁ ql₁
       counts_up =
@@ -120,13 +79,6 @@ module _ (p : Position) where
       module _ {cl₂ ql₂ : List ℕ} (l : ℕ) (q' : Position) (e : q' ≡ below p off.budget l) (on : Answer) (d' : Counts cl₁ ql₁ q' on cl₂ ql₂) where
         d : Counts cl₁ ql₁ (below p off.budget l) on cl₂ ql₂
         d = subst (λ (x : Position). Counts cl₁ ql₁ x on cl₂ ql₂) e d'
-
-        -- the numbers of the newest rows fit when both sides are done
-        pub newest_small : (saved : ℕ) → Room saved cl ql p → (newest_of cl₂ < 2 ^ 63) × (newest_of ql₂ < 2 ^ 63)
-        newest_small saved h = (
-          omega (arith, h.clauses, c.clauses, d.clauses),
-          omega (arith, h.cubes, c.cubes, d.cubes),
-        )
 
         -- this visit itself counts for the row that is stored last
         counts_both : {cl₃ ql₃ : List ℕ} (r : Answer) → 2 ≤ p.budget → l ≤ off.lines + 1 → Bounded (bounds_of r) → r.budget ≡ on.budget → p.lines ≤ r.lines → r.lines ≤ on.lines + 1
@@ -147,10 +99,6 @@ module _ (p : Position) where
               let e : l ≡ off.lines + 1 = lined ∙ ap (λ (b : Bool). cond b (off.lines + 1) off.lines) y in
               omega (arith, d.lines_more)
 
-          pub on_lines_small : (saved : ℕ) → Room saved cl ql p → on.lines < 2 ^ 63
-          on_lines_small saved h =
-              omega (arith, h.lines, c.lines_fewer, d.lines_fewer, (off_lines v off.lines l lined).1)
-
           pub counts_sides : {cl₃ ql₃ : List ℕ} (r : Answer) → 2 ≤ p.budget → Finished on r → Grown cl₂ ql₂ cl₃ ql₃ → (n : ℕ) → n ≡ settled_lines v w on.lines
               → (r' : Answer) → r' ≡ answered r.verdict (bounds_of r) r.budget n → Counts cl ql p r' cl₃ ql₃
           counts_sides {cl₃} {ql₃} r made f g n settled r' e =
@@ -160,36 +108,6 @@ module _ (p : Position) where
             where
               low : off.lines ≤ n
               low = subst (λ (x : ℕ). off.lines ≤ x) (sym settled) (settle_low v w off.lines l on.lines lined d.lines_more)
-
-      pub lines_small : (saved : ℕ) → Room saved cl ql p → off.lines < 2 ^ 63
-      lines_small saved h = omega (arith, h.lines, c.lines_fewer)
-
--- room for one line more is room for none
-pub asked_on : {cs cl qs ql : List ℕ} (saved n : ℕ) (p : Position) (v l m : ℕ) → AskedBelow n saved cs cl qs ql (side_at p v l) → m ≤ l → (q : Position) → q ≡ side_at p v m
-    → AskedBelow n saved cs cl qs ql q
-asked_on {cs} {cl} {qs} {ql} saved n p v l m a h q e =
-    subst (AskedBelow n saved cs cl qs ql) (sym e)
-    (record {
-      asked = record {
-        shelves = a.asked.shelves;
-        room = record { within = k.within; free = k.free; words = k.words; aside = k.aside; lines = omega (arith, k.lines, h); clauses = k.clauses; cubes = k.cubes };
-      };
-      inner = a.inner;
-      used = a.used;
-      own = a.own;
-    })
-  where
-    k : Room saved cl ql (side_at p v l)
-    k = a.asked.room
-
--- the cells of `saved` that are in use are passed over
-pub part_asked : {cs cl qs ql : List ℕ} (saved aside part : ℕ) (p : Position) → AskedBelow aside saved cs cl qs ql p → saved ≤ aside + part → Asked part cs cl qs ql p
-part_asked saved aside part p a e =
-    let h = a.asked.room in
-    record {
-      shelves = a.asked.shelves;
-      room = record { within = h.within; free = h.free; words = h.words; aside = omega (arith, a.used, a.own, e); lines = h.lines; clauses = h.clauses; cubes = h.cubes };
-    }
 
 -- an answer by its fields
 pub counts_as : {cl ql cl' ql' : List ℕ} {p : Position} {r r' : Answer} → r ≡ r' → Counts cl ql p r cl' ql' → Counts cl ql p r' cl' ql'

@@ -21,7 +21,7 @@ use Rattle.node.specs.Node.{is_of, bounds_of, entry_of, Reads, onward_of, new_li
 use Rattle.search.specs.Search.{Kept, Task, Opened, Done, Result, SideVisited, branch_of}
 use Rattle.node.specs.declared.Verdict.{Verdict}
 use Rattle.node.specs.declared.Verdict.TheVariants.{Yes, No, Mixed}
-use Rattle.node.specs.declared.Position.{Position}
+use Rattle.node.specs.declared.position.Position.{Position}
 use Rattle.node.specs.declared.Answer.{Answer}
 use Rattle.search.proofs.Counts as counts
 use Rattle.inner.proofs.Stepping.{facts}

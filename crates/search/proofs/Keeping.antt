@@ -18,7 +18,7 @@ use Rattle.clause_sets.proofs.Descending.{rows_below, rows_kept}
 use Rattle.clause_sets.proofs.StepMarks.{marks_below, marks_kept}
 use Rattle.coding.proofs.Given.{given_back}
 use Rattle.inner.specs.Inner.{Entered}
-use Rattle.node.specs.declared.Position.{Position}
+use Rattle.node.specs.declared.position.Position.{Position}
 use Rattle.search.specs.Search.{Kept, Opened}
 use Rattle.search.proofs.Counts.{below}
 

@@ -27,7 +27,7 @@ use Rattle.node.specs.Node.{bounds_of, entry_of, Reads, Ended, Shown, goes_up_of
 use Rattle.search.specs.Search.{Kept, Task, Opened, Done, Halted, Result, SideVisited, branch_of}
 use Rattle.node.specs.declared.Verdict.{Verdict}
 use Rattle.node.specs.declared.Verdict.TheVariants.{Yes, No, Mixed}
-use Rattle.node.specs.declared.Position.{Position}
+use Rattle.node.specs.declared.position.Position.{Position}
 use Rattle.node.specs.declared.Answer.{Answer}
 use Rattle.search.proofs.Counts as counts
 use Rattle.search.proofs.Keeping.{kept_up, opened_at, opened_on}

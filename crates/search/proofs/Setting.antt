@@ -6,8 +6,9 @@ use mathlib.Core.List.{List, [], ◌∷◌}
 use lib.ListN.{take, drop}
 use lib.Seq.{take-take}
 use Rattle.qbf.specs.Formula.{paper, Node}
+use Rattle.cover.specs.Cover.{Covers}
 use Rattle.node.specs.Node.{LineTask}
-use Rattle.node.specs.declared.Position.{Position}
+use Rattle.node.specs.declared.position.Position.{Position}
 use Rattle.search.specs.Search.{AsideKept}
 use Rattle.search.proofs.Counts.{below}
 
@@ -35,5 +36,11 @@ pub aside_row : {m : ℕ} {a a' : List ℕ} (f n : ℕ) → f + n ≤ m → Asid
 aside_row {m} {a} {a'} f n h k = sym (part_take f n m a' h) ∙ ap (λ (x : List ℕ). take n (drop f x)) k.first ∙ part_take f n m a h
 
 -- ---- a position with other lines
-pub line_at : {s : Node} {ls : List Node} {ss tb : List ℕ} {p : Position} {n : ℕ} (m : ℕ) → LineTask s ls ss tb p n → LineTask s ls ss tb (record p { lines = m }) n
-line_at m t = record { statused = t.statused; long = t.long; inside = t.inside; covers = t.covers; counted = t.counted }
+pub line_at : {s : Node} {ls : List Node} {ss tb : List ℕ} {p q : Position} {n : ℕ} → q.at ≡ p.at → q.free ≡ p.free → LineTask s ls ss tb p n → LineTask s ls ss tb q n
+line_at {ls = ls} {tb = tb} at free t = record {
+  statused = t.statused;
+  long = t.long ∙ sym at;
+  inside = omega (arith, t.inside, at, free);
+  covers = subst (λ (k : ℕ). Covers k tb ls) (sym free) t.covers;
+  counted = t.counted;
+}

@@ -14,7 +14,7 @@ use Rattle.tables.specs.Records.{Ledger}
 use Rattle.cover.specs.Cover.{Covers}
 use Rattle.node.specs.Node.{bounds_of, entry_of, LineTask, lined_of, settled_lines, SettledTo}
 use Rattle.node.specs.declared.Verdict.{Verdict}
-use Rattle.node.specs.declared.Position.{Position}
+use Rattle.node.specs.declared.position.Position.{Position}
 use Rattle.node.specs.declared.Answer.{Answer}
 use Rattle.search.specs.Search.{Kept, Task, Opened, Result, SideVisited, branch_of}
 use Rattle.search.proofs.Counts as counts

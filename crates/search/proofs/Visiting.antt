@@ -30,14 +30,13 @@ use Rattle.inner.specs.declared.Leaf.{Leaf}
 use Rattle.inner.specs.declared.Leaf.TheVariants as found
 use Rattle.search_entry.specs.Entry.{table_of, entry_at}
 use Rattle.search_entry.specs.declared.Bounds.{Bounds}
-use Rattle.search_entry.specs.declared.Source.TheVariants.{Area}
 use Rattle.cover.specs.Cover.{Covers}
 use Rattle.node.specs.Node.{stored_by, Reads, Shown, NextKind}
 use Rattle.node.proofs.NextPlace.{code_known, next_inside, kind_here}
 use Rattle.search.specs.Search.{Task, Opened, Result, Visited, Followed, visit_of, below_of, branch_of, is_open, concluded_of}
 use Rattle.node.specs.declared.Verdict.{Verdict}
-use Rattle.node.specs.declared.Verdict.TheVariants.{Yes, No, Mixed}
-use Rattle.node.specs.declared.Position.{Position}
+use Rattle.node.specs.declared.Verdict.TheVariants.{Yes, No}
+use Rattle.node.specs.declared.position.Position.{Position}
 use Rattle.node.specs.declared.Answer.{Answer}
 use Rattle.search.proofs.Counts as counts
 use Rattle.search.proofs.Keeping.{entered_below}
@@ -101,17 +100,6 @@ module _ {D : Prefix} {s : Node} {ls : List Node} {R : List Clause} {g : Ledger}
     stored = task.stored.shown;
     formed = task.formed;
   }
-
-  -- none is left of the budget
-  pub stop_result : p.budget ≤ 1 → (up : List ℕ) (r : Answer) → r ≡ record { verdict = Mixed; source = Area; start = 0; len = 0; budget = 0; lines = p.lines }
-      → Result D g ls (visit_of D R p s st) p r cls up cs cl qs ql tb
-  stop_result less up r q =
-      subst (λ (x : Answer). Result D g ls (visit_of D R p s st) p x cls up cs cl qs ql tb) (sym q)
-      (subst (λ (n : ℕ). Result D g ls (visit_within D R eqb (below_within paper D R (drop p.at (quantifiers D))) n s st) p (record { verdict = Mixed; source = Area; start = 0; len = 0; budget = 0; lines = p.lines }) cls up cs cl qs ql tb) (sym spent)
-      (record { says = record { verdict = refl; stored = task.stored; spent = refl } }))
-    where
-      spent : p.budget - 1 ≡ 0
-      spent = omega (arith, less)
 
   -- the visit is made
   made_visit : 2 ≤ p.budget → p.budget - 1 ≡ suc (p.budget - 2)

@@ -1,6 +1,6 @@
 -- What a visitor asks of the lent tables, what it leaves of them, and what its answer says: safety without a prefix, and the learning search for
 -- every prefix, clauses, store, node and list of lines that the tables show.
-use Rattle.std.specs.Prelude.{ℕ, suc, ◌+◌, ◌-◌, ◌*◌, ◌^◌, ◌≤◌, ◌<◌, ◌≡◌, Bool, true, false, cond, List, [], ◌∷◌, ◌++◌, length, take, drop, eqb}
+use Rattle.std.specs.Prelude.{ℕ, suc, ◌+◌, ◌-◌, ◌^◌, ◌≤◌, ◌<◌, ◌≡◌, Bool, true, false, cond, List, [], ◌∷◌, ◌++◌, length, take, drop, eqb}
 use Rattle.std.proofs.Math.Option.{none}
 use Rattle.qbf.specs.Formula.{paper, Quantifier, Prefix, Clause, Node, ◌▹◌, quantifiers}
 use Rattle.qbf.specs.Truth.{free_variables}
@@ -9,9 +9,9 @@ use Rattle.qbf.specs.Ceiling.{Attempt, finished, stopped, visit_within, below_wi
 use Rattle.qbf.specs.Card.{byte_of}
 use Rattle.cover.specs.Cover.{Covers}
 use Rattle.tables.specs.Formed.{Formed}
-use Rattle.tables.specs.Shelves.{Shelves, newest_of}
+use Rattle.tables.specs.Shelves.{newest_of}
 use Rattle.tables.specs.Records.{Ledger, StoreKept}
-use Rattle.tables.specs.Matrices.{MatrixShown, RowLength}
+use Rattle.tables.specs.Matrices.{MatrixShown}
 use Rattle.tables.specs.Sets.{Descended, RowsKept}
 use Rattle.inner.specs.Inner.{LeafBounded, Entered, NodeShown, Concluded}
 use Rattle.inner.specs.declared.Leaf.{Leaf}
@@ -20,50 +20,36 @@ use Rattle.search_entry.specs.Entry.{Bounded}
 use Rattle.search_entry.specs.declared.Source.TheVariants.{Area}
 use Rattle.node.specs.Node.{bounds_of, entry_of, Reads, Shown, new_lines, LineTask, lined_of}
 use Rattle.node.specs.declared.Verdict.TheVariants as verdict
-use Rattle.node.specs.declared.Position.{Position}
+use Rattle.node.specs.declared.position.Position.{Position}
 use Rattle.node.specs.declared.Answer.{Answer}
 
 -- ---- what is asked
--- the places that can be below a position
-abbrev pub left : Position → ℕ
-left p = paper.numbers - p.at
-
 -- the position of a side, with that budget and those lines
 abbrev pub side_at : Position → ℕ → ℕ → Position
-side_at p v l = record { at = p.at + 1; free = p.free; budget = v; lines = l; words = p.words; yes = p.yes }
+side_at p v l = record p { at = p.at + 1; budget = v; lines = l }
 
--- of the counts: room for the constraints put aside, for the lines and for the numbers of stored rows, which grow no faster than the budget falls
-pub record Room (saved : ℕ) (cl ql : List ℕ) (p : Position) : Type 0 where
+-- of the counts: room for the lines and for the numbers of stored rows, which grow no faster than the budget falls
+pub record Room (cl ql : List ℕ) (p : Position) : Type 0 where
   pub within : p.at ≤ paper.numbers
-  pub free : p.free ≤ paper.numbers
-  pub words : RowLength p.words
-  pub aside : left p * paper.numbers ≤ saved
   pub lines : p.lines + (p.budget + p.budget) ≤ 2 ^ 62
   pub clauses : newest_of cl + p.budget ≤ 2 ^ 62
   pub cubes : newest_of ql + p.budget ≤ 2 ^ 62
 
-pub record Asked (saved : ℕ) (cs cl qs ql : List ℕ) (p : Position) : Type 0 where
-  pub shelves : Shelves cs cl qs ql
-  pub room : Room saved cl ql p
-
 -- at the start node its visit may be made; an inner node has a last place
-pub record AskedAt (start : Bool) (saved : ℕ) (cs cl qs ql : List ℕ) (p : Position) : Type 0 where
-  pub asked : Asked saved cs cl qs ql p
+pub record AskedAt (start : Bool) (cl ql : List ℕ) (p : Position) : Type 0 where
+  pub room : Room cl ql p
   pub made : start ≡ true → 2 ≤ p.budget
   pub inner : start ≡ false → 1 ≤ p.at
 
 -- where the node's own visit may be made
-pub record AskedOpen (saved : ℕ) (cs cl qs ql : List ℕ) (p : Position) : Type 0 where
-  pub shelves : Shelves cs cl qs ql
-  pub room : Room saved cl ql p
+pub record AskedOpen (cl ql : List ℕ) (p : Position) : Type 0 where
+  pub room : Room cl ql p
   pub made : 2 ≤ p.budget
 
--- a side is below a node that has put `aside` cells aside
-pub record AskedBelow (aside saved : ℕ) (cs cl qs ql : List ℕ) (p : Position) : Type 0 where
-  pub asked : Asked saved cs cl qs ql p
+-- a side is below a node
+pub record AskedBelow (cl ql : List ℕ) (p : Position) : Type 0 where
+  pub room : Room cl ql p
   pub inner : 1 ≤ p.at
-  pub used : aside ≤ paper.numbers
-  pub own : suc (left p) * paper.numbers ≤ saved
 
 -- ---- what is left of the tables
 -- the answer's counts: no more lines and rows than the budget fell
@@ -80,10 +66,9 @@ pub record Kept (k wc : ℕ) (statuses statuses' table table' sat sat' marks mar
   pub size : length table' ≡ length table
   pub rows : RowsKept k wc sat sat' marks marks'
 
-pub record Left (k : ℕ) (p : Position) (r : Answer) (cl ql statuses table sat marks cs' cl' qs' ql' statuses' table' sat' marks' : List ℕ) : Type 0 where
+pub record Left (k : ℕ) (p : Position) (r : Answer) (cl ql statuses table sat marks cl' ql' statuses' table' sat' marks' : List ℕ) : Type 0 where
   pub counts : Counts cl ql p r cl' ql'
   pub kept : Kept k p.words statuses statuses' table table' sat sat' marks marks'
-  pub shelves : Shelves cs' cl' qs' ql'
 
 -- the cells put aside
 pub record AsideKept (aside : ℕ) (saved saved' : List ℕ) : Type 0 where
@@ -207,6 +192,6 @@ pub record Turned (kind : ℕ) (p : Position) (off r : Answer)
   pub lined : OffLined (lined_of kind p.yes off.verdict) p off.lines statuses table between lines
   pub position : Position
   pub is : position ≡ side_at p off.budget lines
-  pub left : Left position.at position r cl ql statuses between sat marks cs' cl' qs' ql' statuses' table' sat' marks'
+  pub left : Left position.at position r cl ql statuses between sat marks cl' ql' statuses' table' sat' marks'
   pub aside : AsideKept off.len saved saved'
   pub visited : SideVisited 2 position r clauses sets quantifiers statuses cs cl qs ql between sat marks area cs' cl' qs' ql' table'

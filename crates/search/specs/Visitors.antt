@@ -1,20 +1,20 @@
 -- What the visitors ask, leave and say, of the tables as the code has them.
-use Rattle.std.specs.Prelude.{ℕ, suc, ◌*◌, ◌<◌, Bool, List, length}
+use Rattle.std.specs.Prelude.{ℕ, suc, ◌*◌, ◌<◌, Bool, List}
 use Rattle.qbf.specs.Formula.{paper, forall}
 use Rattle.tables.specs.Views.{quantifier_code}
 use Rattle.search_entry.specs.declared.Matrix.{Matrix}
 use Rattle.search_entry.specs.declared.Search.{Search}
-use Rattle.node.specs.declared.Position.{Position}
+use Rattle.node.specs.declared.position.Position.{Position}
 use Rattle.node.specs.declared.Answer.{Answer}
 use Rattle.node.specs.Node.{NextKind}
 use Rattle.search.specs.Search.{AskedAt, AskedOpen, AskedBelow, AsideKept, Left, SideVisited, Followed, Reached}
 
 -- ---- what is asked: of a visit, of a node that branches, and of a side
 abbrev pub MayVisit : Bool → Search → Position → Type 0
-MayVisit start x p = AskedAt start (length x.aside) x.learned.clauses.cells x.learned.clauses.links x.learned.cubes.cells x.learned.cubes.links p
+MayVisit start x p = AskedAt start x.learned.clauses.links x.learned.cubes.links p
 
 abbrev pub MayBranch : Search → Position → Type 0
-MayBranch x p = AskedOpen (length x.aside) x.learned.clauses.cells x.learned.clauses.links x.learned.cubes.cells x.learned.cubes.links p
+MayBranch x p = AskedOpen x.learned.clauses.links x.learned.cubes.links p
 
 -- the visitor of a quantifier, by its code: it is that of the next variable
 pub record MayTurn (kind : ℕ) (m : Matrix) (x : Search) (p : Position) : Type 0 where
@@ -23,13 +23,13 @@ pub record MayTurn (kind : ℕ) (m : Matrix) (x : Search) (p : Position) : Type 
   pub code : kind < suc (quantifier_code forall)
 
 abbrev pub MayGoDown : Search → Position → Type 0
-MayGoDown x p = AskedBelow 0 (length x.aside) x.learned.clauses.cells x.learned.clauses.links x.learned.cubes.cells x.learned.cubes.links p
+MayGoDown x p = AskedBelow x.learned.clauses.links x.learned.cubes.links p
 
 -- ---- what is left: the rows and marks before the place k, and what the nodes above put aside
 abbrev pub Leaves : ℕ → Position → Answer → Search → List ℕ → Search → List ℕ → Type 0
 Leaves k p r x t y u =
     Left k p r x.learned.clauses.links x.learned.cubes.links x.statuses t x.trail.sat x.trail.marks
-    y.learned.clauses.cells y.learned.clauses.links y.learned.cubes.cells y.learned.cubes.links y.statuses u y.trail.sat y.trail.marks
+    y.learned.clauses.links y.learned.cubes.links y.statuses u y.trail.sat y.trail.marks
     × AsideKept (p.at * paper.numbers) x.aside y.aside
 
 -- ---- what is said: of a node that branches, of a visit, and of a side

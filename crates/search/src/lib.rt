@@ -13,16 +13,17 @@ ghost use Rattle.qbf.specs.Formula.{exists, forall, free};
 ghost use Rattle.tables.specs.Views.{quantifier_code};
 ghost use Rattle.search.specs.Visitors.{MayVisit, MayBranch, MayTurn, MayGoDown, Leaves, Follows, Reaches, GoesDown};
 
+use below::{to_off, to_on};
 use both_sides::finish;
 use coding::statuses::{give, restore};
 use node::{
-    Answer, OffSide, Position, Verdict, next_kind, settled, stopped, to_off, to_on, up_or_aside,
-    with_lines,
+    Answer, OffSide, Position, Verdict, next_kind, settled, stopped, up_or_aside, with_lines,
 };
 use node_lines::{line_if, lined, settle_lines};
 use search_entry::{Matrix, Search, Source, placed};
 use steps::{concluded, is_open, take_steps};
 
+mod below; // the positions of a node's two sides
 mod steps; // steps 1 to 4 of a visit
 
 // The search at a start node, where steps 1 to 4 have been taken and leave it open: its visit is counted, and it branches.
@@ -49,7 +50,7 @@ fn visit<'a>(
 {
     let spent = p.budget <= 1;
     if spent {
-        return stopped(p);
+        return stopped(p.lines);
     }
     let leaf = take_steps(
         matrix,
@@ -76,7 +77,7 @@ fn branch<'a>(matrix: &'a Matrix, search: &mut Search, table: &mut [u8], p: Posi
 {
     let kind = next_kind(&matrix.quantifiers, p.at);
     if kind > tables::FORALL {
-        return settled(Verdict::No, placed(Source::Area, 0, 0), p);
+        return settled(Verdict::No, placed(Source::Area, 0, 0), p.budget, p.lines);
     }
     if kind == tables::FREE {
         free(matrix, search, table, p)
@@ -88,6 +89,7 @@ fn branch<'a>(matrix: &'a Matrix, search: &mut Search, table: &mut [u8], p: Posi
 }
 
 // "An exists node visits the off side and stops on Yes".
+// stays (form): the visitors of the three quantifiers are over one body
 #[cycle(branch_exists_forall_free_side_sides_visit)]
 fn exists<'a>(matrix: &'a Matrix, search: &mut Search, table: &mut [u8], p: Position) -> Answer
     requires { MayTurn (quantifier_code exists) matrix.now search.old p }
@@ -98,6 +100,7 @@ fn exists<'a>(matrix: &'a Matrix, search: &mut Search, table: &mut [u8], p: Posi
 }
 
 // "A forall node visits the off side and stops on No".
+// stays (form): the visitors of the three quantifiers are over one body
 #[cycle(branch_exists_forall_free_side_sides_visit)]
 fn forall<'a>(matrix: &'a Matrix, search: &mut Search, table: &mut [u8], p: Position) -> Answer
     requires { MayTurn (quantifier_code forall) matrix.now search.old p }
@@ -108,6 +111,7 @@ fn forall<'a>(matrix: &'a Matrix, search: &mut Search, table: &mut [u8], p: Posi
 }
 
 // "flag: an off side of No or Yes whose bar or pass lacks v goes up"; else both sides are visited.
+// stays (form): the visitors of the three quantifiers are over one body
 #[cycle(branch_exists_forall_free_side_sides_visit)]
 fn free<'a>(matrix: &'a Matrix, search: &mut Search, table: &mut [u8], p: Position) -> Answer
     requires { MayTurn (quantifier_code free) matrix.now search.old p }
@@ -147,10 +151,8 @@ fn sides<'a>(
         return with_lines(off, off.lines); // not copied whole: see `side`
     }
     let one = lined(off.verdict, kind, p.yes);
-    let here = Position {
-        lines: off.lines,
-        ..p
-    };
+    let mut here = p;
+    here.lines = off.lines;
     let lines = line_if(one, tables::OFF, table, here, &search.statuses);
     let on = side(
         matrix,
@@ -168,10 +170,8 @@ fn sides<'a>(
         &mut search.learned,
     );
     let two = lined(on.verdict, kind, p.yes);
-    let here = Position {
-        lines: on.lines,
-        ..p
-    };
+    let mut here = p;
+    here.lines = on.lines;
     let after = settle_lines(one, two, table, here, &search.statuses);
     with_lines(both, after)
 }

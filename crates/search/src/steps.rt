@@ -1,15 +1,13 @@
 // Steps 1 to 4 of a visit: at the start node they have been taken, and leave it open.
 ghost use Rattle.std.specs.Prelude.{◌≡◌, false, ◌≤◌};
 ghost use Rattle.qbf.specs.Formula.{paper};
-ghost use Rattle.tables.specs.Matrices.{RowLength};
-ghost use Rattle.search_entry.specs.Tables.{Stand};
 ghost use Rattle.search.specs.Search.{is_open, concluded_of, StepsTaken};
 
 use inner::{Leaf, conclude};
 use node::{Answer, Position, Verdict, settled, stopped};
 use search_entry::{Learned, Matrix, Trail};
 
-// stays (proof): what is read and what is written are fields of one struct above, which could not be lent as one.
+// stays (no plainer): it reads two tables of the search and writes a third; of the search as a whole it would have to say that all others stay
 pub fn take_steps<'a>(
     matrix: &'a Matrix,
     learned: &'a Learned,
@@ -18,7 +16,7 @@ pub fn take_steps<'a>(
     p: Position,
     at_start: bool,
 ) -> Leaf
-    requires { Stand learned.now × (at_start ≡ false → 1 ≤ p.at) × (p.at ≤ paper.numbers) × RowLength p.words }
+    requires { (at_start ≡ false → 1 ≤ p.at) × (p.at ≤ paper.numbers) }
     ensures { StepsTaken
         at_start
         p.at
@@ -53,12 +51,11 @@ pub fn is_open(leaf: Leaf) -> bool
 
 // The answer of a node that a step decided.
 pub fn concluded(leaf: Leaf, p: Position) -> Answer
-    requires { 1 ≤ p.budget }
     ensures { result ≡ concluded_of leaf p }
 {
     match leaf {
-        Leaf::No(b) => settled(Verdict::No, b, p),
-        Leaf::Yes(b) => settled(Verdict::Yes, b, p),
-        Leaf::Open => stopped(p), // none did
+        Leaf::No(b) => settled(Verdict::No, b, p.budget, p.lines),
+        Leaf::Yes(b) => settled(Verdict::Yes, b, p.budget, p.lines),
+        Leaf::Open => stopped(p.lines), // none did
     }
 }

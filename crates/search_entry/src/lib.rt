@@ -66,17 +66,17 @@ pub fn placed(source: Source, start: usize, len: usize) -> Bounds
 
 // The codes of a constraint that goes up, where it is one of the clauses, of the learned constraints of that shelf, or a cube.
 pub fn entry<'a>(
-    matrix: &'a Matrix,
-    learned: &'a Shelf,
+    clauses: &'a [u16; tables::CLAUSE_ROWS],
+    learned: &'a [u16; tables::CONSTRAINT_CODES],
     area: &'a [u16; tables::AREA],
     b: Bounds,
 ) -> &'a [u16]
     requires { Bounded b }
-    ensures { (result.now ≡ entry_at b matrix.now.rows learned.now.cells area.now) × (length result.now ≡ b.len) }
+    ensures { (result.now ≡ entry_at b clauses.now learned.now area.now) × (length result.now ≡ b.len) }
 {
     let cells: &[u16] = match b.source {
-        Source::Clauses => &matrix.rows,
-        Source::Learned => &learned.cells,
+        Source::Clauses => clauses,
+        Source::Learned => learned,
         Source::Area => area,
     };
     &cells[b.start..b.start + b.len]

@@ -12,6 +12,7 @@ use literal::{ByNumber, cell_at};
 use lowest_dead::lowest_dead;
 
 // Whether the rows that stand lie within the table.
+// stays (C): the tables are those of the exported function, and are rows only once this has said so
 fn stand(cells: &[i16], sizes: &[u16]) -> bool
     ensures { Tells result cells.now sizes.now }
 {

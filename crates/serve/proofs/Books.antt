@@ -30,34 +30,34 @@ use Rattle.std.specs.Prelude.{Result, Ok, Err}
 use Rattle.refusal.specs.declared.Refusal.{Refusal}
 use Rattle.refusal.specs.Refusal.{number_of}
 use Rattle.theory.proofs.AcceptedRule.{some_none}
-use Rattle.opening.specs.Opened.{OpenedAs}
-use Rattle.opening.specs.declared.Opened.{Opened as Answered}
+use Rattle.opening.specs.Lines.{ReadAs}
+use Rattle.opening.specs.declared.text.RefusedAt.{RefusedAt}
 use Rattle.writer.specs.Wrote.{Wrote}
 use Rattle.serve.specs.Line.{prefix_read, line_answer}
-use Rattle.edition_opening.proofs.Apart.{edition_apart}
 use Rattle.answer_text.proofs.Room.{wrote_as}
 use Rattle.serve.proofs.FreeLines.{card_lines}
 use Rattle.serve.proofs.CardTexts.{Listed, Refused, formed_cases, said_by, text_by}
 
 -- ---- what is printed for a text
-module _ (s : Bytes) (q : Answered) (told : OpenedAs (open_editions both paper s) q) {d₀ d : Bytes} {r : ℕ} where
+module _ (s : Bytes) {d₀ d : Bytes} {r : ℕ} where
   -- a refused text
-  pub text_refused : (q.refusal ≡ 0 → ⊥) → Wrote d₀ 0 (refusal_text q.refusal q.line) d r → Wrote d₀ 0 (card_program paper table_bytes s) d r
+  pub text_refused : (q : RefusedAt) → ReadAs (open_editions both paper s) (Err q) → {n : ℕ} → n ≡ number_of q.refusal → Wrote d₀ 0 (refusal_text n q.line) d r → Wrote d₀ 0 (card_program paper table_bytes s) d r
   unfolding card_program
-  text_refused h w = wrote_as (by (open_editions both paper s) told) w
+  text_refused q told {n} is w = wrote_as (by (open_editions both paper s) told) w
     where
-      by : (o : Opened) → OpenedAs o q → refusal_text q.refusal q.line ≡ opened_printed table_bytes o
-      by (refused n k) (e, l, x) = λ i. refusal_text (e i) (l i)
-      by (opened b) (e, l, x) = absurd (h e)
+      by : (o : Opened) → ReadAs o (Err q) → refusal_text n q.line ≡ opened_printed table_bytes o
+      by (refused m k) h = λ i. refusal_text ((is ∙ h.0) i) (h.1 i)
+      by (opened b) h = absurd h
 
   -- a text that opens
-  pub text_printed : q.refusal ≡ 0 → ((b : Formula) → read_state q.state ≡ some (fresh b) → formula_is_ok b ≡ true → Wrote d₀ 0 (answer_printed b.prefix (learning_card true b empty_store highest_ceiling table_bytes).out) d r)
+  pub text_printed : (x : State) → ReadAs (open_editions both paper s) (Ok x) → ((b : Formula) → read_state x ≡ some (fresh b) → formula_is_ok b ≡ true → Wrote d₀ 0 (answer_printed b.prefix (learning_card true b empty_store highest_ceiling table_bytes).out) d r)
       → Wrote d₀ 0 (card_program paper table_bytes s) d r
   unfolding card_program
-  text_printed h w = by (edition_apart both s q told h)
+  text_printed x told w = by (open_editions both paper s) refl told
     where
-      by : (b : Formula) × (open_editions both paper s ≡ opened b) → Wrote d₀ 0 (opened_printed table_bytes (open_editions both paper s)) d r
-      by (b, i) = subst (λ (o : Opened). Wrote d₀ 0 (opened_printed table_bytes o) d r) (sym i) (w b (subst (λ (o : Opened). OpenedAs o q) i told).2 (opened_formula both paper refl s b i))
+      by : (o : Opened) → open_editions both paper s ≡ o → ReadAs o (Ok x) → Wrote d₀ 0 (opened_printed table_bytes o) d r
+      by (refused m k) i h = absurd h
+      by (opened b) i h = w b h (opened_formula both paper refl s b i)
 
 -- ---- the card of a state with an empty store
 module _ (x : State) (size : ℕ) (p : Result ℕ Refusal) (k : ℕ) (tb : List ℕ) (x' : State) (s : Serves x (card highest_ceiling size) (card_said p k tb) x') (b : Formula) (e : read_state x ≡ some (fresh b)) (ok : formula_is_ok b ≡ true) where

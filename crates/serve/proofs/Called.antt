@@ -40,7 +40,7 @@ small_call l top (line.Closest n size) out h = subst Fits h.1 (fits_call l)
 
 -- ---- by the literals that stand in the table
 -- the flags that are on, or those that are off, in a table of the same length
-standing : (n : ℕ) (lits : List ℤ) → length lits ≡ suc paper.numbers → (ls : List Literal) → Kept n lits ls → (k : ℕ) → k ≡ min n (suc paper.numbers)
+pub standing : (n : ℕ) (lits : List ℤ) → length lits ≡ suc paper.numbers → (ls : List Literal) → Kept n lits ls → (k : ℕ) → k ≡ min n (suc paper.numbers)
     → (v : Bool) (m : ℕ) (out : List ℤ) → length out ≡ suc paper.numbers → Kept m out (named v (take k lits)) → (c : ℕ) → c ≡ min m (suc paper.numbers) → take c out ≡ named v (deciding ls)
 standing n lits wide ls z k e v m out room w c i =
     ap (λ (j : ℕ). take j out) i
@@ -63,42 +63,20 @@ module _ {x : State} {number : ℕ} {s : Shown} {r : Turn} {d : Bytes} (n : ℕ)
   pub one_turned : (k : ℕ) → k ≡ min n (suc paper.numbers) → TurnedBeside x (some (one (take k lits))) number s r d → (ls : List Literal) → Kept n lits ls → TurnedBeside x (some (one ls)) number s r d
   one_turned k e h ls q = adding_turned one ls (λ t x' w. one_served x n lits wide number t x' ls q w) (one_card x n lits wide ls q) k e h
 
-  pub query_turned : (top k : ℕ) → k ≡ min n (suc paper.numbers)
-      → (ons : ℕ) (on : List ℤ) → length on ≡ suc paper.numbers → Kept ons on (named true (take k lits))
-      → (offs : ℕ) (off : List ℤ) → length off ≡ suc paper.numbers → Kept offs off (named false (take k lits))
-      → {a b : ℕ} → a ≡ min ons (suc paper.numbers) → b ≡ min offs (suc paper.numbers)
-      → TurnedBeside x (some (query top (take a on) (take b off))) number s r d
-      → (ls : List Literal) → Kept n lits ls → TurnedBeside x (some (query top (named true ls) (named false ls))) number s r d
-  query_turned top k e ons on on_room p offs off off_room q {a} {b} ea eb h ls z = λ t.
+-- a call that names flags, by those that decide
+module _ {x : State} {number : ℕ} {r : Turn} {d : Bytes} (top : ℕ) (ls : List Literal) (on off : List ℤ) (e : on ≡ named true (deciding ls)) (f : off ≡ named false (deciding ls)) where
+  pub query_turned : {s : Shown} → TurnedBeside x (some (query top on off)) number s r d → TurnedBeside x (some (query top (named true ls) (named false ls))) number s r d
+  query_turned h = λ t.
       let u = h t in
-      record { within = u.within; served = query_served x ls (take a on) (take b off) on_flags off_flags number (take r.length d) r.state top u.served; shown = u.shown }
-    where
-      on_flags : take a on ≡ named true (deciding ls)
-      on_flags = standing n lits wide ls z k e true ons on on_room p a ea
+      record { within = u.within; served = query_served x ls on off e f number (take r.length d) r.state top u.served; shown = u.shown }
 
-      off_flags : take b off ≡ named false (deciding ls)
-      off_flags = standing n lits wide ls z k e false offs off off_room q b eb
-
--- a closest reading likewise
-pub closest_turned : {x : State} {number : ℕ} {r : Turn} {t d : Bytes} (n : ℕ) (lits : List ℤ) → length lits ≡ suc paper.numbers → (top size k : ℕ) → k ≡ min n (suc paper.numbers)
-    → (ons : ℕ) (on : List ℤ) → length on ≡ suc paper.numbers → Kept ons on (named true (take k lits))
-    → (offs : ℕ) (off : List ℤ) → length off ≡ suc paper.numbers → Kept offs off (named false (take k lits))
-    → {a b : ℕ} → a ≡ min ons (suc paper.numbers) → b ≡ min offs (suc paper.numbers)
-    → ((s₀ : Shown) (t₀ : Bytes) → Turned x (some (closest top size (take a on) (take b off))) number s₀ t₀ r t d)
-    → (ls : List Literal) → Kept n lits ls → (s₀ : Shown) (t₀ : Bytes) → Turned x (some (closest top size (named true ls) (named false ls))) number s₀ t₀ r t d
-closest_turned {x} {number} {r} {t} {d} n lits wide top size k e ons on on_room p offs off off_room q {a} {b} ea eb h ls z s₀ t₀ =
-    let u = h s₀ t₀ in
-    record {
-      within = u.within;
-      served = closest_served x ls (take a on) (take b off) on_flags off_flags number (take r.length d) r.state top size u.served;
-      shown = u.shown ∙ closest_card x ls (take a on) (take b off) on_flags off_flags top size (card_in s₀ t₀);
-    }
-  where
-    on_flags : take a on ≡ named true (deciding ls)
-    on_flags = standing n lits wide ls z k e true ons on on_room p a ea
-
-    off_flags : take b off ≡ named false (deciding ls)
-    off_flags = standing n lits wide ls z k e false offs off off_room q b eb
+  pub closest_turned : (size : ℕ) {t : Bytes} (s₀ : Shown) (t₀ : Bytes) → Turned x (some (closest top size on off)) number s₀ t₀ r t d → Turned x (some (closest top size (named true ls) (named false ls))) number s₀ t₀ r t d
+  closest_turned size s₀ t₀ u =
+      record {
+        within = u.within;
+        served = closest_served x ls on off e f number (take r.length d) r.state top size u.served;
+        shown = u.shown ∙ closest_card x ls on off e f top size (card_in s₀ t₀);
+      }
 
 -- ---- by the kind of the call
 module _ {x : State} {number : ℕ} {s₀ : Shown} {t₀ : Bytes} {r : Turn} {t d : Bytes} where

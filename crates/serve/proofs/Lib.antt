@@ -9,3 +9,4 @@ pub mod LastCard
 pub mod Called
 pub mod Books
 pub mod Writing
+pub mod Added

@@ -16,6 +16,7 @@ use Rattle.qbf.specs.Calls.{Call, closest, Reply, card_refused, found, Answer, s
 use Rattle.qbf.specs.Demands.{refusal_of}
 use Rattle.theory.proofs.AcceptedRule.{some_none}
 use Rattle.theory.proofs.WellFormed.{state_facts, numbers_ok}
+use Rattle.layout.specs.Words.{Bytes}
 use Rattle.layout.specs.Output.{closest_text}
 use Rattle.layout.specs.Session.{answer_text, search_refusal_text}
 use Rattle.tables.specs.Views.{Numbers}
@@ -33,7 +34,9 @@ use Rattle.refusal.specs.Refusal.{number_of}
 use Rattle.writer.specs.Rows.{closest_row}
 use Rattle.writer.proofs.Shown.{closest_shown, closest_most}
 use Rattle.answer_text.specs.Room.{answer_bytes}
+use Rattle.closest_call.specs.declared.Nearest.{Nearest}
 use Rattle.serve.specs.Line.{prefix_read, line_answer}
+use Rattle.serve.specs.Nearest.{NearestFound}
 use Rattle.serve.proofs.FreeLines.{card_lines}
 use Rattle.serve.proofs.CardTexts.{Refused, Listed, formed_cases, said_by, text_by}
 
@@ -190,3 +193,15 @@ module _ (top : ℕ) (on off : List Literal) (x : State) (tb rd : List ℕ) (q :
         by : Refused a.reply ⊎ FoundBy (read_state x) a.reply → ReadingWritten top on off x tb rd d n k f
         by (inl (m, u, i)) = absurd (some_none (sym (ap (λ (z : Said). z.refusal) (w ∙ said_by a (card_refused (suc m) u) i))))
         by (inr (y, i, g, ls, u, z, h, j)) = let ok = readable x y i g in written ok (frees D (valid_numbers x ok) (valid_quantified x ok)) ls u z h j
+
+-- ---- what was found, as the answer of the call
+abbrev pub found_by : (top : ℕ) (on off : List Literal) (x : State) (n : Nearest) (table reading : Bytes) {m : ℕ} → length table ≡ m
+    → nearest_said n.told n.lines n.visits table (take (free_variables (prefix_in x)) reading) ≡ said_of (out_of (read_state x) (closest top m on off)) → NearestFound x n reading
+found_by top on off x n table reading e s =
+    record {
+      ceiling = top;
+      on = on;
+      off = off;
+      table = table;
+      said = s ∙ ap (λ (m : ℕ). said_of (out_of (read_state x) (closest top m on off))) (sym e);
+    }

@@ -1,8 +1,12 @@
--- A card, keep card or closest reading that was read from a line asks for no more bytes than the table has.
-use Rattle.std.specs.Prelude.{◌≤◌}
+-- What a call adds; and a card, keep card or closest reading that was read from a line asks for no more bytes than the table has.
+use Rattle.std.specs.Prelude.{◌≤◌, List}
+use Rattle.qbf.specs.Formula.{Literal}
+use Rattle.qbf.specs.Calls as call
 use Rattle.layout.specs.Program.{table_bytes}
 use Rattle.reader.specs.declared.call.CallLine.{CallLine}
 use Rattle.reader.specs.declared.call.CallLine.TheVariants.{Rule, Query, Card, KeepCard, Forget, Withdraw, One, Closest}
+use Rattle.serve.specs.declared.change.Added.{Added}
+use Rattle.serve.specs.declared.change.Added.TheVariants as added
 
 abbrev pub Small : CallLine → Type 0
 Small (Rule n) = Unit {0}
@@ -13,3 +17,8 @@ Small Forget = Unit {0}
 Small Withdraw = Unit {0}
 Small (One n) = Unit {0}
 Small (Closest n size) = size ≤ table_bytes
+
+-- a rule, or an exactly-one form
+abbrev pub adds : Added → List Literal → call.Call
+adds added.Rule ls = call.rule ls
+adds added.One ls = call.one ls

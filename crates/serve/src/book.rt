@@ -10,26 +10,31 @@ ghost use Rattle.layout.specs.Program.{table_bytes, answer_printed};
 ghost use Rattle.editions.specs.Program.{card_program};
 ghost use Rattle.state.specs.Reading.{read_state};
 ghost use Rattle.writer.specs.Wrote.{Wrote};
-ghost use Rattle.answer_text.specs.Room.{answer_bytes};
+ghost use Rattle.answer_text.specs.Answered.{AnswerHeld, Answered};
 ghost use Rattle.serve.specs.Books.{PrintsCard};
 
-use crate::Sought;
 use crate::card::put_shown;
-use answer_text::ANSWER;
+use crate::{Filled, Sought};
 use answer_text::book::{short, told};
 use answer_text::refused::{refuse, refuse_card};
+use answer_text::{ANSWER, Answer};
 use book_writer::Written;
-use edition_opening::{Editions, open_editions};
+use edition_opening::{Editions, read_editions};
 use state::State;
 
 // The card of a state with an empty store, in a lent table.
-fn print_in(x: State, table: &mut [u8], out: &mut [u8]) -> usize
-    requires table_len_bound { length table.old ≤ table_bytes }
-    requires answer_bytes_in_bounds { answer_bytes ≤ length out.old }
-    ensures { (b : Formula)
+fn print_in(x: State, table: &mut [u8], out: &mut Answer<'_>) -> usize
+    requires { length table.old ≤ table_bytes }
+    ensures held { AnswerHeld out.old out.new }
+    ensures printed { (b : Formula)
         → read_state x ≡ some (fresh b)
         → formula_is_ok b ≡ true
-        → Wrote out.old 0 (answer_printed b.prefix (learning_card true b empty_store highest_ceiling (length table.old)).out) out.new result }
+        → Wrote
+        out.old.bytes.now
+        0
+        (answer_printed b.prefix (learning_card true b empty_store highest_ceiling (length table.old)).out)
+        out.new.bytes.now
+        result }
 {
     let mut next = x;
     let sought = Sought {
@@ -38,34 +43,36 @@ fn print_in(x: State, table: &mut [u8], out: &mut [u8]) -> usize
     };
     let shown = answers::on_state::card_of(&mut next, table, sought.yes, sought.ceiling);
     match shown.lines {
-        Ok(lines) => put_shown(out, x, table, lines, shown.visits, sought),
+        Ok(lines) => put_shown(out, x, Filled { sought, table }, lines, shown.visits),
         Err(refusal) => refuse_card(out, refusal.number()),
     }
 }
 
 // "The program's card table has 65,536 bytes"
-fn print_opened(x: State, out: &mut [u8]) -> usize
-    requires { answer_bytes ≤ length out.old }
-    ensures { (b : Formula)
+fn print_opened(x: State, out: &mut Answer<'_>) -> usize
+    ensures held { AnswerHeld out.old out.new }
+    ensures printed { (b : Formula)
         → read_state x ≡ some (fresh b)
         → formula_is_ok b ≡ true
-        → Wrote out.old 0 (answer_printed b.prefix (learning_card true b empty_store highest_ceiling table_bytes).out) out.new result }
+        → Wrote
+        out.old.bytes.now
+        0
+        (answer_printed b.prefix (learning_card true b empty_store highest_ceiling table_bytes).out)
+        out.new.bytes.now
+        result }
 {
     let mut table = [tables::OPEN; reader::call::TABLE];
     print_in(x, &mut table, out)
 }
 
 // A text's card, or its refusal.
-fn print_text(text: &[u8], out: &mut [u8]) -> usize
-    requires { answer_bytes ≤ length out.old }
-    ensures { Wrote out.old 0 (card_program paper table_bytes text.now) out.new result }
+fn print_text(text: &[u8], out: &mut Answer<'_>) -> usize
+    ensures { Answered out.old (card_program paper table_bytes text.now) out.new result }
 {
-    let opened = open_editions(Editions::Both, text);
-    if opened.refusal != opening::NONE {
-        return refuse(out, opened.refusal, opened.line as u64);
+    match read_editions(Editions::Both, text) {
+        Ok(state) => print_opened(state, out),
+        Err(refused) => refuse(out, refused.refusal.number(), refused.line as u64),
     }
-    let next = opened.state;
-    print_opened(next, out)
 }
 
 // What the program `card` prints for a text, in the first bytes of the lent table.
@@ -75,5 +82,7 @@ pub fn print_card(text: &[u8], out: &mut [u8]) -> Written
     if out.len() < ANSWER {
         return short(out);
     }
-    told(print_text(text, out))
+    let mut answer = Answer { bytes: out };
+    let length = print_text(text, &mut answer);
+    told(length)
 }

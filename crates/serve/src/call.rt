@@ -1,6 +1,6 @@
 // The call that was read from a line, served. Its literals stand in a table with one cell more than there are numbers: those that do
 // not fit would change no answer.
-ghost use Rattle.std.specs.Prelude.{◌≡◌, ◌++◌, true, false, List, ℕ, suc, ◌≤◌, length};
+ghost use Rattle.std.specs.Prelude.{◌≡◌, ◌++◌, true, false, List, ℕ, suc, length};
 ghost use Rattle.std.proofs.Math.Option.{Option, none, some};
 ghost use Rattle.qbf.specs.Formula.{paper, Literal};
 ghost use Rattle.qbf.specs.Calls.{Call, query, closest};
@@ -9,17 +9,19 @@ ghost use Rattle.layout.specs.Session.{named, call_of};
 ghost use Rattle.reader.specs.Items.{Kept};
 ghost use Rattle.reader.specs.Calls.{CallUnder};
 ghost use Rattle.answer_text.specs.declared.shown.Shown.{Shown};
-ghost use Rattle.answer_text.specs.Room.{answer_bytes};
+ghost use Rattle.answer_text.specs.Answered.{AnswerHeld};
 ghost use Rattle.serve.specs.Line.{Turned, TurnedBeside};
 ghost use Rattle.serve.specs.Calls.{Small};
+ghost use Rattle.serve.specs.Flags.{ToldApart};
 
 use crate::card::serve_card;
-use crate::change::{serve_forget, serve_one, serve_rule, serve_withdraw};
+use crate::change::{Added, serve_added, serve_forget, serve_withdraw};
 use crate::nearest::serve_closest;
 use crate::query::serve_query;
 use crate::{Asked, Sought, Turn};
+use answer_text::Answer;
 use answer_text::refused::refuse;
-use answer_text::shown::Shown;
+use answer_text::shown::Held;
 use named::named;
 use reader::call::{CallLine, TABLE};
 use reader::ceiling::read_call;
@@ -27,80 +29,111 @@ use reader::line::kept;
 use refusal::Refusal;
 use state::State;
 
-#[inline(never)]
-fn query_of(
-    x: State,
-    lits: &[i16],
-    n: usize,
-    line: u64,
-    shown: Shown,
-    out: &mut [u8],
+// The call that a line spells, the table of its literals, and its ceiling.
+#[derive(Clone, Copy)]
+struct Spelled<'a> {
+    call: CallLine,
+    lits: &'a [i16],
     ceiling: u32,
-) -> Turn
-    requires lits_len { length lits.now ≡ suc paper.numbers }
-    requires answer_bytes_in_bounds { answer_bytes ≤ length out.old }
-    ensures { (ls : List Literal)
-        → Kept n lits.now ls
-        → TurnedBeside x (some (query ceiling (named true ls) (named false ls))) line shown result out.new }
+    ghost wide: { length lits.now ≡ suc paper.numbers },
+}
+
+// The literals by which a query or a closest reading names flags: of n, as many as the table holds.
+#[derive(Clone, Copy)]
+struct Naming<'a> {
+    lits: &'a [i16],
+    n: usize,
+    ceiling: u32,
+    ghost wide: { length lits.now ≡ suc paper.numbers },
+}
+
+// The numbers of the flags that are on, and of those that are off, each first in its table.
+#[derive(Clone, Copy)]
+struct Flags {
+    on: [i16; tables::BY_NUMBER],
+    ons: usize,
+    off: [i16; tables::BY_NUMBER],
+    offs: usize,
+}
+
+fn told_apart(naming: Naming<'_>) -> Flags
+    ensures { ToldApart naming.entry.n naming.entry.lits.now result }
 {
-    let k = kept(n);
+    let k = kept(naming.n);
+    let lits = &naming.lits[..k];
     let mut on = [0i16; tables::BY_NUMBER];
     let mut off = [0i16; tables::BY_NUMBER];
-    let ons = kept(named(&lits[..k], true, &mut on));
-    let offs = kept(named(&lits[..k], false, &mut off));
+    let ons = kept(named(lits, true, &mut on));
+    let offs = kept(named(lits, false, &mut off));
+    Flags { on, ons, off, offs }
+}
+
+#[inline(never)]
+fn query_of(held: Held, naming: Naming<'_>, line: u64, out: &mut Answer<'_>) -> Turn
+    ensures held { AnswerHeld out.old out.new }
+    ensures turned { (ls : List Literal)
+        → Kept naming.entry.n naming.entry.lits.now ls
+        → TurnedBeside
+        held.state
+        (some (query naming.entry.ceiling (named true ls) (named false ls)))
+        line
+        held.shown
+        result
+        out.new.bytes.now }
+{
+    let flags = told_apart(naming);
+    let on = flags.on;
+    let off = flags.off;
     let asked = Asked {
-        on: &on[..ons],
-        off: &off[..offs],
-        ceiling: ceiling,
+        on: &on[..flags.ons],
+        off: &off[..flags.offs],
+        ceiling: naming.ceiling,
     };
-    serve_query(x, asked, line, shown, out)
+    serve_query(held, asked, line, out)
 }
 
 #[inline(never)]
 fn closest_of(
     x: State,
-    lits: &[i16],
-    n: usize,
+    naming: Naming<'_>,
     table: &mut [u8],
     line: u64,
-    out: &mut [u8],
-    ceiling: u32,
+    out: &mut Answer<'_>,
 ) -> Turn
-    requires lits_len { length lits.now ≡ suc paper.numbers }
-    requires answer_bytes_in_bounds { answer_bytes ≤ length out.old }
-    ensures { (ls : List Literal)
-        → Kept n lits.now ls
+    ensures held { AnswerHeld out.old out.new }
+    ensures turned { (ls : List Literal)
+        → Kept naming.entry.n naming.entry.lits.now ls
         → (s : Shown) (t after : Bytes)
         → Turned
         x
-        (some (closest ceiling (length table.old) (named true ls) (named false ls)))
+        (some (closest naming.entry.ceiling (length table.old) (named true ls) (named false ls)))
         line
         s
         t
         result
         (table.new ++ after)
-        out.new }
+        out.new.bytes.now }
 {
-    let k = kept(n);
-    let mut on = [0i16; tables::BY_NUMBER];
-    let mut off = [0i16; tables::BY_NUMBER];
-    let ons = kept(named(&lits[..k], true, &mut on));
-    let offs = kept(named(&lits[..k], false, &mut off));
+    let flags = told_apart(naming);
+    let on = flags.on;
+    let off = flags.off;
     let asked = Asked {
-        on: &on[..ons],
-        off: &off[..offs],
-        ceiling: ceiling,
+        on: &on[..flags.ons],
+        off: &off[..flags.offs],
+        ceiling: naming.ceiling,
     };
     serve_closest(x, asked, table, line, out)
 }
 
 // A line that is no call leaves the state.
 #[inline(never)]
-fn no_call(x: State, line: u64, shown: Shown, out: &mut [u8]) -> Turn
-    requires { answer_bytes ≤ length out.old }
-    ensures { TurnedBeside x none line shown result out.new }
+fn no_call(held: Held, line: u64, out: &mut Answer<'_>) -> Turn
+    ensures held { AnswerHeld out.old out.new }
+    ensures turned { TurnedBeside held.state none line held.shown result out.new.bytes.now }
 {
     let length = refuse(out, Refusal::NotInLayout.number(), line);
+    let x = held.state;
+    let shown = held.shown;
     Turn {
         state: x,
         length: length,
@@ -110,28 +143,28 @@ fn no_call(x: State, line: u64, shown: Shown, out: &mut [u8]) -> Turn
 
 #[inline(never)]
 fn serve_call(
-    x: State,
-    call: CallLine,
-    lits: &[i16],
+    held: Held,
+    spelled: Spelled<'_>,
     line: u64,
-    shown: Shown,
     cards: &mut [u8; TABLE],
-    out: &mut [u8],
-    ceiling: u32,
+    out: &mut Answer<'_>,
 ) -> Turn
-    requires small { Small call }
-    requires lits_len { length lits.now ≡ suc paper.numbers }
-    requires answer_bytes_in_bounds { answer_bytes ≤ length out.old }
-    ensures { (c : Option Call)
-        → CallUnder ceiling c call lits.now
-        → Turned x c line shown cards.old result cards.new out.new }
+    requires { Small spelled.call }
+    ensures held { AnswerHeld out.old out.new }
+    ensures turned { (c : Option Call)
+        → CallUnder spelled.entry.ceiling c spelled.entry.call spelled.entry.lits.now
+        → Turned held.state c line held.shown cards.old result cards.new out.new.bytes.now }
 {
+    let x = held.state;
+    let lits = spelled.lits;
+    let ceiling = spelled.ceiling;
+    let call = spelled.call;
     match call {
         CallLine::Rule(n) => {
             let k = kept(n);
-            serve_rule(x, &lits[..k], line, shown, out)
+            serve_added(held, Added::Rule, &lits[..k], line, out)
         }
-        CallLine::Query(n) => query_of(x, lits, n, line, shown, out, ceiling),
+        CallLine::Query(n) => query_of(held, Naming { lits, n, ceiling }, line, out),
         CallLine::Card(size) => serve_card(
             x,
             Sought { yes: true, ceiling },
@@ -149,40 +182,41 @@ fn serve_call(
             line,
             out,
         ),
-        CallLine::Forget => serve_forget(x, line, shown, out),
-        CallLine::Withdraw => serve_withdraw(x, line, shown, out),
+        CallLine::Forget => serve_forget(held, line, out),
+        CallLine::Withdraw => serve_withdraw(held, line, out),
         CallLine::One(n) => {
             let k = kept(n);
-            serve_one(x, &lits[..k], line, shown, out)
+            serve_added(held, Added::One, &lits[..k], line, out)
         }
         CallLine::Closest(n, size) => closest_of(
             x,
-            lits,
-            n,
+            Naming { lits, n, ceiling },
             &mut cards[..size],
             line,
             out,
-            ceiling,
         ),
     }
 }
 
 // A line that is a call, or none.
 pub fn serve_made(
-    x: State,
+    held: Held,
     line: &[u8],
     number: u64,
-    shown: Shown,
     cards: &mut [u8; TABLE],
-    out: &mut [u8],
+    out: &mut Answer<'_>,
 ) -> Turn
-    requires { answer_bytes ≤ length out.old }
-    ensures { Turned x (call_of line.now) number shown cards.old result cards.new out.new }
+    ensures held { AnswerHeld out.old out.new }
+    ensures turned { Turned held.state (call_of line.now) number held.shown cards.old result cards.new out.new.bytes.now }
 {
     let mut lits = [0i16; tables::BY_NUMBER];
     let Some(read) = read_call(line, &mut lits) else {
-        return no_call(x, number, shown, out);
+        return no_call(held, number, out);
     };
-    let call = read.line;
-    serve_call(x, call, &lits, number, shown, cards, out, read.ceiling)
+    let spelled = Spelled {
+        call: read.line,
+        lits: &lits,
+        ceiling: read.ceiling,
+    };
+    serve_call(held, spelled, number, cards, out)
 }

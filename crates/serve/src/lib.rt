@@ -2,6 +2,9 @@
 // own (`inline(never)`), so that the stack of a line is that of one call.
 #![tactic(auto)]
 
+ghost use Rattle.std.specs.Prelude.{◌≤◌, length};
+ghost use Rattle.layout.specs.Program.{table_bytes};
+
 use answer_text::shown::Shown;
 use state::State;
 
@@ -28,7 +31,15 @@ pub struct Sought {
     pub ceiling: u32,
 }
 
-// The answer stands in the first bytes of the lent table, which is long enough.
+// What was sought, and the table in which its lines stand.
+#[derive(Clone, Copy)]
+struct Filled<'a> {
+    sought: Sought,
+    table: &'a [u8],
+    ghost small: { length table.now ≤ table_bytes },
+}
+
+// The answer stands in the first bytes of the lent table.
 #[derive(Clone, Copy)]
 pub struct Turn {
     pub state: State,

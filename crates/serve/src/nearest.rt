@@ -1,20 +1,16 @@
 // The line of a closest reading: the reading, in how many flags it differs, the lines of its card and the visits; or refused.
-ghost use Rattle.std.specs.Prelude.{◌≡◌, ◌++◌, ◌≤◌, length, take};
+ghost use Rattle.std.specs.Prelude.{◌≡◌, ◌++◌, length};
 ghost use Rattle.std.proofs.Math.Option.{some};
-ghost use Rattle.qbf.specs.Formula.{most_free};
-ghost use Rattle.qbf.specs.Truth.{free_variables};
 ghost use Rattle.qbf.specs.Calls.{closest};
 ghost use Rattle.layout.specs.Words.{Bytes};
-ghost use Rattle.state.specs.Reading.{read_state, prefix_in};
-ghost use Rattle.serving.specs.Serves.{said_of, out_of};
-ghost use Rattle.closest_call.specs.Nearest.{nearest_said};
-ghost use Rattle.writer.specs.Wrote.{Wrote};
+ghost use Rattle.state.specs.Reading.{read_state};
 ghost use Rattle.answer_text.specs.declared.shown.Shown.{Shown};
-ghost use Rattle.answer_text.specs.Room.{answer_bytes};
+ghost use Rattle.answer_text.specs.Answered.{AnswerHeld, Answered};
 ghost use Rattle.serve.specs.Line.{line_answer, Turned};
-ghost use Rattle.serve.specs.Nearest.{card_found};
+ghost use Rattle.serve.specs.Nearest.{card_found, NearestFound};
 
 use crate::{Asked, Turn};
+use answer_text::Answer;
 use answer_text::refused::put_search_refusal;
 use answer_text::shown::card_of;
 use answers::lent::Searching;
@@ -22,6 +18,7 @@ use closest_call::Nearest;
 use refusal::Refusal;
 use state::State;
 use writer::Output;
+use writer::answer::Closest;
 
 // The card that the reading was found on.
 fn card_found(told: Result<usize, Refusal>, lines: usize) -> Result<usize, Refusal>
@@ -35,24 +32,15 @@ fn card_found(told: Result<usize, Refusal>, lines: usize) -> Result<usize, Refus
 
 // The reading, which the first of the lent bytes show, or the refusal.
 fn put_nearest(
-    out: &mut [u8],
+    out: &mut Answer<'_>,
     x: State,
-    asked: Asked<'_>,
-    table: &[u8],
-    reading: &[u8],
+    reading: &[u8; tables::MOST_FREE],
     nearest: Nearest,
     line: u64,
 ) -> usize
-    requires reading_value { nearest_said nearest.told nearest.lines nearest.visits table.now (take (free_variables (prefix_in x)) reading.now)
-        ≡ said_of (out_of (read_state x) (closest asked.ceiling (length table.now) asked.on.now asked.off.now)) }
-    requires reading_len { length reading.now ≡ most_free }
-    requires answer_bytes_in_bounds { answer_bytes ≤ length out.old }
-    ensures { Wrote
-        out.old
-        0
-        (line_answer (read_state x) line (some (closest asked.entry.ceiling (length table.now) asked.entry.on.now asked.entry.off.now)))
-        out.new
-        result }
+    requires { NearestFound x nearest reading.now }
+    ensures { (f : NearestFound x nearest reading.now)
+        → Answered out.old (line_answer (read_state x) line (some (closest f.ceiling (length f.table) f.on f.off))) out.new result }
 {
     let numbers = x.numbers;
     let levels = x.levels;
@@ -64,18 +52,20 @@ fn put_nearest(
     });
     match nearest.told {
         Ok(differs) => {
-            let mut text = Output { bytes: out, at: 0 };
             let shown = &reading[..free];
-            text.put_closest(
-                &numbers,
-                shown,
-                differs as u64,
-                nearest.lines as u64,
-                nearest.visits,
-            );
+            let found = Closest {
+                numbers: &numbers,
+                reading: shown,
+                differs: differs as u64,
+                lines: nearest.lines as u64,
+                visits: nearest.visits,
+            };
+            let bytes = &mut *out.bytes;
+            let mut text = Output { bytes, at: 0 };
+            text.put_closest(found);
             text.at
         }
-        Err(refusal) => put_search_refusal(out, refusal, nearest.visits, line),
+        Err(refusal) => put_search_refusal(out, refusal.number(), nearest.visits, line),
     }
 }
 
@@ -86,10 +76,10 @@ pub fn serve_closest(
     asked: Asked<'_>,
     table: &mut [u8],
     line: u64,
-    out: &mut [u8],
+    out: &mut Answer<'_>,
 ) -> Turn
-    requires { answer_bytes ≤ length out.old }
-    ensures { (s : Shown) (t after : Bytes)
+    ensures held { AnswerHeld out.old out.new }
+    ensures turned { (s : Shown) (t after : Bytes)
         → Turned
         x
         (some (closest asked.entry.ceiling (length table.old) asked.entry.on.now asked.entry.off.now))
@@ -98,7 +88,7 @@ pub fn serve_closest(
         t
         result
         (table.new ++ after)
-        out.new }
+        out.new.bytes.now }
 {
     let mut next = x;
     let mut reading = [tables::OPEN; tables::MOST_FREE];
@@ -123,7 +113,7 @@ pub fn serve_closest(
     );
     let found = card_found(nearest.told, nearest.lines);
     let made = card_of(x, found, table.len());
-    let length = put_nearest(out, x, asked, table, &reading, nearest, line);
+    let length = put_nearest(out, x, &reading, nearest, line);
     Turn {
         state: next,
         length: length,

@@ -1,23 +1,26 @@
 // The line that asks for the book's text: it is written into the first bytes of the lent table, or refused.
 ghost use Rattle.std.proofs.Math.Option.{none, some};
 ghost use Rattle.std.specs.Prelude.{◌≤◌, length};
-ghost use Rattle.answer_text.specs.Room.{answer_bytes};
+ghost use Rattle.answer_text.specs.Answered.{AnswerHeld};
 ghost use Rattle.serve.specs.Line.{WriteTurned};
 
 use crate::Turn;
+use answer_text::Answer;
 use answer_text::refused::refuse;
-use answer_text::shown::Shown;
+use answer_text::shown::Held;
 use book_writer::{LONGEST, NONE, write_book};
-use state::State;
 
 // `(write 4)`: the first bytes of the table, as many as the line asks for.
 #[inline(never)]
-pub fn serve_write(x: State, size: usize, line: u64, shown: Shown, out: &mut [u8]) -> Turn
-    requires size_in_bounds { size ≤ length out.old }
-    requires answer_bytes_in_bounds { answer_bytes ≤ length out.old }
-    ensures { WriteTurned x (some size) line shown result out.new }
+pub fn serve_write(held: Held, size: usize, line: u64, out: &mut Answer<'_>) -> Turn
+    requires { size ≤ length out.old.bytes.now }
+    ensures held { AnswerHeld out.old out.new }
+    ensures turned { WriteTurned held.state (some size) line held.shown result out.new.bytes.now }
 {
-    let written = write_book(x, &mut out[..size]);
+    let x = held.state;
+    let shown = held.shown;
+    let bytes = &mut *out.bytes;
+    let written = write_book(x, &mut bytes[..size]);
     if written.refusal != NONE {
         let length = refuse(out, written.refusal, line);
         return Turn {
@@ -35,9 +38,9 @@ pub fn serve_write(x: State, size: usize, line: u64, shown: Shown, out: &mut [u8
 
 // `(write)`: a table that holds every text.
 #[inline(never)]
-pub fn serve_whole(x: State, line: u64, shown: Shown, out: &mut [u8]) -> Turn
-    requires { answer_bytes ≤ length out.old }
-    ensures { WriteTurned x none line shown result out.new }
+pub fn serve_whole(held: Held, line: u64, out: &mut Answer<'_>) -> Turn
+    ensures held { AnswerHeld out.old out.new }
+    ensures turned { WriteTurned held.state none line held.shown result out.new.bytes.now }
 {
-    serve_write(x, LONGEST, line, shown, out)
+    serve_write(held, LONGEST, line, out)
 }

@@ -2,14 +2,12 @@
 // answered last stay in a table of their own, from which `(page 1)` prints.
 #![tactic(auto)]
 
-ghost use Rattle.std.specs.Prelude.{◌≤◌, length};
 ghost use Rattle.sessions.specs.Session.{request_of};
-ghost use Rattle.reader.specs.Requests.{from_line, RequestRead};
-ghost use Rattle.answer_text.specs.Room.{answer_bytes};
+ghost use Rattle.answer_text.specs.Answered.{AnswerHeld};
 ghost use Rattle.session_line.specs.Line.{RequestTurned, ServesLine};
 
-use answer_text::ANSWER;
-use answer_text::shown::Shown;
+use answer_text::shown::{Held, Shown};
+use answer_text::{ANSWER, Answer};
 use book_writer::NONE;
 use reader::call::TABLE;
 use reader::request::{RequestLine, read_request};
@@ -24,6 +22,7 @@ mod rows; // a page of the card answered last
 
 // The length of a text as `book_writer::Written` says, the next state, and the card answered last. A lent table of fewer bytes than
 // answer_text::ANSWER is too short, whatever the answer would need: it is zeroed.
+// stays (C): the header declares the number of the refusal, 0 for none, beside the length and the state
 #[repr(C)]
 #[derive(Clone, Copy)]
 pub struct Spoken {
@@ -35,41 +34,47 @@ pub struct Spoken {
 
 // The book's text, a page, or a call.
 fn serve_request(
-    x: State,
-    asked: Option<RequestLine>,
+    held: Held,
     line: &[u8],
     number: u64,
-    shown: Shown,
     cards: &mut [u8; TABLE],
-    out: &mut [u8],
+    out: &mut Answer<'_>,
 ) -> Turn
-    requires request_read { RequestRead (from_line line.now) asked }
-    requires answer_bytes_in_bounds { answer_bytes ≤ length out.old }
-    ensures { RequestTurned x (request_of line.now) number shown cards.old result cards.new out.new }
+    ensures held { AnswerHeld out.old out.new }
+    ensures turned { RequestTurned
+        held.state
+        (request_of line.now)
+        number
+        held.shown
+        cards.old
+        result
+        cards.new
+        out.new.bytes.now }
 {
-    let Some(request) = asked else {
-        return serve_made(x, line, number, shown, cards, out);
+    let Some(request) = read_request(line) else {
+        return serve_made(held, line, number, cards, out);
     };
     match request {
-        RequestLine::Whole => serve_whole(x, number, shown, out),
-        RequestLine::Into(size) => serve_write(x, size, number, shown, out),
-        RequestLine::Page(k) => serve_page(x, k, number, shown, cards, out),
+        RequestLine::Whole => serve_whole(held, number, out),
+        RequestLine::Into(size) => serve_write(held, size, number, out),
+        RequestLine::Page(k) => serve_page(held, k, number, cards, out),
     }
 }
 
 // The line without its byte 10, and its number in the input. In a table of fewer than answer_text::ANSWER bytes nothing is served.
 pub fn serve_line(
-    x: State,
+    held: Held,
     line: &[u8],
     number: u64,
-    shown: Shown,
     cards: &mut [u8; TABLE],
     out: &mut [u8],
 ) -> Spoken
-    ensures { ServesLine x line.now number shown cards.old out.old result cards.new out.new }
+    ensures { ServesLine held.state line.now number held.shown cards.old out.old result cards.new out.new }
 {
     if out.len() < ANSWER {
         cover::clear(out);
+        let x = held.state;
+        let shown = held.shown;
         return Spoken {
             refusal: Refusal::TableTooShort.number(),
             length: 0,
@@ -77,8 +82,8 @@ pub fn serve_line(
             shown: shown,
         };
     }
-    let asked = read_request(line);
-    let turn = serve_request(x, asked, line, number, shown, cards, out);
+    let mut answer = Answer { bytes: out };
+    let turn = serve_request(held, line, number, cards, &mut answer);
     let next = turn.state;
     let last = turn.shown;
     Spoken {

@@ -1,38 +1,41 @@
 // The line that asks for a page of the card answered last: its 24 rows, or 36.
-ghost use Rattle.std.specs.Prelude.{◌≤◌, length};
 ghost use Rattle.sessions.specs.Session.{page_answer};
-ghost use Rattle.writer.specs.Wrote.{Wrote};
-ghost use Rattle.answer_text.specs.Room.{answer_bytes};
+ghost use Rattle.answer_text.specs.Answered.{AnswerHeld, Answered};
 ghost use Rattle.answer_text.specs.Shown.{card_in};
 ghost use Rattle.session_line.specs.Line.{PageTurned, page_rows};
 
+use answer_text::Answer;
 use answer_text::refused::refuse;
-use answer_text::shown::{NO_PAGE, Shown};
+use answer_text::shown::{Held, Shown};
+use page::Card;
 use page::lent::put_first;
 use reader::call::TABLE;
+use refusal::Refusal;
 use serve::Turn;
-use state::State;
 
 // The rows of a page, or 36.
-fn put_rows(out: &mut [u8], table: &[u8], shown: Shown, k: usize, line: u64) -> usize
-    requires { answer_bytes ≤ length out.old }
-    ensures { Wrote out.old 0 (page_rows table.now shown.lines shown.free line k) out.new result }
+fn put_rows(out: &mut Answer<'_>, table: &[u8], shown: Shown, k: usize, line: u64) -> usize
+    ensures { Answered out.old (page_rows table.now shown.lines shown.free line k) out.new result }
 {
-    match page::refusal(table, shown.lines, shown.free, k) {
+    let card = Card {
+        table,
+        lines: shown.lines,
+        free: shown.free,
+    };
+    match page::refusal(card, k) {
         Some(refusal) => refuse(out, refusal.number(), line),
         None => {
-            let p = page::page(table, shown.lines, shown.free, k);
-            put_first(out, p)
+            let p = page::page(card, k);
+            put_first(out.bytes, p)
         }
     }
 }
 
-fn put_shown(out: &mut [u8], cards: &[u8], shown: Shown, k: usize, line: u64) -> usize
-    requires { answer_bytes ≤ length out.old }
-    ensures { Wrote out.old 0 (page_answer (card_in shown cards.now) line k) out.new result }
+fn put_shown(out: &mut Answer<'_>, cards: &[u8], shown: Shown, k: usize, line: u64) -> usize
+    ensures { Answered out.old (page_answer (card_in shown cards.now) line k) out.new result }
 {
     if shown.refusal != 0 {
-        return refuse(out, NO_PAGE, line);
+        return refuse(out, Refusal::NoPage.number(), line);
     }
     let n = shown.size.min(cards.len());
     put_rows(out, &cards[..n], shown, k, line)
@@ -41,17 +44,18 @@ fn put_shown(out: &mut [u8], cards: &[u8], shown: Shown, k: usize, line: u64) ->
 // The state and the card are left.
 #[inline(never)]
 pub fn serve_page(
-    x: State,
+    held: Held,
     k: usize,
     line: u64,
-    shown: Shown,
     cards: &[u8; TABLE],
-    out: &mut [u8],
+    out: &mut Answer<'_>,
 ) -> Turn
-    requires { answer_bytes ≤ length out.old }
-    ensures { PageTurned x k line shown cards.now result out.new }
+    ensures held { AnswerHeld out.old out.new }
+    ensures turned { PageTurned held.state k line held.shown cards.now result out.new.bytes.now }
 {
+    let shown = held.shown;
     let length = put_shown(out, cards, shown, k, line);
+    let x = held.state;
     Turn {
         state: x,
         length: length,

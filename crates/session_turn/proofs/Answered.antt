@@ -14,7 +14,7 @@ use Rattle.session_line.specs.declared.Spoken.{Spoken}
 use Rattle.session_line.specs.Line.{ServesLine}
 use Rattle.session_turn.specs.declared.Session.{Session}
 use Rattle.line_buffer.specs.Numbers.{next_number}
-use Rattle.session_turn.specs.Turns.{Over, line_from, line_at, LineAnswered, last_text, LineEnded, skips, Refilled, LineTurned}
+use Rattle.session_turn.specs.Turns.{Over, line_from, line_at, LineAnswered, last_text, LineEnded, skips, Refilled, LineTurned, LastTurned}
 use Rattle.session_turn.proofs.Served.{spoken_within, spoken_text, spoken_state, spoken_shown}
 
 -- ---- a whole line
@@ -22,11 +22,11 @@ pub start_low : (t : Bool) {at end r : ℕ} → at ≤ end → r ≡ cond t end 
 start_low true h e = omega (arith, e)
 start_low false h e = omega (arith, h, e)
 
-pub line_answered : (s : Session) (held end : ℕ) (text cards d₀ : Bytes) (from : ℕ) → from ≡ line_from s end → {sp : Spoken} {cards' d : Bytes}
+pub line_answered : (s : Session) (end : ℕ) (text cards d₀ : Bytes) (from : ℕ) → from ≡ line_from s end → {sp : Spoken} {cards' d : Bytes}
     → ServesLine s.state (take (end - from) (drop from text)) s.number s.shown cards d₀ sp cards' d → {n : ℕ} → n ≡ next_number s.number
-    → LineAnswered s held end text cards d₀
-    (record { calling = true; over = false; waits = false; skipping = false; at = end + 1; held = held; number = n; length = sp.length; state = sp.state; shown = sp.shown }) cards' d
-line_answered s held end text cards d₀ from e {sp} {cards'} {d} w {n} i =
+    → LineAnswered s end text cards d₀
+    (record { calling = true; over = false; waits = false; skipping = false; at = end + 1; held = length text; number = n; length = sp.length; state = sp.state; shown = sp.shown }) cards' d
+line_answered s end text cards d₀ from e {sp} {cards'} {d} w {n} i =
     record {
       calling = record { calling = refl; over = refl; waits = refl; skipping = refl; at = refl; held = refl; number = i };
       served = λ a y r. record { within = spoken_within line a; text = spoken_text line a y r; state = spoken_state line a y r; shown = spoken_shown line a y r };
@@ -76,21 +76,17 @@ refilled_as s held text {left} {text'} m {long} l {kept} k =
     is = l ∙ ap (λ (j : ℕ). cond s.skipping true (eqb j (length text))) m.0
 
 -- ---- a turn on the lines
-true_false : true ≡ false → ⊥
-true_false e = subst truth e tt
-  where
-    truth : Bool → Type 0
-    truth true = Unit {0}
-    truth false = ⊥
+pub turned_whole : (s : Session) (held : ℕ) (text : Bytes) {cards d₀ : Bytes} {r : Session} {cards' d : Bytes} {end : ℕ} → Piece newline (take held text) s.at end → end < held
+    → LineAnswered s end (take held text) cards d₀ r cards' d → LineTurned s held text cards d₀ r text cards' d
+turned_whole s held text {end = end} p h w = record { end = end; piece = p; whole = λ q. (w, refl); more = λ q. absurd (omega (arith, h, q)) }
 
-module _ (s : Session) (held : ℕ) (ended : Bool) (text : Bytes) {cards d₀ : Bytes} {r : Session} {cards' d : Bytes} {end : ℕ} (p : Piece newline (take held text) s.at end) where
-  pub turned_whole : end < held → LineAnswered s held end text cards d₀ r cards' d → LineTurned s held ended text cards d₀ r text cards' d
-  turned_whole h w = record { end = end; piece = p; whole = λ q. (w, refl); last = λ q e. absurd (omega (arith, h, q)); more = λ q e. absurd (omega (arith, h, q)) }
+pub turned_more : (s : Session) (held : ℕ) (text cards d₀ : Bytes) {r : Session} {text' d : Bytes} {end : ℕ} → Piece newline (take held text) s.at end → held ≤ end → Refilled s held text r text'
+    → LineTurned s held text cards d₀ r text' cards d
+turned_more s held text cards d₀ {end = end} p h w = record { end = end; piece = p; whole = λ q. absurd (omega (arith, h, q)); more = λ q. (w, refl) }
 
-  pub turned_last : held ≤ end → ended ≡ true → LineEnded s held cards d₀ r d → LineTurned s held ended text cards d₀ r text cards' d
-  turned_last h i w = record { end = end; piece = p; whole = λ q. absurd (omega (arith, h, q)); last = λ q e. (w, refl); more = λ q e. absurd (true_false (sym i ∙ e)) }
+module _ (s : Session) (text : Bytes) {cards d₀ : Bytes} {r : Session} {cards' d : Bytes} {end : ℕ} (p : Piece newline text s.at end) where
+  pub last_whole : end < length text → LineAnswered s end text cards d₀ r cards' d → LastTurned s text cards d₀ r cards' d
+  last_whole h w = record { end = end; piece = p; whole = λ q. w; last = λ q. absurd (omega (arith, h, q)) }
 
-pub turned_more : (s : Session) (held : ℕ) (ended : Bool) (text cards d₀ : Bytes) {r : Session} {text' d : Bytes} {end : ℕ} → Piece newline (take held text) s.at end → held ≤ end → ended ≡ false → Refilled s held text r text'
-    → LineTurned s held ended text cards d₀ r text' cards d
-turned_more s held ended text cards d₀ {r} {text'} {d} {end} p h i w =
-    record { end = end; piece = p; whole = λ q. absurd (omega (arith, h, q)); last = λ q e. absurd (true_false (sym e ∙ i)); more = λ q e. (w, refl) }
+  pub last_ended : length text ≤ end → LineEnded s (length text) cards d₀ r d → LastTurned s text cards d₀ r cards' d
+  last_ended h w = record { end = end; piece = p; whole = λ q. absurd (omega (arith, h, q)); last = λ q. w }

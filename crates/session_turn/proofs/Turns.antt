@@ -33,7 +33,7 @@ use Rattle.answer_text.specs.Shown.{card_in}
 use Rattle.answer_text.specs.Room.{answer_bytes}
 use Rattle.session_turn.specs.declared.Session.{Session}
 use Rattle.line_buffer.specs.Numbers.{last_number}
-use Rattle.session_turn.specs.Turns.{Over, WaitsForBook, BookLeft, BookTurned, Served, line_at, LineAnswered, last_text, LineEnded, skips, Refilled, LineTurned, part_in, calls_in, ShowsAs, Shows, Quiet, unused, feed, Ready, Kept, Went, Finished, has_ended, Turned}
+use Rattle.session_turn.specs.Turns.{Over, WaitsForBook, BookLeft, BookTurned, Served, line_at, LineAnswered, last_text, LineEnded, skips, Refilled, LineTurned, LastTurned, part_in, calls_in, ShowsAs, Shows, Quiet, unused, feed, Ready, Kept, Went, Finished, has_ended, Turned}
 use Rattle.session_turn.proofs.Books.{all_book, count_book, count_few}
 use Rattle.session_turn.proofs.Served.{no_request}
 
@@ -262,18 +262,15 @@ module _ (s r : Session) (k : ℕ) (text cards d₀ d : Bytes) (at : s.at ≤ k)
         none_left : pieces_from newline (take k text) (end + 1) ≡ []
         none_left = rw (lt-leb (end + 1) (length (take k text)) (omega (arith, h, whole)))
 
-    asked : (t : Bool) → end < k → then (line_of (grown_by (part_in t) line)) request_of ≡ request_of (take (end - cond t end s.at) (drop (cond t end s.at) text))
+    asked : (t : Bool) → end < k → then (line_of (grown_by (part_in t) line)) request_of ≡ request_of (take (end - cond t end s.at) (drop (cond t end s.at) (take k text)))
     asked true h =
         let z : end - end ≡ 0 = omega arith in
-        ap (λ (x : Part). then (line_of x) request_of) (overlong_stays line) ∙ sym no_request ∙ sym (ap (λ (j : ℕ). request_of (take j (drop end text))) z)
+        ap (λ (x : Part). then (line_of x) request_of) (overlong_stays line) ∙ sym no_request ∙ sym (ap (λ (j : ℕ). request_of (take j (drop end (take k text)))) z)
     asked false h =
-        ap (λ (o : Option Bytes). then o request_of) (whole_line line)
-        ∙ same_request line
-        ∙ ap (λ (u : Bytes). request_of (take (end - s.at) u)) (part_of s.at k text at inside)
-        ∙ ap request_of (take-take (end - s.at) (k - s.at) (drop s.at text) (omega (arith, h)))
+        ap (λ (o : Option Bytes). then o request_of) (whole_line line) ∙ same_request line
 
     abbrev turn : Turn
-    turn = turn_of y (card_in s.shown cards) s.number (request_of (line_at s end text))
+    turn = turn_of y (card_in s.shown cards) s.number (request_of (line_at s end (take k text)))
 
     abbrev next : Serving Left
     next = at_line (suc s.number) (record { state = turn.state; shown = turn.shown })
@@ -286,13 +283,13 @@ module _ (s r : Session) (k : ℕ) (text cards d₀ d : Bytes) (at : s.at ≤ k)
         ∙ ap (λ (o : Option Request). after (turn_of y (card_in s.shown cards) s.number o).text (behind (line_steps serve_call (at_line (suc s.number) (as_answered (turn_of y (card_in s.shown cards) s.number o)).left) (split newline (drop (end + 1) (take k text)))))) (asked s.skipping h)
         ∙ ap (after turn.text) (sym (fed_calls paper next (drop (end + 1) (take k text))))
 
-    answered_went : (cards' : Bytes) → end < k → LineAnswered s k end text cards d₀ r cards' d → s.number + length bytes ≤ last_number → Went s bytes text (calls g) r text cards' d
+    answered_went : (cards' : Bytes) → end < k → LineAnswered s end (take k text) cards d₀ r cards' d → s.number + length bytes ≤ last_number → Went s bytes text (calls g) r text cards' d
     answered_went cards' h w few =
         record {
           left =
               record {
-                at = omega (arith, w.calling.at, w.calling.held, h);
-                held = omega (arith, w.calling.held, inside);
+                at = omega (arith, w.calling.at, w.calling.held, whole, h);
+                held = omega (arith, w.calling.held, whole, inside);
                 room = refl;
                 within = v.within;
                 few = omega (arith, number, ap length same, length-drop (end + 1) (take k text), whole, count, h, p.low);
@@ -310,7 +307,7 @@ module _ (s r : Session) (k : ℕ) (text cards d₀ d : Bytes) (at : s.at ≤ k)
         number = omega (arith, w.calling.number, few, count, h, p.low)
 
         same : drop r.at (take (r.held + 0) text) ≡ drop (end + 1) (take k text)
-        same = let j : r.held + 0 ≡ k = omega (arith, w.calling.held) in λ i. drop (w.calling.at i) (take (j i) text)
+        same = let j : r.held + 0 ≡ k = omega (arith, w.calling.held, whole) in λ i. drop (w.calling.at i) (take (j i) text)
 
         shown : calls_in r cards' turn.state ≡ calls next
         shown = λ i. calls (record { number = number i; part = part_in (w.calling.skipping i); left = record { state = turn.state; shown = v.shown i } })
@@ -399,34 +396,45 @@ module _ (s r : Session) (k : ℕ) (text cards d₀ d : Bytes) (at : s.at ≤ k)
 
 -- ---- a turn
 module _ (s r : Session) (got : ℕ) (text cards d₀ : Bytes) (text' cards' d : Bytes) (reads : s.over ≡ false) where
-  pub turned_lines : s.calling ≡ true → (ended : Bool) → ended ≡ has_ended s got → LineTurned s (s.held + got) ended text cards d₀ r text' cards' d → Turned s got text cards d₀ r text' cards' d
-  turned_lines c ended is t =
+  pub turned_lines : s.calling ≡ true → has_ended s got ≡ false → LineTurned s (s.held + got) text cards d₀ r text' cards' d → Turned s got text cards d₀ r text' cards' d
+  turned_lines c more t =
       record {
         goes = λ n f h w few.
             let v = as_calls s cards reads c h w in
             subst (λ (x : Held). Went s (unused s got text) text x r text' cards' d) (sym v.2)
-            (goes n f v.0 v.1 few (dec_lt t.end (s.held + got)));
+            (goes f v.0 v.1 few (dec_lt t.end (s.held + got)));
+        ends = λ n f h w q. absurd (true_false (sym n ∙ more));
+      }
+    where
+      goes : (f : Ready s got text d₀) → (y : Read) → read_state s.state ≡ some y → s.number + length (unused s got text) ≤ last_number → Dec (t.end < s.held + got) → Went s (unused s got text) text (calls_in s cards y) r text' cards' d
+      goes f y e few (yes h) =
+          subst (λ (u : Bytes). Went s (unused s got text) text (calls_in s cards y) r u cards' d) (sym (t.whole h).1)
+          (answered_went s r (s.held + got) text cards d₀ d (omega (arith, f.at)) f.held f.answer y e t.end t.piece cards' h (t.whole h).0 few)
+      goes f y e few (no h) =
+          subst (λ (u : Bytes). Went s (unused s got text) text (calls_in s cards y) r text' u d) (sym (t.more (omega (arith, h))).1)
+          (refilled s r (s.held + got) text cards d₀ d (omega (arith, f.at)) f.held f.answer y e text' (no_line s r (s.held + got) text cards d₀ d (omega (arith, f.at)) f.held f.answer y e t.end t.piece (omega (arith, h))) f.room (t.more (omega (arith, h))).0 (skips s (s.held + got) (length text)) refl)
+
+  pub turned_last : s.calling ≡ true → has_ended s got ≡ true → text' ≡ text → LastTurned s (take (s.held + got) text) cards d₀ r cards' d → Turned s got text cards d₀ r text' cards' d
+  turned_last c ended same t =
+      record {
+        goes = λ n f h w few. absurd (true_false (sym ended ∙ n));
         ends = λ n f h w q.
             let v = as_calls s cards reads c h w in
             subst (λ (x : Held). Finished s (unused s got text) text x r text' d) (sym v.2)
-            (ends n f v.0 v.1 (subst (λ (x : Held). Quiet x (unused s got text)) v.2 q) (dec_lt t.end (s.held + got)));
+            (ends f v.0 v.1 (subst (λ (x : Held). Quiet x (unused s got text)) v.2 q) (dec_lt t.end (s.held + got)));
       }
     where
-      goes : has_ended s got ≡ false → (f : Ready s got text d₀) → (y : Read) → read_state s.state ≡ some y → s.number + length (unused s got text) ≤ last_number → Dec (t.end < s.held + got) → Went s (unused s got text) text (calls_in s cards y) r text' cards' d
-      goes n f y e few (yes h) =
-          subst (λ (u : Bytes). Went s (unused s got text) text (calls_in s cards y) r u cards' d) (sym (t.whole h).1)
-          (answered_went s r (s.held + got) text cards d₀ d (omega (arith, f.at)) f.held f.answer y e t.end t.piece cards' h (t.whole h).0 few)
-      goes n f y e few (no h) =
-          subst (λ (u : Bytes). Went s (unused s got text) text (calls_in s cards y) r text' u d) (sym (t.more (omega (arith, h)) (is ∙ n)).1)
-          (refilled s r (s.held + got) text cards d₀ d (omega (arith, f.at)) f.held f.answer y e text' (no_line s r (s.held + got) text cards d₀ d (omega (arith, f.at)) f.held f.answer y e t.end t.piece (omega (arith, h))) f.room (t.more (omega (arith, h)) (is ∙ n)).0 (skips s (s.held + got) (length text)) refl)
+      count : Ready s got text d₀ → length (take (s.held + got) text) ≡ s.held + got
+      count f = omega (arith, f.held, length-take (s.held + got) text)
 
-      ends : has_ended s got ≡ true → (f : Ready s got text d₀) → (y : Read) → read_state s.state ≡ some y → split newline (unused s got text) ≡ unused s got text ∷ [] → Dec (t.end < s.held + got) → Finished s (unused s got text) text (calls_in s cards y) r text' d
-      ends n f y e q (yes h) =
+      ends : (f : Ready s got text d₀) → (y : Read) → read_state s.state ≡ some y → split newline (unused s got text) ≡ unused s got text ∷ [] → Dec (t.end < s.held + got) → Finished s (unused s got text) text (calls_in s cards y) r text' d
+      ends f y e q (yes h) =
           absurd (some_left (split newline (drop (t.end + 1) (take (s.held + got) text))) (split_some newline (drop (t.end + 1) (take (s.held + got) text)))
           (tail_of (sym (line_split s r (s.held + got) text cards d₀ d (omega (arith, f.at)) f.held f.answer y e t.end t.piece h) ∙ q)))
-      ends n f y e q (no h) =
-          subst (λ (u : Bytes). Finished s (unused s got text) text (calls_in s cards y) r u d) (sym (t.last (omega (arith, h)) (is ∙ n)).1)
-          (ended_finished s r (s.held + got) text cards d₀ d (omega (arith, f.at)) f.held f.answer y e q (t.last (omega (arith, h)) (is ∙ n)).0)
+      ends f y e q (no h) =
+          subst (λ (u : Bytes). Finished s (unused s got text) text (calls_in s cards y) r u d) (sym same)
+          (ended_finished s r (s.held + got) text cards d₀ d (omega (arith, f.at)) f.held f.answer y e q
+          (subst (λ (k : ℕ). LineEnded s k cards d₀ r d) (count f) (t.last (omega (arith, count f, h)))))
 
   pub turned_book : s.calling ≡ false → (last : Bool) → last ≡ (has_ended s got || eqb (s.held + got) (length text)) → text' ≡ text → BookTurned (take (s.held + got) text) last d₀ r d → Turned s got text cards d₀ r text' cards' d
   turned_book c last is same t =

@@ -102,8 +102,9 @@ line_from s end = cond s.skipping end s.at
 abbrev pub line_at : Session → ℕ → Bytes → Bytes
 line_at s end text = take (end - line_from s end) (drop (line_from s end) text)
 
-pub record LineAnswered (s : Session) (held end : ℕ) (text cards d₀ : Bytes) (r : Session) (cards' d : Bytes) : Type 0 where
-  pub calling : Calling (end + 1) held (next_number s.number) false false r
+-- the line of the held text that ends there
+pub record LineAnswered (s : Session) (end : ℕ) (text cards d₀ : Bytes) (r : Session) (cards' d : Bytes) : Type 0 where
+  pub calling : Calling (end + 1) (length text) (next_number s.number) false false r
   pub served : answer_bytes ≤ length d₀ → (y : Read) → read_state s.state ≡ some y → Served (turn_of y (card_in s.shown cards) s.number (request_of (line_at s end text))) r cards' d
 
 abbrev pub last_text : Bool → Bytes → Bytes
@@ -125,12 +126,19 @@ pub record Refilled (s : Session) (held : ℕ) (text : Bytes) (r : Session) (tex
   pub size : length text' ≡ length text
   pub front : take (held - s.at) text' ≡ take (held - s.at) (drop s.at text)
 
-pub record LineTurned (s : Session) (held : ℕ) (ended : Bool) (text cards d₀ : Bytes) (r : Session) (text' cards' d : Bytes) : Type 0 where
+-- where the input has not ended
+pub record LineTurned (s : Session) (held : ℕ) (text cards d₀ : Bytes) (r : Session) (text' cards' d : Bytes) : Type 0 where
   pub end : ℕ
   pub piece : Piece newline (take held text) s.at end
-  pub whole : end < held → LineAnswered s held end text cards d₀ r cards' d × (text' ≡ text)
-  pub last : held ≤ end → ended ≡ true → LineEnded s held cards d₀ r d × (text' ≡ text)
-  pub more : held ≤ end → ended ≡ false → Refilled s held text r text' × (cards' ≡ cards)
+  pub whole : end < held → LineAnswered s end (take held text) cards d₀ r cards' d × (text' ≡ text)
+  pub more : held ≤ end → Refilled s held text r text' × (cards' ≡ cards)
+
+-- where it has: of the held text
+pub record LastTurned (s : Session) (text cards d₀ : Bytes) (r : Session) (cards' d : Bytes) : Type 0 where
+  pub end : ℕ
+  pub piece : Piece newline text s.at end
+  pub whole : end < length text → LineAnswered s end text cards d₀ r cards' d
+  pub last : length text ≤ end → LineEnded s (length text) cards d₀ r d
 
 -- ---- a turn
 -- what the definition holds before the bytes that are not used yet

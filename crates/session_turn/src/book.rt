@@ -1,5 +1,5 @@
 // The book at the start of the input.
-ghost use Rattle.std.specs.Prelude.{◌≤◌, length};
+ghost use Rattle.std.specs.Prelude.{◌≤◌, true, false, length};
 ghost use Rattle.layout.specs.Output.{refusal_text};
 ghost use Rattle.session_turn.specs.Turns.{Ends, BookOpened, BookClosed, BookTurned, WaitsForBook};
 
@@ -74,15 +74,22 @@ pub fn wait(held: usize) -> Session
     }
 }
 
-// Of the last bytes no more can be read behind them.
-pub fn book_turn(text: &[u8], last: bool, answer: &mut [u8]) -> Session
-    ensures { BookTurned text.now last answer.old result answer.new }
+// The book's end, or more of it is to be read.
+pub fn book_turn(text: &[u8], answer: &mut [u8]) -> Session
+    ensures { BookTurned text.now false answer.old result answer.new }
 {
-    if let Some(end) = book_end(text) {
-        return open_book(text, end, answer);
+    match book_end(text) {
+        Some(end) => open_book(text, end, answer),
+        None => wait(text.len()),
     }
-    if last {
-        return close_book(text, answer);
+}
+
+// .. of the last bytes: more cannot be read behind them.
+pub fn last_book_turn(text: &[u8], answer: &mut [u8]) -> Session
+    ensures { BookTurned text.now true answer.old result answer.new }
+{
+    match book_end(text) {
+        Some(end) => open_book(text, end, answer),
+        None => close_book(text, answer),
     }
-    wait(text.len())
 }

@@ -5,8 +5,8 @@
 ghost use Rattle.session_turn.specs.Turns.{Turned, Over, started};
 
 use answer_text::shown::{Shown, no_card};
-use book::{book_turn, wait};
-use lines::line_turn;
+use book::{book_turn, last_book_turn, wait};
+use lines::{last_turn, line_turn};
 use reader::call::TABLE;
 use state::State;
 
@@ -85,8 +85,14 @@ pub fn turn(
     let held = s.held + got;
     let ended = s.waits && got == 0;
     if s.calling {
-        return line_turn(s, held, ended, text, cards, answer);
+        if ended {
+            return last_turn(s, &text[..held], cards, answer);
+        }
+        return line_turn(s, held, text, cards, answer);
     }
     let last = ended || held == text.len();
-    book_turn(&text[..held], last, answer)
+    if last {
+        return last_book_turn(&text[..held], answer);
+    }
+    book_turn(&text[..held], answer)
 }

@@ -32,7 +32,7 @@ fn committed(used: [u32; BOOKS], total: u32) -> u64
 
 // The visits that a call may use. "A call may use what remains of its own floor, plus what is neither used nor still owed to any floor." "a place
 // without a book, or outside 1 to 8, is 38", before all else; then "a state whose visits used and still owed together exceed T is 22".
-// stays (no plainer): `book` is what the caller knows of the place, and no step is chosen by it
+// stays (no plainer): whether a book stands at the place is a fact about it, judged first as the place's bounds are; no other step asks it
 pub fn allowance(used: [u32; BOOKS], total: u32, place: usize, book: bool) -> Result<u32, Refusal>
     ensures { result ≡ share_of total used place book }
 {
@@ -73,7 +73,7 @@ fn stop(own: u32, may: u32) -> Refusal
 }
 
 // The number of a call's refusal at its place, from that of the call under the limit; 0 where there is none.
-// stays (C): the number of a call is given as other languages read it
+// stays (no plainer): it takes and gives the number of any call's answer, 0 with them, as `stop_as` does
 pub fn refusal(number: u16, own: u32, may: u32) -> u16
     ensures { result ≡ stop_as (stop_number own may) number }
 {

@@ -1,7 +1,6 @@
 -- The links of rows: without the oldest row, and with one row more.
 use Prim.Native.Nat.{ℕ, suc, ◌+◌, ◌*◌, ◌%◌, ◌≤◌, ◌<◌}
 use native.Mathlib.Omega.{arith}
-use native.Mathlib.Numerals.{add-one}
 use mathlib.Core.Path.{◌≡◌, refl, sym, ap, subst, ◌∙◌}
 use mathlib.Core.Logic.{◌⊎◌, inl, inr}
 use mathlib.Core.Bool.{Bool, true, false, cond}
@@ -54,11 +53,6 @@ linked_drop slots links base x rows l = record {
 -- ---- the links after a row with the last code `code` was put into a slot
 abbrev pub relinked : List ℕ → ℕ → ℕ → ℕ → List ℕ
 relinked links code slot n = set (set (set links (suc code_count + slot) (get_or links code 0)) code (suc n)) code_count (suc n)
-
--- as the code writes them
-pub relinked_as : (links : List ℕ) (code slot n : ℕ)
-    → set (set (set links (suc code_count + slot) (get_or links code 0)) code (n + 1)) code_count (n + 1) ≡ relinked links code slot n
-relinked_as links code slot n = ap (λ (k : ℕ). set (set (set links (suc code_count + slot) (get_or links code 0)) code k) code_count k) (add-one n)
 
 module _ (links : List ℕ) (code slot n : ℕ) (low : code < code_count) (within : suc code_count + slot < length links) where
   abbrev first : List ℕ

@@ -10,7 +10,7 @@ use mathlib.Core.Option.{none, some}
 use lib.ListN.{length, get_or, take, drop, length-drop}
 use lib.Seq.{length-take-le}
 use Rattle.theory.proofs.Basics.{le_or_lt}
-use borrow.Author.Tests.{lt-ltb, le-ltb}
+use borrow.Author.Tests.{lt-ltb}
 use Rattle.tables.specs.Shelves.{length_at, row_at, found_at, Shelf}
 
 -- a slot ends before a later one begins
@@ -30,10 +30,6 @@ module _ {stride slots : ℕ} {cells links : List ℕ} (shelf : Shelf stride slo
   -- they lie within the table
   pub slot_within : j * suc stride + suc stride ≤ length cells
   slot_within = rw shelf.room (slot_end (suc stride) j slots low)
-
-  -- as the code has it
-  pub from_below : j * (stride + 1) + (stride + 1) ≤ slots * suc stride
-  from_below = omega (arith, slot_end (suc stride) j slots low)
 
   pub from_is : j * (stride + 1) ≡ j * suc stride
   from_is = omega arith
@@ -69,6 +65,3 @@ module _ {stride slots : ℕ} {cells links : List ℕ} (shelf : Shelf stride slo
 module _ (stride slots : ℕ) (cells : List ℕ) (r : ℕ) where
   pub slot_row : r < slots → found_at stride slots cells r ≡ some (row_at stride cells r)
   slot_row low = ap (λ (b : Bool). cond b (some (row_at stride cells r)) none) (lt-ltb r slots low)
-
-  pub slot_none : slots ≤ r → found_at stride slots cells r ≡ none
-  slot_none high = ap (λ (b : Bool). cond b (some (row_at stride cells r)) none) (le-ltb r slots high)

@@ -153,8 +153,3 @@ module _ (stride slots : ℕ) (cells row : List ℕ) (s : ℕ) (room : length ce
 module _ (d row : List ℕ) (at v : ℕ) (d' : List ℕ) (is : d' ≡ paste (set d at v) (at + 1) row (length row)) where
   pub put_is : d' ≡ paste (set d at v) (suc at) row (length row)
   put_is = is ∙ ap (λ (k : ℕ). paste (set d at v) k row (length row)) (add-one at)
-
-  pub put_long : at + suc (length row) ≤ length d → length d' ≡ length d
-  put_long h =
-      let z : length (set d at v) ≡ length d = length-set d at v in
-      ap length is ∙ length-paste (set d at v) (at + 1) row (length row) (omega arith) (omega arith) ∙ z

@@ -4,17 +4,20 @@ ghost use Rattle.std.proofs.Math.Seq.{paste};
 ghost use Rattle.qbf.specs.Formula.{paper};
 ghost use Rattle.qbf.specs.Learning.{push};
 ghost use Rattle.tables.specs.Codes.{last_code};
-ghost use Rattle.tables.specs.Shelves.{code_count};
-ghost use Rattle.shelf.specs.Standing.{Kept, rows, newest, Room};
+ghost use Rattle.tables.specs.Shelves.{shelf_rows, newest_of, code_count};
+ghost use Rattle.shelf.specs.Linked.{Agree};
+ghost use Rattle.shelf.specs.Standing.{rows, newest, Room};
 
 use crate::Shelf;
 use coding::list::last_code;
 
 // The slot that the row after the newest takes.
-fn next_slot(newest: u64) -> usize
-    ensures { (result ≡ newest % paper.constraints) × (result < paper.constraints) }
+// stays (no plainer): `0 < slots` is asked of the one number that a remainder divides by
+fn next_slot(newest: u64, slots: usize) -> usize
+    requires { 0 < slots }
+    ensures { (result ≡ newest % slots) × (result < slots) }
 {
-    (newest % tables::CONSTRAINTS as u64) as usize
+    (newest % slots as u64) as usize
 }
 
 // A row's length, then its codes.
@@ -27,6 +30,7 @@ fn write_row<'a>(cells: &mut [u16], at: usize, row: &'a [u16])
     cells[at + 1..at + 1 + row.len()].copy_from_slice(row);
 }
 
+// stays (no plainer): `code < code_count` is of one cell: a type for it would be taken off at each table that is read by it and put on at each cell of a row.
 // The new row is the newest of all and of those that end in its last code; the one that was is the next older.
 fn write_links(links: &mut [u64], code: u16, slot: usize, newest: u64)
     requires { (suc code_count + slot < length links.old) × (slot < 65536) × (newest < 2 ^ 63) × (code < code_count) }
@@ -41,21 +45,43 @@ fn write_links(links: &mut [u64], code: u16, slot: usize, newest: u64)
     links[tables::CODES] = newest + 1;
 }
 
+// One row more, in lent tables of any width and for any number of rows. It takes the slot of its number, which is that of the oldest row where all slots
+// are taken, and which is handed back.
+// stays (no plainer): both tables are written in turn, and agree again only at the end; a struct that keeps the fact lends neither alone
+pub fn push(cells: &mut [u16], links: &mut [u64], stride: usize, slots: usize, row: &[u16]) -> usize
+    requires { Agree stride slots cells.old links.old
+        × (0 < slots)
+        × (stride < 256)
+        × (slots * suc stride < 65536)
+        × (length row.now ≤ stride)
+        × (last_code row.now < code_count)
+        × (newest_of links.old < 2 ^ 63) }
+    ensures { Agree stride slots cells.new links.new
+        × (shelf_rows stride slots cells.new links.new
+        ≡ push slots row.now (shelf_rows stride slots cells.old links.old))
+        × (newest_of links.new ≡ suc (newest_of links.old))
+        × (result < slots)
+        × (take (length row.now) (drop (suc (result * suc stride)) cells.new) ≡ row.now) }
+{
+    let newest = links[tables::CODES];
+    let slot = next_slot(newest, slots);
+    let code = last_code(row);
+    write_row(cells, slot * (stride + 1), row);
+    write_links(links, code, slot, newest);
+    slot
+}
+
 impl Shelf {
-    // One row more. It takes the slot of its number, which is that of the oldest row where all slots are taken, and which is handed back.
+    // stays (no plainer): `length row ≤ paper.numbers` is of a part of a table, and a slice keeps no fact
+    // One row more, in the shelf's own tables.
     pub fn push<'a>(&mut self, row: &'a [u16]) -> usize
-        requires { Kept self.old × (length row.now ≤ paper.numbers) × (last_code row.now < code_count) × Room self.old }
-        ensures { Kept self.new
-            × (rows self.new ≡ push paper.constraints row.now (rows self.old))
+        requires { (length row.now ≤ paper.numbers) × (last_code row.now < code_count) × Room self.old }
+        ensures { (rows self.new ≡ push paper.constraints row.now (rows self.old))
             × (newest self.new ≡ suc (newest self.old))
             × (result < paper.constraints)
             × (take (length row.now) (drop (suc (result * suc paper.numbers)) self.new.cells) ≡ row.now) }
     {
-        let newest = self.links[tables::CODES];
-        let slot = next_slot(newest);
-        let code = last_code(row, row.len());
-        write_row(&mut self.cells, slot * (tables::NUMBERS + 1), row);
-        write_links(&mut self.links, code, slot, newest);
-        slot
+        let (stride, slots) = (tables::NUMBERS, tables::CONSTRAINTS);
+        push(&mut self.cells, &mut self.links, stride, slots, row)
     }
 }

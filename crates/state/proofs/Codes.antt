@@ -6,7 +6,7 @@ use native.Mathlib.Omega.{arith}
 use mathlib.Core.Path.{◌≡◌, refl, sym, ap, ◌∙◌}
 use mathlib.Core.Logic.{◌⊎◌, inl, inr}
 use mathlib.Core.List.{List, ◌∷◌}
-use lib.ListN.{length, get_or, set, drop, length-set, length-map, get_or-eq_default, drop_of_length-le}
+use lib.ListN.{length, get_or, set, drop, length-set, length-map, get_or-eq_default}
 use lib.Seq.{drop-cons, get_or-set_same, get_or-set_other}
 use lib.IntN.{pos}
 use mathlib.Core.Bool.{true}
@@ -34,9 +34,6 @@ pub record Coded (ls ks places table : List ℕ) (n : ℕ) : Type 0 where
   pub passed : (m : ℕ) → m < n → get_or table m 0 ≡ code_for ls ks (get_or places m 0)
 
 module _ (ls ks places : List ℕ) where
-  pub coded_none : {table : List ℕ} → length table ≡ length places → Coded ls ks places table 0
-  coded_none h = record { room = h; passed = λ m h. absurd (not-suc-le-zero h) }
-
   module _ {table : List ℕ} {n : ℕ} (w : Coded ls ks places table n) where
     pub coded_more : n < length table → {p v : ℕ} → p ≡ get_or places n 0 → v ≡ code_for ls ks p → Coded ls ks places (set table n v) (n + 1)
     coded_more h {p} {v} is reads =
@@ -70,15 +67,7 @@ pub record Freed (ns ls ks : List ℕ) (count i : ℕ) : Type 0 where
   pub whole : count ≡ get_or ns 0 0
   pub judged : (D : Prefix) → Numbers D ns → Quantified D ls ks → free_variables D ≡ i + free_count (drop i (quantifiers D))
 
-pub freed_none : (ns ls ks : List ℕ) {count : ℕ} → count ≡ get_or ns 0 0 → Freed ns ls ks count 0
-freed_none ns ls ks w = record { whole = w; judged = λ D shown kinds. omega arith }
-
 module _ {ns ls ks : List ℕ} {count i : ℕ} (w : Freed ns ls ks count i) where
-  pub freed_end : count ≤ i → (D : Prefix) → Numbers D ns → Quantified D ls ks → i ≡ free_variables D
-  freed_end h D shown kinds =
-      let e : free_count (drop i (quantifiers D)) ≡ 0 = ap free_count (drop_of_length-le (quantifiers D) {i = i} (omega (arith, h, w.whole, shown.count, kinds_long D))) in
-      omega (arith, w.judged D shown kinds, e)
-
   -- k is the code of the next place
   module _ (more : i < count) {k : ℕ} (is : k ≡ code_for ls ks (i + 1)) where
     next : (D : Prefix) → Numbers D ns → drop i (quantifiers D) ≡ quantifier_at D (suc i) ∷ drop (suc i) (quantifiers D)
@@ -87,20 +76,10 @@ module _ {ns ls ks : List ℕ} {count i : ℕ} (w : Freed ns ls ks count i) wher
     code : (D : Prefix) → Numbers D ns → Quantified D ls ks → k ≡ quantifier_code (quantifier_at D (suc i))
     code D shown kinds = is ∙ ap (code_for ls ks) (add-one i) ∙ kinds.at i (omega (arith, more, w.whole, shown.count))
 
-    bound_stops : (κ : Quantifier) (rest : List Quantifier) → (quantifier_code κ ≡ 0 → ⊥) → free_count (κ ∷ rest) ≡ 0
-    bound_stops free rest n = absurd (n refl)
-    bound_stops exists rest n = refl
-    bound_stops forall rest n = refl
-
     free_counts : (κ : Quantifier) (rest : List Quantifier) → quantifier_code κ ≡ 0 → free_count (κ ∷ rest) ≡ suc (free_count rest)
     free_counts free rest e = refl
     free_counts exists rest e = absurd (not-suc-le-zero {n = 0} (omega (arith, e)))
     free_counts forall rest e = absurd (not-suc-le-zero {n = 0} (omega (arith, e)))
-
-    pub freed_stop : (k ≡ 0 → ⊥) → (D : Prefix) → Numbers D ns → Quantified D ls ks → i ≡ free_variables D
-    freed_stop n D shown kinds =
-        let e : free_count (drop i (quantifiers D)) ≡ 0 = ap free_count (next D shown) ∙ bound_stops (quantifier_at D (suc i)) (drop (suc i) (quantifiers D)) (λ z. n (code D shown kinds ∙ z)) in
-        omega (arith, w.judged D shown kinds, e)
 
     pub freed_more : k ≡ 0 → Freed ns ls ks count (i + 1)
     freed_more z =

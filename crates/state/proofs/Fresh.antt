@@ -1,20 +1,18 @@
 -- The numbers of a prefix, each 1 to the limit and none twice, and the table of their places as it is filled from the first on.
 use Prim.Native.Nat.{ℕ, zero, suc, ◌+◌, ◌-◌, ◌≤◌, ◌<◌}
 use native.Mathlib.Numerals.{add-one}
-use native.Mathlib.Nat.{not-suc-le-zero}
 use native.Mathlib.Omega.{arith}
 use mathlib.Core.Path.{◌≡◌, refl, sym, ap, ◌∙◌, subst}
 use mathlib.Core.Logic.{◌⊎◌, inl, inr}
 use mathlib.Core.Bool.{Bool, true, false, cond, not, ◌&&◌, ◌||◌, false≢true}
 use mathlib.Core.List.{List, [], ◌∷◌, map}
-use lib.ListN.{length, get_or, set, length-set, length-map, get_or-eq_default}
+use lib.ListN.{length, get_or, set, length-set, length-map}
 use lib.Seq.{ext_get_or, get_or-set_same, get_or-set_other}
 use lib.Dec.{leb, eqb}
 use borrow.Author.Tests.{eqb-true, eqb-false, ne_eqb, leb-true, le-leb, lt-leb, not-true, not-false}
-use borrow.Author.Count.{below_more}
 use Rattle.qbf.specs.Formula.{Limits, Prefix, any, place_from, place_of}
 use Rattle.qbf.specs.Calls.{numbers_are_ok}
-use Rattle.theory.proofs.Basics.{dichotomy, and_left, and_right, le_or_lt}
+use Rattle.theory.proofs.Basics.{dichotomy, and_left, and_right}
 use Rattle.theory.proofs.Widths.{prefix_width}
 use Rattle.tables.specs.Views.{Numbers}
 use Rattle.state.specs.Reading.{listing, entry_at, entries}
@@ -221,12 +219,6 @@ pub record Filling (most : ℕ) (ns : List ℕ) (count : ℕ) (places : List ℕ
   pub few : count ≤ most
   pub filled : Filled most ns places i
 
-pub filling_many : {most : ℕ} {ns : List ℕ} {count : ℕ} (places : List ℕ) → count ≡ get_or ns 0 0 → most < count → (L : Limits) → L.numbers ≡ most → Placing L ns false places
-filling_many {ns = ns} places w h L e = many L ns places (omega (arith, w, h, e))
-
-pub filling_none : {most : ℕ} {ns : List ℕ} {count : ℕ} {n : ℕ} {places : List ℕ} → n ≡ suc most → Cleared n places → count ≡ get_or ns 0 0 → count ≤ most → Filling most ns count places 0
-filling_none {most} {ns} s t w h = record { whole = w; few = h; filled = filled_none most ns s t }
-
 pub filling_end : {most : ℕ} {ns : List ℕ} {count : ℕ} {places : List ℕ} {i : ℕ} → Filling most ns count places i → count ≤ i → (L : Limits) → L.numbers ≡ most → Placing L ns true places
 filling_end {ns = ns} {places = places} {i = i} f h L e =
     ended L ns (omega (arith, f.few, f.whole, e)) places i (subst (λ (m : ℕ). Filled m ns places i) (sym e) f.filled) (omega (arith, f.whole, h))
@@ -253,9 +245,6 @@ module _ {most : ℕ} {ns : List ℕ} {count : ℕ} {places : List ℕ} {i n : �
       (omega (arith, t.filling.few, t.filling.whole, q))
       places
       (ap (λ (m : ℕ). fresh m [] (entries ns)) q ∙ bad most ns places i t.filling.filled further (test (not-true r e)))
-
-  pub tested_within : not r ≡ false → n ≤ most
-  tested_within e = subst (λ (m : ℕ). m ≤ most) (sym t.is) (within most ns places i t.filling.filled further (test (not-false r e)))
 
   pub tested_more : not r ≡ false → Filling most ns count (set places n (i + 1)) (i + 1)
   tested_more e =

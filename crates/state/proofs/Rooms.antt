@@ -1,49 +1,24 @@
 -- Lent tables: whether each has room for what the limits allow.
-use Prim.Native.Nat.{ℕ, suc, ◌+◌, ◌*◌, ◌/◌, ◌≤◌, ◌<◌}
+use Prim.Native.Nat.{ℕ, suc, ◌+◌, ◌*◌, ◌≤◌}
 use native.Mathlib.Omega.{arith}
-use native.Mathlib.Nat.{le-div_iff_mul-le, div-lt_iff_lt-mul}
-use mathlib.Core.Path.{◌≡◌, sym, ap, ◌∙◌}
-use mathlib.Core.Logic.{◌⊎◌, inl, inr}
+use mathlib.Core.Path.{◌≡◌, sym, ap}
 use mathlib.Core.Bool.{Bool, true, false, ◌&&◌}
 use mathlib.Core.List.{List}
 use lib.ListN.{length}
 use lib.Dec.{leb}
 use lib.IntN.{ℤ}
 use borrow.Author.Tests.{le-leb, lt-leb, leb-true}
-use Rattle.qbf.specs.Formula.{Limits, paper, highest}
-use Rattle.qbf.specs.Calls.{limits_are_ok}
-use Rattle.theory.proofs.Basics.{and_left, and_right, and_both, le_or_lt}
+use Rattle.qbf.specs.Formula.{Limits, paper}
+use Rattle.theory.proofs.Basics.{and_left, and_right, and_both}
 use Rattle.state.specs.declared.State.{State}
-use Rattle.state.specs.Reading.{prefix_roomy, rows_roomy, own, roomy}
+use Rattle.state.specs.Reading.{prefix_roomy, rows_roomy, roomy}
 use Rattle.state.specs.Derived.{Sized, Roomy}
 
 -- ---- as it is tested: without the product, which may be too large for a number
-pub holds_none : (len rows w : ℕ) → w ≡ 0 → true ≡ leb (rows * w) len
-holds_none len rows w e = sym (ap (λ (n : ℕ). leb (rows * n) len) e ∙ le-leb (rows * 0) len (omega arith))
-
-pub holds_rows : (len rows w : ℕ) → (w ≡ 0 → ⊥) → leb rows (len / w) ≡ leb (rows * w) len
-holds_rows len rows w n = by (le_or_lt rows (len / w))
-  where
-    some : 0 < w
-    some = omega (arith, n)
-
-    by : (rows ≤ len / w) ⊎ (len / w < rows) → leb rows (len / w) ≡ leb (rows * w) len
-    by (inl h) = le-leb rows (len / w) h ∙ sym (le-leb (rows * w) len ((le-div_iff_mul-le {k = w} {x = rows} {y = len} some).0 h))
-    by (inr h) = lt-leb rows (len / w) h ∙ sym (lt-leb (rows * w) len ((div-lt_iff_lt-mul {k = w} {x = len} {y = rows} some).0 h))
 
 module _ (n : ℕ) (ns ls ks : List ℕ) where
   pub numbers_short : length ns ≤ n → false ≡ prefix_roomy n ns ls ks
   numbers_short h = sym (ap (λ (q : Bool). q && leb (suc n) (length ls) && leb (suc n) (length ks)) (lt-leb (suc n) (length ns) (omega (arith, h))))
-
-  module _ (h : n < length ns) where
-    numbers_held : prefix_roomy n ns ls ks ≡ (leb (suc n) (length ls) && leb (suc n) (length ks))
-    numbers_held = ap (λ (q : Bool). q && leb (suc n) (length ls) && leb (suc n) (length ks)) (le-leb (suc n) (length ns) h)
-
-    pub levels_short : length ls ≤ n → false ≡ prefix_roomy n ns ls ks
-    levels_short k = sym (numbers_held ∙ ap (λ (q : Bool). q && leb (suc n) (length ks)) (lt-leb (suc n) (length ls) (omega (arith, k))))
-
-    pub kinds_left : n < length ls → leb (suc n) (length ks) ≡ prefix_roomy n ns ls ks
-    kinds_left k = sym (numbers_held ∙ ap (λ (q : Bool). q && leb (suc n) (length ks)) (le-leb (suc n) (length ls) k))
 
 -- ---- what it says
 pub rows_room : (stride capacity : ℕ) (flat : List ℤ) (sizes : List ℕ) → capacity * stride ≤ length flat → suc capacity ≤ length sizes → rows_roomy stride capacity flat sizes ≡ true
@@ -130,11 +105,3 @@ sized_room s =
       learned_cubes_room = omega (arith, s.learned_cubes_room);
       learned_cube_sizes_room = omega (arith, s.learned_cube_sizes_room);
     }
-
--- ---- limits: as they are tested
-module _ (n m : ℕ) where
-  pub high_numbers : highest.numbers < n → limits_are_ok (own n m) ≡ false
-  high_numbers h = ap (λ (q : Bool). q && leb m highest.clauses) (lt-leb n highest.numbers h)
-
-  pub low_numbers : n ≤ highest.numbers → limits_are_ok (own n m) ≡ leb m highest.clauses
-  low_numbers h = ap (λ (q : Bool). q && leb m highest.clauses) (le-leb n highest.numbers h)

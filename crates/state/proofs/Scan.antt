@@ -46,9 +46,6 @@ module _ (w : ℕ) (flat : List ℤ) (sizes : List ℕ) where
     abbrev pub table_ok : ℕ → Bool
     table_ok most = rows_fit w most sizes && all f (rows_of w flat sizes)
 
-    table_many : (most : ℕ) → most < get_or sizes 0 0 → false ≡ table_ok most
-    table_many most h = sym (ap (λ (x : Bool). x && at_most w (entries sizes) && all f (rows_of w flat sizes)) (lt-leb (get_or sizes 0 0) most h))
-
     table_rows : (most : ℕ) → get_or sizes 0 0 ≤ most → table_ok most ≡ rows_from 0 (get_or sizes 0 0)
     table_rows most h =
         ap (λ (x : Bool). x && at_most w (entries sizes) && all f (rows_of w flat sizes)) (le-leb (get_or sizes 0 0) most h)
@@ -62,18 +59,10 @@ pub record Scanning {P : Type 0} (shown : P → Type 0) (f : P → List ℤ → 
   pub judged : (D : P) → shown D → table_ok w flat sizes (f D) most ≡ rows_from w flat sizes (f D) i (count - i)
 
 module _ {P : Type 0} (shown : P → Type 0) (f : P → List ℤ → Bool) (w most : ℕ) (flat : List ℤ) (sizes : List ℕ) {count : ℕ} (whole : count ≡ get_or sizes 0 0) where
-  pub scanning_many : most < count → (D : P) → shown D → false ≡ table_ok w flat sizes (f D) most
-  scanning_many h D s = table_many w flat sizes (f D) most (omega (arith, h, whole))
-
   pub scanning_none : count ≤ most → Scanning shown f w most flat sizes count 0
   scanning_none h =
       let e : get_or sizes 0 0 ≡ count - 0 = omega (arith, whole) in
       record { whole = whole; few = h; judged = λ D s. table_rows w flat sizes (f D) most (omega (arith, h, whole)) ∙ ap (rows_from w flat sizes (f D) 0) e }
-
-pub scanning_end : {P : Type 0} {shown : P → Type 0} {f : P → List ℤ → Bool} {w most : ℕ} {flat : List ℤ} {sizes : List ℕ} {count i : ℕ} → Scanning shown f w most flat sizes count i
-    → count ≤ i → (D : P) → shown D → true ≡ table_ok w flat sizes (f D) most
-scanning_end {f = f} {w = w} {flat = flat} {sizes = sizes} {count = count} {i = i} v h D s =
-    let e : count - i ≡ 0 = omega arith in sym (v.judged D s ∙ ap (rows_from w flat sizes (f D) i) e)
 
 -- the length of the next row, read as n
 pub record SizeRead {P : Type 0} (shown : P → Type 0) (f : P → List ℤ → Bool) (w most : ℕ) (flat : List ℤ) (sizes : List ℕ) (count i n : ℕ) : Type 0 where

@@ -8,7 +8,7 @@ use mathlib.Core.Bool.{Bool, true, false, cond, not, ◌&&◌}
 use mathlib.Core.List.{List, [], ◌∷◌}
 use lib.ListN.{get_or}
 use lib.Dec.{leb, eqb}
-use borrow.Author.Tests.{eqb-true, eq-eqb, ne_eqb, leb-true, le-leb, lt-leb, not-true, not-false}
+use borrow.Author.Tests.{eqb-true, leb-true, le-leb, lt-leb, not-true, not-false}
 use Rattle.qbf.specs.Formula.{Limits, Quantifier, free, exists, forall, is_free, same_quantifier, quantifiers, level_beside, levels_from, levels}
 use Rattle.qbf.specs.Calls.{free_first, no_free}
 use Rattle.theory.proofs.Basics.{dichotomy, and_left}
@@ -56,44 +56,6 @@ module _ (m a b : ℕ) (h : a ≤ 2) (k : b ≤ 2) (n : b ≡ 0 → ⊥) where
       ∙ sym
       (ap (λ (x : Bool). cond x 0 (cond (same_quantifier (quantifier_of a) (quantifier_of b)) m (suc m))) (not_free b n)
       ∙ ap (λ (x : Bool). cond x m (suc m)) (beside_other a b h k n e))
-
-ordered_free : (b : ℕ) (κ : Quantifier) → b ≡ 0 → ordered (quantifier_of b) κ ≡ true
-ordered_free b κ e = ap (λ n. ordered (quantifier_of n) κ) e
-
-ordered_after : (b k : ℕ) → (b ≡ 0 → ⊥) → ordered (quantifier_of b) (quantifier_of k) ≡ not (is_free (quantifier_of k))
-ordered_after zero k n = absurd (n refl)
-ordered_after (suc zero) k n = refl
-ordered_after (suc (suc b)) k n = refl
-
-free_code : (k : ℕ) → not (eqb k 0) ≡ not (is_free (quantifier_of k))
-free_code zero = refl
-free_code (suc zero) = refl
-free_code (suc (suc k)) = ap not (ne_eqb (suc (suc k)) 0 (λ e. omega (arith, e)))
-
--- g is the level that the quantifier gives
-module _ (m b l k : ℕ) where
-  pub step_code : 2 < k → false ≡ step_is_ok m b l k
-  step_code h =
-      sym (ap (λ (x : Bool). x && (eqb (level_beside m (quantifier_of b) (quantifier_of k)) l && ordered (quantifier_of b) (quantifier_of k))) (lt-leb k 2 h))
-
-  module _ (h : k ≤ 2) {g : ℕ} (is : g ≡ level_beside m (quantifier_of b) (quantifier_of k)) where
-    step_is : step_is_ok m b l k ≡ (eqb g l && ordered (quantifier_of b) (quantifier_of k))
-    step_is =
-        ap (λ (x : Bool). x && (eqb (level_beside m (quantifier_of b) (quantifier_of k)) l && ordered (quantifier_of b) (quantifier_of k))) (le-leb k 2 h)
-        ∙ ap (λ (n : ℕ). eqb n l && ordered (quantifier_of b) (quantifier_of k)) (sym is)
-
-    pub step_level : (g ≡ l → ⊥) → false ≡ step_is_ok m b l k
-    step_level n = sym (step_is ∙ ap (λ (x : Bool). x && ordered (quantifier_of b) (quantifier_of k)) (ne_eqb g l n))
-
-    module _ (e : g ≡ l) where
-      step_order : step_is_ok m b l k ≡ ordered (quantifier_of b) (quantifier_of k)
-      step_order = step_is ∙ ap (λ (x : Bool). x && ordered (quantifier_of b) (quantifier_of k)) (eq-eqb g l e)
-
-      pub step_free : b ≡ 0 → true ≡ step_is_ok m b l k
-      step_free z = sym (step_order ∙ ordered_free b (quantifier_of k) z)
-
-      pub step_after : (b ≡ 0 → ⊥) → not (eqb k 0) ≡ step_is_ok m b l k
-      step_after n = free_code k ∙ sym (step_order ∙ ordered_after b k n)
 
 -- ---- all places
 abbrev pub order_from : Quantifier → List Quantifier → Bool
@@ -179,10 +141,6 @@ module _ (L : Limits) (ns ls ks : List ℕ) where
       ap (λ (x : Bool). x && levels_fit L ns ls ks && free_first (quantifiers (prefix_of ns ls ks))) (le-leb (get_or ns 0 0) L.numbers few)
       ∙ sym (steps_rest L.numbers ns ls ks 0 0 0 (get_or ns 0 0))
 
-  pub levels_many : {w count : ℕ} → count ≡ get_or ns 0 0 → w < count → L.numbers ≡ w → false ≡ levels_are_ok L ns ls ks
-  levels_many is h e =
-      sym (ap (λ (x : Bool). x && levels_fit L ns ls ks && free_first (quantifiers (prefix_of ns ls ks))) (lt-leb (get_or ns 0 0) L.numbers (omega (arith, is, h, e))))
-
 -- ---- the loop along the places, under the limit w; the last one has the level m and the code c
 pub record Stepping (w : ℕ) (ns ls ks : List ℕ) (count m c i : ℕ) : Type 0 where
   pub whole : count ≡ get_or ns 0 0
@@ -204,10 +162,6 @@ stepping_none w ns ls ks {count} is h =
           ∙ ap (λ (n : ℕ). steps_from n ls ks 0 0 0 (get_or ns 0 0)) q
           ∙ ap (steps_from w ls ks 0 0 0) e;
     }
-
-pub stepping_end : {w : ℕ} {ns ls ks : List ℕ} {count m c i : ℕ} → Stepping w ns ls ks count m c i → count ≤ i → (L : Limits) → L.numbers ≡ w → true ≡ levels_are_ok L ns ls ks
-stepping_end {w} {ls = ls} {ks = ks} {count = count} {m = m} {c = c} {i = i} s h L q =
-    let e : count - i ≡ 0 = omega arith in sym (s.judged L q ∙ ap (steps_from w ls ks m c i) e)
 
 -- the next level, read as l
 pub record LevelRead (w : ℕ) (ns ls ks : List ℕ) (count m c i l : ℕ) : Type 0 where

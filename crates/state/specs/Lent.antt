@@ -25,15 +25,15 @@ lent_state t =
 abbrev pub parts_state : Parts → State
 parts_state t =
     state_of
-    t.numbers.now
-    t.levels.now
-    t.kinds.now
-    t.clauses.now
-    t.clause_sizes.now
-    t.learned_clauses.now
-    t.learned_clause_sizes.now
-    t.learned_cubes.now
-    t.learned_cube_sizes.now
+    t.variables.numbers.now
+    t.variables.levels.now
+    t.variables.kinds.now
+    t.clauses.flat.now
+    t.clauses.sizes.now
+    t.learned_clauses.flat.now
+    t.learned_clauses.sizes.now
+    t.learned_cubes.flat.now
+    t.learned_cubes.sizes.now
 
 -- the tables by number of a valid state, or its refusal
 abbrev pub CheckedAs : State → Result Tables Refusal → Type 0

@@ -2,3 +2,4 @@ pub mod Reading
 pub mod Derived
 pub mod Declare
 pub mod Lent
+pub mod Rows

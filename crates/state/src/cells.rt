@@ -5,14 +5,14 @@ ghost use Rattle.state.specs.Derived.{Cleared};
 
 use literal::cell_at;
 
-pub fn count<'a>(table: &'a [u16]) -> usize
+pub fn count(table: &[u16]) -> usize
     ensures { result ≡ get_or table.now 0 0 }
 {
     cell_at(table, 0) as usize
 }
 
 // What follows i others: cell i + 1.
-pub fn cell_after<'a>(table: &'a [u16], i: usize) -> u16
+pub fn cell_after(table: &[u16], i: usize) -> u16
     ensures { result ≡ entry_at table.now i }
 {
     if i < table.len() {
@@ -22,14 +22,14 @@ pub fn cell_after<'a>(table: &'a [u16], i: usize) -> u16
     }
 }
 
-pub fn entry<'a>(table: &'a [u16], i: usize) -> usize
+pub fn entry(table: &[u16], i: usize) -> usize
     ensures { result ≡ entry_at table.now i }
 {
     cell_after(table, i) as usize
 }
 
 // The record of learned clause i, which stands behind the sizes.
-pub fn record<'a>(table: &'a [u16], i: usize) -> usize
+pub fn record(table: &[u16], i: usize) -> usize
     ensures { result ≡ record_at table.now i }
 {
     if i < table.len() {

@@ -7,7 +7,8 @@ use literal::{Level, Number, Place};
 use refusal::Refusal;
 
 // 0 where there is no place.
-fn level_at<'a>(levels: &'a [u16], place: Place) -> u16
+// stays (no plainer): the definitions' level before the first place is 0 too, as a flag's is
+fn level_at(levels: &[u16], place: Place) -> u16
     ensures { result ≡ level_for levels.now place.0 }
 {
     let p = place.0;
@@ -18,7 +19,7 @@ fn level_at<'a>(levels: &'a [u16], place: Place) -> u16
 }
 
 // The level that a quantifier gives after the places that are declared.
-pub fn next_level<'a>(levels: &'a [u16], kinds: &'a [u16], last: Place, kind: u16) -> Level
+pub fn next_level(levels: &[u16], kinds: &[u16], last: Place, kind: u16) -> Level
     requires { Growing levels.now kinds.now last.0 kind }
     ensures { result.0 ≡ next_level levels.now kinds.now last.0 kind }
 {
@@ -52,7 +53,8 @@ pub fn declare(
         return Err(Refusal::NumberRange);
     }
     let places = crate::numbers::places_of(numbers);
-    if places[n] != 0 {
+    let taken = places[n] != 0;
+    if taken {
         return Err(Refusal::DeclaredTwice);
     }
     let count = crate::cells::count(numbers);

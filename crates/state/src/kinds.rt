@@ -10,7 +10,7 @@ use crate::prefix::Variables;
 use literal::Place;
 
 // A place that is not declared counts as free.
-pub fn kind_at<'a>(levels: &'a [u16], kinds: &'a [u16], place: Place) -> u16
+pub fn kind_at(levels: &[u16], kinds: &[u16], place: Place) -> u16
     ensures { result ≡ code_for levels.now kinds.now place.0 }
 {
     let p = place.0;
@@ -22,7 +22,7 @@ pub fn kind_at<'a>(levels: &'a [u16], kinds: &'a [u16], place: Place) -> u16
 }
 
 // By number, in a table as long as that of the places; its content before is free.
-pub fn kinds_of<'a>(places: &'a [u16], levels: &'a [u16], kinds: &'a [u16], table: &mut [u16])
+pub fn kinds_of(places: &[u16], levels: &[u16], kinds: &[u16], table: &mut [u16])
     requires { length table.old ≡ length places.now }
     ensures { (length table.new ≡ length table.old)
         × ((D : Prefix) →

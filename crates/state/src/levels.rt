@@ -10,6 +10,7 @@ use crate::prefix::Variables;
 use literal::Level;
 
 // The level of a place, next to one of the level and the quantifier given first.
+// stays (form): `kind ≤ quantifier_code forall` is of a number that is a cell of the flat tables, handed on as it is
 pub fn level_beside(level: u16, beside: u16, kind: u16) -> Level
     requires { (beside ≤ quantifier_code forall) × (kind ≤ quantifier_code forall) }
     ensures { result.0 ≡ level_beside level (quantifier_of beside) (quantifier_of kind) }

@@ -4,7 +4,8 @@
 ghost use Rattle.std.specs.Prelude.{◌≡◌, true, false};
 ghost use Rattle.std.proofs.Math.Option.{some};
 ghost use Rattle.state.specs.Reading.{read_state, empty_state, valid};
-ghost use Rattle.state.specs.Lent.{lent_state, CheckedAs};
+ghost use Rattle.state.specs.Derived.{Sized};
+ghost use Rattle.state.specs.Lent.{lent_state, parts_state, CheckedAs};
 
 pub mod cells;
 pub mod declare;
@@ -16,7 +17,8 @@ pub mod prefix;
 mod room;
 mod rows;
 
-use parts::Parts;
+use parts::{Limits, Parts, Rows};
+use prefix::Variables;
 use refusal::Refusal;
 
 #[repr(C)]
@@ -96,9 +98,10 @@ pub struct Tables {
 }
 
 impl<'a> Lent<'a> {
-    // "22 the state is malformed": it is not valid. The prefix is read on the way.
-    pub fn check(self) -> Result<Tables, Refusal>
-        ensures { CheckedAs (lent_state self.entry) result }
+    // Each table is a part, whole; how long it is, its type says.
+    fn parts(self) -> Parts<'a>
+        ensures same { parts_state result ≡ lent_state self.entry }
+        ensures sized { Sized (lent_state self.entry) }
     {
         let Lent {
             numbers,
@@ -111,25 +114,40 @@ impl<'a> Lent<'a> {
             learned_cubes,
             learned_cube_sizes,
         } = self;
-        let parts = Parts {
+        let variables = Variables {
             numbers,
             levels,
             kinds,
-            clauses,
-            clause_sizes,
-            learned_clauses,
-            learned_clause_sizes,
-            learned_cubes,
-            learned_cube_sizes,
+        };
+        Parts {
+            variables,
+            clauses: Rows {
+                flat: clauses,
+                sizes: clause_sizes,
+            },
+            learned_clauses: Rows {
+                flat: learned_clauses,
+                sizes: learned_clause_sizes,
+            },
+            learned_cubes: Rows {
+                flat: learned_cubes,
+                sizes: learned_cube_sizes,
+            },
+        }
+    }
+
+    // "22 the state is malformed": it is not valid. The prefix is read on the way.
+    pub fn check(self) -> Result<Tables, Refusal>
+        ensures { CheckedAs (lent_state self.entry) result }
+    {
+        let limits = Limits {
+            numbers: tables::NUMBERS,
+            clauses: tables::CLAUSES,
         };
         let mut places = [0u16; tables::BY_NUMBER];
         let mut by_number = [0u16; tables::BY_NUMBER];
-        let valid = parts.check(
-            tables::NUMBERS,
-            tables::CLAUSES,
-            &mut places,
-            &mut by_number,
-        );
+        let parts = self.parts();
+        let valid = parts.check(limits, &mut places, &mut by_number);
         if !valid {
             return Err(Refusal::Malformed);
         }

@@ -7,7 +7,7 @@ ghost use Rattle.state.specs.Derived.{is_fresh, Placing};
 
 use literal::{Number, cell_at};
 
-fn is_fresh<'a>(places: &'a [u16], limit: usize, number: Number) -> bool
+fn is_fresh(places: &[u16], limit: usize, number: Number) -> bool
     ensures { result ≡ is_fresh limit places.now number.0 }
 {
     let n = number.0;
@@ -21,7 +21,7 @@ fn is_fresh<'a>(places: &'a [u16], limit: usize, number: Number) -> bool
 }
 
 // The place of each number, in a table whose content before is free. Refused where a number is not 1 to the limit, or stands twice.
-pub fn place_numbers<'a>(numbers: &'a [u16], limit: usize, places: &mut [u16]) -> bool
+pub fn place_numbers(numbers: &[u16], limit: usize, places: &mut [u16]) -> bool
     requires { length places.old ≡ suc limit }
     ensures { (length places.new ≡ suc limit)
         × ((L : Limits) → L.numbers ≡ limit → Placing L numbers.now result places.new) }
@@ -42,7 +42,7 @@ pub fn place_numbers<'a>(numbers: &'a [u16], limit: usize, places: &mut [u16]) -
 }
 
 // The same under the paper's limit, where the numbers are known to be fine.
-pub fn places_of<'a>(numbers: &'a [u16]) -> [u16; tables::BY_NUMBER]
+pub fn places_of(numbers: &[u16]) -> [u16; tables::BY_NUMBER]
     ensures { (D : Prefix) → Numbers D numbers.now → numbers_are_ok paper [] D ≡ true → Places D result }
 {
     let mut places = [0u16; tables::BY_NUMBER];

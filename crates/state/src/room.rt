@@ -3,7 +3,8 @@ ghost use Rattle.std.specs.Prelude.{◌≡◌, ◌*◌, length, leb};
 ghost use Rattle.state.specs.Reading.{prefix_roomy, rows_roomy, own, roomy};
 ghost use Rattle.state.specs.Lent.{parts_state};
 
-use crate::parts::Parts;
+use crate::parts::{Limits, Parts, Rows};
+use crate::prefix::Variables;
 
 // The product may be too large for a number.
 fn holds(len: usize, rows: usize, width: usize) -> bool
@@ -15,56 +16,47 @@ fn holds(len: usize, rows: usize, width: usize) -> bool
     rows <= len / width
 }
 
-fn prefix_room<'a>(numbers: &'a [u16], levels: &'a [u16], kinds: &'a [u16], most: usize) -> bool
-    ensures { result ≡ prefix_roomy most numbers.now levels.now kinds.now }
+fn prefix_room(variables: Variables<'_>, most: usize) -> bool
+    ensures { result
+        ≡ prefix_roomy
+        most
+        variables.entry.numbers.now
+        variables.entry.levels.now
+        variables.entry.kinds.now }
 {
-    if numbers.len() <= most {
+    if variables.numbers.len() <= most {
         return false;
     }
-    if levels.len() <= most {
+    if variables.levels.len() <= most {
         return false;
     }
-    most < kinds.len()
+    most < variables.kinds.len()
 }
 
-fn rows_room<'a>(flat: &'a [i16], sizes: &'a [u16], rows: usize, width: usize) -> bool
-    ensures { result ≡ rows_roomy width rows flat.now sizes.now }
+// There may be `most` rows.
+fn rows_room(rows: Rows<'_>, most: usize, width: usize) -> bool
+    ensures { result ≡ rows_roomy width most rows.entry.flat.now rows.entry.sizes.now }
 {
-    if holds(flat.len(), rows, width) {
-        return rows < sizes.len();
+    if holds(rows.flat.len(), most, width) {
+        return most < rows.sizes.len();
     }
     false
 }
 
-pub fn has_room(parts: Parts<'_>, most_numbers: usize, most_clauses: usize) -> bool
-    ensures { result ≡ roomy (own most_numbers most_clauses) (parts_state parts.entry) }
+pub fn has_room(parts: Parts<'_>, limits: Limits) -> bool
+    ensures { result ≡ roomy (own limits.numbers limits.clauses) (parts_state parts.entry) }
 {
-    if !prefix_room(parts.numbers, parts.levels, parts.kinds, most_numbers) {
+    if !prefix_room(parts.variables, limits.numbers) {
         return false;
     }
-    if !rows_room(
-        parts.clauses,
-        parts.clause_sizes,
-        most_clauses,
-        tables::LITERALS,
-    ) {
+    if !rows_room(parts.clauses, limits.clauses, tables::LITERALS) {
         return false;
     }
-    if !rows_room(
-        parts.learned_clauses,
-        parts.learned_clause_sizes,
-        tables::CONSTRAINTS,
-        most_numbers,
-    ) {
+    if !rows_room(parts.learned_clauses, tables::CONSTRAINTS, limits.numbers) {
         return false;
     }
-    if !rows_room(
-        parts.learned_cubes,
-        parts.learned_cube_sizes,
-        tables::CONSTRAINTS,
-        most_numbers,
-    ) {
+    if !rows_room(parts.learned_cubes, tables::CONSTRAINTS, limits.numbers) {
         return false;
     }
-    tables::LEARNED_CLAUSE_SIZES <= parts.learned_clause_sizes.len()
+    tables::LEARNED_CLAUSE_SIZES <= parts.learned_clauses.sizes.len()
 }

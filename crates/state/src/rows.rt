@@ -1,17 +1,18 @@
 // The rows of a state's flat tables: clauses and learned constraints, each in place order, and a constraint reduced.
-ghost use Rattle.std.specs.Prelude.{◌≡◌, ◌≤◌, ◌+◌, ◌*◌, true, false, cond, not, length, take, drop};
-ghost use Rattle.qbf.specs.Formula.{Prefix, paper, exists, forall, quantifier_at};
+ghost use Rattle.std.specs.Prelude.{◌≡◌, ◌≤◌, ◌+◌, ◌*◌, not, length, take, drop};
+ghost use Rattle.qbf.specs.Formula.{Prefix, paper, quantifier_at};
 ghost use Rattle.qbf.specs.Learning.{dropped, last_place};
 ghost use Rattle.qbf.specs.Calls.{in_order, clause_ok, constraint_ok};
-ghost use Rattle.tables.specs.Views.{quantifier_code, Places, Kinds};
-ghost use Rattle.state.specs.Derived.{clauses_fine, constraints_fine, rows_fine};
+ghost use Rattle.tables.specs.Views.{Places, Kinds};
+ghost use Rattle.state.specs.Derived.{rows_fine};
+ghost use Rattle.state.specs.Rows.{row_is_ok, table_is_ok};
 ghost use Rattle.state.specs.Reading.{at_most, records_of};
 ghost use Rattle.state.specs.Lent.{parts_state};
 
-use crate::parts::Parts;
+use crate::parts::{Limits, Parts, Rows};
 
 // Each place is greater than the one before: so each variable is declared, and none stands twice.
-pub fn in_order<'a>(places: &'a [u16], lits: &'a [i16]) -> bool
+pub fn in_order(places: &[u16], lits: &[i16]) -> bool
     ensures { (D : Prefix) → Places D places.now → result ≡ in_order D 0 lits.now }
 {
     let mut last: usize = 0;
@@ -25,16 +26,17 @@ pub fn in_order<'a>(places: &'a [u16], lits: &'a [i16]) -> bool
     true
 }
 
-fn row<'a>(flat: &'a [i16], from: usize, len: usize) -> &'a [i16]
-    requires { from + len ≤ length flat.now }
-    ensures { result.now ≡ take len (drop from flat.now) }
+// Row k, which has that many literals, in rows of so many cells.
+fn row(rows: Rows<'_>, width: usize, k: usize, len: usize) -> &[i16]
+    requires { k * width + len ≤ length rows.flat.now }
+    ensures { result.now ≡ take len (drop (k * width) rows.entry.flat.now) }
 {
-    let end = from + len;
-    &flat[from..end]
+    let from = k * width;
+    &rows.flat[from..from + len]
 }
 
 // "1 to 16 literals, no variable twice, .. in place order"
-fn clause_ok<'a>(places: &'a [u16], lits: &'a [i16]) -> bool
+fn clause_ok(places: &[u16], lits: &[i16]) -> bool
     ensures { (D : Prefix) → Places D places.now → result ≡ clause_ok paper D lits.now }
 {
     if lits.len() < 1 {
@@ -46,15 +48,8 @@ fn clause_ok<'a>(places: &'a [u16], lits: &'a [i16]) -> bool
     in_order(places, lits)
 }
 
-// What reduction drops: exists of a cube, forall of a clause.
-fn dropped_kind(cube: bool) -> u16
-    ensures { result ≡ cond cube (quantifier_code exists) (quantifier_code forall) }
-{
-    if cube { tables::EXISTS } else { tables::FORALL }
-}
-
 // Reduction drops no literal from the end.
-fn reduced<'a>(kinds: &'a [u16], lits: &'a [i16], cube: bool) -> bool
+fn reduced(kinds: &[u16], lits: &[i16], cube: bool) -> bool
     ensures { (D : Prefix) →
         Kinds D kinds.now →
         result ≡ not (dropped cube (quantifier_at D (last_place D lits.now))) }
@@ -63,73 +58,70 @@ fn reduced<'a>(kinds: &'a [u16], lits: &'a [i16], cube: bool) -> bool
     if n == 0 {
         return true;
     }
-    let kind = literal::kind_of(kinds, literal::number_of(lits[n - 1]));
-    kind != dropped_kind(cube)
+    let kind = literal::literal_kind(kinds, lits[n - 1]);
+    !literal::drops(kind, cube)
 }
 
-fn constraint_ok<'a>(places: &'a [u16], kinds: &'a [u16], lits: &'a [i16], cube: bool) -> bool
+// The tables by number that show the prefix.
+#[derive(Clone, Copy)]
+pub struct Shown<'a> {
+    pub places: &'a [u16],
+    pub kinds: &'a [u16],
+}
+
+fn constraint_ok(shown: Shown<'_>, lits: &[i16], cube: bool) -> bool
     ensures { (D : Prefix) →
-        Places D places.now →
-        Kinds D kinds.now →
+        Places D shown.entry.places.now →
+        Kinds D shown.entry.kinds.now →
         result ≡ constraint_ok D cube lits.now }
 {
-    if in_order(places, lits) {
-        reduced(kinds, lits, cube)
+    if in_order(shown.places, lits) {
+        reduced(shown.kinds, lits, cube)
     } else {
         false
     }
 }
 
-// There may be `most`.
-pub fn clauses_ok<'a>(places: &'a [u16], flat: &'a [i16], sizes: &'a [u16], most: usize) -> bool
-    requires { most * paper.literals ≤ length flat.now }
+// What stands in a flat table.
+#[derive(Clone, Copy)]
+pub enum Holding {
+    Clauses,
+    LearnedClauses,
+    LearnedCubes,
+}
+
+fn row_ok(shown: Shown<'_>, holding: Holding, lits: &[i16]) -> bool
     ensures { (D : Prefix) →
-        Places D places.now →
-        result ≡ clauses_fine most D flat.now sizes.now }
+        Places D shown.entry.places.now →
+        Kinds D shown.entry.kinds.now →
+        result ≡ row_is_ok holding D lits.now }
 {
-    let count = crate::cells::count(sizes);
+    match holding {
+        Holding::Clauses => clause_ok(shown.places, lits),
+        Holding::LearnedClauses => constraint_ok(shown, lits, false),
+        Holding::LearnedCubes => constraint_ok(shown, lits, true),
+    }
+}
+
+// There may be `most` rows, of so many cells each.
+fn rows_ok(shown: Shown<'_>, holding: Holding, rows: Rows<'_>, most: usize, width: usize) -> bool
+    requires { most * width ≤ length rows.flat.now }
+    ensures { (D : Prefix) →
+        Places D shown.entry.places.now →
+        Kinds D shown.entry.kinds.now →
+        result ≡ table_is_ok width most holding D rows.entry.flat.now rows.entry.sizes.now }
+{
+    let count = crate::cells::count(rows.sizes);
     if count > most {
         return false;
     }
     for k in 0..count {
-        let len = crate::cells::entry(sizes, k);
-        if len > tables::LITERALS {
-            return false;
-        }
-        let lits = row(flat, k * tables::LITERALS, len);
-        if !clause_ok(places, lits) {
-            return false;
-        }
-    }
-    true
-}
-
-// In rows of so many cells.
-pub fn constraints_ok<'a>(
-    places: &'a [u16],
-    kinds: &'a [u16],
-    flat: &'a [i16],
-    sizes: &'a [u16],
-    width: usize,
-    cube: bool,
-) -> bool
-    requires { paper.constraints * width ≤ length flat.now }
-    ensures { (D : Prefix) →
-        Places D places.now →
-        Kinds D kinds.now →
-        result ≡ constraints_fine width D cube flat.now sizes.now }
-{
-    let count = crate::cells::count(sizes);
-    if count > tables::CONSTRAINTS {
-        return false;
-    }
-    for k in 0..count {
-        let len = crate::cells::entry(sizes, k);
+        let len = crate::cells::entry(rows.sizes, k);
         if len > width {
             return false;
         }
-        let lits = row(flat, k * width, len);
-        if !constraint_ok(places, kinds, lits, cube) {
+        let lits = row(rows, width, k, len);
+        if !row_ok(shown, holding, lits) {
             return false;
         }
     }
@@ -137,7 +129,7 @@ pub fn constraints_ok<'a>(
 }
 
 // "The state check refuses a bar whose record exceeds the rules standing."
-fn records_ok<'a>(sizes: &'a [u16], clauses: usize) -> bool
+fn records_ok(sizes: &[u16], clauses: usize) -> bool
     ensures { result ≡ at_most clauses (records_of sizes.now) }
 {
     let count = crate::cells::count(sizes);
@@ -150,46 +142,33 @@ fn records_ok<'a>(sizes: &'a [u16], clauses: usize) -> bool
 }
 
 // Clauses, learned clauses, learned cubes, and the records of the learned clauses, under the limits for numbers and clauses.
-pub fn all_ok(
-    places: &[u16],
-    kinds: &[u16],
-    parts: Parts<'_>,
-    most_numbers: usize,
-    most_clauses: usize,
-) -> bool
-    requires { (most_clauses * paper.literals ≤ length parts.clauses.now)
-        × (paper.constraints * most_numbers ≤ length parts.learned_clauses.now)
-        × (paper.constraints * most_numbers ≤ length parts.learned_cubes.now) }
+pub fn all_ok(shown: Shown<'_>, parts: Parts<'_>, limits: Limits) -> bool
+    requires { (limits.clauses * paper.literals ≤ length parts.clauses.flat.now)
+        × (paper.constraints * limits.numbers ≤ length parts.learned_clauses.flat.now)
+        × (paper.constraints * limits.numbers ≤ length parts.learned_cubes.flat.now) }
     ensures { (D : Prefix) →
-        Places D places.now →
-        Kinds D kinds.now →
-        result ≡ rows_fine most_numbers most_clauses D (parts_state parts.entry) }
+        Places D shown.entry.places.now →
+        Kinds D shown.entry.kinds.now →
+        result ≡ rows_fine limits.numbers limits.clauses D (parts_state parts.entry) }
 {
-    if !clauses_ok(places, parts.clauses, parts.clause_sizes, most_clauses) {
-        return false;
-    }
-    if !constraints_ok(
-        places,
-        kinds,
-        parts.learned_clauses,
-        parts.learned_clause_sizes,
-        most_numbers,
-        false,
+    let bars = parts.learned_clauses;
+    let passes = parts.learned_cubes;
+    let most = tables::CONSTRAINTS;
+    let width = limits.numbers;
+    if !rows_ok(
+        shown,
+        Holding::Clauses,
+        parts.clauses,
+        limits.clauses,
+        tables::LITERALS,
     ) {
         return false;
     }
-    if !constraints_ok(
-        places,
-        kinds,
-        parts.learned_cubes,
-        parts.learned_cube_sizes,
-        most_numbers,
-        true,
-    ) {
+    if !rows_ok(shown, Holding::LearnedClauses, bars, most, width) {
         return false;
     }
-    records_ok(
-        parts.learned_clause_sizes,
-        crate::cells::count(parts.clause_sizes),
-    )
+    if !rows_ok(shown, Holding::LearnedCubes, passes, most, width) {
+        return false;
+    }
+    records_ok(bars.sizes, crate::cells::count(parts.clauses.sizes))
 }

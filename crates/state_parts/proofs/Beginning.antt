@@ -231,7 +231,7 @@ initial_cells_lem a b cells =
 
 pub initial_written : (a b : ℕ) (cells : List ℕ) {n m : ℕ} → Lesser a highest.numbers n → Lesser b highest.clauses m
     → {t₁ t₂ t₃ t₄ t₅ t₆ : List ℕ} → t₁ ≡ set cells 0 n → t₂ ≡ set t₁ 1 m → t₃ ≡ set t₂ numbers_at 0
-    → {k₄ : ℕ} → k₄ ≡ clause_sizes_at (own n 0) → t₄ ≡ set t₃ k₄ 0
+    → {k₄ : ℕ} → k₄ ≡ clause_sizes_at (own n m) → t₄ ≡ set t₃ k₄ 0
     → {k₅ : ℕ} → k₅ ≡ learned_clause_sizes_at (own n m) → t₅ ≡ set t₄ k₅ 0
     → {k₆ : ℕ} → k₆ ≡ learned_cube_sizes_at (own n m) → t₆ ≡ set t₅ k₆ 0
     → Initial (capped a b) cells t₆

@@ -3,12 +3,11 @@ use Prim.Native.Nat.{ℕ, zero, suc, ◌+◌, ◌-◌, ◌≤◌, ◌<◌}
 use native.Mathlib.Omega.{arith}
 use native.Mathlib.Nat.{zero-add, suc-add}
 use mathlib.Core.Path.{◌≡◌, sym, ap, ◌∙◌}
-use mathlib.Core.Logic.{◌⊎◌, inl, inr}
 use mathlib.Core.List.{List, [], ◌∷◌, ◌++◌}
 use borrow.Rule.Slice.PartMut.{put_mid, post_of, take_put, drop_put}
-use lib.ListN.{length, get_or, set, take, drop, length-drop, length-take, drop_of_length-le}
-use lib.Seq.{length-take-le, take_all, take-nil, take-take, take_at, drop_at, drop-drop, get_or-take, get_or-drop, take-set-lt, take-set-le, drop-set-lt, drop-set-add}
-use Rattle.state_parts.specs.Parts.{Lesser, part}
+use lib.ListN.{length, get_or, set, take, drop, length-drop, length-take}
+use lib.Seq.{length-take-le, take-nil, take-take, take_at, drop_at, drop-drop, get_or-take, get_or-drop, take-set-lt, take-set-le, drop-set-lt, drop-set-add}
+use Rattle.state_parts.specs.Parts.{part}
 
 module _ {A : Type 0} where
   -- ---- its length and its cells
@@ -21,25 +20,6 @@ module _ {A : Type 0} where
 
   pub part_at : (from len : ℕ) (t : List A) (i : ℕ) (d : A) → i < len → get_or (part from len t) i d ≡ get_or t (from + i) d
   part_at from len t i d h = get_or-take len (drop from t) i d h ∙ get_or-drop from t i d
-
-  -- as the code cuts it: from `start` to `end`, which lie within the table
-  pub part_cut : (from len : ℕ) (t : List A) {start rest end : ℕ} → Lesser from (length t) start → Lesser len (length t - start) rest → end ≡ start + rest
-      → take (end - start) (drop start t) ≡ part from len t
-  part_cut from len t {start} {rest} {end} s e z = ap (take (end - start)) front ∙ back e.one
-    where
-      front : drop start t ≡ drop from t
-      front = by s.one
-        where
-          by : ((from ≤ length t) × (start ≡ from)) ⊎ ((length t < from) × (start ≡ length t)) → drop start t ≡ drop from t
-          by (inl p) = ap (λ (i : ℕ). drop i t) p.1
-          by (inr p) = ap (λ (i : ℕ). drop i t) p.1 ∙ drop_of_length-le t {i = length t} (omega arith) ∙ sym (drop_of_length-le t {i = from} (omega (arith, p.0)))
-
-      left : length (drop from t) ≡ length t - start
-      left = sym (ap length front) ∙ length-drop start t
-
-      back : ((len ≤ length t - start) × (rest ≡ len)) ⊎ ((length t - start < len) × (rest ≡ length t - start)) → take (end - start) (drop from t) ≡ take len (drop from t)
-      back (inl p) = let q : end - start ≡ len = omega (arith, p.1, z) in ap (λ (i : ℕ). take i (drop from t)) q
-      back (inr p) = take_all (end - start) (drop from t) (omega (arith, p.1, z, left)) ∙ sym (take_all len (drop from t) (omega (arith, p.0, left)))
 
   -- ---- a cell that is written
   pub part_set : (from len : ℕ) (t : List A) (i : ℕ) (v : A) → i < len → part from len (set t (from + i) v) ≡ set (part from len t) i v
@@ -87,7 +67,3 @@ module _ {A : Type 0} where
       behind =
           ap (λ (j : ℕ). drop (a + k) (put_mid a j t ys)) (sym size)
           ∙ drop_put a (a + k) t ys (omega arith) g (l ∙ sym size)
-
-  -- a part by another name of where it begins and of its length
-  pub part_same : (a a' k k' : ℕ) (t : List A) {r : List A} → r ≡ part a k t → a ≡ a' → k ≡ k' → r ≡ part a' k' t
-  part_same a a' k k' t e p q = e ∙ ap (λ (i : ℕ). part i k t) p ∙ ap (λ (j : ℕ). part a' j t) q

@@ -1,8 +1,8 @@
 -- The parts of the two tables: their lengths, and what is left when one of them is written.
 use Prim.Native.Nat.{ℕ, ◌≤◌, ◌<◌}
 use native.Mathlib.Omega.{arith}
-use mathlib.Core.Path.{◌≡◌, refl, sym, ap, ◌∙◌, subst}
-use mathlib.Core.Bool.{Bool, true}
+use mathlib.Core.Path.{◌≡◌, refl, sym, ap, ◌∙◌}
+use mathlib.Core.Bool.{true}
 use mathlib.Core.List.{List}
 use borrow.Rule.Slice.PartMut.{put_mid, take_put}
 use lib.IntN.{ℤ}
@@ -11,7 +11,7 @@ use lib.Seq.{get_or-take}
 use Rattle.qbf.specs.Formula.{Limits, paper}
 use Rattle.state.specs.declared.State.{State}
 use Rattle.state.specs.Reading.{own, state_of, roomy}
-use Rattle.state.specs.Derived.{Sized, Roomy, CheckedUnder}
+use Rattle.state.specs.Derived.{Sized, Roomy}
 use Rattle.state.proofs.Rooms.{room_facts}
 use Rattle.state_parts.specs.Parts.{limits_of, by_number, clause_count, cube_sizes, recorded, numbers_at, levels_at, kinds_at, clause_sizes_at, learned_clause_sizes_at, learned_cube_sizes_at, clause_cells, learned_cells, learned_cubes_at, parts_under, state_at, Whole, Exact}
 use Rattle.state_parts.proofs.Cutting.{part_length, part_most, put_here, put_before, put_after}
@@ -21,9 +21,6 @@ pub same_state : {ns ns' ls ls' ks ks' : List ℕ} {cs cs' : List ℤ} {css css'
     → ns ≡ ns' → ls ≡ ls' → ks ≡ ks' → cs ≡ cs' → css ≡ css' → lcs ≡ lcs' → lcss ≡ lcss' → lqs ≡ lqs' → lqss ≡ lqss'
     → state_of ns ls ks cs css lcs lcss lqs lqss ≡ state_of ns' ls' ks' cs' css' lcs' lcss' lqs' lqss'
 same_state a b c d e f g h i = cc
-
-pub checked_same : {L : Limits} {x y : State} {ok : Bool} {places kinds : List ℕ} → x ≡ y → CheckedUnder L x ok places kinds → CheckedUnder L y ok places kinds
-checked_same {L} {x} {y} {ok} {places} {kinds} e k = subst (λ (z : State). CheckedUnder L z ok places kinds) e k
 
 module _ (L : Limits) (cells : List ℕ) (literals : List ℤ) where
   -- ---- lengths

@@ -4,6 +4,7 @@ ghost use Rattle.state_parts.specs.Parts.{part};
 
 use crate::layout::least;
 
+// stays (no plainer): what is given is how long the part is to be, and not how long the table is
 pub fn part<T>(table: &[T], from: usize, len: usize) -> &[T]
     ensures { result.now ≡ part from len table.now }
 {

@@ -3,7 +3,8 @@ ghost use Rattle.std.specs.Prelude.{◌≡◌, set};
 ghost use Rattle.qbf.specs.Formula.{capped};
 ghost use Rattle.state_parts.specs.Initial.{Initial};
 
-use crate::layout;
+use crate::layout::{NUMBERS_AT, least};
+use crate::limits::Layout;
 
 // A cell that is there is written.
 fn put(cells: &mut [u16], i: usize, v: u16)
@@ -19,12 +20,16 @@ fn put(cells: &mut [u16], i: usize, v: u16)
 pub fn initial(cells: &mut [u16], numbers: usize, clauses: usize)
     ensures { Initial (capped numbers clauses) cells.old cells.new }
 {
-    let n = layout::least(numbers, tables::HIGHEST_NUMBERS);
-    let m = layout::least(clauses, tables::HIGHEST_CLAUSES);
+    let n = least(numbers, tables::HIGHEST_NUMBERS);
+    let m = least(clauses, tables::HIGHEST_CLAUSES);
+    let at = Layout {
+        numbers: n,
+        clauses: m,
+    };
     put(cells, 0, n as u16);
     put(cells, 1, m as u16);
-    put(cells, layout::NUMBERS_AT, 0);
-    put(cells, layout::clause_sizes_at(n), 0);
-    put(cells, layout::learned_clause_sizes_at(n, m), 0);
-    put(cells, layout::learned_cube_sizes_at(n, m), 0);
+    put(cells, NUMBERS_AT, 0);
+    put(cells, at.clause_sizes_at(), 0);
+    put(cells, at.learned_clause_sizes_at(), 0);
+    put(cells, at.learned_cube_sizes_at(), 0);
 }

@@ -1,87 +1,96 @@
 // A state in two lent tables: its own limits in the first two cells, its parts, each a part of one of them, and its check.
 #![tactic(auto)]
 
-ghost use Rattle.std.specs.Prelude.{◌≡◌, suc, ◌≤◌, ◌<◌, length};
+ghost use Rattle.std.specs.Prelude.{◌≡◌, suc, ◌<◌, length};
 ghost use Rattle.qbf.specs.Formula.{highest};
-ghost use Rattle.state.specs.Reading.{own};
 ghost use Rattle.state.specs.Derived.{CheckedUnder};
-ghost use Rattle.state_parts.specs.Parts.{parts_under, CheckedAt};
+ghost use Rattle.state_parts.specs.Parts.{parts_under};
+ghost use Rattle.state_parts.specs.Layout.{limits_in, CheckedIn};
 
 mod cut;
 pub mod initial;
 pub mod layout;
+pub mod limits;
 pub mod parts;
 
-use state::parts::Parts;
+use limits::Layout;
+use refusal::Refusal;
+use state::parts::{Limits, Parts, Rows};
+use state::prefix::Variables;
 
 // The check of the parts that these limits give. The tables by number have a cell for each number up to the limit, and one more.
-fn check_parts<'a>(
-    cells: &'a [u16],
-    literals: &'a [i16],
-    numbers: usize,
-    clauses: usize,
+fn check_parts(
+    layout: Layout,
+    cells: &[u16],
+    literals: &[i16],
     places: &mut [u16],
     by_number: &mut [u16],
 ) -> bool
-    requires { (numbers ≤ highest.numbers)
-        × (clauses ≤ highest.clauses)
-        × (length places.old ≡ suc numbers)
-        × (length by_number.old ≡ suc numbers) }
-    ensures { (length places.new ≡ suc numbers)
-        × (length by_number.new ≡ suc numbers)
+    requires { (length places.old ≡ suc layout.numbers) × (length by_number.old ≡ suc layout.numbers) }
+    ensures { (length places.new ≡ suc layout.numbers)
+        × (length by_number.new ≡ suc layout.numbers)
         × CheckedUnder
-        (own numbers clauses)
-        (parts_under (own numbers clauses) cells.now literals.now)
+        (limits_in layout)
+        (parts_under (limits_in layout) cells.now literals.now)
         result
         places.new
         by_number.new }
 {
     let parts = Parts {
-        numbers: parts::numbers(cells, numbers),
-        levels: parts::levels(cells, numbers),
-        kinds: parts::kinds(cells, numbers),
-        clauses: parts::clauses(literals, clauses),
-        clause_sizes: parts::clause_sizes(cells, numbers, clauses),
-        learned_clauses: parts::learned_clauses(literals, numbers, clauses),
-        learned_clause_sizes: parts::learned_clause_sizes(cells, numbers, clauses),
-        learned_cubes: parts::learned_cubes(literals, numbers, clauses),
-        learned_cube_sizes: parts::learned_cube_sizes(cells, numbers, clauses),
+        variables: Variables {
+            numbers: parts::numbers(layout, cells),
+            levels: parts::levels(layout, cells),
+            kinds: parts::kinds(layout, cells),
+        },
+        clauses: Rows {
+            flat: parts::clauses(layout, literals),
+            sizes: parts::clause_sizes(layout, cells),
+        },
+        learned_clauses: Rows {
+            flat: parts::learned_clauses(layout, literals),
+            sizes: parts::learned_clause_sizes(layout, cells),
+        },
+        learned_cubes: Rows {
+            flat: parts::learned_cubes(layout, literals),
+            sizes: parts::learned_cube_sizes(layout, cells),
+        },
     };
-    parts.check(numbers, clauses, places, by_number)
+    let limits = Limits {
+        numbers: layout.numbers,
+        clauses: layout.clauses,
+    };
+    parts.check(limits, places, by_number)
 }
 
-// "22 the state is malformed": its limits are too high, a table is shorter than they ask, or what stands in them is not well formed. The prefix that is
-// read on the way is left in the first cells of the tables by number, which have room for the highest limit; their content before is free.
-pub fn check<'a>(
-    cells: &'a [u16],
-    literals: &'a [i16],
+// The limits of the state; or "22 the state is malformed": they are too high, a table is shorter than they ask, or what stands in them is not well formed.
+// The prefix that is read on the way is left in the first cells of the tables by number, which have room for the highest limit; their content before is free.
+pub fn check(
+    cells: &[u16],
+    literals: &[i16],
     places: &mut [u16],
     by_number: &mut [u16],
-) -> bool
+) -> Result<Layout, Refusal>
     requires { (highest.numbers < length places.old) × (highest.numbers < length by_number.old) }
-    ensures { CheckedAt
+    ensures { CheckedIn
         cells.now
         literals.now
         result
         places.new
         by_number.new }
 {
-    let numbers = layout::numbers_limit(cells);
-    let over = numbers > tables::HIGHEST_NUMBERS;
-    if over {
-        return false;
-    }
-    let clauses = layout::clauses_limit(cells);
-    if clauses > tables::HIGHEST_CLAUSES {
-        return false;
-    }
-    let end = numbers + 1;
-    check_parts(
+    let Some(layout) = Layout::read(cells) else {
+        return Err(Refusal::Malformed);
+    };
+    let end = layout.numbers + 1;
+    let valid = check_parts(
+        layout,
         cells,
         literals,
-        numbers,
-        clauses,
         &mut places[..end],
         &mut by_number[..end],
-    )
+    );
+    if !valid {
+        return Err(Refusal::Malformed);
+    }
+    Ok(layout)
 }

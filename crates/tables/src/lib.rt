@@ -65,18 +65,25 @@ pub const CONSTRAINT_LINKS: usize = CODES + 1 + CONSTRAINTS;
 pub const HIGHEST_CEILING: u32 = 4294967295;
 
 // Values of a table by number.
+// stays (form): a cell of the flat tables is a number
 pub const OPEN: u8 = 0;
 
+// stays (form): a cell of the flat tables is a number
 pub const OFF: u8 = 1;
 
+// stays (form): a cell of the flat tables is a number
 pub const ON: u8 = 2;
 
 // Quantifiers of a table by number.
+// stays (form): a cell of the flat tables is a number
 pub const FREE: u16 = 0;
 
+// stays (form): a cell of the flat tables is a number
 pub const EXISTS: u16 = 1;
 
+// stays (form): a cell of the flat tables is a number
 pub const FORALL: u16 = 2;
 
 // In a table by code: no quantifier, after the last variable's place.
+// stays (form): a cell of the flat tables is a number
 pub const END: u8 = 3;

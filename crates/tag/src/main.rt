@@ -3,11 +3,6 @@
 
 use std::io;
 
-// stays (no plainer): each program has a table of its own size, which a closure's bound cannot name
 fn main(rt: HostRuntime) -> io::Result<()> {
-    program::with_text(&rt, |text| {
-        let mut out = [0u8; edition_printer::ROOM];
-        let length = edition_printer::print_tagged(text, &mut out);
-        output::print(&rt, &out, length)
-    })
+    program::print_text(&rt, edition_printer::print_tagged)
 }

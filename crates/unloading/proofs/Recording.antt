@@ -1,14 +1,17 @@
--- What the loop that writes the records has done: those of the first k rows stand where they go, the others where they stood.
-use Prim.Native.Nat.{ℕ, suc, ◌+◌, ◌-◌, ◌≤◌, ◌<◌}
+-- The records of the learned clauses, written behind their sizes.
+use Prim.Native.Nat.{ℕ, suc, ◌+◌, ◌-◌, ◌≤◌, ◌<◌, min}
 use native.Mathlib.Omega.{arith}
-use borrow.Author.Count.{below_more}
-use mathlib.Core.Path.{◌≡◌, refl, sym, ap, ◌∙◌}
+use mathlib.Core.Path.{◌≡◌, sym, ap, ◌∙◌}
+use mathlib.Core.Logic.{◌⊎◌, inl, inr}
 use mathlib.Core.Bool.{Bool, cond}
-use mathlib.Core.List.{List}
-use lib.Dec.{ltb}
-use lib.ListN.{length, get_or, drop, set, length-set}
-use lib.Seq.{get_or-drop, get_or-set_same, get_or-set_other}
+use mathlib.Core.List.{List, ◌++◌}
+use borrow.Rule.Slice.PartMut.{mid_of, post_of, put_mid, same_len_mid}
+use lib.ListN.{length, get_or, take, drop, replicate, length-replicate}
+use lib.Seq.{get_or-drop, length-take-le}
+use Rattle.std.proofs.lemmas.List.{get_or-take, get_or-replicate, get_or_append_left, get_or-append_right}
 use borrow.Author.Tests.{lt-ltb, le-ltb}
+use Rattle.theory.proofs.Basics.{le_or_lt}
+use Rattle.lent_rows.proofs.Rows.{part_long}
 use Rattle.qbf.specs.Formula.{paper}
 use Rattle.unloading.specs.Written.{record_from, RecordsFrom, Recorded}
 
@@ -23,33 +26,39 @@ record_own old base before clauses k h = sym (ap (λ (b : Bool). cond b (get_or 
 pub record_new : (old : List ℕ) (base before clauses k : ℕ) → before ≤ base + k → clauses ≡ record_from old base before clauses k
 record_new old base before clauses k h = sym (ap (λ (b : Bool). cond b (get_or old (cell (base + k)) 0) clauses) (le-ltb (base + k) before h))
 
-pub record Rewriting (old : List ℕ) (base before clauses k : ℕ) (new : List ℕ) : Type 0 where
-  pub size : length new ≡ length old
-  pub done : (j : ℕ) → j < k → get_or new (cell j) 0 ≡ record_from old base before clauses j
-  pub rest : (j : ℕ) → k ≤ j → get_or new (cell j) 0 ≡ get_or old (cell j) 0
+-- The records of the rows that were loaded and still stand are copied to the front, and behind them the count of clauses is filled in.
+module _ (old mid ys : List ℕ) (newest before clauses count displaced own : ℕ) (stand : count ≡ newest - (newest - paper.constraints)) (lost : displaced ≡ min (newest - paper.constraints) before)
+    (kept : own ≡ min count (before - displaced)) (room : suc paper.constraints + paper.constraints ≤ length old) (few : before ≤ paper.constraints) (long : length mid ≡ length old)
+    (moved : (k d : ℕ) → suc paper.constraints ≤ k → k < suc paper.constraints + (suc paper.constraints + displaced + own - (suc paper.constraints + displaced)) → get_or mid k d ≡ get_or old (suc paper.constraints + displaced + (k - suc paper.constraints)) d)
+    (filled : ys ≡ replicate (length (mid_of (cell own) (cell count - cell own) mid)) clauses) where
+  abbrev new : List ℕ
+  new = put_mid (cell own) (cell count - cell own) mid ys
 
-module _ {old : List ℕ} {base before clauses : ℕ} where
-  pub rewriting_none : Rewriting old base before clauses 0 old
-  rewriting_none = record { size = refl; done = λ j h. absurd (omega (arith, h)); rest = λ j h. refl }
+  part : length ys ≡ cell count - cell own
+  part = ap length filled ∙ length-replicate (length (mid_of (cell own) (cell count - cell own) mid)) clauses ∙ part_long (cell own) (cell count - cell own) mid (omega arith)
 
-  pub rewriting_more : {k : ℕ} {new : List ℕ} → Rewriting old base before clauses k new → cell k < length old → {r : ℕ} → r ≡ record_from new base before clauses k
-      → Rewriting old base before clauses (k + 1) (set new (cell k) r)
-  rewriting_more {k} {new} inv low {r} e =
-      record {
-        size = length-set new (cell k) r ∙ inv.size;
-        done = below_more (λ (j : ℕ). get_or (set new (cell k) r) (cell j) 0 ≡ record_from old base before clauses j) k (λ j h. get_or-set_other new (cell k) (cell j) r 0 (omega (arith, h)) ∙ inv.done j h) here;
-        rest = λ j h. get_or-set_other new (cell k) (cell j) r 0 (omega (arith, h)) ∙ inv.rest j (omega (arith, h));
-      }
-    where
-      here : get_or (set new (cell k) r) (cell k) 0 ≡ record_from old base before clauses k
-      here = get_or-set_same new (cell k) r 0 (omega (arith, low, inv.size)) ∙ e ∙ ap (λ (x : ℕ). cond (ltb (base + k) before) x clauses) (inv.rest (base + k) (omega arith))
+  sized : length new ≡ length old
+  sized = same_len_mid (cell own) (cell count - cell own) mid ys (ap length filled ∙ length-replicate (length (mid_of (cell own) (cell count - cell own) mid)) clauses) ∙ long
 
-  pub rewriting_end : {k n newest : ℕ} {new : List ℕ} → Rewriting old base before clauses k new → base ≡ newest - paper.constraints → n ≤ k → n ≡ newest - (newest - paper.constraints)
-      → (length new ≡ length old) × RecordsFrom old newest before clauses new
-  rewriting_end {k} {n} {newest} {new} inv b h e = (
-    inv.size,
-    record { at = λ j m. inv.done j (omega (arith, m, h, e)) ∙ ap (λ (i : ℕ). record_from old i before clauses j) b },
-  )
+  front : length (take (cell own) mid) ≡ cell own
+  front = length-take-le (cell own) mid (omega arith)
+
+  at_k : (k : ℕ) → k < count → (before ≤ newest - paper.constraints + k) ⊎ (newest - paper.constraints + k < before) → get_or new (cell k) 0 ≡ record_from old (newest - paper.constraints) before clauses k
+  at_k k low (inr h) =
+      get_or_append_left (take (cell own) mid) (ys ++ post_of (cell own) (cell count - cell own) mid) 0 (cell k) (omega (arith, front))
+      ∙ get_or-take (cell own) mid (cell k) 0 (omega arith)
+      ∙ moved (cell k) 0 (omega arith) (omega arith)
+      ∙ ap (λ (i : ℕ). get_or old i 0) (omega arith)
+      ∙ record_own old (newest - paper.constraints) before clauses k h
+  at_k k low (inl h) =
+      get_or-append_right (take (cell own) mid) (ys ++ post_of (cell own) (cell count - cell own) mid) (cell own) (cell k) 0 front (omega arith)
+      ∙ get_or_append_left ys (post_of (cell own) (cell count - cell own) mid) 0 (cell k - cell own) (omega (arith, part))
+      ∙ ap (λ (t : List ℕ). get_or t (cell k - cell own) 0) filled
+      ∙ get_or-replicate (length (mid_of (cell own) (cell count - cell own) mid)) (cell k - cell own) clauses 0 (omega (arith, part, ap length filled, length-replicate (length (mid_of (cell own) (cell count - cell own) mid)) clauses))
+      ∙ record_new old (newest - paper.constraints) before clauses k h
+
+  pub records_written : (length new ≡ length old) × RecordsFrom old newest before clauses new
+  records_written = (sized, record { at = λ k h. at_k k (omega (arith, h, stand)) (le_or_lt before (newest - paper.constraints + k)) })
 
 -- the rows are written back, and what stands behind the sizes stays
 pub recorded_rows : (old mid new : List ℕ) (newest clauses : ℕ) → get_or new 0 0 ≡ newest - (newest - paper.constraints)

@@ -20,6 +20,8 @@ use Rattle.tables.specs.Codes.{code_of, codes}
 use Rattle.tables.specs.Shelves.{Entries, entries_of, newest_of, base_of, length_at, row_at}
 use Rattle.tables.proofs.Laws.{rows_suc, rows_zero}
 use Rattle.lent_rows.specs.Held.{Held}
+use Rattle.unloading.specs.declared.lent.LentTable.{LentTable}
+use Rattle.unloading.specs.Table.{Same}
 use Rattle.unloading.specs.Written.{Narrow, entry_at, Unloaded}
 use Rattle.theory.proofs.Game.{Rising}
 use Rattle.theory.proofs.Widths.{constraint_width}
@@ -103,6 +105,13 @@ unload_row w numbers cells links k slot f f' l r z y small low counted room kept
       kept = kept;
       is = λ D e n o p q. ap (λ (j : ℕ). take j (drop (k * w) f')) size ∙ h D e n o (same ∙ p) q;
     }
+
+-- ---- the same table
+pub same_table : {t : LentTable} → Same t t
+same_table = record { cells = refl; sizes = refl; width = refl }
+
+pub same_then : {t u v : LentTable} → Same t u → Same u v → Same t v
+same_then p q = record { cells = q.cells ∙ p.cells; sizes = q.sizes ∙ p.sizes; width = q.width ∙ p.width }
 
 -- ---- the rows of a shelf: the first k are written
 pub record Unloading (w : ℕ) (numbers cells links l₀ : List ℕ) (k : ℕ) (f : List ℤ) (l : List ℕ) : Type 0 where

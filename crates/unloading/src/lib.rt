@@ -6,15 +6,19 @@ ghost use Rattle.qbf.specs.Formula.{paper, Prefix, Literal, place};
 ghost use Rattle.qbf.specs.Learning.{Constraint};
 ghost use Rattle.qbf.specs.Card.{Mem};
 ghost use Rattle.qbf.specs.Calls.{numbers_are_ok};
-ghost use Rattle.tables.specs.Views.{Numbers, row, rows_of};
+ghost use Rattle.tables.specs.Views.{Numbers, rows_of};
 ghost use Rattle.tables.specs.Formed.{Constraints};
 ghost use Rattle.tables.specs.Codes.{codes};
 ghost use Rattle.tables.specs.Shelves.{newest_of, base_of};
-ghost use Rattle.shelf.specs.Standing.{Kept, rows, newest};
+ghost use Rattle.shelf.specs.Standing.{rows, newest};
 ghost use Rattle.lent_rows.specs.Held.{Held};
-ghost use Rattle.unloading.specs.Written.{Narrow, entry_at, Unloaded, record_from, RecordsFrom, Recorded};
+ghost use Rattle.unloading.specs.Table.{Same};
+ghost use Rattle.unloading.specs.Written.{Narrow, entry_at, Unloaded, RecordsFrom, Recorded};
+
+pub mod lent; // the table that is written
 
 use coding::code::literal_of;
+use lent::LentTable;
 use shelf::Shelf;
 
 // How many rows stand, by the newest row's number.
@@ -52,164 +56,143 @@ fn decode<'a>(store: &mut [i16], at: usize, row: &'a [u16], numbers: &'a [u16])
         → ((l : Literal) → Mem l e → 1 ≤ place D l)
         → take (length row.now) (drop at store.new) ≡ e) }
 {
-    for i in 0..row.len() {
-        store[at + i] = literal_of(numbers, row[i]);
+    for (i, code) in row.iter().enumerate() {
+        store[at + i] = literal_of(numbers, *code);
     }
 }
 
-// The row that stands at index k is written into row k of the table, of so many cells; the rows before it stay.
-fn unload_row<'a>(
-    shelf: &'a Shelf,
-    numbers: &'a [u16],
-    store: &mut [i16],
-    sizes: &mut [u16],
-    width: usize,
-    k: usize,
-)
-    requires { Kept shelf.now
-        × (k < newest shelf.now - base_of paper.constraints shelf.now.links)
-        × (paper.constraints * width ≤ length store.old)
-        × (suc paper.constraints ≤ length sizes.old)
-        × (length (entry_at shelf.now.cells shelf.now.links k) ≤ width) }
-    ensures { Unloaded
-        width
+// The row that stands at index k is written into row k of the table; the rows before it stay.
+fn unload_row<'a>(shelf: &'a Shelf, numbers: &'a [u16], table: &mut LentTable<'_>, k: usize)
+    requires { (k < newest shelf.now - base_of paper.constraints shelf.now.links)
+        × (length (entry_at shelf.now.cells shelf.now.links k) ≤ table.old.width) }
+    ensures same { Same table.old table.new }
+    ensures unloaded { Unloaded
+        table.old.width
         numbers.now
         (entry_at shelf.now.cells shelf.now.links k)
         k
-        store.old
-        sizes.old
-        store.new
-        sizes.new }
+        table.old.cells.now
+        table.old.sizes.now
+        table.new.cells.now
+        table.new.sizes.now }
 {
     let row = shelf.row_in(slot_at(shelf.links[tables::CODES], k));
-    decode(store, k * width, row, numbers);
-    sizes[k + 1] = row.len() as u16;
+    decode(table.cells, k * table.width, row, numbers);
+    table.sizes[k + 1] = row.len() as u16;
 }
 
 // The rows one after the other, from the oldest; what stands behind the sizes stays.
-pub fn unload_rows<'a>(
-    shelf: &'a Shelf,
-    numbers: &'a [u16],
-    store: &mut [i16],
-    sizes: &mut [u16],
-    width: usize,
-)
-    requires { Kept shelf.now
-        × (paper.constraints * width ≤ length store.old)
-        × (suc paper.constraints ≤ length sizes.old)
-        × Narrow width shelf.now.cells shelf.now.links }
-    ensures { Held width paper.constraints store.new sizes.new
+pub fn unload_rows<'a>(shelf: &'a Shelf, numbers: &'a [u16], table: &mut LentTable<'_>)
+    requires { Narrow table.old.width shelf.now.cells shelf.now.links }
+    ensures same { Same table.old table.new }
+    ensures unloaded { Held table.old.width paper.constraints table.new.cells.now table.new.sizes.now
         × ((D : Prefix) (es : List Constraint)
         → Numbers D numbers.now
         → numbers_are_ok paper [] D ≡ true
         → rows shelf.now ≡ map (codes D) es
         → ((e : Constraint) → Mem e es → (l : Literal) → Mem l e → 1 ≤ place D l)
-        → rows_of width store.new sizes.new ≡ es)
-        × (get_or sizes.new 0 0 ≡ newest shelf.now - base_of paper.constraints shelf.now.links)
-        × (drop (suc paper.constraints) sizes.new ≡ drop (suc paper.constraints) sizes.old)
-        × (length store.new ≡ length store.old)
-        × (length sizes.new ≡ length sizes.old) }
+        → rows_of table.old.width table.new.cells.now table.new.sizes.now ≡ es)
+        × (get_or table.new.sizes.now 0 0 ≡ newest shelf.now - base_of paper.constraints shelf.now.links)
+        × (drop (suc paper.constraints) table.new.sizes.now
+        ≡ drop (suc paper.constraints) table.old.sizes.now)
+        × (length table.new.cells.now ≡ length table.old.cells.now)
+        × (length table.new.sizes.now ≡ length table.old.sizes.now) }
 {
     let count = standing(shelf.links[tables::CODES]);
     for k in 0..count {
-        unload_row(shelf, numbers, store, sizes, width, k);
+        unload_row(shelf, numbers, table, k);
     }
-    sizes[0] = count as u16;
+    table.sizes[0] = count as u16;
 }
 
-// The rows that stand are the table's, from the oldest.
+// The rows that stand are the table's, from the oldest, in a state in arrays.
+// stays (proof): a table of a lent state becomes a slice only here, since two of its fields cannot be lent as slices at once
 pub fn unload<'a>(
     shelf: &'a Shelf,
     numbers: &'a [u16; tables::BY_NUMBER],
-    store: &mut [i16; tables::CONSTRAINT_CELLS],
+    cells: &mut [i16; tables::CONSTRAINT_CELLS],
     sizes: &mut [u16; tables::CONSTRAINT_SIZES],
 )
-    requires { Kept shelf.now }
-    ensures { Constraints store.new sizes.new
+    ensures { Constraints cells.new sizes.new
         × ((D : Prefix) (es : List Constraint)
         → Numbers D numbers.now
         → numbers_are_ok paper [] D ≡ true
         → rows shelf.now ≡ map (codes D) es
         → ((e : Constraint) → Mem e es → (l : Literal) → Mem l e → 1 ≤ place D l)
-        → rows_of paper.numbers store.new sizes.new ≡ es) }
+        → rows_of paper.numbers cells.new sizes.new ≡ es) }
 {
-    unload_rows(shelf, numbers, store, sizes, tables::NUMBERS);
+    let mut table = LentTable {
+        cells,
+        sizes,
+        width: tables::NUMBERS,
+    };
+    unload_rows(shelf, numbers, &mut table);
 }
 
-// The record of the row that stands at index k: a row that was loaded has its own, a younger one the count of clauses.
-fn record_of<'a>(sizes: &'a [u16], base: u64, before: usize, clauses: u16, k: usize) -> u16
-    requires { (suc paper.constraints + paper.constraints ≤ length sizes.now)
-        × (k < paper.constraints)
-        × (before ≤ paper.constraints) }
-    ensures { result ≡ record_from sizes.now base before clauses k }
-{
-    if base < before as u64 {
-        let i = base as usize + k;
-        if i < before {
-            return sizes[tables::CONSTRAINT_SIZES + i];
-        }
-    }
-    clauses
-}
-
-// The records of the rows that stand, from the oldest. A row's own record stands no earlier than where it goes.
+// The records of the rows that stand, from the oldest: a row that was loaded has its own, which goes to the front with it, a younger one the count of clauses.
 fn write_records(sizes: &mut [u16], newest: u64, before: usize, clauses: u16)
     requires { (suc paper.constraints + paper.constraints ≤ length sizes.old) × (before ≤ paper.constraints) }
     ensures { (length sizes.new ≡ length sizes.old) × RecordsFrom sizes.old newest before clauses sizes.new }
 {
-    let base = base_of(newest);
-    for k in 0..standing(newest) {
-        sizes[tables::CONSTRAINT_SIZES + k] = record_of(sizes, base, before, clauses, k);
-    }
+    let count = standing(newest);
+    let displaced = base_of(newest).min(before as u64) as usize;
+    let own = count.min(before - displaced);
+    let from = tables::CONSTRAINT_SIZES + displaced;
+    sizes.copy_within(from..from + own, tables::CONSTRAINT_SIZES);
+    let younger = tables::CONSTRAINT_SIZES + own;
+    sizes[younger..tables::CONSTRAINT_SIZES + count].fill(clauses);
 }
 
 // .. of the learned clauses, with their records behind the sizes.
-pub fn unload_clauses_lent<'a>(
+pub fn unload_with_records<'a>(
     shelf: &'a Shelf,
     numbers: &'a [u16],
-    store: &mut [i16],
-    sizes: &mut [u16],
-    width: usize,
+    table: &mut LentTable<'_>,
     clauses: u16,
 )
-    requires { Kept shelf.now
-        × (suc paper.constraints + paper.constraints ≤ length sizes.old)
-        × (get_or sizes.old 0 0 ≤ paper.constraints)
-        × (paper.constraints * width ≤ length store.old)
-        × Narrow width shelf.now.cells shelf.now.links }
-    ensures { Held width paper.constraints store.new sizes.new
+    requires { (suc paper.constraints + paper.constraints ≤ length table.old.sizes.now)
+        × (get_or table.old.sizes.now 0 0 ≤ paper.constraints)
+        × Narrow table.old.width shelf.now.cells shelf.now.links }
+    ensures same { Same table.old table.new }
+    ensures unloaded { Held table.old.width paper.constraints table.new.cells.now table.new.sizes.now
         × ((D : Prefix) (es : List Constraint)
         → Numbers D numbers.now
         → numbers_are_ok paper [] D ≡ true
         → rows shelf.now ≡ map (codes D) es
         → ((e : Constraint) → Mem e es → (l : Literal) → Mem l e → 1 ≤ place D l)
-        → rows_of width store.new sizes.new ≡ es)
-        × Recorded sizes.old (newest shelf.now) clauses sizes.new
-        × (length store.new ≡ length store.old)
-        × (length sizes.new ≡ length sizes.old) }
+        → rows_of table.old.width table.new.cells.now table.new.sizes.now ≡ es)
+        × Recorded table.old.sizes.now (newest shelf.now) clauses table.new.sizes.now
+        × (length table.new.cells.now ≡ length table.old.cells.now)
+        × (length table.new.sizes.now ≡ length table.old.sizes.now) }
 {
-    let before = sizes[0] as usize;
-    write_records(sizes, shelf.links[tables::CODES], before, clauses);
-    unload_rows(shelf, numbers, store, sizes, width);
+    let before = table.sizes[0] as usize;
+    write_records(table.sizes, shelf.links[tables::CODES], before, clauses);
+    unload_rows(shelf, numbers, table);
 }
 
 // .. of a state in arrays.
+// stays (proof): likewise
 pub fn unload_clauses<'a>(
     shelf: &'a Shelf,
     numbers: &'a [u16; tables::BY_NUMBER],
-    store: &mut [i16; tables::CONSTRAINT_CELLS],
-    sizes: &mut [u16],
+    cells: &mut [i16; tables::CONSTRAINT_CELLS],
+    sizes: &mut [u16; tables::LEARNED_CLAUSE_SIZES],
     clauses: u16,
 )
-    requires { Kept shelf.now × (suc paper.constraints + paper.constraints ≤ length sizes.old) × (get_or sizes.old 0 0 ≤ paper.constraints) }
-    ensures { Constraints store.new sizes.new
+    requires { get_or sizes.old 0 0 ≤ paper.constraints }
+    ensures { Constraints cells.new sizes.new
         × ((D : Prefix) (es : List Constraint)
         → Numbers D numbers.now
         → numbers_are_ok paper [] D ≡ true
         → rows shelf.now ≡ map (codes D) es
         → ((e : Constraint) → Mem e es → (l : Literal) → Mem l e → 1 ≤ place D l)
-        → rows_of paper.numbers store.new sizes.new ≡ es)
+        → rows_of paper.numbers cells.new sizes.new ≡ es)
         × Recorded sizes.old (newest shelf.now) clauses sizes.new }
 {
-    unload_clauses_lent(shelf, numbers, store, sizes, tables::NUMBERS, clauses);
+    let mut table = LentTable {
+        cells,
+        sizes,
+        width: tables::NUMBERS,
+    };
+    unload_with_records(shelf, numbers, &mut table, clauses);
 }

@@ -3,10 +3,7 @@ use Prim.Native.Nat.{ℕ, zero, suc, ◌+◌, ◌*◌, ◌≤◌, ◌<◌, zero-
 use native.Mathlib.Omega.{arith}
 use native.Mathlib.Numerals.{add-one}
 use mathlib.Core.Path.{◌≡◌, refl, sym, ap, subst, ◌∙◌}
-use mathlib.Core.Bool.{Bool, true, false, cond}
-use mathlib.Core.List.{List, [], ◌∷◌, ◌++◌, append-nil}
-use lib.Dec.{leb}
-use borrow.Author.Tests.{le-leb, lt-leb}
+use mathlib.Core.List.{List, [], ◌∷◌, ◌++◌}
 use Rattle.qbf.specs.Calls.{standing}
 use lib.IntN.{ℤ}
 use lib.ListN.{length, get_or, take, drop, set, length-append, length-set}
@@ -15,10 +12,10 @@ use Rattle.qbf.specs.Formula.{paper}
 use Rattle.tables.specs.Views.{Table, row, rows, rows_of}
 use Rattle.state.specs.Reading.{listing, record_at, records_of}
 use Rattle.state.proofs.Listing.{listing_length, listing_snoc, listing_same}
-use Rattle.tables.proofs.Laws.{rows_length, rows_suc, standing as held}
+use Rattle.tables.proofs.Laws.{rows_length, rows_suc}
 use Rattle.theory.proofs.Stores.{length_standing, standing_end}
-use Rattle.withdrawal.specs.Learned.{Room, Grown, KeptRow, Kept}
-use Rattle.rule_rows.proofs.Rows.{appended_rows, appended_table, none_rows, none_left, same_rows}
+use Rattle.withdrawal.specs.Learned.{Room, Grown, KeptRow}
+use Rattle.rule_rows.proofs.Rows.{appended_rows, appended_table, none_rows, same_rows}
 
 -- where a record stands
 abbrev cell : ℕ → ℕ
@@ -94,37 +91,8 @@ module _ (f : List ℤ) (l : List ℕ) (room : Room f l) (e : List ℤ) (r : ℕ
             ∙ ap (λ (x : ℕ). records_of l ++ (x ∷ [])) new_record;
       }
 
--- ---- a row kept or dropped
-module _ (n : ℕ) (f : List ℤ) (l : List ℕ) (e : List ℤ) (k : ℕ) where
-  -- dropped: its record is above n
-  pub row_dropped : Room f l → n < k → KeptRow e k n f l f l
-  row_dropped room h =
-      record {
-        room = room;
-        rows = sym (ap (λ (b : Bool). rows_of paper.numbers f l ++ cond b (e ∷ []) []) (not_le h) ∙ append-nil (rows_of paper.numbers f l));
-        records = sym (ap (λ (b : Bool). records_of l ++ cond b (k ∷ []) []) (not_le h) ∙ append-nil (records_of l));
-      }
-    where
-      not_le : n < k → leb k n ≡ false
-      not_le m = lt-leb k n m
-
-  -- kept: as the row and the record that were read
-  pub row_kept : {f' : List ℤ} {l' : List ℕ} {e' : List ℤ} {k' : ℕ} → e' ≡ e → k' ≡ k → k' ≤ n → Grown f l e' k' f' l' → KeptRow e k n f l f' l'
-  row_kept is same h g =
-      record {
-        room = g.room;
-        rows = g.rows ∙ ap (λ (r : List ℤ). rows_of paper.numbers f l ++ (r ∷ [])) is ∙ sym (ap (λ (b : Bool). rows_of paper.numbers f l ++ cond b (e ∷ []) []) low);
-        records = g.records ∙ ap (λ (m : ℕ). records_of l ++ (m ∷ [])) same ∙ sym (ap (λ (b : Bool). records_of l ++ cond b (k ∷ []) []) low);
-      }
-    where
-      low : leb k n ≡ true
-      low = le-leb k n (omega (arith, same, h))
-
 -- where row i stands
 module _ {f : List ℤ} {l : List ℕ} (room : Room f l) (i : ℕ) (h : i < get_or l 0 0) where
-  pub row_inside : i * paper.numbers + get_or l (suc i) 0 ≤ length f
-  row_inside = (held room.table).inside i h
-
   pub row_short : get_or l (suc i) 0 ≤ paper.numbers
   row_short = room.table.short i h
 
@@ -179,32 +147,3 @@ module _ {cells : List ℤ} {sizes : List ℕ} {n : ℕ} where
   pub keeping_next : {i : ℕ} {kept : List ℤ} {s : List ℕ} → Keeping cells sizes n i kept s → {kept' : List ℤ} {s' : List ℕ}
       → KeptRow (row paper.numbers cells sizes i) (record_at sizes i) n kept s kept' s' → Keeping cells sizes n (i + 1) kept' s'
   keeping_next {i} inv {kept'} {s'} w = subst (λ (m : ℕ). Keeping cells sizes n m kept' s') (sym (add-one i)) (keeping_more inv kept' s' w)
-
-  pub keeping_end : {i : ℕ} {kept : List ℤ} {s : List ℕ} → Keeping cells sizes n i kept s → i ≡ get_or sizes 0 0 → Kept cells sizes n kept s
-  keeping_end inv e =
-      record {
-        room = inv.room;
-        rows = inv.done ∙ ap (λ (m : ℕ). standing n (listing (record_at sizes) 0 m) (rows paper.numbers cells sizes m)) e;
-        records = inv.recorded ∙ ap (λ (m : ℕ). standing n (listing (record_at sizes) 0 m) (listing (record_at sizes) 0 m)) e;
-      }
-
--- ---- none stands yet
-module _ {f : List ℤ} {l : List ℕ} (room : Room f l) {s : List ℕ} (is : s ≡ set l 0 0) where
-  pub cleared_count : get_or s 0 0 ≡ 0
-  cleared_count = none_left l (omega (arith, room.behind)) is
-
-  long_still : length s ≡ length l
-  long_still = ap length is ∙ length-set l 0 0
-
-  pub cleared_room : Room f s
-  cleared_room =
-      record {
-        table =
-            record {
-              room = room.table.room;
-              counted = omega (arith, room.table.counted, long_still);
-              few = omega (arith, cleared_count);
-              short = λ k h. absurd (omega (arith, h, cleared_count));
-            };
-        behind = omega (arith, room.behind, long_still);
-      }

@@ -1,1 +1,2 @@
 pub mod Learned
+pub mod Lent

@@ -2,20 +2,32 @@
 // their records.
 #![tactic(auto)]
 
-ghost use Rattle.std.specs.Prelude.{◌≡◌, [], ◌∷◌, ◌++◌, suc, ◌+◌, ◌*◌, ◌≤◌, ◌<◌, length, get_or};
+ghost use Rattle.std.specs.Prelude.{◌≡◌, ◌≤◌, ◌<◌, length, get_or};
 ghost use Rattle.qbf.specs.Formula.{paper};
 ghost use Rattle.tables.specs.Views.{row};
 ghost use Rattle.state.specs.Reading.{record_at};
-ghost use Rattle.withdrawal.specs.Learned.{Room, Grown, KeptRow, Kept};
+ghost use Rattle.withdrawal.specs.Learned.{Room, Grown};
+ghost use Rattle.withdrawal.specs.Lent.{KeptIn, LeftIn};
 
-use rule_rows::cells::{clear, write};
+pub mod standing; // the tables of the learned clauses
 
+use rule_rows::cells::write;
+use standing::{Bars, Left};
+
+// stays (no plainer): `length row ≤ paper.numbers` is of a part of a table, and a slice keeps no fact
 // One learned clause more, behind the others, with its record.
-fn append<'a>(cells: &mut [i16], sizes: &mut [u16], row: &'a [i16], standing: u16)
+// stays (proof): a table that a struct with a fact of it refers to may be lent whole, and not in part, so it is written here
+fn append(
+    cells: &mut [i16; tables::CONSTRAINT_CELLS],
+    sizes: &mut [u16; tables::LEARNED_CLAUSE_SIZES],
+    row: &[i16],
+    standing: u16,
+)
     requires { Room cells.old sizes.old
         × (get_or sizes.old 0 0 < paper.constraints)
         × (length row.now ≤ paper.numbers) }
-    ensures { Grown cells.old sizes.old row.now standing cells.new sizes.new }
+    ensures grown { Grown cells.old sizes.old row.now standing cells.new sizes.new }
+    ensures long { length sizes.new ≡ length sizes.old }
 {
     let count = sizes[0] as usize;
     write(cells, count * tables::NUMBERS, row);
@@ -25,64 +37,49 @@ fn append<'a>(cells: &mut [i16], sizes: &mut [u16], row: &'a [i16], standing: u1
 }
 
 // Learned clause i goes behind those kept so far, if its record is no larger than the count of clauses that remain.
-fn keep_row<'a>(
-    cells: &'a [i16],
-    sizes: &'a [u16],
-    i: usize,
-    remain: u16,
-    kept: &mut [i16],
-    kept_sizes: &mut [u16],
-)
-    requires { Room cells.now sizes.now
-        × (i < get_or sizes.now 0 0)
-        × Room kept.old kept_sizes.old
-        × (get_or kept_sizes.old 0 0 ≤ i) }
-    ensures { KeptRow
-        (row paper.numbers cells.now sizes.now i)
-        (record_at sizes.now i)
+fn keep_row(bars: Bars<'_>, i: usize, remain: u16, left: &mut Left<'_>)
+    requires { (i < get_or bars.sizes.now 0 0) × (get_or left.old.sizes.now 0 0 ≤ i) }
+    ensures { KeptIn
+        (row paper.numbers bars.entry.cells.now bars.entry.sizes.now i)
+        (record_at bars.entry.sizes.now i)
         remain
-        kept.old
-        kept_sizes.old
-        kept.new
-        kept_sizes.new }
+        left.old
+        left.new }
 {
-    let record = state::cells::record(sizes, i);
+    let record = state::cells::record(bars.sizes, i);
     if record > remain as usize {
         return;
     }
     let from = i * tables::NUMBERS;
-    let len = state::cells::entry(sizes, i);
-    append(kept, kept_sizes, &cells[from..from + len], record as u16);
+    let len = state::cells::entry(bars.sizes, i);
+    append(
+        left.cells,
+        left.sizes,
+        &bars.cells[from..from + len],
+        record as u16,
+    );
 }
 
 // "Bars with a larger record than the rules that remain are dropped": the others, into tables in which none stands yet.
-fn keep<'a>(
-    cells: &'a [i16],
-    sizes: &'a [u16],
-    remain: u16,
-    kept: &mut [i16],
-    kept_sizes: &mut [u16],
-)
-    requires { Room cells.now sizes.now × Room kept.old kept_sizes.old × (get_or kept_sizes.old 0 0 ≡ 0) }
-    ensures { Kept cells.now sizes.now remain kept.new kept_sizes.new }
+fn keep(bars: Bars<'_>, remain: u16, left: &mut Left<'_>)
+    requires { get_or left.old.sizes.now 0 0 ≡ 0 }
+    ensures { LeftIn bars.entry.cells.now bars.entry.sizes.now remain left.old left.new }
 {
-    let count = state::cells::count(sizes);
+    let count = state::cells::count(bars.sizes);
     for i in 0..count {
-        keep_row(cells, sizes, i, remain, kept, kept_sizes);
+        keep_row(bars, i, remain, left);
     }
 }
 
 // The same where the learned clauses stand.
-pub fn leave(
-    cells: &mut [i16; tables::CONSTRAINT_CELLS],
-    sizes: &mut [u16; tables::LEARNED_CLAUSE_SIZES],
-    remain: u16,
-)
-    requires { Room cells.old sizes.old }
-    ensures { Kept cells.old sizes.old remain cells.new sizes.new }
+pub fn leave(left: &mut Left<'_>, remain: u16)
+    ensures { LeftIn left.old.cells.now left.old.sizes.now remain left.old left.new }
 {
-    let all = *cells;
-    let all_sizes = *sizes;
-    clear(sizes);
-    keep(&all, &all_sizes, remain, cells, sizes);
+    let all = *left.cells;
+    let all_sizes = *left.sizes;
+    let cells: &[i16] = &all;
+    let sizes: &[u16] = &all_sizes;
+    let bars = Bars { cells, sizes };
+    left.sizes[0] = 0;
+    keep(bars, remain, left);
 }

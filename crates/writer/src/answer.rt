@@ -6,6 +6,18 @@ ghost use Rattle.writer.specs.Appended.{Appended, Room};
 
 use crate::Output;
 
+// A closest reading by its bytes, 1 off and 2 on, and the numbers of the places; in how many flags it differs; the lines of its card,
+// and the visits.
+#[derive(Clone, Copy)]
+pub struct Closest<'a> {
+    pub numbers: &'a [u16],
+    pub reading: &'a [u8],
+    pub differs: u64,
+    pub lines: u64,
+    pub visits: u64,
+    pub ghost within: { length reading.now < length numbers.now },
+}
+
 impl Output<'_> {
     // "number and text line from 1 (0 for 9)"
     #[tactic(auto, using(crate::proofs::Lengths::refusal_length))]
@@ -57,26 +69,19 @@ impl Output<'_> {
         self.put_number(n);
     }
 
-    // A closest reading by its bytes, 1 off and 2 on, and the numbers of the places; in how many flags it differs; the lines of its card,
-    // and the visits.
     #[tactic(auto, using(crate::proofs::Lengths::closest_length))]
-    pub fn put_closest(
-        &mut self,
-        numbers: &[u16],
-        reading: &[u8],
-        differs: u64,
-        lines: u64,
-        visits: u64,
-    )
-        requires reading_in_bounds { length reading.now < length numbers.now }
-        requires room { Room self.old (closest_row numbers.now reading.now differs lines visits) }
-        ensures { Appended self.old (closest_row numbers.now reading.now differs lines visits) self.new }
+    pub fn put_closest(&mut self, found: Closest<'_>)
+        requires { Room self.old (closest_row found.numbers.now found.reading.now found.differs found.lines found.visits) }
+        ensures { Appended
+            self.old
+            (closest_row found.entry.numbers.now found.entry.reading.now found.entry.differs found.entry.lines found.entry.visits)
+            self.new }
     {
         self.put_word(b"(closest (reading");
-        self.put_items(numbers, reading);
-        self.put_counted(b") (differs ", differs);
-        self.put_counted(b") (lines ", lines);
-        self.put_counted(b") (visits ", visits);
+        self.put_items(found.numbers, found.reading);
+        self.put_counted(b") (differs ", found.differs);
+        self.put_counted(b") (lines ", found.lines);
+        self.put_counted(b") (visits ", found.visits);
         self.put_word(b"))\n"); // of the visits, and of all
     }
 }

@@ -6,17 +6,28 @@ ghost use Rattle.writer.specs.Appended.{Appended, Room};
 
 use crate::Output;
 
+// The first rows of a card's table, as many as it has lines, each of as many bytes as there are free variables; and the numbers of the places.
+#[derive(Clone, Copy)]
+pub struct Lines<'a> {
+    pub numbers: &'a [u16],
+    pub table: &'a [u8],
+    pub free: usize,
+    pub count: usize,
+    pub ghost within: { (free < length numbers.now) × (count * free ≤ length table.now) },
+}
+
 impl Output<'_> {
-    // The first n rows of a table, each of f bytes.
-    pub fn put_lines(&mut self, numbers: &[u16], table: &[u8], f: usize, n: usize)
-        requires f_in_bounds { (f < length numbers.now) × (n * f ≤ length table.now) }
-        requires room { Room self.old (rows_text f numbers.now table.now n) }
-        ensures { Appended self.old (rows_text f numbers.now table.now n) self.new }
+    pub fn put_lines(&mut self, lines: Lines<'_>)
+        requires { Room self.old (rows_text lines.free lines.numbers.now lines.table.now lines.count) }
+        ensures { Appended
+            self.old
+            (rows_text lines.entry.free lines.entry.numbers.now lines.entry.table.now lines.entry.count)
+            self.new }
     {
-        let mut rest = table;
-        'rows: for _ in 0..n {
-            let (row, behind) = rest.split_at(f);
-            self.put_line(numbers, row);
+        let mut rest = lines.table;
+        'rows: for _ in 0..lines.count {
+            let (row, behind) = rest.split_at(lines.free);
+            self.put_line(lines.numbers, row);
             rest = behind;
         }
     }
@@ -32,6 +43,7 @@ impl Output<'_> {
     }
 
     // What it begins with: of the card, or of the keep card.
+    // stays (no plainer): `yes` is the polarity that every definition of a card has, and this its first word
     fn put_head(&mut self, yes: bool)
         requires { Room self.old (card_head yes) }
         ensures { Appended self.old (card_head yes) self.new }
@@ -44,21 +56,15 @@ impl Output<'_> {
     }
 
     #[tactic(auto, using(crate::proofs::Lengths::card_length))]
-    pub fn put_card(
-        &mut self,
-        yes: bool,
-        numbers: &[u16],
-        table: &[u8],
-        f: usize,
-        n: usize,
-        visits: u64,
-    )
-        requires f_in_bounds { (f < length numbers.now) × (n * f ≤ length table.now) }
-        requires room { Room self.old (card_rows yes f numbers.now table.now n visits) }
-        ensures { Appended self.old (card_rows yes f numbers.now table.now n visits) self.new }
+    pub fn put_card(&mut self, yes: bool, lines: Lines<'_>, visits: u64)
+        requires { Room self.old (card_rows yes lines.free lines.numbers.now lines.table.now lines.count visits) }
+        ensures { Appended
+            self.old
+            (card_rows yes lines.entry.free lines.entry.numbers.now lines.entry.table.now lines.entry.count visits)
+            self.new }
     {
         self.put_head(yes);
-        self.put_lines(numbers, table, f, n);
+        self.put_lines(lines);
         self.put_visits(visits);
         self.put_word(b"(end)\n");
     }

@@ -8,8 +8,8 @@ use Rattle.book_writer.proofs.write_lent.Goals as goal
 pub returns-in_default : goal.returns-in_default
 returns-in_default c = malformed_writes _ (length c.args.table.now) (refused_invalid _ c.check.result c.check.ensures c.in_default.not-Ok) c.refused.ensures
 
-pub write_formula-requires : goal.write_formula-requires
-write_formula-requires c = valid_standing _ (sym c.in-Ok.ensures.said) c.in-Ok.ensures.sized
+pub invariant_of-clauses : goal.invariant_of-clauses
+invariant_of-clauses c = record { standing = valid_standing _ (sym c.in-Ok.ensures.said) c.in-Ok.ensures.sized }
 
 pub returns : goal.returns
 returns c = valid_writes _ (length c.args.table.now) (sym c.in-Ok.ensures.said) c.write_formula.ensures

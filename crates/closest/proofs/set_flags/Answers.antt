@@ -3,9 +3,6 @@ use Rattle.std.proofs.Common.{arith}
 use Rattle.closest.proofs.Bytes.{set_more, set_stop, set_end}
 use Rattle.closest.proofs.set_flags.Goals as goal
 
-pub loop-i-init : goal.loop-i-init
-loop-i-init c = omega arith
-
 pub returns-then-b-eq0 : goal.returns-then-b-eq0
 returns-then-b-eq0 c = (set_stop c.args.row.now c.loop-i.i c.loop-i-test.true c.if-b-eq0.true c.loop-i.invariant, omega arith)
 

@@ -2,12 +2,8 @@
 use Rattle.std.proofs.Common.{subst}
 use Rattle.layout.specs.Opening.{Opened}
 use Rattle.opening.specs.Lines.{ReadAs}
-use Rattle.opening.proofs.Turns.{empty_stood}
 use Rattle.edition_opening.proofs.Turns.{begun_opens}
 use Rattle.edition_opening.proofs.read_editions.Goals as goal
-
-pub read_text-requires : goal.read_text-requires
-read_text-requires c = empty_stood c.empty.ensures.empty
 
 pub returns : goal.returns
 returns c = subst (λ (o : Opened). ReadAs o c.read_text.result) (begun_opens c.empty.ensures c.args.text.now) c.read_text.ensures

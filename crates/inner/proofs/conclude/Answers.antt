@@ -7,7 +7,7 @@ pub returns-in-Some-clause-concluded : goal.returns-in-Some-clause-concluded
 returns-in-Some-clause-concluded c = let l = c.args.learned.now in
     let area = c.args.trail.now.cube in
     λ D R s st k shown entered.
-    let given = last_given shown.statused shown.long c.requires.1 c.true_at.ensures.1 in
+    let given = last_given shown.statused shown.long c.requires.0 c.true_at.ensures.1 in
     record {
       read =
           conflict_no D R s st c.args.matrix.now.rows l.clauses.cells l.cubes.cells area
@@ -20,7 +20,7 @@ pub returns-in-None-clause-concluded : goal.returns-in-None-clause-concluded
 returns-in-None-clause-concluded c = let l = c.args.learned.now in
     let area = c.solution.new.trail.cube in
     λ D R s st k shown entered.
-    let given = last_given shown.statused shown.long c.requires.1 c.true_at.ensures.1 in
+    let given = last_given shown.statused shown.long c.requires.0 c.true_at.ensures.1 in
     let found = c.solution.ensures.leaf_coded D R s st k c.args.matrix.now.rows l.clauses.cells shown.quantified shown.statused shown.formed given shown.stored.cubes shown.matrix.by_code entered in
     record {
       read =

@@ -2,7 +2,7 @@
 use mathlib.Core.Bool.{false}
 use lib.Dec.{eqb}
 use Rattle.qbf.specs.Learning.{eligible_match, lowest_dead, reduced_found}
-use Rattle.inner.proofs.Conclusions.{dying_found, dying_none, found_bounded}
+use Rattle.inner.proofs.Conclusions.{dying_found, found_bounded}
 use Rattle.inner.proofs.conflict.Goals as goal
 
 pub returns-in-Some : goal.returns-in-Some
@@ -11,13 +11,4 @@ returns-in-Some c = let cls = c.args.matrix.now.rows in
       found_bounded = found_bounded c.in-Some.is c.dead.ensures.found_bounded;
       found_coded = λ D R s st k marks area shown given matrix formed entered learned.
           dying_found D (reduced_found D false (lowest_dead D s R)) (eligible_match D eqb false s st.clauses) cls cs area (c.dead.ensures.found_coded D R s st k marks cs area given matrix formed entered) c.in-Some.is;
-    }
-
-pub returns-in-None : goal.returns-in-None
-returns-in-None c = let cls = c.args.matrix.now.rows in
-    let cs = c.args.learned.now.cells in record {
-      found_bounded = c.lookup.ensures.found_bounded;
-      found_coded = λ D R s st k marks area shown given matrix formed entered learned.
-          dying_none D (reduced_found D false (lowest_dead D s R)) (eligible_match D eqb false s st.clauses) cls cs area (c.dead.ensures.found_coded D R s st k marks cs area given matrix formed entered) c.in-None.is c.lookup.result
-          (c.lookup.ensures.found_coded D s c.args.g.at st.clauses cls area shown given c.requires.0.inner learned);
     }

@@ -5,13 +5,13 @@ use Rattle.inner.proofs.stored_cube.Goals as goal
 pub returns-in-Some : goal.returns-in-Some
 returns-in-Some c = record {
   leaf_bounded = found_bounded c.in-Some.is c.lookup.ensures.found_bounded;
-  leaf_coded = λ D s at es cls cs area shown given inner rows.
-      stored_yes D s es cls cs c.args.cubes.now.cells area (c.lookup.ensures.found_coded D s at es cls area shown given inner rows) c.in-Some.is;
+  leaf_coded = λ D s es cls cs area shown given rows.
+      stored_yes D s es cls cs c.args.cubes.now.cells area (c.lookup.ensures.found_coded D s c.args.g.at es cls area shown given c.args.g.inside.inner rows) c.in-Some.is;
 }
 
 pub returns-in-None : goal.returns-in-None
 returns-in-None c = record {
   leaf_bounded = tt;
-  leaf_coded = λ D s at es cls cs area shown given inner rows.
-      stored_open D s es cls cs c.args.cubes.now.cells area (c.lookup.ensures.found_coded D s at es cls area shown given inner rows) c.in-None.is;
+  leaf_coded = λ D s es cls cs area shown given rows.
+      stored_open D s es cls cs c.args.cubes.now.cells area (c.lookup.ensures.found_coded D s c.args.g.at es cls area shown given c.args.g.inside.inner rows) c.in-None.is;
 }

@@ -6,20 +6,11 @@ use mathlib.Core.Path.{subst}
 use Rattle.tables.specs.Shelves.{code_count}
 use Rattle.coding.proofs.Coded.{last_below}
 use Rattle.loading_clauses.specs.Coded.{Opposite}
-use Rattle.loading_clauses.proofs.Filling.{added, dying_within, sets_long}
+use Rattle.loading_clauses.proofs.Filling.{added, opposed}
 use Rattle.loading_clauses.proofs.add_clause.Goals as goal
 
-pub opposite-code-requires : goal.opposite-code-requires
-opposite-code-requires c = omega (arith, last_below c.args.row.now c.args.left code_count (omega arith) c.requires.2 (λ i h. c.requires.1 i (omega (arith, h, c.requires.2))))
-
-pub overflow_mul-code-2 : goal.overflow_mul-code-2
-overflow_mul-code-2 c = omega (arith, dying_within {sets = c.add_satisfying.new.sets} (sets_long c.requires.0 c.add_satisfying.ensures.long) c.opposite-code.result c.opposite-code.ensures.low)
-
-pub overflow_add-code : goal.overflow_add-code
-overflow_add-code c = omega (arith, dying_within {sets = c.add_satisfying.new.sets} (sets_long c.requires.0 c.add_satisfying.ensures.long) c.opposite-code.result c.opposite-code.ensures.low)
-
-pub insert-requires : goal.insert-requires
-insert-requires c = dying_within {sets = c.add_satisfying.new.sets} (sets_long c.requires.0 c.add_satisfying.ensures.long) c.opposite-code.result c.opposite-code.ensures.low
+pub opposite-other-requires : goal.opposite-other-requires
+opposite-other-requires c = omega (arith, last_below c.args.row.now c.args.left code_count (omega arith) c.requires.2 (λ i h. c.requires.1 i (omega (arith, h, c.requires.2))))
 
 pub returns : goal.returns
-returns c = added c.add_satisfying.ensures c.requires.0.number (subst (λ (x : ℕ). Opposite x c.opposite-code.result) (search rules) c.opposite-code.ensures) c.insert.ensures
+returns c = added c.add_satisfying.ensures c.requires.0.number (subst (λ (x : ℕ). Opposite x c.opposite-other.result) (search rules) (opposed c.opposite-other.ensures.low c.opposite-other.ensures.there c.opposite-other.ensures.back)) c.insert.ensures

@@ -3,27 +3,25 @@ use native.Mathlib.Omega.{arith}
 use Prim.Native.Nat.{ℕ}
 use mathlib.Core.List.{List}
 use mathlib.Core.Path.{refl, subst, ◌∙◌}
-use Rattle.qbf.specs.Formula.{paper}
+use lib.IntN.{ℤ}
 use Rattle.tables.specs.Views.{row}
 use Rattle.loading_clauses.specs.Coded.{Filled}
 use Rattle.loading_clauses.proofs.Matrix.{filled_more, filled_none, matrix_shown}
 use Rattle.loading_clauses.proofs.add_clauses.Goals as goal
 
 pub loop-k-init : goal.loop-k-init
-loop-k-init c = (c.requires.1, refl, refl, filled_none)
-
-pub load_clause-requires : goal.load_clause-requires
-load_clause-requires c = (c.requires.0, c.loop-k-test.true, c.loop-k.invariant.0, record { room = omega (arith, c.loop-k.invariant.1, c.requires.2.room); number = omega (arith, c.loop-k-test.true, c.requires.2.number) })
+loop-k-init c = (c.requires.2, refl, refl, filled_none)
 
 pub loop-k-preserved : goal.loop-k-preserved
 loop-k-preserved c = (
   c.load_clause.ensures.room ∙ c.loop-k.invariant.0,
   c.load_clause.ensures.added.long ∙ c.loop-k.invariant.1,
   c.loop-k.invariant.2,
-  filled_more c.loop-k.invariant.3 c.requires.0 c.loop-k-test.true (omega (arith, c.loop-k-test.true, c.requires.2.number))
-      (subst (λ (q : List ℕ). Filled (row paper.literals c.args.clauses.now c.args.sizes.now c.loop-k.k) c.args.places.now q c.args.words c.loop-k.k c.loop-k.matrix.rows c.loop-k.matrix.sets c.load_clause.new.rows c.load_clause.new.sets)
-      c.loop-k.invariant.2 c.load_clause.ensures),
+  filled_more c.loop-k.invariant.3 c.requires.0 c.requires.1 (omega (arith, c.loop-k-test.true, c.count-count.ensures)) (omega (arith, c.loop-k-test.true, c.count-count.ensures, c.requires.3.number))
+      (subst (λ (r : List ℤ). Filled r c.args.places.now c.args.matrix.now.quantifiers c.args.words c.loop-k.k c.loop-k.matrix.rows c.loop-k.matrix.sets c.load_clause.new.rows c.load_clause.new.sets) c.row.ensures
+      (subst (λ (q : List ℕ). Filled c.row.result.now c.args.places.now q c.args.words c.loop-k.k c.loop-k.matrix.rows c.loop-k.matrix.sets c.load_clause.new.rows c.load_clause.new.sets)
+      c.loop-k.invariant.2 c.load_clause.ensures)),
 )
 
 pub returns : goal.returns
-returns c = (c.loop-k.invariant.2, matrix_shown c.loop-k.invariant.3 c.requires.0 (omega (arith, c.loop-k-test.false, c.loop-k.auto.k-end)))
+returns c = (c.loop-k.invariant.2, matrix_shown c.loop-k.invariant.3 c.requires.0 c.requires.1 (omega (arith, c.loop-k-test.false, c.loop-k.auto.k-end, c.count-count.ensures)))

@@ -11,4 +11,4 @@ abbrev pub invariant-loop-k : goal.invariant-loop-k
 invariant-loop-k l = (length l.matrix.rows ≡ paper.clauses * clause_row)
     × (length l.matrix.sets ≡ length l.initial.matrix.sets)
     × (l.matrix.quantifiers ≡ l.initial.matrix.quantifiers)
-    × FilledBelow l.clauses l.sizes l.places l.initial.matrix.quantifiers l.words l.k l.initial.matrix.sets l.matrix.rows l.matrix.sets
+    × FilledBelow l.clauses.width l.clauses.cells.now l.clauses.sizes.now l.places l.initial.matrix.quantifiers l.words l.k l.initial.matrix.sets l.matrix.rows l.matrix.sets

@@ -1,9 +1,20 @@
+-- `load` meets its contract: after k turns the first k rows stand on the shelf.
 use native.Mathlib.Omega.{arith}
-use Rattle.lent_rows.proofs.Rows.{table_held}
+use Prim.Native.Nat.{suc}
+use mathlib.Core.Path.{ap, ◌∙◌}
+use mathlib.Core.List.{List}
+use lib.IntN.{ℤ}
+use Rattle.qbf.specs.Formula.{paper}
+use Rattle.qbf.specs.Learning.{push}
+use Rattle.tables.specs.Codes.{codes}
+use Rattle.tables.specs.Shelves.{entries_of}
+use Rattle.loading_constraints.proofs.Loading.{load_none, load_more}
 use Rattle.loading_constraints.proofs.load.Goals as goal
 
-pub load_lent-requires : goal.load_lent-requires
-load_lent-requires c = (table_held c.requires.0, c.requires.1, c.requires.2, omega arith)
+pub loop-k-init : goal.loop-k-init
+loop-k-init c = load_none c.args.table.width c.args.table.cells.now c.args.table.sizes.now c.args.places.now c.args.shelf.now.cells c.args.shelf.now.links c.args.shelf.now.agree c.requires.2
 
-pub returns : goal.returns
-returns c = c.load_lent.ensures
+pub loop-k-preserved : goal.loop-k-preserved
+loop-k-preserved c =
+    load_more c.loop-k.invariant (omega (arith, c.loop-k-test.true, c.count-count.ensures, c.requires.0.few)) _ _ c.load_row.new.shelf.agree (c.load_row.ensures.0 ∙ ap suc c.loop-k.invariant.newest)
+    (λ D p few. c.load_row.ensures.1 D p few ∙ ap (λ (x : List ℤ). push paper.constraints (codes D x) (entries_of c.loop-k.shelf.cells c.loop-k.shelf.links)) c.row.ensures)

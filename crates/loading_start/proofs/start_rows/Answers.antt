@@ -7,14 +7,11 @@ use Rattle.loading_start.specs.Started.{FirstRow}
 use Rattle.loading_start.proofs.Starting.{descended_next, descended_none}
 use Rattle.loading_start.proofs.start_rows.Goals as goal
 
-pub first_row-requires : goal.first_row-requires
-first_row-requires c = (c.requires.0, omega (arith, c.requires.0.few))
-
 pub loop-p-init : goal.loop-p-init
-loop-p-init c = λ D R s shown e. descended_none s (subst (λ (n : ℕ). FirstRow n c.args.words c.args.trail.now.sat c.first_row.new.sat) (sym e) c.first_row.ensures)
+loop-p-init c = λ D R s shown e. descended_none s (subst (λ (n : ℕ). FirstRow n c.args.start.words c.args.trail.now.sat c.first_row.new.sat) (sym e) c.first_row.ensures)
 
 pub loop-p-preserved : goal.loop-p-preserved
-loop-p-preserved c = λ D R s shown e. c.step.ensures D R s c.args.at shown (omega (arith, c.loop-p-test.true)) (descended_next (c.loop-p.invariant D R s shown e))
+loop-p-preserved c = λ D R s shown e. c.step.ensures D R s c.args.start.at shown (omega (arith, c.loop-p-test.true)) (descended_next (c.loop-p.invariant D R s shown e))
 
 pub returns : goal.returns
-returns c = λ D R s shown e. subst (Descended D s R c.args.words c.loop-p.trail.sat c.loop-p.trail.marks) (omega (arith, shown.long, c.loop-p-test.false, c.loop-p.auto.p-end)) (c.loop-p.invariant D R s shown e)
+returns c = λ D R s shown e. subst (Descended D s R c.args.start.words c.loop-p.trail.sat c.loop-p.trail.marks) (omega (arith, shown.long, c.loop-p-test.false, c.loop-p.auto.p-end)) (c.loop-p.invariant D R s shown e)

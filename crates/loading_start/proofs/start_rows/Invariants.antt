@@ -8,4 +8,4 @@ use Rattle.loading_start.specs.Started.{StartShown}
 use Rattle.loading_start.proofs.start_rows.Given as goal
 
 abbrev pub invariant-loop-p : goal.invariant-loop-p
-invariant-loop-p l = (D : Prefix) (R : List Clause) (s : Node) → StartShown D R s l.words l.at l.sets l.statuses → length R ≡ l.count → Descended D s R l.words l.trail.sat l.trail.marks l.p
+invariant-loop-p l = (D : Prefix) (R : List Clause) (s : Node) → StartShown D R s l.start.words l.start.at l.sets l.statuses → length R ≡ l.count → Descended D s R l.start.words l.trail.sat l.trail.marks l.p

@@ -1,10 +1,7 @@
 -- `step` meets its contract: the row above united with the clauses that the value satisfies, and the place's mark.
 use native.Mathlib.Omega.{arith}
-use Rattle.loading_start.proofs.Starting.{descended_more, inside}
+use Rattle.loading_start.proofs.Starting.{descended_more}
 use Rattle.loading_start.proofs.step.Goals as goal
-
-pub row_down-step-requires : goal.row_down-step-requires
-row_down-step-requires c = inside c.requires.0 c.requires.1 c.true_at.ensures.0 c.requires.2
 
 pub returns : goal.returns
 returns c = λ D R s at shown low known. descended_more shown c.requires.0 low c.true_at.ensures.1 known c.row_down-step.ensures c.mark.ensures.0 (omega (arith, c.mark.ensures.1, c.requires.1))

@@ -1,7 +1,7 @@
 -- `open_run::walk` meets its contract: the empty node is stopped, decided or open.
 use native.Mathlib.Omega.{arith}
 use Rattle.open_search.proofs.Budgets.{fewer_as}
-use Rattle.open_run.proofs.Walking.{walked_stopped, walked_no, walked_yes, walked_open}
+use Rattle.open_run.proofs.Walking.{walked_stopped, walked_no, walked_yes}
 use Rattle.open_run.proofs.walk.Goals as goal
 
 pub returns-then-spent : goal.returns-then-spent
@@ -12,6 +12,3 @@ returns-in-No c = (fewer_as c.found-in-No.ensures (omega (arith, c.counted.ensur
 
 pub returns-in-Yes : goal.returns-in-Yes
 returns-in-Yes c = (fewer_as c.found-in-Yes.ensures (omega (arith, c.counted-in-Yes.ensures)), walked_yes c.at_empty-empty.ensures c.in-Yes.is c.found-in-Yes.result c.found-in-Yes.ensures c.counted-in-Yes.ensures)
-
-pub returns-in-Open : goal.returns-in-Open
-returns-in-Open c = (c.searched.ensures.0, walked_open c.at_empty-empty.ensures c.in-Open.is c.searched.result c.searched.ensures.1)

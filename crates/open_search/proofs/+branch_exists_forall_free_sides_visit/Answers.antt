@@ -1,116 +1,43 @@
 -- The visitors meet their contracts: `visit`, `branch`, `exists`, `forall`, `free` and `sides`, by the laws of Budgets, Rows and Visiting.
 use native.Mathlib.Omega.{arith}
-use mathlib.Core.Path.{◌∙◌, refl, sym}
+use mathlib.Core.Path.{◌∙◌, refl, sym, ap}
 use mathlib.Core.Bool.{false}
-use Prim.Native.Nat.{◌+◌}
+use Prim.Native.Nat.{suc, ◌+◌}
 use Rattle.qbf.specs.Formula.{exists, forall, free, ◌▹◌}
 use Rattle.node.specs.declared.Verdict.TheVariants.{Mixed}
-use Rattle.node.proofs.NextPlace.{more_places}
 use Rattle.open_search.specs.Searching.{search_at}
 use Rattle.open_search.proofs.Budgets.{found_decided, found_up, found_both, found_with, fewer_as, answer_as, verdict_as}
 use Rattle.open_search.proofs.Rows.{rows_same, rows_then, rows_less, rows_united, rows_side, opened_kept, below_dead, below_satisfied, below_opened}
-use Rattle.open_search.proofs.Visiting.{visit_stopped, visit_no, visit_yes, kind_found, end_found, next_in, enter_open, enter_recorded}
+use Rattle.open_search.proofs.Visiting.{visit_stopped, visit_no, visit_yes, kind_found, end_found, next_in, enter_recorded, left_as, visited_as, branched_as, entered_as}
 use Rattle.open_search.proofs.+branch_exists_forall_free_sides_visit.Goals as goal
 
-pub branch-exists-requires : goal.branch-exists-requires
-branch-exists-requires t c = (omega arith, (c.requires.0, c.requires.1, more_places _ c.args.p.at c.next_kind-kind.result c.next_kind-kind.ensures (omega (arith, c.if-kind-eq-EXISTS.true))))
-
-pub branch-forall-requires : goal.branch-forall-requires
-branch-forall-requires t c = (omega arith, (c.requires.0, c.requires.1, more_places _ c.args.p.at c.next_kind-kind.result c.next_kind-kind.ensures (omega (arith, c.if-kind-eq-FORALL.true))))
-
-pub branch-free-requires : goal.branch-free-requires
-branch-free-requires t c = (omega arith, (c.requires.0, c.requires.1, more_places _ c.args.p.at c.next_kind-kind.result c.next_kind-kind.ensures (omega (arith, c.if-kind-eq-FREE.true))))
-
-pub branch-counted-requires : goal.branch-counted-requires
-branch-counted-requires t c = c.requires.1
-
 pub branch-returns-then-kind-eq-EXISTS : goal.branch-returns-then-kind-eq-EXISTS
-branch-returns-then-kind-eq-EXISTS t c = (c.exists.ensures.0, record { result = λ D R os s task opened. kind_found task opened c.next_kind-kind.result c.next_kind-kind.ensures exists c.args.p.budget c.exists.result c.if-kind-eq-EXISTS.true (c.exists.ensures.1.result D R os s exists task opened (next_in task opened c.next_kind-kind.result c.next_kind-kind.ensures exists c.if-kind-eq-EXISTS.true) refl) })
+branch-returns-then-kind-eq-EXISTS t c = (left_as (ap suc c.fork.ensures.0) c.fork.ensures.1 c.fork.ensures.2 c.exists.ensures.0, record { result = λ D R os s task opened. kind_found task opened c.next_kind-kind.result c.next_kind-kind.ensures exists c.args.p.budget c.exists.result c.if-kind-eq-EXISTS.true ((branched_as c.fork.ensures.0 c.fork.ensures.1 c.fork.ensures.2 c.exists.ensures.1).result D R os s exists task opened (next_in task opened c.next_kind-kind.result c.next_kind-kind.ensures exists c.if-kind-eq-EXISTS.true) refl) })
 
 pub branch-returns-then-kind-eq-FORALL : goal.branch-returns-then-kind-eq-FORALL
-branch-returns-then-kind-eq-FORALL t c = (c.forall.ensures.0, record { result = λ D R os s task opened. kind_found task opened c.next_kind-kind.result c.next_kind-kind.ensures forall c.args.p.budget c.forall.result c.if-kind-eq-FORALL.true (c.forall.ensures.1.result D R os s forall task opened (next_in task opened c.next_kind-kind.result c.next_kind-kind.ensures forall c.if-kind-eq-FORALL.true) refl) })
+branch-returns-then-kind-eq-FORALL t c = (left_as (ap suc c.fork-then-kind-eq-FORALL.ensures.0) c.fork-then-kind-eq-FORALL.ensures.1 c.fork-then-kind-eq-FORALL.ensures.2 c.forall.ensures.0, record { result = λ D R os s task opened. kind_found task opened c.next_kind-kind.result c.next_kind-kind.ensures forall c.args.p.budget c.forall.result c.if-kind-eq-FORALL.true ((branched_as c.fork-then-kind-eq-FORALL.ensures.0 c.fork-then-kind-eq-FORALL.ensures.1 c.fork-then-kind-eq-FORALL.ensures.2 c.forall.ensures.1).result D R os s forall task opened (next_in task opened c.next_kind-kind.result c.next_kind-kind.ensures forall c.if-kind-eq-FORALL.true) refl) })
 
 pub branch-returns-then-kind-eq-FREE : goal.branch-returns-then-kind-eq-FREE
-branch-returns-then-kind-eq-FREE t c = (c.free.ensures.0, record { result = λ D R os s task opened. kind_found task opened c.next_kind-kind.result c.next_kind-kind.ensures free c.args.p.budget c.free.result c.if-kind-eq-FREE.true (c.free.ensures.1.result D R os s task opened (next_in task opened c.next_kind-kind.result c.next_kind-kind.ensures free c.if-kind-eq-FREE.true)) })
+branch-returns-then-kind-eq-FREE t c = (left_as (ap suc c.fork-then-kind-eq-FREE.ensures.0) c.fork-then-kind-eq-FREE.ensures.1 c.fork-then-kind-eq-FREE.ensures.2 c.free.ensures.0, record { result = λ D R os s task opened. kind_found task opened c.next_kind-kind.result c.next_kind-kind.ensures free c.args.p.budget c.free.result c.if-kind-eq-FREE.true ((entered_as c.fork-then-kind-eq-FREE.ensures.0 c.fork-then-kind-eq-FREE.ensures.1 c.fork-then-kind-eq-FREE.ensures.2 c.free.ensures.1).result D R os s task opened (next_in task opened c.next_kind-kind.result c.next_kind-kind.ensures free c.if-kind-eq-FREE.true)) })
 
 pub branch-returns-else-kind-eq-FREE : goal.branch-returns-else-kind-eq-FREE
 branch-returns-else-kind-eq-FREE t c = (record { kept = rows_same _ _ _; fewer = fewer_as c.found.ensures (omega (arith, c.counted.ensures)) }, record { result = λ D R os s task opened. end_found task opened c.next_kind-kind.result c.next_kind-kind.ensures c.args.p.budget c.found.result c.if-kind-eq-EXISTS.false c.if-kind-eq-FORALL.false c.if-kind-eq-FREE.false (answer_as c.found.ensures c.counted.ensures (found_decided false c.args.p.budget)) })
 
--- ---- exists
-pub exists-sides-requires : goal.exists-sides-requires
-exists-sides-requires t c = (omega arith, (c.requires.0, c.requires.1, c.requires.2))
-
-pub exists-returns : goal.exists-returns
-exists-returns t c = c.sides.ensures
-
--- ---- forall
-pub forall-sides-requires : goal.forall-sides-requires
-forall-sides-requires t c = (omega arith, (c.requires.0, c.requires.1, c.requires.2))
-
-pub forall-returns : goal.forall-returns
-forall-returns t c = c.sides.ensures
-
--- ---- free
-pub free-recorded_at-value-requires : goal.free-recorded_at-value-requires
-free-recorded_at-value-requires t c = c.requires.2
-
-pub free-sides-requires : goal.free-sides-requires
-free-sides-requires t c = (omega arith, (c.requires.0, c.requires.1, c.requires.2))
-
-pub free-returns-then-open : goal.free-returns-then-open
-free-returns-then-open t c = (c.sides.ensures.0, record { result = λ D R os s task opened inside. enter_open task opened c.args.p.budget c.sides.result c.recorded_at-value.result inside c.recorded_at-value.ensures (omega (arith, c.if-open.true)) (c.sides.ensures.1.result D R os s free task opened inside refl) })
-
-pub free-overflow_add-below : goal.free-overflow_add-below
-free-overflow_add-below t c = omega (arith, c.requires.2)
-
-pub free-counted-requires : goal.free-counted-requires
-free-counted-requires t c = c.requires.1
-
-pub free-visit-requires : goal.free-visit-requires
-free-visit-requires t c = (omega (arith, c.requires.2), (record { within = omega (arith, c.requires.2); words = c.requires.0.words }, omega arith))
-
 pub free-returns : goal.free-returns
-free-returns t c = (record { kept = rows_side c.visit.ensures.0.kept; fewer = omega (arith, c.visit.ensures.0.fewer, c.counted.ensures) }, record { result = λ D R os s task opened inside. enter_recorded task opened c.args.p.budget c.visit.result c.recorded_at-value.result inside c.recorded_at-value.ensures c.if-open.false (found_with c.counted.ensures (c.visit.ensures.1.result D R os s c.args.p.at task opened inside refl)) })
+free-returns t c = (record { kept = rows_side (left_as c.below-below.ensures.0 c.below-below.ensures.1 refl c.visit.ensures.0).kept; fewer = omega (arith, c.visit.ensures.0.fewer, c.below-below.ensures.2) }, record { result = λ D R os s task opened inside. enter_recorded task opened c.args.p.budget c.visit.result c.recorded_in-value.result inside c.recorded_in-value.ensures c.if-open.false (found_with c.below-below.ensures.2 ((visited_as c.below-below.ensures.0 c.below-below.ensures.1 refl c.visit.ensures.1).result D R os s c.args.p.at task opened inside refl)) })
 
 -- ---- sides
-pub sides-overflow_add-below : goal.sides-overflow_add-below
-sides-overflow_add-below t c = omega (arith, c.requires.2)
-
-pub sides-counted-requires : goal.sides-counted-requires
-sides-counted-requires t c = c.requires.1
-
-pub sides-visit-off-requires : goal.sides-visit-off-requires
-sides-visit-off-requires t c = (omega (arith, c.requires.2), (record { within = omega (arith, c.requires.2); words = c.requires.0.words }, omega arith))
-
 pub sides-returns-then-is_enough : goal.sides-returns-then-is_enough
-sides-returns-then-is_enough t c = (record { kept = rows_side c.visit-off.ensures.0.kept; fewer = omega (arith, c.visit-off.ensures.0.fewer, c.counted.ensures) }, record { result = λ D R os s κ task opened inside code. (found_up κ (search_at D R os (c.args.p.at + 1)) s c.args.p.budget c.requires.1 c.visit-off.result (found_with c.counted.ensures (c.visit-off.ensures.1.result D R os s c.args.p.at task opened inside refl)) (sym (c.is_enough.ensures κ code) ∙ c.if-is_enough.true)) })
-
-pub sides-visit-on-requires : goal.sides-visit-on-requires
-sides-visit-on-requires t c = (omega (arith, c.requires.2), (record { within = omega (arith, c.requires.2); words = c.requires.0.words }, omega arith))
+sides-returns-then-is_enough t c = (record { kept = rows_side (left_as c.below-below.ensures.0 c.below-below.ensures.1 refl c.visit-off.ensures.0).kept; fewer = omega (arith, c.visit-off.ensures.0.fewer, c.below-below.ensures.2) }, record { result = λ D R os s κ task opened inside code. (found_up κ (search_at D R os (c.args.p.at + 1)) s c.args.p.budget c.visit-off.result (found_with c.below-below.ensures.2 ((visited_as c.below-below.ensures.0 c.below-below.ensures.1 refl c.visit-off.ensures.1).result D R os s c.args.p.at task opened inside refl)) (sym (c.is_enough.ensures κ code) ∙ c.if-is_enough.true)) })
 
 pub sides-returns : goal.sides-returns
-sides-returns t c = (record { kept = rows_then (rows_side c.visit-off.ensures.0.kept) (rows_side c.visit-on.ensures.0.kept); fewer = fewer_as c.found.ensures (omega (arith, c.visit-off.ensures.0.fewer, c.visit-on.ensures.0.fewer, c.counted.ensures)) }, record { result = λ D R os s κ task opened inside code. verdict_as c.found.ensures (c.joined.ensures κ code) (found_both κ (search_at D R os (c.args.p.at + 1)) s c.args.p.budget c.requires.1 c.visit-off.result (found_with c.counted.ensures (c.visit-off.ensures.1.result D R os s c.args.p.at task opened inside refl)) (sym (c.is_enough.ensures κ code) ∙ c.if-is_enough.false) c.visit-on.result (c.visit-on.ensures.1.result D R os s c.args.p.at task (opened_kept opened (rows_side c.visit-off.ensures.0.kept)) inside refl)) })
+sides-returns t c = (record { kept = rows_then (rows_side (left_as c.below-below.ensures.0 c.below-below.ensures.1 refl c.visit-off.ensures.0).kept) (rows_side (left_as c.below-below.ensures.0 c.below-below.ensures.1 refl c.visit-on.ensures.0).kept); fewer = fewer_as c.found.ensures (omega (arith, c.visit-off.ensures.0.fewer, c.visit-on.ensures.0.fewer, c.below-below.ensures.2)) }, record { result = λ D R os s κ task opened inside code. verdict_as c.found.ensures (c.joined.ensures κ code) (found_both κ (search_at D R os (c.args.p.at + 1)) s c.args.p.budget c.visit-off.result (found_with c.below-below.ensures.2 ((visited_as c.below-below.ensures.0 c.below-below.ensures.1 refl c.visit-off.ensures.1).result D R os s c.args.p.at task opened inside refl)) (sym (c.is_enough.ensures κ code) ∙ c.if-is_enough.false) c.visit-on.result ((visited_as c.below-below.ensures.0 c.below-below.ensures.1 refl c.visit-on.ensures.1).result D R os s c.args.p.at task (opened_kept opened (rows_side (left_as c.below-below.ensures.0 c.below-below.ensures.1 refl c.visit-off.ensures.0).kept)) inside refl)) })
 
 pub visit-returns-then-spent : goal.visit-returns-then-spent
 visit-returns-then-spent t c = (record { kept = rows_same _ _ _; fewer = fewer_as c.found.ensures (omega arith) }, record { result = λ D R os s k task opened inside next. answer_as c.found.ensures refl (visit_stopped D R os c.args.p.at (s ▹ c.args.on) c.args.p.budget Mixed (omega (arith, c.if-spent.true))) })
 
-pub visit-code_at-requires : goal.visit-code_at-requires
-visit-code_at-requires t c = c.requires.0.within
-
-pub visit-any_dies-requires : goal.visit-any_dies-requires
-visit-any_dies-requires t c = record { inner = c.requires.1; within = c.requires.0.within; small = c.code_at.ensures.1; words = c.requires.0.words }
-
-pub visit-counted-requires : goal.visit-counted-requires
-visit-counted-requires t c = omega (arith, c.if-spent.false)
-
 pub visit-returns-then-any_dies : goal.visit-returns-then-any_dies
 visit-returns-then-any_dies t c = (record { kept = rows_same _ _ _; fewer = fewer_as c.found-then-any_dies.ensures (omega (arith, c.counted.ensures)) }, record { result = λ D R os s k task opened inside next. answer_as c.found-then-any_dies.ensures c.counted.ensures (visit_no D R os c.args.p.at (s ▹ c.args.on) c.args.p.budget (sym (below_dead task opened inside c.args.on next c.code_at.ensures.0 c.any_dies.ensures) ∙ c.if-any_dies.true)) })
-
-pub visit-row_down-step-requires : goal.visit-row_down-step-requires
-visit-row_down-step-requires t c = record { inner = c.requires.1; within = c.requires.0.within; small = c.code_at.ensures.1; words = c.requires.0.words }
-
-pub visit-counted-requires-then-step : goal.visit-counted-requires-then-step
-visit-counted-requires-then-step t c = omega (arith, c.if-spent.false)
 
 pub visit-returns-then-step : goal.visit-returns-then-step
 visit-returns-then-step t c = (
@@ -122,9 +49,6 @@ visit-returns-then-step t c = (
         answer_as c.found-then-step.ensures c.counted-then-step.ensures (visit_yes D R os c.args.p.at (s ▹ c.args.on) c.args.p.budget alive all);
   },
 )
-
-pub visit-branch-matrix-requires : goal.visit-branch-matrix-requires
-visit-branch-matrix-requires t c = (omega arith, (c.requires.0, omega (arith, c.if-spent.false)))
 
 pub visit-returns : goal.visit-returns
 visit-returns t c = (

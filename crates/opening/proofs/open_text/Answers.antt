@@ -1,9 +1,6 @@
 -- `open_text`: what the book's lines build.
-use Rattle.opening.proofs.Turns.{empty_stood, empty_opened}
+use Rattle.opening.proofs.Turns.{empty_opened}
 use Rattle.opening.proofs.open_text.Goals as goal
-
-pub read_text-requires : goal.read_text-requires
-read_text-requires c = empty_stood c.empty.ensures
 
 pub returns : goal.returns
 returns c = empty_opened c.empty.ensures c.args.text.now c.read_text.result c.from.result c.read_text.ensures c.from.ensures

@@ -6,4 +6,4 @@ use Rattle.page.proofs.Lines.{Filled}
 use Rattle.page.proofs.page.Given as goal
 
 abbrev pub invariant-loop-r : goal.invariant-loop-r
-invariant-loop-r l = (length l.row-items ≡ page_rows) × Filled l.row-items (page_of l.table l.lines l.f l.number) l.r
+invariant-loop-r l = (length l.row-items ≡ page_rows) × Filled l.row-items (page_of l.card.table.now l.card.lines l.card.free l.number) l.r

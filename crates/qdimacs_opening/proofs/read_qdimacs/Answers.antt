@@ -2,11 +2,8 @@
 use Rattle.std.proofs.Common.{subst}
 use Rattle.layout.specs.Opening.{Opened}
 use Rattle.opening.specs.Lines.{ReadAs}
-use Rattle.qdimacs_opening.proofs.Turns.{begun_stood, begun_opens}
+use Rattle.qdimacs_opening.proofs.Turns.{begun_opens}
 use Rattle.qdimacs_opening.proofs.read_qdimacs.Goals as goal
-
-pub read_text-requires : goal.read_text-requires
-read_text-requires c = begun_stood c.empty.ensures
 
 pub returns : goal.returns
 returns c = subst (λ (o : Opened). ReadAs o c.read_text.result) (begun_opens c.empty.ensures c.args.text.now) c.read_text.ensures

@@ -1,12 +1,12 @@
 -- `ends_next` meets its contract: the last place is that of the last code.
-use mathlib.Core.Path.{◌∙◌}
-use lib.ListN.{length}
-use lib.Seq.{take-length}
-use Rattle.resolution.proofs.Coded.{ends_some, ends_place}
+use native.Mathlib.Omega.{arith}
+use mathlib.Core.Path.{sym, ◌∙◌}
+use Rattle.resolution.proofs.Coded.{next_test, ends_some, ends_place}
 use Rattle.resolution.proofs.ends_next.Goals as goal
 
 pub returns : goal.returns
-returns c = let row = c.args.row.now in (
-  ends_some row (length row) c.args.at c.last_code.ensures c.place_of.ensures,
-  λ D e h. ends_place row (length row) c.args.at c.last_code.ensures c.place_of.ensures D e (take-length row ∙ h),
-)
+returns c = let row = c.args.row.now in
+    let next = next_test c.place_of.result c.args.at c.saturating_add.result (omega (arith, c.place_of.ensures, c.last_code.type_inv)) c.saturating_add.ensures in (
+      λ h. ends_some row c.args.at c.last_code.ensures c.place_of.ensures (sym next ∙ h),
+      λ D e h. next ∙ ends_place row c.args.at c.last_code.ensures c.place_of.ensures D e h,
+    )

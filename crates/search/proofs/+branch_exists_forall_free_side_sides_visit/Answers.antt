@@ -1,22 +1,21 @@
 -- The visitors meet their contracts: `visit`, `branch` and `side`, by the laws of Visiting, Counts, Keeping, Setting, Returns and SidesReturns.
 use native.Mathlib.Omega.{arith}
 use mathlib.Core.Path.{◌∙◌, sym, ap, subst, refl}
-use mathlib.Core.Bool.{true≢false, false≢true}
+use mathlib.Core.Bool.{true≢false}
 use Prim.Native.Nat.{◌*◌, zero-le}
 use mathlib.Core.List.{List}
 use Prim.Native.Nat.{ℕ}
-use lib.ListN.{length}
 use Rattle.qbf.specs.Formula.{paper}
 use Rattle.search_entry.specs.Entry.{Bounded}
 use Rattle.search_entry.specs.declared.Bounds.{Bounds}
 use Rattle.node.specs.declared.Verdict.TheVariants.{No}
 use Rattle.search.specs.Search.{AsideKept, is_open}
-use Rattle.search.proofs.Counts.{off_asked, on_asked, falls_side, counts_up, counts_sides, counts_settled, counts_concluded, counts_stopped, newest_small, lines_small, off_lines, on_lines_one, on_lines_small, counts_as, result_as}
+use Rattle.search.proofs.Counts.{counts_up, counts_sides, counts_settled, counts_concluded, counts_as, result_as}
 use Rattle.search.proofs.Keeping.{statuses_back, rows_same, kept_up, kept_both, kept_open}
 use Rattle.search.proofs.Setting.{aside_less, aside_then, aside_up, aside_row, line_at}
 use Rattle.search.proofs.Returns.{up_result}
 use Rattle.search.proofs.SidesReturns.{sides_result}
-use Rattle.search.proofs.Visiting.{node_shown, stop_result, concluded_result, open_result, open_is, followed_as, next_result, end_result, side_result}
+use Rattle.search.proofs.Visiting.{node_shown, concluded_result, open_result, open_is, followed_as, next_result, end_result, side_result}
 use Rattle.node.proofs.NextPlace.{more_places}
 use Rattle.search.proofs.+branch_exists_forall_free_side_sides_visit.Goals as goal
 
@@ -24,16 +23,12 @@ use Rattle.search.proofs.+branch_exists_forall_free_side_sides_visit.Goals as go
 same_aside : (n : ℕ) (a : List ℕ) → AsideKept n a a
 same_aside n a = record { size = refl; first = refl }
 
-pub branch-settled-requires : goal.branch-settled-requires
-branch-settled-requires t c = omega (arith, c.requires.made)
-
 pub branch-returns-then-kind-gt-FORALL : goal.branch-returns-then-kind-gt-FORALL
 branch-returns-then-kind-gt-FORALL t c = record {
   left = (
     record {
       counts = counts_settled c.args.p c.settled.result No c.placed.result c.settled.ensures (subst Bounded (sym c.placed.ensures) (record { short = zero-le; inside = zero-le }));
       kept = record { statuses_restored = refl; size = refl; rows = rows_same _ _ _ _ };
-      shelves = c.requires.shelves;
     },
     same_aside _ _,
   );
@@ -44,27 +39,12 @@ branch-returns-then-kind-gt-FORALL t c = record {
   };
 }
 
-pub sides-to_off-requires : goal.sides-to_off-requires
-sides-to_off-requires t c = let more = more_places _ c.args.p.at c.args.kind c.requires.next c.requires.code in
-    (omega (arith, more), omega (arith, c.requires.branch.made))
-
-pub sides-side-off-requires : goal.sides-side-off-requires
-sides-side-off-requires t c = let more = more_places _ c.args.p.at c.args.kind c.requires.next c.requires.code in (
-  omega (arith, falls_side c.args.p more c.to_off.result _ _ c.to_off.ensures),
-  off_asked c.args.p more (length c.args.search.now.aside) c.to_off.result c.to_off.ensures c.requires.branch,
-)
-
-pub sides-up_or_aside-requires : goal.sides-up_or_aside-requires
-sides-up_or_aside-requires t c = let more = more_places _ c.args.p.at c.args.kind c.requires.next c.requires.code in
-    (c.side-off.ensures.left.0.counts.bounded, more)
-
 pub sides-returns-then-up_or_aside : goal.sides-returns-then-up_or_aside
 sides-returns-then-up_or_aside t c = let more = more_places _ c.args.p.at c.args.kind c.requires.next c.requires.code in record {
   left = (
     record {
       counts = counts_as (sym c.with_lines.ensures) (counts_up c.args.p more c.to_off.result c.to_off.ensures c.side-off.result c.side-off.ensures.left.0.counts);
       kept = kept_up c.args.p c.to_off.result _ _ c.to_off.ensures c.side-off.ensures.left.0.kept;
-      shelves = c.side-off.ensures.left.0.shelves;
     },
     aside_then (aside_less (omega arith) (aside_up c.args.p c.to_off.result _ _ c.to_off.ensures c.side-off.ensures.left.1)) (record { size = omega (arith, c.up_or_aside.ensures.size); first = c.up_or_aside.ensures.put.0 }),
   );
@@ -79,41 +59,6 @@ sides-returns-then-up_or_aside t c = let more = more_places _ c.args.p.at c.args
   };
 }
 
-pub sides-line_if-lines-requires : goal.sides-line_if-lines-requires
-sides-line_if-lines-requires t c = let more = more_places _ c.args.p.at c.args.kind c.requires.next c.requires.code in
-    (c.requires.branch.room.free, lines_small c.args.p more c.to_off.result c.to_off.ensures c.side-off.result c.side-off.ensures.left.0.counts (length c.args.search.now.aside) c.requires.branch.room)
-
-pub sides-to_on-requires : goal.sides-to_on-requires
-sides-to_on-requires t c = let more = more_places _ c.args.p.at c.args.kind c.requires.next c.requires.code in omega (arith, more)
-
-pub sides-side-on-requires : goal.sides-side-on-requires
-sides-side-on-requires t c = let more = more_places _ c.args.p.at c.args.kind c.requires.next c.requires.code in (
-  omega (arith, falls_side c.args.p more c.to_on.result _ _ c.to_on.ensures),
-  on_asked c.args.p more c.to_off.result c.to_off.ensures c.side-off.result c.side-off.ensures.left.0.counts (length c.args.search.now.aside) _ c.line_if-lines.result 0 c.to_on.result c.to_on.ensures
-      (off_lines c.lined-one.result c.side-off.result.lines c.line_if-lines.result c.line_if-lines.ensures.table_len_unchanged.1).1 (omega (arith, c.up_or_aside.ensures.size)) (omega arith) c.requires.branch c.side-off.ensures.left.0.shelves,
-)
-
-pub sides-finish-both-requires : goal.sides-finish-both-requires
-sides-finish-both-requires t c = let more = more_places _ c.args.p.at c.args.kind c.requires.next c.requires.code in
-    let small = newest_small c.args.p more c.to_off.result c.to_off.ensures c.side-off.result c.side-off.ensures.left.0.counts c.line_if-lines.result c.to_on.result c.to_on.ensures c.side-on.result c.side-on.ensures.left.0.counts (length c.args.search.now.aside) c.requires.branch.room in (
-      c.side-off.ensures.left.0.counts.bounded.short,
-      c.side-on.ensures.left.0.counts.bounded,
-      more,
-      c.side-on.ensures.left.0.shelves,
-      (small.0, small.1),
-    )
-
-pub sides-settle_lines-after-requires : goal.sides-settle_lines-after-requires
-sides-settle_lines-after-requires t c = let more = more_places _ c.args.p.at c.args.kind c.requires.next c.requires.code in
-    let counted = c.line_if-lines.ensures.table_len_unchanged.1 in (
-      c.requires.branch.room.free,
-      on_lines_small c.args.p more c.to_off.result c.to_off.ensures c.side-off.result c.side-off.ensures.left.0.counts c.line_if-lines.result c.to_on.result c.to_on.ensures c.side-on.result c.side-on.ensures.left.0.counts c.lined-one.result c.lined-two.result counted (length c.args.search.now.aside) c.requires.branch.room,
-      on_lines_one c.args.p more c.to_off.result c.to_off.ensures c.side-off.result c.side-off.ensures.left.0.counts c.line_if-lines.result c.to_on.result c.to_on.ensures c.side-on.result c.side-on.ensures.left.0.counts c.lined-one.result c.lined-two.result counted,
-    )
-
-pub sides-shape_of-table : goal.sides-shape_of-table
-sides-shape_of-table t c = c.settle_lines-after.ensures.table_len_unchanged.0 ∙ c.side-on.ensures.left.0.kept.size ∙ c.line_if-lines.ensures.table_len_unchanged.0 ∙ c.side-off.ensures.left.0.kept.size
-
 pub sides-returns : goal.sides-returns
 sides-returns t c = let more = more_places _ c.args.p.at c.args.kind c.requires.next c.requires.code in
     let line = c.line_if-lines.ensures.table_len_unchanged in
@@ -124,10 +69,9 @@ sides-returns t c = let more = more_places _ c.args.p.at c.args.kind c.requires.
         record {
           counts =
               counts_sides c.args.p more c.to_off.result c.to_off.ensures c.side-off.result c.side-off.ensures.left.0.counts c.line_if-lines.result c.to_on.result c.to_on.ensures c.side-on.result c.side-on.ensures.left.0.counts c.lined-one.result c.lined-two.result line.1
-              c.finish-both.result c.requires.branch.made c.finish-both.ensures.finished.0 c.finish-both.ensures.finished.2 c.settle_lines-after.result c.settle_lines-after.ensures.table_len_unchanged.1 c.with_lines-2.result c.with_lines-2.ensures;
+              c.finish-both.result c.requires.branch.made c.finish-both.ensures.finished.0 c.finish-both.ensures.finished.1 c.settle_lines-after.result c.settle_lines-after.ensures.table_len_unchanged.1 c.with_lines-2.result c.with_lines-2.ensures;
           kept =
               kept_both c.args.p c.to_off.result c.to_on.result _ _ _ _ c.to_off.ensures c.to_on.ensures c.side-off.ensures.left.0.kept line.0 c.side-on.ensures.left.0.kept c.settle_lines-after.ensures.table_len_unchanged.0;
-          shelves = c.finish-both.ensures.finished.1;
         },
         aside_then (aside_then (aside_less (omega arith) (aside_up c.args.p c.to_off.result _ _ c.to_off.ensures c.side-off.ensures.left.1)) put) (aside_less (omega arith) on_aside),
       );
@@ -138,25 +82,16 @@ sides-returns t c = let more = more_places _ c.args.p.at c.args.kind c.requires.
               result = λ D s ls R g st κ task opened inside is code.
                   result_as (sym c.with_lines-2.ensures)
                   (sides_result c.args.kind c.args.p c.to_off.result c.to_off.ensures c.side-off.result c.side-off.ensures.side_visited c.up_or_aside.result c.up_or_aside.ensures.up c.side-off.ensures.left.0.kept
-                  c.lined-one.result c.lined-one.ensures c.line_if-lines.result line.1 line.2 (λ s b ls task e. c.line_if-lines.ensures.covers s b ls (line_at c.side-off.result.lines task) e)
+                  c.lined-one.result c.lined-one.ensures c.line_if-lines.result line.1 line.2 (λ s b ls task e. c.line_if-lines.ensures.covers s b ls (line_at refl refl task) e)
                   c.to_on.result c.to_on.ensures c.side-on.result c.side-on.ensures.side_visited _
                   (aside_row (c.args.p.at * paper.numbers) c.side-off.result.len (omega (arith, c.side-off.ensures.left.0.counts.bounded.short)) on_aside ∙ c.up_or_aside.ensures.put.1 c.if-up_or_aside.false)
                   c.finish-both.result c.finish-both.ensures.joined c.if-up_or_aside.false c.finish-both.ensures.finished.0.budget
                   c.side-on.ensures.left.0.kept.statuses_restored c.lined-two.result c.lined-two.ensures c.settle_lines-after.result c.settle_lines-after.ensures.table_len_unchanged.1 c.settle_lines-after.ensures.table_len_unchanged.2
-                  (λ s ls task. c.settle_lines-after.ensures.settled_to s ls (line_at c.side-on.result.lines task))
+                  (λ s ls task. c.settle_lines-after.ensures.settled_to s ls (line_at refl refl task))
                   D s ls R g st κ task opened inside is code);
             });
       };
     }
-
-pub side-give-above-requires : goal.side-give-above-requires
-side-give-above-requires t c = c.requires.asked.room.within
-
-pub side-visit-below-requires : goal.side-visit-below-requires
-side-visit-below-requires t c = (omega arith, record { asked = c.requires.asked; made = λ e. absurd (false≢true e); inner = λ e. c.requires.inner })
-
-pub side-restore-requires : goal.side-restore-requires
-side-restore-requires t c = c.requires.asked.room.within
 
 pub side-returns : goal.side-returns
 side-returns t c = record {
@@ -166,42 +101,19 @@ side-returns t c = record {
       kept = record {
         statuses_restored =
             c.restore.ensures
-            ∙ statuses_back c.args.p.at c.args.value _ _ c.args.search.now.statuses _ (omega (arith, c.requires.asked.room.within)) (c.visit-below.ensures.left.0.kept.statuses_restored ∙ c.give-above.ensures.0) c.give-above.ensures.1 c.give-above.ensures.2;
+            ∙ statuses_back c.args.p.at c.args.value _ _ c.args.search.now.statuses _ (omega (arith, c.requires.room.within)) (c.visit-below.ensures.left.0.kept.statuses_restored ∙ c.give-above.ensures.0) c.give-above.ensures.1 c.give-above.ensures.2;
         size = c.visit-below.ensures.left.0.kept.size;
         rows = c.visit-below.ensures.left.0.kept.rows;
       };
-      shelves = c.visit-below.ensures.left.0.shelves;
     },
     c.visit-below.ensures.left.1,
   );
   side_visited = record {
     result = λ D s b ls R g st k task opened inside e v.
         result_as (sym c.with_lines.ensures)
-        (side_result D s b ls R g st k c.args.p task opened inside e c.requires.asked.room.within (omega arith) c.args.value v c.give-above.ensures.0 (c.visit-below.ensures.reached.visited refl));
+        (side_result D s b ls R g st k c.args.p task opened inside e c.requires.room.within (omega arith) c.args.value v c.give-above.ensures.0 (c.visit-below.ensures.reached.visited refl));
   };
 }
-
-pub visit-returns-then-spent : goal.visit-returns-then-spent
-visit-returns-then-spent t c = record {
-  left = (
-    record {
-      counts = counts_stopped c.args.p c.stopped.result c.stopped.ensures;
-      kept = record { statuses_restored = refl; size = refl; rows = rows_same _ _ _ _ };
-      shelves = c.requires.asked.shelves;
-    },
-    same_aside _ _,
-  );
-  reached = record {
-    followed = λ e. absurd (omega (arith, c.if-spent.true, c.requires.made e));
-    visited = λ e. record { result = λ D s ls R g st k task entered. stop_result c.args.p task (omega (arith, c.if-spent.true)) _ c.stopped.result c.stopped.ensures };
-  };
-}
-
-pub visit-take_steps-leaf-requires : goal.visit-take_steps-leaf-requires
-visit-take_steps-leaf-requires t c = (c.requires.asked.shelves, c.requires.inner, c.requires.asked.room.within, c.requires.asked.room.words)
-
-pub visit-branch-below-requires : goal.visit-branch-below-requires
-visit-branch-below-requires t c = (omega arith, record { shelves = c.requires.asked.shelves; room = c.requires.asked.room; made = omega (arith, c.if-spent.false) })
 
 pub visit-returns-then-is_open : goal.visit-returns-then-is_open
 visit-returns-then-is_open t c = let opened = open_is c.take_steps-leaf.result (sym c.is_open.ensures ∙ c.if-is_open.true) in record {
@@ -209,7 +121,6 @@ visit-returns-then-is_open t c = let opened = open_is c.take_steps-leaf.result (
     record {
       counts = counts_as (sym c.with_lines.ensures) c.branch-below.ensures.left.0.counts;
       kept = kept_open c.take_steps-leaf.ensures.rows c.branch-below.ensures.left.0.kept;
-      shelves = c.branch-below.ensures.left.0.shelves;
     },
     c.branch-below.ensures.left.1,
   );
@@ -223,16 +134,12 @@ visit-returns-then-is_open t c = let opened = open_is c.take_steps-leaf.result (
   };
 }
 
-pub visit-concluded-requires : goal.visit-concluded-requires
-visit-concluded-requires t c = omega (arith, c.if-spent.false)
-
 pub visit-returns : goal.visit-returns
 visit-returns t c = let decided = sym c.is_open.ensures ∙ c.if-is_open.false in record {
   left = (
     record {
       counts = counts_concluded c.args.p c.take_steps-leaf.result decided c.take_steps-leaf.ensures.bounded c.concluded.result c.concluded.ensures;
       kept = record { statuses_restored = refl; size = refl; rows = c.take_steps-leaf.ensures.rows };
-      shelves = c.requires.asked.shelves;
     },
     same_aside _ _,
   );

@@ -3,17 +3,8 @@ use borrow.Author.Rules.{sfits_of}
 use native.Mathlib.Omega.{arith}
 use mathlib.Core.Path.{◌∙◌}
 use Rattle.literal.proofs.Signed.{back}
-use Rattle.unloading.proofs.Unloading.{decode_none, decode_more, decode_end}
+use Rattle.unloading.proofs.Unloading.{decode_more}
 use Rattle.unloading.proofs.decode.Goals as goal
-
-pub loop-i-init : goal.loop-i-init
-loop-i-init c = decode_none c.args.numbers.now c.args.row.now c.args.at c.args.store.now
 
 pub loop-i-preserved : goal.loop-i-preserved
 loop-i-preserved c = decode_more c.loop-i.invariant (omega arith) (omega arith) (λ D l n o e p. back (sfits_of c.literal_of.type_inv) ∙ c.literal_of.ensures D l n o e p)
-
-pub shape_of-store : goal.shape_of-store
-shape_of-store c = c.loop-i.invariant.size
-
-pub returns : goal.returns
-returns c = decode_end c.loop-i.invariant (omega arith)

@@ -1,16 +1,10 @@
--- `write_records` meets its contract: after k turns the records of the first k rows stand where they go.
-use native.Mathlib.Omega.{arith}
-use Rattle.unloading.proofs.Recording.{rewriting_none, rewriting_more, rewriting_end}
+-- `write_records` meets its contract: what is copied and filled in is the record of each row.
+use Prim.Native.Nat.{ℕ, min}
+use mathlib.Core.Path.{ap, ◌∙◌}
+use Rattle.unloading.proofs.Recording.{records_written}
 use Rattle.unloading.proofs.write_records.Goals as goal
 
-pub loop-k-init : goal.loop-k-init
-loop-k-init c = rewriting_none
-
-pub loop-k-preserved : goal.loop-k-preserved
-loop-k-preserved c = rewriting_more c.loop-k.invariant (omega (arith, c.loop-k-test.true, c.standing-k-end.ensures.1, c.requires.0)) c.record_of.ensures
-
-pub shape_of-sizes : goal.shape_of-sizes
-shape_of-sizes c = c.loop-k.invariant.size
-
 pub returns : goal.returns
-returns c = rewriting_end c.loop-k.invariant c.base_of-base.ensures c.loop-k-test.false c.standing-k-end.ensures.0
+returns c =
+    records_written c.args.sizes.now c.copy_within.new.self c.fill.new.self c.args.newest c.args.before c.args.clauses c.standing-count.result c.min-displaced.result c.min-own.result c.standing-count.ensures.0
+    (c.min-displaced.ensures ∙ ap (λ (b : ℕ). min b c.args.before) c.base_of.ensures) c.min-own.ensures c.requires.0 c.requires.1 c.copy_within.ensures.len c.copy_within.ensures.by_index.0 (c.fill.ensures.after (λ y e. e))

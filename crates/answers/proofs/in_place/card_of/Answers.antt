@@ -14,6 +14,7 @@ use Rattle.state.specs.Reading.{valid}
 use Rattle.state.specs.Derived.{Checked}
 use Rattle.state.proofs.Checks.{refused_invalid}
 use Rattle.state.proofs.Valid.{valid_numbers, valid_quantified}
+use Rattle.answers.proofs.Lending.{served_back}
 use Rattle.answers.proofs.Running.{ready, free_small, open_values}
 use Rattle.answers.proofs.Asking.{cleared_length, served_as_lem, malformed_card, halted_card, shown_card, full_card}
 use Rattle.answers.proofs.in_place.card_of.Goals as goal
@@ -21,15 +22,14 @@ use Rattle.answers.proofs.in_place.card_of.Goals as goal
 pub returns-in_default-clause-serves : goal.returns-in_default-clause-serves
 returns-in_default-clause-serves c = served_as_lem _ (card_of c.args.yes c.args.ceiling _) (c.refused.ensures _) (malformed_card _ c.args.yes c.args.ceiling _ _ c.clear.ensures (ap valid (sym c.lent.ensures) ∙ refused_invalid _ c.check.result c.check.ensures c.in_default.not-Ok))
 
+pub invariant_of-task : goal.invariant_of-task
+invariant_of-task c = let checked = subst (λ (x : State). Checked x true c.in-Ok.prefix.places c.in-Ok.prefix.kinds) c.lent.ensures c.in-Ok.ensures in
+    let v = sym checked.said in
+    record { few = free_small _ v _ (c.free_count-free.ensures _ (valid_numbers _ v) (valid_quantified _ v)); bounded = c.budget_of.ensures.1 }
+
 pub run-found-requires : goal.run-found-requires
 run-found-requires c = let checked = subst (λ (x : State). Checked x true c.in-Ok.prefix.places c.in-Ok.prefix.kinds) c.lent.ensures c.in-Ok.ensures in
-    let free-count = c.free_count-free in
-    let budget-of = c.budget_of in
-    let v = sym checked.said in
-    ready _ v checked.sized _ _ _ (omega arith) (free_small _ v _ (free-count.ensures _ (valid_numbers _ v) (valid_quantified _ v))) budget-of.ensures.1
-
-pub shape_of-table-then-found-eq0 : goal.shape_of-table-then-found-eq0
-shape_of-table-then-found-eq0 c = cleared_length _ c.clear-then-found-eq0.ensures ∙ c.run-found.ensures.table_len_unchanged.0 ∙ cleared_length (length c.args.table.now) c.clear.ensures
+    ready _ (sym checked.said) checked.sized _ (omega arith)
 
 pub returns-then-found-eq0-clause-serves : goal.returns-then-found-eq0-clause-serves
 returns-then-found-eq0-clause-serves c = let checked = subst (λ (x : State). Checked x true c.in-Ok.prefix.places c.in-Ok.prefix.kinds) c.lent.ensures c.in-Ok.ensures in
@@ -39,15 +39,9 @@ returns-then-found-eq0-clause-serves c = let checked = subst (λ (x : State). Ch
     let v = sym checked.said in
     let frees = free-count.ensures _ (valid_numbers _ v) (valid_quantified _ v) in
     let sized = c.run-found.ensures.table_len_unchanged.0 ∙ cleared_length (length c.args.table.now) c.clear.ensures in
-    served_as_lem _ (card_of c.args.yes c.args.ceiling _) (stopped-card.ensures c.clear-then-found-eq0.new.table)
-    (halted_card _ v c.args.yes c.args.ceiling _ free-count.result budget-of.result c.run-found.result _ _ frees sized budget-of.ensures.0 ((c.run-found.ensures.by_index _ _ v).found [] (checked.placed v) (checked.kinded v) (open_values _) refl frees (covers_none free-count.result (length c.args.table.now) _ c.clear.ensures)) c.if-found-eq0.true _ (c.clear-then-found-eq0.ensures ∙ ap zero_table sized))
-
-pub visits_of-visits-requires : goal.visits_of-visits-requires
-visits_of-visits-requires c = let budget-of = c.budget_of in
-    omega (arith, c.run-found.ensures.table_len_unchanged.2, budget-of.ensures.0)
-
-pub shape_of-table-then-fits : goal.shape_of-table-then-fits
-shape_of-table-then-fits c = c.run-found.ensures.table_len_unchanged.0 ∙ cleared_length (length c.args.table.now) c.clear.ensures
+    served_back _ _ c.run-found.ensures.held
+    (served_as_lem _ (card_of c.args.yes c.args.ceiling _) (stopped-card.ensures c.clear-then-found-eq0.new.table)
+    (halted_card _ v c.args.yes c.args.ceiling _ free-count.result budget-of.result c.run-found.result _ _ frees sized budget-of.ensures.0 ((c.run-found.ensures.ran v).found [] (checked.placed v) (checked.kinded v) (open_values _) refl frees (covers_none free-count.result (length c.args.table.now) _ c.clear.ensures)) c.if-found-eq0.true _ (c.clear-then-found-eq0.ensures ∙ ap zero_table sized)))
 
 pub returns-then-fits-clause-serves : goal.returns-then-fits-clause-serves
 returns-then-fits-clause-serves c = let checked = subst (λ (x : State). Checked x true c.in-Ok.prefix.places c.in-Ok.prefix.kinds) c.lent.ensures c.in-Ok.ensures in
@@ -58,12 +52,10 @@ returns-then-fits-clause-serves c = let checked = subst (λ (x : State). Checked
     let v = sym checked.said in
     let frees = free-count.ensures _ (valid_numbers _ v) (valid_quantified _ v) in
     let sized = c.run-found.ensures.table_len_unchanged.0 ∙ cleared_length (length c.args.table.now) c.clear.ensures in
-    served_as_lem _ (card_of c.args.yes c.args.ceiling _) (c.of.ensures _)
-    (shown_card _ v c.args.yes c.args.ceiling _ free-count.result budget-of.result c.run-found.result _ _ frees sized budget-of.ensures.0 ((c.run-found.ensures.by_index _ _ v).found [] (checked.placed v) (checked.kinded v) (open_values _) refl frees (covers_none free-count.result (length c.args.table.now) _ c.clear.ensures)) c.if-found-eq0.false visits-of.result visits-of.ensures
-    total-lines.result total-lines.ensures (ap (λ k. leb (total-lines.result * free-count.result) k) (sym sized) ∙ sym c.fits.ensures ∙ c.if-fits.true))
-
-pub shape_of-table : goal.shape_of-table
-shape_of-table c = cleared_length _ c.clear-2.ensures ∙ c.run-found.ensures.table_len_unchanged.0 ∙ cleared_length (length c.args.table.now) c.clear.ensures
+    served_back _ _ c.run-found.ensures.held
+    (served_as_lem _ (card_of c.args.yes c.args.ceiling _) (c.of.ensures _)
+    (shown_card _ v c.args.yes c.args.ceiling _ free-count.result budget-of.result c.run-found.result _ _ frees sized budget-of.ensures.0 ((c.run-found.ensures.ran v).found [] (checked.placed v) (checked.kinded v) (open_values _) refl frees (covers_none free-count.result (length c.args.table.now) _ c.clear.ensures)) c.if-found-eq0.false visits-of.result visits-of.ensures
+    total-lines.result total-lines.ensures (ap (λ k. leb (total-lines.result * free-count.result) k) (sym sized) ∙ sym c.fits.ensures ∙ c.if-fits.true)))
 
 pub returns-clause-serves : goal.returns-clause-serves
 returns-clause-serves c = let checked = subst (λ (x : State). Checked x true c.in-Ok.prefix.places c.in-Ok.prefix.kinds) c.lent.ensures c.in-Ok.ensures in
@@ -75,6 +67,7 @@ returns-clause-serves c = let checked = subst (λ (x : State). Checked x true c.
     let v = sym checked.said in
     let frees = free-count.ensures _ (valid_numbers _ v) (valid_quantified _ v) in
     let sized = c.run-found.ensures.table_len_unchanged.0 ∙ cleared_length (length c.args.table.now) c.clear.ensures in
-    served_as_lem _ (card_of c.args.yes c.args.ceiling _) (too-many-lines.ensures c.clear-2.new.table)
-    (full_card _ v c.args.yes c.args.ceiling _ free-count.result budget-of.result c.run-found.result _ _ frees sized budget-of.ensures.0 ((c.run-found.ensures.by_index _ _ v).found [] (checked.placed v) (checked.kinded v) (open_values _) refl frees (covers_none free-count.result (length c.args.table.now) _ c.clear.ensures)) c.if-found-eq0.false visits-of.result visits-of.ensures
-    total-lines.result total-lines.ensures _ (c.clear-2.ensures ∙ ap zero_table sized) (ap (λ k. leb (total-lines.result * free-count.result) k) (sym sized) ∙ sym c.fits.ensures ∙ c.if-fits.false))
+    served_back _ _ c.run-found.ensures.held
+    (served_as_lem _ (card_of c.args.yes c.args.ceiling _) (too-many-lines.ensures c.clear-2.new.table)
+    (full_card _ v c.args.yes c.args.ceiling _ free-count.result budget-of.result c.run-found.result _ _ frees sized budget-of.ensures.0 ((c.run-found.ensures.ran v).found [] (checked.placed v) (checked.kinded v) (open_values _) refl frees (covers_none free-count.result (length c.args.table.now) _ c.clear.ensures)) c.if-found-eq0.false visits-of.result visits-of.ensures
+    total-lines.result total-lines.ensures _ (c.clear-2.ensures ∙ ap zero_table sized) (ap (λ k. leb (total-lines.result * free-count.result) k) (sym sized) ∙ sym c.fits.ensures ∙ c.if-fits.false)))

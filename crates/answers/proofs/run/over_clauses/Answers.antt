@@ -1,39 +1,19 @@
 -- `answers::run::over_clauses` meets its contract: the learned constraints go onto shelves, are searched with, and come back.
-use borrow.Author.Rules.{rules}
-use native.Mathlib.Omega.{arith}
+use mathlib.Core.Path.{subst}
+use lib.ListN.{get_or}
+use Rattle.state.specs.declared.State.{State}
+use Rattle.answers.specs.Run.{Below, StoreLoaded}
 use Rattle.answers.proofs.Running.{over_found}
 use Rattle.answers.proofs.run.over_clauses.Goals as goal
 
-pub load-requires : goal.load-requires
-load-requires c = (c.requires.1.clauses, c.empty-search.ensures.0.clauses, c.empty-search.ensures.1)
-
-pub load-requires-2 : goal.load-requires-2
-load-requires-2 c = (c.requires.1.cubes, c.empty-search.ensures.0.cubes, c.empty-search.ensures.2)
-
-pub below-found-requires : goal.below-found-requires
-below-found-requires c = (
-  c.requires.0,
-  record { clauses = c.load.ensures.0; cubes = c.load-2.ensures.0 },
-  c.requires.2,
-  c.requires.3,
-  c.requires.4,
-  omega (arith, c.load.ensures.1, c.requires.1.clauses.few),
-  omega (arith, c.load-2.ensures.1, c.requires.1.cubes.few),
-  c.requires.5,
-  c.requires.6,
-)
-
-pub overflow_cast-count : goal.overflow_cast-count
-overflow_cast-count c = omega (arith, c.requires.0)
-
-pub unload_clauses-requires : goal.unload_clauses-requires
-unload_clauses-requires c = (c.below-found.ensures.table_len_unchanged.2.clauses, search rules, c.requires.1.clauses.few)
-
-pub returns : goal.returns
-returns c = record {
-  table_len_unchanged = (c.below-found.ensures.table_len_unchanged.0, c.below-found.ensures.table_len_unchanged.1, c.below-found.ensures.table_len_unchanged.3);
-  by_index = λ ls ks cs css v.
-      over_found _ v _ _ c.args.count _ _ _ c.args.at c.args.free c.args.budget _ _ c.below-found.result _ _ _ _ _ _ _ _ _ _ _ _
-      c.load.ensures.2 c.load-2.ensures.2 c.load.ensures.1 c.below-found.ensures.below
-      (record { clauses = c.unload_clauses.ensures.0; cubes = c.unload.ensures.0 }) c.unload_clauses.ensures.1 c.unload_clauses.ensures.2 c.unload.ensures.1;
-}
+pub returns-clause-over : goal.returns-clause-over
+returns-clause-over c = λ v.
+    let learned = c.load_store.new.learned in
+    let left = c.below-found.new.search.learned in
+    let loaded = subst (λ (x : State). StoreLoaded x c.args.task.places.now learned) c.lent.ensures c.load_store.ensures in
+    let found = subst
+    (λ (x : State). Below c.args.task.yes c.args.matrix.now.rows c.args.matrix.now.sets (get_or x.clause_sizes 0 0) x.numbers c.args.matrix.now.quantifiers c.args.task.values.now learned.clauses.cells learned.clauses.links learned.cubes.cells learned.cubes.links c.args.table.now c.args.task.at c.args.task.free c.args.task.budget c.below-found.result left.clauses.cells left.clauses.links left.cubes.cells left.cubes.links c.below-found.new.table)
+    c.lent-2.ensures c.below-found.ensures.below in
+    over_found _ v _ _ (get_or c.args.lent.now.clause_sizes.now 0 0) _ _ _ c.args.task.at c.args.task.free c.args.task.budget _ _ c.below-found.result _ _ _ _ _ _ _ _ _ _ _ _
+    loaded.clauses loaded.cubes loaded.newest_clause found
+    (record { clauses = c.unload_clauses.ensures.0; cubes = c.unload.ensures.0 }) c.unload_clauses.ensures.1 c.unload_clauses.ensures.2 c.unload.ensures.1

@@ -1,29 +1,22 @@
 -- `answers::run::run` meets its contract.
 use native.Mathlib.Omega.{arith}
-use mathlib.Core.Path.{refl}
-use Rattle.answers.proofs.Running.{ended_few, start_stopped, start_no, start_yes, start_open}
+use mathlib.Core.Path.{◌≡◌, subst}
+use mathlib.Core.Bool.{true}
+use Rattle.state.specs.declared.State.{State}
+use Rattle.state.specs.Reading.{valid}
+use Rattle.answers.specs.Run.{AtStart}
+use Rattle.answers.proofs.Running.{start_stopped, start_no, start_yes}
 use Rattle.answers.proofs.run.run.Goals as goal
 
-pub returns-then-budget-le1 : goal.returns-then-budget-le1
-returns-then-budget-le1 c = let few = ended_few {n = c.args.budget} c.ended.ensures (omega arith) in
-    record { table_len_unchanged = (refl, few.0, few.1); by_index = λ ls ks v. start_stopped _ v _ _ _ c.args.at c.args.free c.args.budget _ (omega (arith, c.if-budget-le1.true)) c.ended.ensures }
+pub returns-then-spent-clause-ran : goal.returns-then-spent-clause-ran
+returns-then-spent-clause-ran c = λ v. start_stopped _ v _ _ _ c.args.task.at c.args.task.free c.args.task.budget _ (omega (arith, c.if-spent.true)) c.ended.ensures
 
-pub overflow_sub-budget : goal.overflow_sub-budget
-overflow_sub-budget c = omega (arith, c.if-budget-le1.false)
+pub returns-in-No-clause-ran : goal.returns-in-No-clause-ran
+returns-in-No-clause-ran c = λ v.
+    let start = subst (λ (x : State). valid x ≡ true → AtStart x c.args.task.places.now c.args.task.kinds.now c.args.task.values.now c.args.task.at c.at_start-start.result) c.lent.ensures c.at_start-start.ensures in
+    start_no _ v _ _ _ c.args.task.at c.args.task.free c.args.task.budget _ (omega (arith, c.if-spent.false)) c.at_start-start.result (start v) c.in-No.is c.ended-in-No.ensures
 
-pub overflow_sub-budget-in-Yes : goal.overflow_sub-budget-in-Yes
-overflow_sub-budget-in-Yes c = omega (arith, c.if-budget-le1.false)
-
-pub searched-requires : goal.searched-requires
-searched-requires c = (c.requires, omega (arith, c.if-budget-le1.false))
-
-pub returns-in-No : goal.returns-in-No
-returns-in-No c = let few = ended_few {n = c.args.budget} c.ended-in-No.ensures (omega arith) in
-    record { table_len_unchanged = (refl, few.0, few.1); by_index = λ ls ks v. start_no _ v _ _ _ c.args.at c.args.free c.args.budget _ (omega (arith, c.if-budget-le1.false)) c.at_start-start.result (c.at_start-start.ensures _ ls ks v) c.in-No.is c.ended-in-No.ensures }
-
-pub returns-in-Yes : goal.returns-in-Yes
-returns-in-Yes c = let few = ended_few {n = c.args.budget} c.ended-in-Yes.ensures (omega arith) in
-    record { table_len_unchanged = (refl, few.0, few.1); by_index = λ ls ks v. start_yes _ v _ _ _ c.args.at c.args.free c.args.budget _ (omega (arith, c.if-budget-le1.false)) c.at_start-start.result (c.at_start-start.ensures _ ls ks v) c.in-Yes.is c.ended-in-Yes.ensures }
-
-pub returns-in-Open : goal.returns-in-Open
-returns-in-Open c = record { table_len_unchanged = (c.searched.ensures.table_len_unchanged.0, c.searched.ensures.table_len_unchanged.1, c.searched.ensures.table_len_unchanged.2); by_index = λ ls ks v. start_open _ v _ _ _ c.args.at c.args.free c.args.budget _ (omega (arith, c.if-budget-le1.false)) c.at_start-start.result (c.at_start-start.ensures _ ls ks v) c.in-Open.is _ _ _ (c.searched.ensures.by_index ls ks v) }
+pub returns-in-Yes-clause-ran : goal.returns-in-Yes-clause-ran
+returns-in-Yes-clause-ran c = λ v.
+    let start = subst (λ (x : State). valid x ≡ true → AtStart x c.args.task.places.now c.args.task.kinds.now c.args.task.values.now c.args.task.at c.at_start-start.result) c.lent.ensures c.at_start-start.ensures in
+    start_yes _ v _ _ _ c.args.task.at c.args.task.free c.args.task.budget _ (omega (arith, c.if-spent.false)) c.at_start-start.result (start v) c.in-Yes.is c.ended-in-Yes.ensures

@@ -1,42 +1,18 @@
--- Four words have what is outside in the words before.
-use mathlib.Core.Path.{◌≡◌, refl, subst}
-use Prim.Native.Nat.{ℕ}
-use native.Mathlib.Omega.{arith}
-use Rattle.bitset.proofs.Outside.{Gathers, gathers_none, gathers_four, gathers_all}
+-- What is outside in the words before is gathered.
+use Rattle.std.proofs.Common.{◌≡◌, ◌∙◌, arith, ap, length}
+use lib.Bits.{bit_or}
+use Rattle.bitset.proofs.Gathered.{gathered_none, gathered_more, gathered}
+use Rattle.bitset.proofs.Outside.{rests, gathers_all}
 use Rattle.bitset.proofs.rows.any_outside.Goals as goal
 
-pub loop-j-init : goal.loop-j-init
-loop-j-init c = (
-  omega arith,
-  refl,
-  gathers_none c.args.a.now c.args.a0 c.args.b.now c.args.b0,
-)
+pub loop-k-init : goal.loop-k-init
+loop-k-init c = gathered_none bit_or 0 (rests c.args.a.now c.args.b.now)
 
-pub loop-j-preserved : goal.loop-j-preserved
-loop-j-preserved c = let args = c.args in (
-  omega arith,
-  omega arith,
-  gathers_four
-      args.a.now
-      args.a0
-      args.b.now
-      args.b0
-      c.loop-j.j
-      c.loop-j.w
-      c.gather_four-w.result
-      c.loop-j.invariant.2
-      c.gather_four-w.ensures,
-)
+pub loop-k-preserved : goal.loop-k-preserved
+loop-k-preserved c = gathered_more bit_or 0 (rests c.args.a.now c.args.b.now) c.loop-k.k _ _ c.loop-k.invariant c.rest-w.ensures
 
 pub returns : goal.returns
-returns c = let end : c.loop-j.j ≡ c.args.n = omega arith in
-    gathers_all
-    c.args.a.now
-    c.args.a0
-    c.args.b.now
-    c.args.b0
-    (λ k. (c.type_inv.a k).fits)
-    (λ k. (c.type_inv.b k).fits)
-    c.args.n
-    c.loop-j.w
-    (subst (λ (j : ℕ). Gathers c.args.a.now c.args.a0 c.args.b.now c.args.b0 j c.loop-j.w) end c.loop-j.invariant.2)
+returns c =
+    let end : c.loop-k.k ≡ length c.args.a.now = omega arith in
+    gathers_all c.args.a.now c.args.b.now (λ k. (c.type_inv.a k).fits) (λ k. (c.type_inv.b k).fits) (length c.args.a.now) c.loop-k.w
+    (c.loop-k.invariant ∙ ap (gathered bit_or 0 (rests c.args.a.now c.args.b.now)) end)

@@ -5,4 +5,4 @@ use Rattle.booktext_laws.proofs.Room.{parts_length}
 use Rattle.book_writer.proofs.lengths.formula_length.Goals as goal
 
 pub returns : goal.returns
-returns c = omega (arith, c.variables_length-lines.ensures.is, c.rules_length-rules.ensures.is, parts_length (formula_of c.args.variables.numbers.now c.args.variables.levels.now c.args.variables.kinds.now c.args.clauses.now c.args.clause_sizes.now))
+returns c = omega (arith, c.variables_length-lines.ensures.is, c.rules_length-rules.ensures.is, parts_length (formula_of c.args.variables.numbers.now c.args.variables.levels.now c.args.variables.kinds.now c.args.clauses.cells.now c.args.clauses.sizes.now))

@@ -1,11 +1,6 @@
 -- `literal_length` meets its contract, of a negative literal and of another.
-use native.Mathlib.Omega.{arith}
-use Rattle.book_writer.proofs.Rows.{number_short}
 use Rattle.book_writer.proofs.Digits.{counted_off, counted_on}
 use Rattle.book_writer.proofs.lengths.literal_length.Goals as goal
-
-pub overflow_cast-n : goal.overflow_cast-n
-overflow_cast-n c = omega (arith, number_short c.ranges.lit c.number_of-n.ensures)
 
 pub returns-then-lit-lt0 : goal.returns-then-lit-lt0
 returns-then-lit-lt0 c = counted_off c.ranges.lit c.number_of-n.ensures c.digits-number.ensures c.if-lit-lt0.true

@@ -8,4 +8,4 @@ use Rattle.book_writer.proofs.Rows.{all_rules}
 use Rattle.book_writer.proofs.lengths.rules_length.Given as goal
 
 abbrev pub invariant-loop-k : goal.invariant-loop-k
-invariant-loop-k l = Counting (rules_text (all_rules l.cells l.sizes)) (rules_text (drop l.k (all_rules l.cells l.sizes))) (l.k * most_rule) l.bytes
+invariant-loop-k l = Counting (rules_text (all_rules l.clauses.cells.now l.clauses.sizes.now)) (rules_text (drop l.k (all_rules l.clauses.cells.now l.clauses.sizes.now))) (l.k * most_rule) l.bytes

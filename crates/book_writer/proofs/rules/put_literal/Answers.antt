@@ -1,10 +1,7 @@
 -- `put_literal` meets its contract: it is written as an item of a card's line is.
 use native.Mathlib.Omega.{arith}
-use Rattle.book_writer.proofs.Rows.{number_short, literal_length, literal_wrote}
+use Rattle.book_writer.proofs.Rows.{literal_length, literal_wrote}
 use Rattle.book_writer.proofs.rules.put_literal.Goals as goal
-
-pub overflow_cast-n : goal.overflow_cast-n
-overflow_cast-n c = omega (arith, number_short c.ranges.lit c.number_of-n.ensures)
 
 pub put_item-requires : goal.put_item-requires
 put_item-requires c = omega (arith, literal_length c.ranges.lit c.number_of-n.ensures c.value_of-value.ensures)

@@ -7,12 +7,9 @@ use lib.IntN.{pos}
 use lib.ListN.{get_or, drop}
 use Rattle.layout.specs.Words.{space}
 use Rattle.layout.specs.Output.{literal_text, items_text}
-use Rattle.writer.proofs.Appending.{left_all, left_room, left_more, left_none, left_as}
+use Rattle.writer.proofs.Appending.{left_room, left_more, left_none, left_as}
 use Rattle.book_writer.proofs.Rows.{literals_next, literals_end, length_back, wrote_back}
 use Rattle.book_writer.proofs.rules.put_literals.Goals as goal
-
-pub loop-lit-init : goal.loop-lit-init
-loop-lit-init c = left_all _ _
 
 pub put_literal-requires : goal.put_literal-requires
 put_literal-requires c = omega (arith, length_back {l = get_or c.args.lits.now c.loop-lit.lit-index (pos 0)} (sfits_of (search rules)), left_room (space ∷ literal_text (get_or c.args.lits.now c.loop-lit.lit-index (pos 0))) (items_text (drop (c.loop-lit.lit-index + 1) c.args.lits.now)) (left_as (literals_next c.args.lits.now {i = c.loop-lit.lit-index} (search rules)) c.loop-lit.invariant) c.requires)

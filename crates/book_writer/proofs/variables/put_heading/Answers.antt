@@ -3,12 +3,8 @@ use mathlib.Core.Path.{sym, ap, ◌∙◌}
 use native.Mathlib.Omega.{arith}
 use lib.ListN.{length}
 use Rattle.state.specs.Reading.{quantifier_of}
-use Rattle.writer.proofs.Appending.{appended_none}
-use Rattle.book_writer.proofs.Places.{head_none, head_new, heading_flags, heading_exists, heading_forall}
+use Rattle.book_writer.proofs.Places.{head_new, heading_flags, heading_exists, heading_forall}
 use Rattle.book_writer.proofs.variables.put_heading.Goals as goal
-
-pub returns-then-same_kind : goal.returns-then-same_kind
-returns-then-same_kind c = rw (head_none (quantifier_of c.args.line) (quantifier_of c.args.kind) (sym c.same_kind.ensures ∙ c.if-same_kind.true)) (appended_none _)
 
 pub put_word-requires : goal.put_word-requires
 put_word-requires c = omega (arith, ap length (head_new (quantifier_of c.args.line) (quantifier_of c.args.kind) (sym c.same_kind.ensures ∙ c.if-same_kind.false) ∙ heading_flags c.args.kind c.if-kind-eq-FREE.true))

@@ -2,14 +2,10 @@
 use mathlib.Core.Path.{sym, ◌∙◌}
 use mathlib.Core.List.{[], append-nil}
 use native.Mathlib.Omega.{arith}
-use Rattle.qbf.specs.Formula.{free}
 use Rattle.layout.specs.Words.{ascii}
-use Rattle.writer.proofs.Appending.{left_all, left_room, left_more, left_none, left_as}
-use Rattle.book_writer.proofs.Places.{places_all, places_next, places_end}
+use Rattle.writer.proofs.Appending.{left_room, left_more, left_none, left_as}
+use Rattle.book_writer.proofs.Places.{places_next, places_end}
 use Rattle.book_writer.proofs.variables.put_variables.Goals as goal
-
-pub loop-i-init : goal.loop-i-init
-loop-i-init c = left_as (places_all c.args.variables.numbers.now c.args.variables.levels.now c.args.variables.kinds.now free) (left_all _ _)
 
 pub put_variable-requires : goal.put_variable-requires
 put_variable-requires c =

@@ -1,13 +1,7 @@
 -- `coding::code::code_of` meets its contract. By the sign of the literal; a place past the numbers is none.
 use native.Mathlib.Omega.{arith}
-use Rattle.coding.proofs.Decoded.{code_none, code_negative, code_positive}
+use Rattle.coding.proofs.Decoded.{code_none}
 use Rattle.coding.proofs.code.code_of.Goals as goal
 
 pub returns-then-place-gt-NUMBERS : goal.returns-then-place-gt-NUMBERS
 returns-then-place-gt-NUMBERS c = (omega arith, λ D s h. code_none D c.ranges.lit (c.literal_place-place.ensures.1 D s) c.if-place-gt-NUMBERS.true h)
-
-pub returns-then-lit-lt0 : goal.returns-then-lit-lt0
-returns-then-lit-lt0 c = (omega arith, λ D s h. code_negative D c.ranges.lit (c.literal_place-place.ensures.1 D s) c.if-lit-lt0.true)
-
-pub returns : goal.returns
-returns c = (omega arith, λ D s h. code_positive D c.ranges.lit (c.literal_place-place.ensures.1 D s) c.if-lit-lt0.false)

@@ -4,7 +4,7 @@ use mathlib.Core.Path.{sym, ap, subst, ◌∙◌}
 use native.Mathlib.Omega.{arith}
 use lib.ListN.{length}
 use Rattle.coding.proofs.Given.{stored_length}
-use Rattle.coding.proofs.Placewise.{Filled, filled_none, filled_more, filled_all}
+use Rattle.coding.proofs.Placewise.{Filled, filled_none, filled_more}
 use Rattle.coding.proofs.quantifiers.quantifiers_of.Goals as goal
 
 pub loop-i-init : goal.loop-i-init
@@ -26,6 +26,3 @@ loop-i-preserved c = (
       subst (Filled D (c.loop-i.i + 1)) (sym c.put-in-loop-i.ensures)
       (filled_more D c.args.numbers.now c.args.kinds.now n k o c.loop-i.i c.loop-i.table (c.loop-i.invariant.4 D n k o) (omega (arith, n.count)) (omega (arith, c.loop-i.invariant.3)) c.kind_at-kind.ensures),
 )
-
-pub returns : goal.returns
-returns c = λ D n k o. filled_all D c.loop-i.i c.loop-i.table (c.loop-i.invariant.4 D n k o) (omega (arith, n.count))

@@ -5,7 +5,7 @@ use native.Mathlib.Omega.{arith}
 use lib.ListN.{length, take}
 use Rattle.tables.specs.Codes.{Statuses}
 use Rattle.tables.specs.Shelves.{code_count}
-use Rattle.coding.proofs.Placewise.{statuses_root, value_by_number, statuses_next, statuses_all}
+use Rattle.coding.proofs.Placewise.{statuses_root, value_by_number, statuses_next}
 use Rattle.coding.proofs.Given.{given_length}
 use Rattle.coding.proofs.statuses.statuses_of.Goals as goal
 
@@ -22,6 +22,3 @@ loop-i-preserved c = (
       (statuses_next s c.loop-i.statuses c.loop-i.i c.value_at-value.result (c.loop-i.invariant.3 D s n v o e h) (omega arith) (omega (arith, c.loop-i.invariant.2))
       (c.value_at-value.ensures ∙ value_by_number D s c.args.numbers.now c.args.values.now n v o c.loop-i.i (omega arith) h)),
 )
-
-pub returns : goal.returns
-returns c = λ D s n v o e h. statuses_all s c.loop-i.statuses c.loop-i.i (c.loop-i.invariant.3 D s n v o e h) (omega arith)

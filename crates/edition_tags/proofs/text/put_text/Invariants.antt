@@ -1,11 +1,6 @@
--- `edition_tags::text::put_text`: the lines before the one at `at` are written, each behind a byte 10; none takes more than 13 bytes for one of its own.
-use Prim.Native.Nat.{suc, ◌-◌}
-use lib.ListN.{length}
+-- `edition_tags::text::put_text`: by the lines that are left.
 use Rattle.edition_tags.proofs.Texts.{Putting}
 use Rattle.edition_tags.proofs.text.put_text.Given as goal
 
-abbrev pub invariant-loop-at : goal.invariant-loop-at
-invariant-loop-at l = Putting l.to l.text l.initial.d l.initial.n l.initial.at l.n l.at l.k l.d
-
-abbrev pub decreases-loop-at : goal.decreases-loop-at
-decreases-loop-at l = suc (length l.text) - l.at
+abbrev pub invariant-loop-line : goal.invariant-loop-line
+invariant-loop-line l = Putting l.to l.text l.initial.d l.initial.n l.initial.line-iterator.left l.line-iterator.left l.n l.k l.d

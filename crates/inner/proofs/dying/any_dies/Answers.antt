@@ -1,19 +1,12 @@
--- `inner::dying::any_dies` meets its contract. Both rows lie within their tables.
-use native.Mathlib.Omega.{arith}
-use Rattle.inner.proofs.Stepping.{sets_room, rows_next, rows_room}
+-- `inner::dying::any_dies` meets its contract. Both rows are parts of their tables.
+use Prim.Native.Nat.{◌-◌, ◌*◌}
+use mathlib.Core.Path.{◌∙◌}
+use Rattle.tables.specs.Sets.{dying_row}
+use Rattle.bitset.proofs.Parts.{some_outside}
 use Rattle.inner.proofs.dying.any_dies.Goals as goal
 
-pub overflow_mul-dying-2 : goal.overflow_mul-dying-2
-overflow_mul-dying-2 c = omega (arith, sets_room c.requires)
-
-pub overflow_add-dying : goal.overflow_add-dying
-overflow_add-dying c = omega (arith, sets_room c.requires)
-
-pub overflow_mul-above : goal.overflow_mul-above
-overflow_mul-above c = omega (arith, rows_next c.requires, rows_room c.requires)
-
-pub any_outside-requires : goal.any_outside-requires
-any_outside-requires c = (omega (arith, sets_room c.requires), omega (arith, rows_next c.requires, rows_room c.requires), c.requires.words.blocks)
-
 pub returns : goal.returns
-returns c = c.any_outside.ensures
+returns c =
+    let g = c.args.g in
+    c.any_outside.ensures
+    ∙ some_outside c.args.sets.now (dying_row g.words g.code) c.args.sat.now ((g.at - 1) * g.words) g.words c.dying_row-dying.ensures.0 c.row_above-above.ensures.0 c.dying_row-dying.ensures.1

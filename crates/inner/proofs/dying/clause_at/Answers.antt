@@ -18,9 +18,3 @@ returns-then-size-le-LITERALS c = let n = c.left_at-size.result in
       found_coded = λ D e cs area few short is.
           found_part D (some e) c.args.rows.now cs area at c.placed.ensures (clause_part c.args.rows.now c.args.k n c.left_at-size.ensures) (e, refl, is);
     }
-
-pub returns-else-size-le-LITERALS : goal.returns-else-size-le-LITERALS
-returns-else-size-le-LITERALS c = record { found_bounded = tt; found_coded = λ D e cs area few short is. absurd (omega (arith, short, c.left_at-size.ensures, c.if-size-le-LITERALS.false)) }
-
-pub returns-else-k-lt-CLAUSES : goal.returns-else-k-lt-CLAUSES
-returns-else-k-lt-CLAUSES c = record { found_bounded = tt; found_coded = λ D e cs area few short is. absurd (omega (arith, few, c.if-k-lt-CLAUSES.false)) }

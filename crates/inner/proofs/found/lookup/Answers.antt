@@ -16,10 +16,6 @@ use Rattle.search_entry.specs.declared.Source.TheVariants.{Learned}
 use Rattle.inner.proofs.Lookups.{found_row, found_nothing, found_part, row_part}
 use Rattle.inner.proofs.found.lookup.Goals as goal
 
-pub row_in-row-requires : goal.row_in-row-requires
-row_in-row-requires c = let found = subst (λ (o : code.Option ℕ). Found c.args.shelf.now o (first_match c.last_in.result c.args.statuses.now c.wanted.result (rows c.args.shelf.now))) c.in-Some.is c.find.ensures in
-    (c.requires.0, found.0)
-
 pub returns-in-Some : goal.returns-in-Some
 returns-in-Some c = let cells = c.args.shelf.now.cells in
     let found = subst (λ (o : code.Option ℕ). Found c.args.shelf.now o (first_match c.last_in.result c.args.statuses.now c.wanted.result (rows c.args.shelf.now))) c.in-Some.is c.find.ensures in

@@ -9,20 +9,17 @@ use Rattle.page.proofs.Faults.{any_listed, fault_number, fault_lines, fault_page
 use Rattle.page.proofs.fault.refused.Goals as goal
 
 pub returns-then-number-eq0 : goal.returns-then-number-eq0
-returns-then-number-eq0 c = fault_number c.args.table.now c.args.lines c.args.f c.args.number c.if-number-eq0.true
+returns-then-number-eq0 c = fault_number c.args.card.table.now c.args.card.lines c.args.card.free c.args.number c.if-number-eq0.true
 
 pub returns-then-pages-number : goal.returns-then-pages-number
-returns-then-pages-number c = fault_pages c.args.table.now c.args.lines c.args.f c.args.number c.pages.result c.pages.ensures (omega arith)
+returns-then-pages-number c = fault_pages c.args.card.table.now c.args.card.lines c.args.card.free c.args.number c.pages.result c.pages.ensures (omega arith)
 
-pub returns-then-lines-gt-MOST_LINES : goal.returns-then-lines-gt-MOST_LINES
-returns-then-lines-gt-MOST_LINES c = fault_lines c.args.table.now c.args.lines c.args.f c.args.number (omega arith)
-
-pub overflow_mul-lines : goal.overflow_mul-lines
-overflow_mul-lines c = omega (arith, leb-true (c.args.lines * c.args.f) (length c.args.table.now) (sym c.fits.ensures ∙ c.if-fits.true))
+pub returns-then-card-gt-MOST_LINES : goal.returns-then-card-gt-MOST_LINES
+returns-then-card-gt-MOST_LINES c = fault_lines c.args.card.table.now c.args.card.lines c.args.card.free c.args.number (omega arith)
 
 pub returns-then-fits : goal.returns-then-fits
-returns-then-fits c = let held = leb-true (c.args.lines * c.args.f) (length c.args.table.now) (sym c.fits.ensures ∙ c.if-fits.true) in
-    fault_bytes c.args.table.now c.args.lines c.args.f c.args.number c.if-number-eq0.false (omega (arith, c.pages.ensures)) (omega arith) held c.byte_above.result (c.byte_above.ensures ∙ any_listed (ltb 2) (take (c.args.lines * c.args.f) c.args.table.now))
+returns-then-fits c = let held = leb-true (c.args.card.lines * c.args.card.free) (length c.args.card.table.now) (sym c.fits.ensures ∙ c.if-fits.true) in
+    fault_bytes c.args.card.table.now c.args.card.lines c.args.card.free c.args.number c.if-number-eq0.false (omega (arith, c.pages.ensures)) (omega arith) held c.byte_above.result (c.byte_above.ensures ∙ any_listed (ltb 2) (take (c.args.card.lines * c.args.card.free) c.args.card.table.now))
 
 pub returns : goal.returns
-returns c = fault_size c.args.table.now c.args.lines c.args.f c.args.number (leb-false (c.args.lines * c.args.f) (length c.args.table.now) (sym c.fits.ensures ∙ c.if-fits.false))
+returns c = fault_size c.args.card.table.now c.args.card.lines c.args.card.free c.args.number (leb-false (c.args.card.lines * c.args.card.free) (length c.args.card.table.now) (sym c.fits.ensures ∙ c.if-fits.false))

@@ -3,17 +3,11 @@ use mathlib.Core.Path.{sym, ◌∙◌}
 use lib.IntN.{pos}
 use Rattle.layout.specs.Forms.{off}
 use Rattle.reader.proofs.Narrowed.{back16, narrowed_on, narrowed_off}
-use Rattle.qdimacs_reader.proofs.Literals.{literal_zero, literal_on, literal_some, literal_off}
+use Rattle.qdimacs_reader.proofs.Literals.{literal_zero, literal_on, literal_off}
 use Rattle.qdimacs_reader.proofs.item.read_literal.Goals as goal
 
 pub returns-then-is_zero : goal.returns-then-is_zero
 returns-then-is_zero c = literal_zero _ _ (sym c.is_zero.ensures ∙ c.if-is_zero.true)
-
-pub slice_bounds-read_number-count : goal.slice_bounds-read_number-count
-slice_bounds-read_number-count c = literal_some c.args.signed c.args.w.now (sym c.is_zero.ensures ∙ c.if-is_zero.false) (sym c.is_off.ensures ∙ c.if-is_off.true)
-
-pub slice_bounds-read_number-start : goal.slice_bounds-read_number-start
-slice_bounds-read_number-start c = literal_some c.args.signed c.args.w.now (sym c.is_zero.ensures ∙ c.if-is_zero.false) (sym c.is_off.ensures ∙ c.if-is_off.true)
 
 pub returns-in_err-v : goal.returns-in_err-v
 returns-in_err-v c = let item = sym c.is_zero.ensures ∙ c.if-is_zero.false in

@@ -1,13 +1,13 @@
-use mathlib.Core.Path.{◌∙◌}
-use Rattle.reader.proofs.Endings.{item_none, item_more, item_one}
+-- `last_item` meets its contract: no word, more than one, or a number with a closing bracket.
+use mathlib.Core.Path.{subst, sym, ap, ◌∙◌}
+use Rattle.std.specs.Prelude.{Option as Answer}
+use Rattle.std.specs.Borrow.{Bor}
+use Rattle.layout.specs.Words.{Bytes, space}
+use Rattle.layout.specs.Endings.{number_up_to, last_item}
+use Rattle.reader.specs.Pieces.{pieces, Cut}
+use Rattle.reader.proofs.Endings.{item_more}
 use Rattle.reader.proofs.ending.last_item.Goals as goal
 
--- `last_item` meets its contract: no word, more than one, or a number with a closing bracket.
-pub returns-then-s-e : goal.returns-then-s-e
-returns-then-s-e c = item_none _ _ _ c.if-s-e.true
-
-pub returns-then-f-s : goal.returns-then-f-s
-returns-then-f-s c = item_more _ c.find-f.ensures c.if-f-s.true
-
-pub returns : goal.returns
-returns c = c.closed_within.ensures ∙ item_one _ c.find-f.ensures c.if-f-s.false
+pub returns-in-Some : goal.returns-in-Some
+returns-in-Some c = item_more (number_up_to c.args.limit.digits c.args.limit.top) (subst (Cut space _ _) c.in-Some.is c.cut.ensures)
+    ∙ ap (λ (l : Answer (Bor Bytes)). last_item (number_up_to c.args.limit.digits c.args.limit.top) (pieces space l)) (sym c.in_ok-left.was)

@@ -1,11 +1,10 @@
 -- `read_items` meets its contract: the loop has read the first literals, and keeps as many as the table holds.
-use Prim.Native.Nat.{◌+◌, ◌-◌}
-use lib.ListN.{length}
+use Rattle.reader.specs.Pieces.{size_left}
 use Rattle.reader.proofs.Literals.{Reading}
 use Rattle.reader.proofs.items.read_items.Given as goal
 
-abbrev pub invariant-loop-at : goal.invariant-loop-at
-invariant-loop-at l = Reading l.signed l.s l.initial.out l.out l.at l.n
+abbrev pub invariant-loop-left : goal.invariant-loop-left
+invariant-loop-left l = Reading l.signed l.words l.initial.out l.out l.left l.n
 
-abbrev pub decreases-loop-at : goal.decreases-loop-at
-decreases-loop-at l = length l.s + 1 - l.at
+abbrev pub decreases-loop-left : goal.decreases-loop-left
+decreases-loop-left l = size_left l.left

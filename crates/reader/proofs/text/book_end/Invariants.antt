@@ -1,11 +1,10 @@
--- `reader::text::book_end` meets its contract.
-use Prim.Native.Nat.{◌-◌}
+-- `book_end` meets its contract: no line passed is `(end)`.
 use lib.ListN.{length}
 use Rattle.reader.proofs.Books.{Seeking}
 use Rattle.reader.proofs.text.book_end.Given as goal
 
-abbrev pub invariant-loop-at : goal.invariant-loop-at
-invariant-loop-at l = Seeking l.text l.at
+abbrev pub invariant-loop-next : goal.invariant-loop-next
+invariant-loop-next l = Seeking l.text l.lines
 
-abbrev pub decreases-loop-at : goal.decreases-loop-at
-decreases-loop-at l = length l.text - l.at
+abbrev pub decreases-loop-next : goal.decreases-loop-next
+decreases-loop-next l = length l.lines

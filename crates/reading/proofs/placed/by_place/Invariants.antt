@@ -1,5 +1,4 @@
 -- `reading::placed::by_place`: the first i places have their values.
-use Prim.Native.Nat.{◌-◌}
 use Rattle.reading.proofs.Placing.{Placing}
 use Rattle.reading.proofs.placed.by_place.Given as goal
 

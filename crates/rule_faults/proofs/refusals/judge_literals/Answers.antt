@@ -9,4 +9,4 @@ pub loop-lit-init : goal.loop-lit-init
 loop-lit-init c = judging_none c.args.lits.now c.args.places.now
 
 pub loop-lit-preserved : goal.loop-lit-preserved
-loop-lit-preserved c = judging_more c.loop-lit.invariant c.loop-lit-test.true (back (sfits_of (search rules))) c.number_of-n.ensures none c.in_ok-judge_number.ensures refl
+loop-lit-preserved c = judging_more c.loop-lit.invariant c.loop-lit-test.true (back (sfits_of (search rules))) c.number_of-number.ensures none c.in_ok-judge_number.ensures refl

@@ -10,9 +10,9 @@ use Rattle.rules.proofs.in_place.forget.Goals as goal
 pub returns-in_err-check-clause-serves : goal.returns-in_err-check-clause-serves
 returns-in_err-check-clause-serves c =
     let p = err_from_is_err_and c.from_residual.result c.from_residual.ensures.1 in
-    rw (p.1, p.2) (refused_malformed c.lent-lent.ensures forget refl c.in_err-check.ensures)
+    rw (p.1, p.2) (refused_malformed c.lent-whole.ensures forget refl c.in_err-check.ensures)
 
 pub returns-clause-serves : goal.returns-clause-serves
 returns-clause-serves c =
-    let k = checked_lent c.lent-lent.ensures c.in_ok-check.ensures in
+    let k = checked_lent c.lent-whole.ensures c.in_ok-check.ensures in
     forgotten (emptying_state c.args.tables.now) (sym k.said) k.sized c.clear.ensures c.clear-2.ensures

@@ -9,15 +9,15 @@ use Rattle.rules.proofs.in_place.rule.Goals as goal
 pub returns-in_err-places-clause-serves : goal.returns-in_err-places-clause-serves
 returns-in_err-places-clause-serves c =
     let p = err_from_is_err_and c.from_residual.result c.from_residual.ensures.1 in
-    rw (p.1, p.2) (refused_malformed c.lent-lent.ensures (rule c.args.lits.now) refl c.in_err-places.ensures)
+    rw (p.1, p.2) (refused_malformed c.lent-whole.ensures (rule c.args.lits.now) refl c.in_err-places.ensures)
 
 pub returns-in_err-judge_rule-clause-serves : goal.returns-in_err-judge_rule-clause-serves
 returns-in_err-judge_rule-clause-serves c =
     let p = err_from_is_err_and c.from_residual-in_err-judge_rule.result c.from_residual-in_err-judge_rule.ensures.1 in
-    rw (p.1, p.2) (rule_refused _ c.args.lits.now (checked_lent c.lent-lent.ensures c.in_ok-places.ensures) c.in_err-judge_rule.ensures _ refl)
+    rw (p.1, p.2) (rule_refused _ c.args.lits.now (checked_lent c.lent-whole.ensures c.in_ok-places.ensures) c.in_err-judge_rule.ensures _ refl)
 
-pub accept-requires : goal.accept-requires
-accept-requires c = rule_room _ c.args.lits.now (checked_lent c.lent-lent.ensures c.in_ok-places.ensures) c.in_ok-judge_rule.ensures refl
+pub invariant_of-rows : goal.invariant_of-rows
+invariant_of-rows c = let r = rule_room _ c.args.lits.now (checked_lent c.lent-whole.ensures c.in_ok-places.ensures) c.in_ok-judge_rule.ensures refl in record { table = r.0 }
 
 pub returns-clause-serves : goal.returns-clause-serves
-returns-clause-serves c = rule_accepted _ c.args.lits.now (checked_lent c.lent-lent.ensures c.in_ok-places.ensures) c.in_ok-judge_rule.ensures refl c.accept.ensures
+returns-clause-serves c = rule_accepted _ c.args.lits.now (checked_lent c.lent-whole.ensures c.in_ok-places.ensures) c.in_ok-judge_rule.ensures refl c.accept.ensures.accepted

@@ -1,22 +1,11 @@
 -- `serve::call::query_of` meets its contract.
-use borrow.Author.Rules.{rules}
-use native.Mathlib.Omega.{arith}
-use lib.ListN.{length-take}
+use lib.ListN.{take}
 use Rattle.serve.proofs.Called.{query_turned}
 use Rattle.serve.proofs.call.query_of.Goals as goal
 
-pub slice_bounds-named-end : goal.slice_bounds-named-end
-slice_bounds-named-end c = simp length-take (omega arith)
-
-pub slice_bounds-named-end-3 : goal.slice_bounds-named-end-3
-slice_bounds-named-end-3 c = simp length-take (omega arith)
-
-pub slice_bounds-asked-end : goal.slice_bounds-asked-end
-slice_bounds-asked-end c = simp length-take (omega arith)
-
-pub slice_bounds-asked-end-2 : goal.slice_bounds-asked-end-2
-slice_bounds-asked-end-2 c = simp length-take (omega arith)
-
 pub returns : goal.returns
-returns c = query_turned c.args.n c.args.lits.now c.requires.lits_len c.args.ceiling c.kept-k.result c.kept-k.ensures
-    c.named.result c.named.new.out (search rules) c.named.ensures c.named-2.result c.named-2.new.out (search rules) c.named-2.ensures c.kept-ons.ensures c.kept-offs.ensures c.serve_query.ensures
+returns c = let flags = c.told_apart-flags.result in
+    record {
+      held = c.serve_query.ensures.held;
+      turned = λ ls z. query_turned c.args.naming.ceiling ls (take flags.ons flags.on) (take flags.offs flags.off) (c.told_apart-flags.ensures.on ls z) (c.told_apart-flags.ensures.off ls z) c.serve_query.ensures.turned;
+    }

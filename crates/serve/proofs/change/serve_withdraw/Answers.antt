@@ -11,7 +11,10 @@ use Rattle.serve.proofs.Turns.{turned}
 use Rattle.serve.proofs.change.serve_withdraw.Goals as goal
 
 pub returns : goal.returns
-returns c = λ t.
-    turned c.args.x (some withdraw) c.args.line _ c.args.shown c.after_rule-left.result c.put_change-length.ensures
-    (λ u e. change_served c.args.x withdraw c.args.line c.withdraw-change.result _ u (λ m l k. refl) withdraw_changing c.withdraw-change.ensures.serves (e ∙ ap (λ k. change_text withdrawn_text k c.args.line) c.refusal_of-refusal.ensures))
-    t t (rule_leaves c.args.x withdraw c.withdraw-change.result _ c.args.shown c.refusal_of-refusal.result (withdraw_changing (read_state c.args.x)) c.withdraw-change.ensures.serves c.refusal_of-refusal.ensures c.after_rule-left.result c.after_rule-left.ensures t)
+returns c = record {
+  held = c.put_change-length.ensures.held;
+  turned = λ t.
+      turned c.args.held.state (some withdraw) c.args.line _ c.args.held.shown c.after_rule-left.result c.put_change-length.ensures.wrote
+      (λ u e. change_served c.args.held.state withdraw c.args.line c.withdraw-change.result _ u (λ m l k. refl) withdraw_changing c.withdraw-change.ensures.serves (e ∙ ap (λ k. change_text withdrawn_text k c.args.line) c.refusal_of-refusal.ensures))
+      t t (rule_leaves c.args.held.state withdraw c.withdraw-change.result _ c.args.held.shown c.refusal_of-refusal.result (withdraw_changing (read_state c.args.held.state)) c.withdraw-change.ensures.serves c.refusal_of-refusal.ensures c.after_rule-left.result c.after_rule-left.ensures t);
+}

@@ -5,4 +5,4 @@ use Rattle.serve.proofs.Writing.{whole_turned}
 use Rattle.serve.proofs.write.serve_whole.Goals as goal
 
 pub returns : goal.returns
-returns c = whole_turned c.args.x _ c.args.line c.args.shown _ _ (sym paper_longest) c.serve_write.ensures
+returns c = record { held = c.serve_write.ensures.held; turned = whole_turned c.args.held.state _ c.args.line c.args.held.shown _ _ (sym paper_longest) c.serve_write.ensures.turned }

@@ -1,10 +1,7 @@
-use Rattle.state.proofs.Steps.{stepping_none, stepping_end, levels_many, LevelRead, level_high, StepTested, step_bad, step_more}
+use Rattle.state.proofs.Steps.{stepping_none, LevelRead, level_high, StepTested, step_bad, step_more}
 use mathlib.Core.Bool.{not}
 use mathlib.Core.Path.{ap}
 use Rattle.state.proofs.levels.levels_ok.Goals as goal
-
-pub returns-then-count-limit : goal.returns-then-count-limit
-returns-then-count-limit c = λ L q. levels_many L c.args.variables.numbers.now c.args.variables.levels.now c.args.variables.kinds.now c.count-count.ensures c.if-count-limit.true q
 
 pub loop-i-init : goal.loop-i-init
 loop-i-init c = stepping_none c.args.limit c.args.variables.numbers.now c.args.variables.levels.now c.args.variables.kinds.now c.count-count.ensures c.if-count-limit.false
@@ -12,9 +9,6 @@ loop-i-init c = stepping_none c.args.limit c.args.variables.numbers.now c.args.v
 pub returns-then-next-limit : goal.returns-then-next-limit
 returns-then-next-limit c = let level_read : LevelRead c.args.limit c.args.variables.numbers.now c.args.variables.levels.now c.args.variables.kinds.now c.count-count.result c.loop-i.level c.loop-i.beside c.loop-i.i c.cell_after-next.result = record { stepping = c.loop-i.invariant; more = c.loop-i-test.true; is = c.cell_after-next.ensures } in
     level_high (level_read) c.if-next-limit.true
-
-pub step_ok-requires : goal.step_ok-requires
-step_ok-requires c = c.loop-i.invariant.code
 
 pub returns-then-not-step_ok : goal.returns-then-not-step_ok
 returns-then-not-step_ok c = let tested : StepTested c.args.limit c.args.variables.numbers.now c.args.variables.levels.now c.args.variables.kinds.now c.count-count.result c.loop-i.level c.loop-i.beside c.loop-i.i c.cell_after-next.result c.cell_at-kind.result c.step_ok.result = let level_read : LevelRead c.args.limit c.args.variables.numbers.now c.args.variables.levels.now c.args.variables.kinds.now c.count-count.result c.loop-i.level c.loop-i.beside c.loop-i.i c.cell_after-next.result = record { stepping = c.loop-i.invariant; more = c.loop-i-test.true; is = c.cell_after-next.ensures } in
@@ -25,6 +19,3 @@ pub loop-i-preserved : goal.loop-i-preserved
 loop-i-preserved c = let tested : StepTested c.args.limit c.args.variables.numbers.now c.args.variables.levels.now c.args.variables.kinds.now c.count-count.result c.loop-i.level c.loop-i.beside c.loop-i.i c.cell_after-next.result c.cell_at-kind.result c.step_ok.result = let level_read : LevelRead c.args.limit c.args.variables.numbers.now c.args.variables.levels.now c.args.variables.kinds.now c.count-count.result c.loop-i.level c.loop-i.beside c.loop-i.i c.cell_after-next.result = record { stepping = c.loop-i.invariant; more = c.loop-i-test.true; is = c.cell_after-next.ensures } in
     record { level_read = level_read; small = c.if-next-limit.false; is = c.cell_at-kind.ensures; said = c.step_ok.ensures } in
     step_more (tested) (ap not c.if-not-step_ok.false)
-
-pub returns : goal.returns
-returns c = stepping_end c.loop-i.invariant c.loop-i-test.false

@@ -8,9 +8,9 @@ use Rattle.writer.proofs.Output.put_closest.Goals as goal
 pub returns : goal.returns
 unfolding closest_row
 returns c = appended_then
-    (appended_two (ascii ") (visits ") (decimal c.args.visits)
-    (appended_two (ascii ") (lines ") (decimal c.args.lines)
-    (appended_two (ascii ") (differs ") (decimal c.args.differs)
+    (appended_two (ascii ") (visits ") (decimal c.args.found.visits)
+    (appended_two (ascii ") (lines ") (decimal c.args.found.lines)
+    (appended_two (ascii ") (differs ") (decimal c.args.found.differs)
     (appended_then c.put_word.ensures c.put_items.ensures)
     c.put_counted.ensures)
     c.put_counted-2.ensures)

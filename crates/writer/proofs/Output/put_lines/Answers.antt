@@ -1,25 +1,19 @@
 -- `put_lines` writes one row after the other.
 use native.Mathlib.Omega.{arith}
 use borrow.Author.Rules.{rules}
-use Rattle.writer.proofs.Appending.{left_all, left_room, left_more, left_none, left_as}
-use Rattle.writer.proofs.Listed.{rows_step, rows_end, rows_bytes, rows_bytes_all, rows_all}
+use Rattle.writer.proofs.Appending.{left_room, left_more, left_none, left_as}
+use Rattle.writer.proofs.Listed.{rows_step, rows_end, rows_bytes}
 use Rattle.writer.proofs.Output.put_lines.Goals as goal
-
-pub rows-init : goal.rows-init
-rows-init c = record { rows = rows_bytes_all _ _ c.requires.f_in_bounds.1; wrote = left_as (rows_all _ _ _ _) (left_all _ _) }
-
-pub split_at-requires : goal.split_at-requires
-split_at-requires c = omega (arith, rows_bytes c.args.f c.args.n c.rows.counter (search rules))
 
 pub put_line-requires : goal.put_line-requires
 put_line-requires c = record {
-  row_in_bounds = omega (arith, rows_bytes c.args.f c.args.n c.rows.counter (search rules));
-  room = left_room _ _ (left_as (rows_step _ _ _ _ _ c.rows-test.true c.split_at.ensures.front c.split_at.ensures.back) c.rows.invariant.wrote) c.requires.room;
+  row_in_bounds = omega (arith, rows_bytes c.args.lines.free c.args.lines.count c.rows.counter (search rules));
+  room = left_room _ _ (left_as (rows_step _ _ _ _ _ c.rows-test.true c.split_at.ensures.front c.split_at.ensures.back) c.rows.invariant.wrote) c.requires;
 }
 
 pub rows-preserved : goal.rows-preserved
 rows-preserved c = record {
-  rows = omega (arith, rows_bytes c.args.f c.args.n c.rows.counter (search rules));
+  rows = omega (arith, rows_bytes c.args.lines.free c.args.lines.count c.rows.counter (search rules));
   wrote = left_more (left_as (rows_step _ _ _ _ _ c.rows-test.true c.split_at.ensures.front c.split_at.ensures.back) c.rows.invariant.wrote) c.put_line.ensures;
 }
 

@@ -7,6 +7,6 @@ use Rattle.writer.proofs.Output.put_lines.Given as goal
 
 abbrev pub invariant-rows : goal.invariant-rows
 invariant-rows l = record {
-  rows : (l.n - l.counter) * l.f ≤ length l.rest;
-  wrote : Left l.initial.self (rows_text l.f l.numbers l.table l.n) (rows_text l.f l.numbers l.rest (l.n - l.counter)) l.self;
+  rows : (l.lines.count - l.counter) * l.lines.free ≤ length l.rest;
+  wrote : Left l.initial.self (rows_text l.lines.free l.lines.numbers.now l.lines.table.now l.lines.count) (rows_text l.lines.free l.lines.numbers.now l.rest (l.lines.count - l.counter)) l.self;
 }

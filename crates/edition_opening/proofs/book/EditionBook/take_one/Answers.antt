@@ -2,11 +2,14 @@
 use mathlib.Core.Path.{refl}
 use Rattle.std.specs.Prelude.{Ok, Err}
 use Rattle.std.proofs.lemmas.Result.{err_from_is_err_and}
-use Rattle.edition_opening.proofs.Adding.{one_refused, one_taken}
+use Rattle.edition_opening.proofs.Adding.{one_refused, one_taken, one_stands}
 use Rattle.edition_opening.proofs.book.EditionBook.take_one.Goals as goal
 
 pub returns-in_err-one : goal.returns-in_err-one
-returns-in_err-one c = let p = err_from_is_err_and c.from_residual-in_err-one.result c.from_residual-in_err-one.ensures.1 in rw (p.1, p.2) (one_refused c.args.self c.requires c.args.lits.now c.in_ok-place.ensures (Err c.in_err-one.field-0.0) c.in_err-one.ensures.serves refl)
+returns-in_err-one c = let p = err_from_is_err_and c.from_residual-in_err-one.result c.from_residual-in_err-one.ensures.1 in rw (p.1, p.2) (one_refused c.args.self c.args.lits.now c.in_ok-place.ensures (Err c.in_err-one.field-0.0) c.in_err-one.ensures.serves refl)
 
 pub returns : goal.returns
-returns c = one_taken c.args.self c.requires c.args.lits.now c.in_ok-place.ensures (Ok c.in_ok-one.field-0) c.in_ok-one.ensures.serves refl
+returns c = one_taken c.args.self c.args.lits.now c.in_ok-place.ensures (Ok c.in_ok-one.field-0) c.in_ok-one.ensures.serves refl _
+
+pub invariant_of-result : goal.invariant_of-result
+invariant_of-result c = record { stands = one_stands c.args.self c.args.lits.now c.in_ok-place.ensures (Ok c.in_ok-one.field-0) c.in_ok-one.ensures.serves refl }

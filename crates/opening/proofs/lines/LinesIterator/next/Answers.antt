@@ -1,10 +1,10 @@
 -- The next line ends at the first byte 10.
-use Rattle.std.proofs.Common.{refl}
-use Rattle.opening.proofs.Reading.{next_missing, next_line}
+use mathlib.Core.Path.{refl, sym, subst}
+use borrow.Author.Tests.{eqb-false}
+use Rattle.layout.specs.Words.{newline}
+use Rattle.reader.specs.Pieces.{Cut}
+use Rattle.opening.proofs.Reading.{next_missing}
 use Rattle.opening.proofs.lines.LinesIterator.next.Goals as goal
 
-pub returns-then-rest-end-clause-steps : goal.returns-then-rest-end-clause-steps
-returns-then-rest-end-clause-steps c = let m = next_missing c.args.self.now.rest.now c.find-end.ensures c.if-rest-end.true c.if-rest-eq0.false in (refl, m.0, m.1, m.2)
-
-pub returns-clause-steps : goal.returns-clause-steps
-returns-clause-steps c = next_line c.args.self.now.rest.now c.find-end.ensures c.if-rest-end.false
+pub returns-in_default-clause-steps : goal.returns-in_default-clause-steps
+returns-in_default-clause-steps c = let m = next_missing (subst (Cut newline _ _) c.in_default.is c.cut.ensures) (eqb-false _ _ (sym c.if-is_empty.ensures)) in (refl, m.0, m.1, m.2)

@@ -1,0 +1,19 @@
+// What a search is asked on the tables of a state.
+ghost use Rattle.std.specs.Prelude.{suc, ◌≤◌};
+ghost use Rattle.qbf.specs.Formula.{paper};
+ghost use Rattle.qbf.specs.Ceiling.{highest_ceiling};
+
+// The place, the quantifier and the value of each number at the node of `at` places that it starts at; how many variables are free; whether its lines are
+// Yes nodes or No nodes; and its budget, one more than the visits that it may make.
+#[derive(Clone, Copy)]
+pub struct Task<'a> {
+    pub places: &'a [u16; tables::BY_NUMBER],
+    pub kinds: &'a [u16; tables::BY_NUMBER],
+    pub values: &'a [u8; tables::BY_NUMBER],
+    pub at: usize,
+    pub free: usize,
+    pub yes: bool,
+    pub budget: u64,
+    pub ghost few: { free ≤ paper.numbers },
+    pub ghost bounded: { budget ≤ suc highest_ceiling },
+}

@@ -1,6 +1,0 @@
--- After k turns the first k rows stand on the shelf.
-use Rattle.loading_constraints.proofs.Loading.{Loaded}
-use Rattle.loading_constraints.proofs.load_lent.Given as goal
-
-abbrev pub invariant-loop-k : goal.invariant-loop-k
-invariant-loop-k l = Loaded l.width l.store l.sizes l.places l.k l.shelf.cells l.shelf.links

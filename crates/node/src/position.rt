@@ -1,0 +1,30 @@
+// Where a visit stands at a node, and where a node stands that has visited its off side.
+ghost use Rattle.std.specs.Prelude.{◌≤◌, ◌<◌};
+ghost use Rattle.qbf.specs.Formula.{paper};
+ghost use Rattle.tables.specs.Matrices.{RowLength};
+
+use crate::Answer;
+
+// Where a visit stands: the node's length, the count of the free variables, the budget, the lines so far, and the words of a row of clauses; and
+// whether the lines are Yes nodes or No nodes. The budget is one more than the visits that may still be made: a search that ends leaves 1 at least,
+// and one that was stopped leaves 0.
+#[derive(Clone, Copy)]
+pub struct Position {
+    pub at: usize,
+    pub free: usize,
+    pub budget: u64,
+    pub lines: usize,
+    pub words: usize,
+    pub yes: bool,
+    pub ghost few: { free ≤ paper.numbers },
+    pub ghost long: { RowLength words },
+}
+
+// A node of `at` places that has visited its off side: the quantifier of its next variable, and what came up from that side.
+#[derive(Clone, Copy)]
+pub struct OffSide {
+    pub at: usize,
+    pub kind: u16,
+    pub answer: Answer,
+    pub ghost next: { at < paper.numbers },
+}

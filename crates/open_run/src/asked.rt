@@ -1,0 +1,15 @@
+// What a plain search is asked.
+ghost use Rattle.open_run.specs.OpenRun.{Ready};
+
+// The tables of a formula, and the values by number of a reading of its free variables, some of them open.
+#[derive(Clone, Copy)]
+pub struct Asked<'a> {
+    pub numbers: &'a [u16; tables::BY_NUMBER],
+    pub clauses: &'a [i16; tables::CLAUSE_CELLS],
+    pub clause_sizes: &'a [u16; tables::CLAUSE_SIZES],
+    pub places: &'a [u16; tables::BY_NUMBER],
+    pub kinds: &'a [u16; tables::BY_NUMBER],
+    pub values: &'a [u8; tables::BY_NUMBER],
+    pub free: usize,
+    pub ghost ready: { Ready numbers.now clauses.now clause_sizes.now free },
+}

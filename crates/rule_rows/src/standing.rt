@@ -1,0 +1,18 @@
+// The tables of the clauses, to which a call adds, and the rule that it adds.
+ghost use Rattle.std.specs.Prelude.{◌≤◌, length};
+ghost use Rattle.qbf.specs.Formula.{paper};
+ghost use Rattle.tables.specs.Views.{Table};
+
+#[derive(Drop)]
+pub struct Clauses<'a> {
+    pub cells: &'a mut [i16; tables::CLAUSE_CELLS],
+    pub sizes: &'a mut [u16; tables::CLAUSE_SIZES],
+    pub ghost table: { Table paper.literals paper.clauses cells.now sizes.now },
+}
+
+// Literals that are no more than a rule may have.
+#[derive(Clone, Copy)]
+pub struct Rule<'a> {
+    pub lits: &'a [i16],
+    pub ghost short: { length lits.now ≤ paper.literals },
+}

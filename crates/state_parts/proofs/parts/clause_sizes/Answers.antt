@@ -1,6 +1,0 @@
-use native.Mathlib.Numerals.{add-one}
-use Rattle.state_parts.proofs.Cutting.{part_same}
-use Rattle.state_parts.proofs.parts.clause_sizes.Goals as goal
-
-pub returns : goal.returns
-returns c = part_same _ _ _ _ c.args.cells.now c.part.ensures c.clause_sizes_at.ensures (add-one c.args.clauses)
