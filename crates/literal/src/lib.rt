@@ -1,4 +1,4 @@
-// Literals: the number of a literal's variable, and what the tables by number say of it. -32768 is tested before any negation.
+// Literals: the number of a literal's variable, and what the tables by number say of it.
 #![tactic(auto)]
 
 ghost use Rattle.std.specs.Prelude.{◌≡◌, get_or};
@@ -25,11 +25,6 @@ pub struct ByNumber<'a> {
     pub values: &'a [u8],
 }
 
-// The one literal whose negation is not a signed 16-bit number.
-const LEAST: i16 = -32768;
-
-const NUMBER_OF_LEAST: usize = 32768;
-
 // What a literal is at a node; an open one is tables::OPEN.
 // stays (C): the numbers of the lent tables' cells
 pub const FALSE: u8 = tables::OFF;
@@ -37,13 +32,10 @@ pub const FALSE: u8 = tables::OFF;
 // stays (C): likewise
 pub const TRUE: u8 = tables::ON;
 
-// stays (form): -32768 is tested before any negation
+// The magnitude of -32768 is a number too, and no literal is negated for it: the number is refused before any negation.
 pub fn number_of(lit: i16) -> Number
     ensures { result.0 ≡ number_of lit }
 {
-    if lit == LEAST {
-        return Number(NUMBER_OF_LEAST);
-    }
     Number(lit.unsigned_abs() as usize)
 }
 
