@@ -23,6 +23,7 @@ pub fn told(length: usize) -> Written
 }
 
 // What a session prints for a text that is refused.
+// stays (no plainer): `refusal_text` is of every number; a `Refusal` is one of 23, and would ask more of a caller
 pub fn print_refusal(refusal: u16, line: usize, out: &mut [u8]) -> Written
     ensures { PrintsRefusal refusal line out.old result out.new }
 {

@@ -8,6 +8,7 @@ use crate::refused::refuse;
 use writer::Output;
 
 // The word of a call that is done, or the refusal.
+// stays (no plainer): `change_text` is of every number, 0 being a call that is done; a `Result<(), Refusal>` has 24 values, and would ask more of a caller
 pub fn put_change(out: &mut Answer<'_>, done: &[u8], refusal: u16, line: u64) -> usize
     requires { length done.now ≤ 12 }
     ensures { Answered out.old (change_text done.now refusal line) out.new result }

@@ -14,6 +14,7 @@ use writer::Output;
 const CARD_LINE: u64 = 0;
 
 // A table of 52 bytes holds every refusal.
+// stays (no plainer): `refusal_text` is of every number; a `Refusal` is one of 23, and would ask more of a caller
 pub fn write_refusal(out: &mut [u8], refusal: u16, line: u64) -> usize
     requires { refusal_bytes ≤ length out.old }
     ensures { Wrote out.old 0 (refusal_text refusal line) out.new result }
@@ -23,6 +24,7 @@ pub fn write_refusal(out: &mut [u8], refusal: u16, line: u64) -> usize
     text.at
 }
 
+// stays (no plainer): `refusal_text` is of every number; a `Refusal` is one of 23, and would ask more of a caller
 pub fn refuse(out: &mut Answer<'_>, refusal: u16, line: u64) -> usize
     ensures { Answered out.old (refusal_text refusal line) out.new result }
 {
@@ -30,12 +32,14 @@ pub fn refuse(out: &mut Answer<'_>, refusal: u16, line: u64) -> usize
 }
 
 // .. of a text's card, which has no line.
+// stays (no plainer): `refusal_text` is of every number; a `Refusal` is one of 23, and would ask more of a caller
 pub fn refuse_card(out: &mut Answer<'_>, refusal: u16) -> usize
     ensures { Answered out.old (refusal_text refusal 0) out.new result }
 {
     refuse(out, refusal, CARD_LINE)
 }
 
+// stays (no plainer): it could take a `Refusal` only if its caller `put_search_refusal` had one, which is of every number
 fn refuse_with_visits(out: &mut Answer<'_>, refusal: u16, line: u64, visits: u64) -> usize
     ensures { Answered out.old (overflow_text refusal line visits) out.new result }
 {
@@ -46,6 +50,7 @@ fn refuse_with_visits(out: &mut Answer<'_>, refusal: u16, line: u64, visits: u64
 }
 
 // A card too large, a stopped call and a card without a line tell their visits.
+// stays (no plainer): it could take a `Refusal` only if its caller `put_search_refusal` had one, which is of every number
 fn tells_visits(refusal: u16) -> bool
     ensures { result ≡ (eqb refusal 21 || (eqb refusal 34 || eqb refusal 35)) }
 {
@@ -54,6 +59,7 @@ fn tells_visits(refusal: u16) -> bool
         || refusal == Refusal::NoLine.number()
 }
 
+// stays (no plainer): `search_refusal_text` is of every number; a `Refusal` is one of 23, and would ask more of a caller
 pub fn put_search_refusal(out: &mut Answer<'_>, refusal: u16, visits: u64, line: u64) -> usize
     ensures { Answered out.old (search_refusal_text refusal line visits) out.new result }
 {

@@ -36,6 +36,7 @@ pub fn no_card() -> Shown
 }
 
 // A rule that is accepted or withdrawn leaves no card, a refused call what there was.
+// stays (no plainer): it is of every number, 0 being a call that is accepted; a `Result<(), Refusal>` has 24 values, and would ask more of a caller
 pub fn after_rule(shown: Shown, refusal: u16) -> Shown
     ensures { result ≡ cond (eqb refusal 0) no_card shown }
 {
@@ -49,14 +50,7 @@ pub fn after_rule(shown: Shown, refusal: u16) -> Shown
 pub fn card_of(x: State, lines: Result<usize, Refusal>, size: usize) -> Shown
     ensures { CardTold x lines size result }
 {
-    let numbers = x.numbers;
-    let levels = x.levels;
-    let kinds = x.kinds;
-    let free = state::kinds::free_count(state::prefix::Variables {
-        numbers: &numbers,
-        levels: &levels,
-        kinds: &kinds,
-    });
+    let free = x.free_count();
     Shown {
         refusal: number_if(lines.err()),
         size: size,

@@ -23,7 +23,7 @@ use Rattle.tables.specs.Views.{Places, Kinds}
 use Rattle.cover.specs.Cover.{Covers}
 use Rattle.cover.proofs.Laws.{covers_none, covers_open, covers_fits}
 use Rattle.node.specs.Node.{new_lines}
-use Rattle.node.specs.declared.Answer.{Answer as Found}
+use Rattle.node.specs.declared.answer.Answer.{Answer as Found}
 use Rattle.node.specs.declared.Verdict.{Verdict}
 use Rattle.node.specs.declared.Verdict.TheVariants.{Yes, No, Mixed}
 use Rattle.state.specs.declared.State.{State}

@@ -41,7 +41,8 @@ use Rattle.node.specs.Node.{entry_of, Reads}
 use Rattle.node.specs.declared.Verdict.{Verdict}
 use Rattle.node.specs.declared.Verdict.TheVariants.{Yes, No, Mixed}
 use Rattle.node.specs.declared.position.Position.{Position}
-use Rattle.node.specs.declared.Answer.{Answer}
+use Rattle.node.specs.declared.answer.Answer.{Answer}
+use Rattle.search_entry.specs.Within.{nowhere}
 use Rattle.search_entry.specs.declared.Source.TheVariants.{Area}
 use Rattle.search.proofs.Visiting.{open_alive}
 use Rattle.inner.proofs.Stepping.{formula_of, facts}
@@ -59,7 +60,7 @@ use Rattle.answers.specs.Run.{Ready, MatrixLoaded, AtStart, Ends, store_left, Fo
 
 -- a start node that does not branch
 abbrev ended_at : Verdict → ℕ → Answer
-ended_at w k = record { verdict = w; source = Area; start = 0; len = 0; budget = k; lines = 0 }
+ended_at w k = record { verdict = w; source = Area; start = 0; len = 0; budget = k; lines = 0; inside = nowhere }
 
 pub ended_few : {w : Verdict} {k n : ℕ} {r : Answer} → r ≡ ended_at w k → k ≤ n → (r.lines < 2 ^ 63) × (r.budget ≤ n)
 ended_few {w} {k} {n} {r} e h = (omega (arith, ap (λ (a : Answer). a.lines) e), omega (arith, h, ap (λ (a : Answer). a.budget) e))

@@ -2,6 +2,7 @@
 use Rattle.std.specs.Prelude.{◌≡◌}
 use Rattle.state.specs.declared.State.{State}
 use Rattle.state.specs.Reading.{state_of}
+use Rattle.serving.specs.Left.{with_learned_clauses, with_learned_cubes}
 use Rattle.answers.specs.declared.lent.Searching.{Searching}
 
 abbrev pub searching_state : Searching → State
@@ -20,14 +21,8 @@ searching_state t =
 -- the state that a search left: the learned constraints are as it left them
 abbrev pub searching_left : Searching → Searching → State
 searching_left t t' =
-    state_of
-    t.numbers.now
-    t.levels.now
-    t.kinds.now
-    t.clauses.now
-    t.clause_sizes.now
-    t'.learned_clauses.now
-    t'.learned_clause_sizes.now
+    with_learned_cubes
+    (with_learned_clauses (searching_state t) t'.learned_clauses.now t'.learned_clause_sizes.now)
     t'.learned_cubes.now
     t'.learned_cube_sizes.now
 

@@ -1,6 +1,6 @@
 -- What the search on the tables of a state gives: the learning search from the node that the values show, within a budget. Where a state y is named beside the
 -- state x, it is the next one: x with the learned constraints that the search leaves.
-use Rattle.std.specs.Prelude.{ℕ, suc, ◌+◌, ◌-◌, ◌≤◌, ◌≡◌, Bool, true, false, List, [], length, get_or, drop, map, ℤ, leb}
+use Rattle.std.specs.Prelude.{ℕ, ◌+◌, ◌-◌, ◌≤◌, ◌≡◌, Bool, true, false, List, [], length, get_or, drop, map, leb}
 use Rattle.std.proofs.Math.Option.{none, some}
 use Rattle.qbf.specs.Formula.{paper, Prefix, Clause, Node, quantifiers}
 use Rattle.qbf.specs.Truth.{Outcome, decided, mixed, DecidedNode, free_variables}
@@ -16,7 +16,7 @@ use Rattle.search_entry.specs.declared.Matrix.{Matrix}
 use Rattle.search_entry.specs.declared.Learned.{Learned}
 use Rattle.search_start.specs.declared.Start.{Start}
 use Rattle.search_start.specs.Start.{Starts}
-use Rattle.node.specs.declared.Answer.{Answer}
+use Rattle.node.specs.declared.answer.Answer.{Answer}
 use Rattle.cover.specs.Cover.{Covers}
 use Rattle.node.specs.Node.{new_lines}
 use Rattle.node.specs.declared.Verdict.{Verdict}

@@ -5,25 +5,23 @@ ghost use Rattle.serving.specs.Serves.{Serves};
 ghost use Rattle.replies.specs.Replies.{ruling_said, card_said};
 ghost use Rattle.answers.specs.Lent.{searching_state, SearchingHeld};
 
+use crate::asked::Asked;
 use crate::lent::Searching;
 use crate::open;
 use crate::run::run;
 use crate::task::Task;
 use cover::CardLines;
-use open_run::asked::Asked;
 use reading::Flags;
 use refusal::Refusal;
 use replies::{Listed, Ruled, budget_of, total_lines, visits_of};
-use state::kinds::free_count;
-use state::prefix::Variables;
 
 // "From now on a query gives the flags that are on and those that are off, and the rest are open. The result is swap if every completion is a swap, keep
 // if none is, otherwise unsettled." "Full readings behave as before".
-pub fn query(lent: &mut Searching<'_>, on: &[i16], off: &[i16], ceiling: u32) -> Ruled
+pub fn query(lent: &mut Searching<'_>, asked: Asked<'_>) -> Ruled
     ensures held { SearchingHeld lent.old lent.new }
     ensures serves { Serves
         (searching_state lent.old)
-        (query ceiling on.now off.now)
+        (query asked.entry.ceiling asked.entry.on.now asked.entry.off.now)
         (ruling_said result.ruling result.visits)
         (searching_state lent.new) }
 {
@@ -31,24 +29,18 @@ pub fn query(lent: &mut Searching<'_>, on: &[i16], off: &[i16], ceiling: u32) ->
         return Ruled::refused(Refusal::Malformed);
     };
     let numbers = lent.numbers;
-    let levels = lent.levels;
-    let kinds = lent.kinds;
-    let free = free_count(Variables {
-        numbers,
-        levels,
-        kinds,
-    });
+    let free = lent.free_count();
     let mut values = [tables::OPEN; tables::BY_NUMBER];
     let flags = Flags {
         numbers,
         places: &prefix.places,
         free,
     };
-    let Ok(full) = reading::read(flags, &mut values, on, off) else {
+    let Ok(full) = reading::read(flags, &mut values, asked.on, asked.off) else {
         return Ruled::refused(Refusal::NotFree);
     };
     if !full {
-        let asked = Asked {
+        let completing = open_run::asked::Asked {
             numbers,
             clauses: lent.clauses,
             clause_sizes: lent.clause_sizes,
@@ -57,7 +49,7 @@ pub fn query(lent: &mut Searching<'_>, on: &[i16], off: &[i16], ceiling: u32) ->
             values: &values,
             free,
         };
-        return open::query(asked, ceiling);
+        return open::query(completing, asked.ceiling);
     }
     let at = free; // each free variable has its value at the start node
     let mut no_table = [0u8; 1];
@@ -68,13 +60,13 @@ pub fn query(lent: &mut Searching<'_>, on: &[i16], off: &[i16], ceiling: u32) ->
         at,
         free,
         yes: true, // there are no lines
-        budget: budget_of(ceiling),
+        budget: budget_of(asked.ceiling),
     };
     let found = run(lent, task, &mut no_table);
     if found.budget == 0 {
-        return Ruled::stopped(ceiling);
+        return Ruled::stopped(asked.ceiling);
     }
-    Ruled::of(found.verdict, visits_of(ceiling, found.budget))
+    Ruled::of(found.verdict, visits_of(asked.ceiling, found.budget))
 }
 
 // "Card writes to a lent byte table and returns lines and visits." "Make the keep card in the same way, with topmost No nodes": the lines are Yes
@@ -91,14 +83,7 @@ pub fn card_of(lent: &mut Searching<'_>, table: &mut [u8], yes: bool, ceiling: u
     let Ok(prefix) = lent.lent().check() else {
         return Listed::refused(Refusal::Malformed, 0);
     };
-    let numbers = lent.numbers;
-    let levels = lent.levels;
-    let kinds = lent.kinds;
-    let free = free_count(Variables {
-        numbers,
-        levels,
-        kinds,
-    });
+    let free = lent.free_count();
     let values = [tables::OPEN; tables::BY_NUMBER];
     let task = Task {
         places: &prefix.places,

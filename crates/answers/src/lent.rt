@@ -1,9 +1,12 @@
 // The tables of a state as its caller lends them to a search, which writes what it learns.
 ghost use Rattle.std.specs.Prelude.{◌≡◌};
+ghost use Rattle.state.specs.Derived.{FreeCounted};
 ghost use Rattle.state.specs.Lent.{lent_state};
 ghost use Rattle.answers.specs.Lent.{searching_state};
 
 use state::Lent;
+use state::kinds::free_count;
+use state::prefix::Variables;
 
 #[derive(Drop)]
 pub struct Searching<'a> {
@@ -19,6 +22,22 @@ pub struct Searching<'a> {
 }
 
 impl<'a> Searching<'a> {
+    // How many variables are free.
+    // stays (no plainer): as `State::free_count`: the count itself is in `state::kinds::free_count`, and each of the two only names its own three tables for it
+    pub fn free_count(&self) -> usize
+        ensures { FreeCounted (searching_state self.now) result }
+    {
+        let numbers = self.numbers;
+        let levels = self.levels;
+        let kinds = self.kinds;
+        free_count(Variables {
+            numbers,
+            levels,
+            kinds,
+        })
+    }
+
+    // stays (no plainer): as in `rules::lent`: a struct is of `&` or of `&mut`, and these four calls differ in the tables that they may write
     pub fn lent(&self) -> Lent<'_>
         ensures { lent_state result ≡ searching_state self.now }
     {

@@ -6,6 +6,7 @@ ghost use Rattle.state.specs.Reading.{valid};
 ghost use Rattle.state.specs.Lent.{lent_state};
 ghost use Rattle.tables.specs.Formed.{Clauses};
 ghost use Rattle.shelf.specs.Standing.{newest};
+ghost use Rattle.search_entry.specs.Within.{nowhere};
 ghost use Rattle.answers.specs.Lent.{searching_state, searching_left, SearchingHeld};
 ghost use Rattle.answers.specs.Run.{Ready, StoresOf, MatrixLoaded, StoreLoaded, AtStart, Below, Over, Searched, Ran};
 
@@ -18,12 +19,13 @@ use literal::ByNumber;
 use loading_clauses::{load_clauses, words_of};
 use loading_constraints::load;
 use loading_start::start_rows;
-use node::{Answer, Position, Verdict};
+use node::{Answer, Depth, Position, Verdict};
 use search_entry::{ASIDE, Learned, Matrix, Search, Source, Trail};
 use search_start::Start;
 use shelf::Shelf;
 use state::Lent;
-use unloading::{unload, unload_clauses};
+use unloading::lent::LentTable;
+use unloading::{unload_rows, unload_with_records};
 
 // Empty shelves, and the scratch space of a search.
 fn empty() -> Search
@@ -103,7 +105,7 @@ fn at_start(lent: Lent<'_>, task: Task<'_>) -> Start
 
 // A start node that does not branch: no line is below it, and that budget is left.
 fn ended(verdict: Verdict, budget: u64) -> Answer
-    ensures { result ≡ record { verdict = verdict; source = Source.Area; start = 0; len = 0; budget = budget; lines = 0 } }
+    ensures { result ≡ record { verdict = verdict; source = Source.Area; start = 0; len = 0; budget = budget; lines = 0; inside = nowhere } }
 {
     Answer {
         verdict: verdict,
@@ -218,27 +220,30 @@ fn below(
     } = task;
     let count = clause_sizes[0] as usize;
     search.statuses = statuses_of(numbers, values, at);
+    let words = words_of(count);
+    start_rows(
+        &matrix.sets,
+        &search.statuses,
+        count,
+        Depth { at, words },
+        &mut search.trail,
+    );
     let start = Position {
         at,
         free,
         budget,
         lines: 0,
-        words: words_of(count),
+        words,
         yes,
     };
-    start_rows(
-        &matrix.sets,
-        &search.statuses,
-        count,
-        start,
-        &mut search.trail,
-    );
     search::start(matrix, search, table, start)
 }
 
 // .. over the derived tables of the clauses: those of the learned constraints are derived here, and written back.
-// stays (no plainer): `2 ≤ task.budget` is what the one test at the head of `run` says; a task is made before it
-// stays (no plainer): `Ready (searching_state lent) task.at` holds of what anyone lends only once it has been checked, so no type of what is lent says it
+// stays (no plainer): `2 ≤ Task.budget` is what the one test in `run` says of a task that is made before it: a type would be a second struct, round the task, for
+// three functions, whose clauses would name what they ask of the task through it
+// stays (proof): `Ready (searching_state Searching) Task.at` would be kept by a struct round `Searching`; with one that keeps facts of the lent tables, here, in `over_clauses`, the loan
+// `&mut *ready.lent.learned_clauses` stops the borrow checker: "a place is written behind a reference that is lent, in whole or in part, or was moved"
 fn over_clauses(
     matrix: &Matrix,
     lent: &mut Searching<'_>,
@@ -272,19 +277,23 @@ fn over_clauses(
     load_store(lent.lent(), task.places, &mut search.learned);
     let found = below(matrix, lent.lent(), task, &mut search, table);
     let count = lent.clause_sizes[0];
-    unload_clauses(
-        &search.learned.clauses,
-        lent.numbers,
-        lent.learned_clauses,
-        lent.learned_clause_sizes,
-        count,
-    );
-    unload(
-        &search.learned.cubes,
-        lent.numbers,
-        lent.learned_cubes,
-        lent.learned_cube_sizes,
-    );
+    let numbers = lent.numbers;
+    let cells = &mut *lent.learned_clauses;
+    let sizes = &mut *lent.learned_clause_sizes;
+    let mut clauses = LentTable {
+        cells,
+        sizes,
+        width: tables::NUMBERS,
+    };
+    unload_with_records(&search.learned.clauses, numbers, &mut clauses, count);
+    let cells = &mut *lent.learned_cubes;
+    let sizes = &mut *lent.learned_cube_sizes;
+    let mut cubes = LentTable {
+        cells,
+        sizes,
+        width: tables::NUMBERS,
+    };
+    unload_rows(&search.learned.cubes, numbers, &mut cubes);
     found
 }
 

@@ -3,6 +3,7 @@
 
 ghost use Rattle.std.specs.Prelude.{◌≤◌};
 
+use answers::asked::Asked;
 use refusal::Refusal;
 use replies::Ruling;
 use rules::in_place;
@@ -101,7 +102,12 @@ fn visits(n: u64) {
 fn query<'a>(x: State, on: &'a [i16], off: &'a [i16]) -> State {
     text(b"query: ");
     let mut next = x;
-    let r = answers::on_state::query(&mut next, on, off, tables::HIGHEST_CEILING);
+    let asked = Asked {
+        on,
+        off,
+        ceiling: tables::HIGHEST_CEILING,
+    };
+    let r = answers::on_state::query(&mut next, asked);
     match r.ruling {
         Ok(Ruling::Swap) => text(b"swap"),
         Ok(Ruling::Keep) => text(b"keep"),

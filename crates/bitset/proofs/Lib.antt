@@ -6,3 +6,4 @@ pub mod Members
 pub mod Outside
 pub mod Uniting
 pub mod Parts
+pub mod Passing

@@ -39,20 +39,20 @@ pub fn any_outside(a: &[u64], b: &[u64]) -> bool
     ensures { result ≡ some_below (outside a.now 0 b.now 0) (length a.now * width) }
 {
     let mut w = 0;
-    for (k, x) in a.iter().enumerate() {
-        w = w | rest(*x, b[k]);
+    for (x, y) in a.iter().zip(b) {
+        w = w | rest(*x, *y);
     }
     w != 0
 }
 
 // The least such number; the first number behind the row where there is none.
-// stays (no plainer): as the least of an empty set below a limit is the limit
+// stays (no plainer): the definition `least_below` is the limit where none is below it, and the caller asks only behind `any_outside`, so that of an Option it would have no case of none
 pub fn first_outside(a: &[u64], b: &[u64]) -> usize
     requires { (length a.now ≤ length b.now) × (length a.now * width < 2 ^ 64) }
     ensures { result ≡ least_below (outside a.now 0 b.now 0) (length a.now * width) }
 {
-    for (k, x) in a.iter().enumerate() {
-        let w = rest(*x, b[k]);
+    for (k, (x, y)) in a.iter().zip(b).enumerate() {
+        let w = rest(*x, *y);
         let found = w != 0;
         if found {
             return k * WIDTH + u64::trailing_zeros(w) as usize;
@@ -75,6 +75,8 @@ pub fn unite(t: &mut [u64], from: usize, to: usize, by: &[u64]) -> United
 {
     let mut common = ALL;
     let mut new = 0;
+    // stays (proof): over `above.iter_mut().zip(&below[from..]).zip(by)`, with the table split at `to`, the goal `returns` stops at the words above: of a loop
+    // over a zip a proof knows what its iterator gave, and not what was written through it
     for (k, more) in by.iter().enumerate() {
         let old = t[from + k];
         let word = old | *more;

@@ -7,6 +7,8 @@ ghost use Rattle.book_writer.specs.Tables.{Standing, most_count};
 use literal::cell_at;
 
 // Clause k is the first cells from k * LITERALS on; the sizes are the number of the clauses, then the length of each.
+// stays (no plainer): `lent_rows::LentRows` asks that the sizes have a cell for each row, which is not asked here, and does not say that no row is longer than
+// `paper.literals`, by which the bytes of the text are counted.
 #[derive(Clone, Copy)]
 pub struct Clauses<'a> {
     pub cells: &'a [i16],

@@ -87,6 +87,8 @@ fn variables_length(variables: Variables<'_>) -> usize
     let count = cell_at(numbers, 0) as usize;
     let mut bytes: usize = 0;
     let mut line = tables::FREE;
+    // stays (no plainer): a step reads a number at a place, a level there, and a kind at that level, each 0 past its table's end: a zip of `numbers` and `levels` would
+    // end with the shorter of them, and still read the kind by `cell_at`
     for i in 0..count {
         let kind = kind_at(levels, kinds, Place(i + 1));
         let n = cell_at(numbers, i + 1);
@@ -107,7 +109,7 @@ fn literal_length(lit: i16) -> usize
     ON + number
 }
 
-// stays (no plainer): `length lits ≤ paper.literals` is what the clause's table says of it where it is read, at one call
+// stays (no plainer): `length [i16] ≤ paper.literals` is what the clause's table says of it where it is read, at one call
 fn literals_length(lits: &[i16]) -> usize
     requires { length lits.now ≤ paper.literals }
     ensures { Counted (items_text lits.now) most_literals result }
@@ -127,6 +129,8 @@ fn rules_length(clauses: Clauses<'_>) -> usize
 {
     let count = clauses.count();
     let mut bytes: usize = 0;
+    // stays (no plainer): `Clauses` has no iterator; one would be an `impl` with a proof of what each step gives, for this loop and that of `put_rules`, and be longer
+    // than both
     for k in 0..count {
         bytes += RULE + literals_length(clauses.clause(k));
     }

@@ -57,6 +57,7 @@ impl From<Result<usize, Refusal>> for Written {
 pub const LONGEST: usize = 23 + tables::NUMBERS * 12 + tables::CLAUSES * (7 + tables::LITERALS * 8);
 
 // "and zeroed"
+// stays (no plainer): what `write_formula` and `write_lent` answer, the two numbers of `Written`
 fn refused(table: &mut [u8], refusal: Refusal) -> Written
     ensures { answered result.refusal result.length table.new
         ≡ told (write_refused (number_of refusal) (zero_table (length table.old))) }
@@ -97,6 +98,7 @@ fn put_formula(table: &mut [u8], variables: Variables<'_>, clauses: Clauses<'_>)
 }
 
 // The formula of the tables, whatever its limits are.
+// stays (no plainer): what `write_lent` answers, the two numbers of `Written`
 pub fn write_formula(variables: Variables<'_>, clauses: Clauses<'_>, table: &mut [u8]) -> Written
     ensures { answered result.refusal result.length table.new
         ≡ told
@@ -120,6 +122,8 @@ pub fn write_formula(variables: Variables<'_>, clauses: Clauses<'_>, table: &mut
 }
 
 // "Write a book as text." The state stays as it is.
+// stays (C): these are the two numbers that the export `bullacetop_write_in_place` answers, and `Writes` is its clause of them; over a `Result` the same promise would be
+// defined twice, with a step from the one to the other for the export
 pub fn write_lent(lent: Lent<'_>, table: &mut [u8]) -> Written
     ensures { Writes (lent_state lent.entry) (length table.old) result.refusal result.length table.new }
 {
@@ -147,6 +151,8 @@ pub fn write_lent(lent: Lent<'_>, table: &mut [u8]) -> Written
 }
 
 // The book of a state by value.
+// stays (no plainer): what `write_lent` answers, whose clause this is; a `Result` made of the two numbers here would need a second definition of that clause
+// stays (no plainer): no other function lends a whole `State` to be read, so that a `State::lent` would be these nine fields at another place, with a clause of its own
 pub fn write_book(x: State, table: &mut [u8]) -> Written
     ensures { Writes x (length table.old) result.refusal result.length table.new }
 {

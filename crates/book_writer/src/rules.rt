@@ -55,6 +55,8 @@ pub fn put_rules(out: &mut Output<'_>, clauses: Clauses<'_>)
         out.new }
 {
     let count = clauses.count();
+    // stays (no plainer): `Clauses` has no iterator; one would be an `impl` with a proof of what each step gives, for this loop and that of `rules_length`, and be
+    // longer than both
     for k in 0..count {
         put_rule(out, clauses.clause(k));
     }

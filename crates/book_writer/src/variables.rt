@@ -13,7 +13,7 @@ use state::prefix::Variables;
 use writer::Output;
 
 // Two codes of one quantifier: each above that of exists is one of forall.
-// stays (no plainer): so many codes are of one quantifier that no derived equality is this one
+// stays (no plainer): each code above that of exists is one of forall, so that two codes may differ and be of one quantifier
 pub fn same_kind(a: u16, b: u16) -> bool
     ensures { result ≡ same_quantifier (quantifier_of a) (quantifier_of b) }
 {
@@ -63,6 +63,8 @@ pub fn put_variables(out: &mut Output<'_>, variables: Variables<'_>)
     } = variables;
     let count = cell_at(numbers, 0) as usize;
     let mut line = tables::FREE;
+    // stays (no plainer): a step reads a number at a place, a level there, and a kind at that level, each 0 past its table's end: a zip of `numbers` and `levels` would
+    // end with the shorter of them, and still read the kind by `cell_at`
     for i in 0..count {
         let kind = kind_at(levels, kinds, Place(i + 1));
         let n = cell_at(numbers, i + 1);

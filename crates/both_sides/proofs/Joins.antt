@@ -17,7 +17,7 @@ use Rattle.theory.proofs.WellFormed.{rising→}
 use Rattle.node.specs.Node.{Fits}
 use Rattle.search_entry.specs.Entry.{table_of, entry_at}
 use Rattle.search_entry.specs.declared.Source.{Source}
-use Rattle.search_entry.specs.declared.Bounds.{Bounds}
+use Rattle.search_entry.specs.declared.bounds.Bounds.{Bounds}
 use Rattle.resolution.specs.Stored.{Stored}
 use Rattle.both_sides.specs.Step.{JoinedSides}
 

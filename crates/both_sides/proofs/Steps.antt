@@ -15,11 +15,11 @@ use Rattle.tables.specs.Records.{Ledger, StoreKept}
 use Rattle.tables.proofs.Records.{ledger_joined}
 use Rattle.node.specs.declared.Verdict.{Verdict}
 use Rattle.node.specs.declared.Verdict.TheVariants.{Yes, No, Mixed}
-use Rattle.node.specs.declared.Answer.{Answer}
+use Rattle.node.specs.declared.answer.Answer.{Answer}
 use Rattle.both_sides.specs.declared.both.Step.TheVariants as step
-use Rattle.search_entry.specs.Entry.{entry_at, Bounded}
-use Rattle.search_entry.specs.declared.Bounds.{Bounds}
-use Rattle.node.specs.Node.{bounds_of, stored_by, entry_of, mixed_of, rebound_of, Reads, Ended, onward_of, resolvent_of, Fits, Joined, Grown}
+use Rattle.search_entry.specs.Entry.{entry_at}
+use Rattle.search_entry.specs.declared.bounds.Bounds.{Bounds}
+use Rattle.node.specs.Node.{bounds_of, stored_by, entry_of, mixed_of, rebound_of, is_of, Reads, Ended, onward_of, resolvent_of, Fits, Joined, Grown}
 use Rattle.node.specs.Step.{alone}
 use Rattle.both_sides.specs.Step.{step_of, joined_of, stored_of, JoinedSides, OfSide}
 
@@ -46,6 +46,10 @@ clauses_cubes e = let z : ◌≡◌ {A = ℕ} 0 1 = cc in omega arith
 abbrev side_of : Polarity → Verdict
 side_of true = Yes
 side_of false = No
+
+polar_of : (c : Polarity) {w : Verdict} → w ≡ side_of c → is_of true w ≡ c
+polar_of true e = ap (is_of true) e
+polar_of false e = ap (is_of true) e
 
 reads : (D : Prefix) (c : Polarity) (cs : List ℕ) (e : Constraint) (o : Outcome Constraint) → o ≡ decided c e → cs ≡ codes D e → Reads D (side_of c) cs o
 reads D true cs e o h k = (e, h, k)
@@ -220,11 +224,37 @@ module _ (D : Prefix) (R : List Clause) (κ : Quantifier) (s : Node) (st : Store
       stored = rw (same_stored true on both at long) (record { shown = record { clauses = shown.shown.clauses; cubes = j.stored }; since = shown.since; records = shown.records });
     }
 
-pub side_same : (on : Answer) → Bounded (bounds_of on) → OfSide on on
-side_same on h = record { counts = record { bounded = h; budget = refl; lines = refl }; verdict = refl }
+  -- ---- what joining says of the two constraints, where both sides have the polarity c: their constraints of that polarity are after in `cells` and `links`
+  module _ (c : Polarity) (on r : Answer) (at : ℕ) (long : length s ≡ at) (cls up : List ℕ) {g : Ledger} {cs cl qs ql : List ℕ} (ruled : g.clauses ≡ length R) (shown : StoreKept D g st cs cl qs ql)
+      (both : Same c on.verdict) (codes_are : cs₁ ≡ entry_of on cls cs qs up) (off_ends : Ended D (suc at) a) (on_ends : Ended D (suc at) o) (fits : Fits D (resolvent_of D (suc at) a o)) (cells links : List ℕ)
+      (join : (e f : Constraint) → cs₀ ≡ codes D e → entry_at (bounds_of on) cls (cond c qs cs) up ≡ codes D f → in_order D 0 e ≡ true → in_order D 0 f ≡ true → last_place D e ≤ suc at → last_place D f ≤ suc at
+      → Fits D (resolvent D (suc at) (is_of true on.verdict) e f)
+      → JoinedSides D (suc at) (is_of true on.verdict) e f (constraints c st) (entry_at (bounds_of r) cls cells up) (entries_of cells links) (newest_of (cond c ql cl)) (newest_of links)) where
+    sides_joined : JoinedSides D (suc at) c both.first both.second (constraints c st) (entry_at (bounds_of r) cls cells up) (entries_of cells links) (newest_of (cond c ql cl)) (newest_of links)
+    sides_joined =
+        let fst = off_ended c on both at long off_ends in
+        let snd = on_ended c on both at long on_ends in
+        subst (λ (v : Bool). JoinedSides D (suc at) v both.first both.second (constraints c st) (entry_at (bounds_of r) cls cells up) (entries_of cells links) (newest_of (cond c ql cl)) (newest_of links))
+        (polar_of c both.side)
+        (join both.first both.second both.off_codes
+        (sym (ap (λ (x : List ℕ). entry_at (bounds_of on) cls x up) (stored_by_lem c both.side cs qs)) ∙ sym codes_are ∙ both.on_codes)
+        fst.0 snd.0 fst.1 snd.1
+        (subst (λ (v : Bool). Fits D (resolvent D (suc at) v both.first both.second)) (sym (polar_of c both.side)) (same_short c on both at long fits)))
 
-pub side_at_lem : (on : Answer) (b : Bounds) → Bounded b → OfSide on (rebound_of on b)
-side_at_lem on b h = record { counts = record { bounded = h; budget = refl; lines = refl }; verdict = refl }
+    pub onward_joined : r.verdict ≡ on.verdict → Joined D g result r cls up (cond c cs cells) (cond c cl links) (cond c cells qs) (cond c links ql)
+    onward_joined verdict = by c both sides_joined
+      where
+        by : (v : Polarity) (same : Same v on.verdict)
+            → JoinedSides D (suc at) v same.first same.second (constraints v st) (entry_at (bounds_of r) cls cells up) (entries_of cells links) (newest_of (cond v ql cl)) (newest_of links)
+            → Joined D g result r cls up (cond v cs cells) (cond v cl links) (cond v cells qs) (cond v links ql)
+        by true same j = joined_cubes on r at long cls up ruled shown verdict same cells links j
+        by false same j = joined_clauses on r at long cls up ruled shown verdict same cells links j
+
+pub side_same : (on : Answer) → OfSide on on
+side_same on = record { counts = record { budget = refl; lines = refl }; verdict = refl }
+
+pub side_at_lem : (on : Answer) (b : Bounds) → OfSide on (rebound_of on b)
+side_at_lem on b = record { counts = record { budget = refl; lines = refl }; verdict = refl }
 
 -- no row more
 pub grown_none : (cl ql : List ℕ) → Grown cl ql cl ql

@@ -40,6 +40,7 @@ pub fn mixed(on: Answer) -> Answer
         source: Source::Area,
         start: 0,
         len: 0,
-        ..on
+        budget: on.budget,
+        lines: on.lines,
     }
 }

@@ -1,11 +1,11 @@
 // "Joining unites the two without v, reduces, stores the result and sends it up."
-ghost use Rattle.std.specs.Prelude.{◌≡◌, true, List, map, suc, ◌≤◌, ◌<◌, length};
-ghost use Rattle.qbf.specs.Formula.{paper, Prefix};
+ghost use Rattle.std.specs.Prelude.{◌≡◌, true, List, map, suc, ◌≤◌, ◌<◌};
+ghost use Rattle.qbf.specs.Formula.{Prefix};
 ghost use Rattle.qbf.specs.Learning.{Constraint, resolvent, last_place};
 ghost use Rattle.qbf.specs.Calls.{in_order};
 ghost use Rattle.tables.specs.Codes.{codes, Quantified};
 ghost use Rattle.shelf.specs.Standing.{Room, rows, newest};
-ghost use Rattle.search_entry.specs.Entry.{entry_at, Bounded};
+ghost use Rattle.search_entry.specs.Entry.{entry_at};
 ghost use Rattle.node.specs.Node.{bounds_of, rebound_of, is_of, Fits};
 ghost use Rattle.both_sides.specs.Step.{JoinedSides, OfSide};
 
@@ -17,19 +17,21 @@ use search_entry::{Bounds, Matrix, entry};
 use shelf::Shelf;
 
 // The answer with another constraint.
-// stays (speed): a struct of the three inside an answer is copied whole at each node, which took 4 to 10 % of a visit (docs/DECISIONS.md)
+// stays (speed): an answer is built field by field, which took 4 to 10 % off a visit (docs/DECISIONS.md); a struct of the three inside it would be copied whole
 fn with_bounds(on: Answer, b: Bounds) -> Answer
     ensures { result ≡ rebound_of on b }
 {
     Answer {
+        verdict: on.verdict,
         source: b.source,
         start: b.start,
         len: b.len,
-        ..on
+        budget: on.budget,
+        lines: on.lines,
     }
 }
 
-// stays (no plainer): `Bounded (bounds_of on` is asked of an answer as it comes up; a fact of the type would be asked of each visit that makes one
+// stays (no plainer): `Room Shelf` is used up, a number by each row that is stored: a shelf that kept it could not be written to
 // "the on side's entry goes up if it lacks v, else the two are joined"; the resolvent goes up as its row. The shelf is that of the on side's polarity.
 pub fn join<'a>(
     off: Aside<'a>,
@@ -38,9 +40,7 @@ pub fn join<'a>(
     area: &'a [u16; tables::AREA],
     learned: &mut Shelf,
 ) -> Answer
-    requires { Bounded (bounds_of on)
-        × (length off.codes.now ≤ paper.numbers)
-        × Room learned.old }
+    requires { Room learned.old }
     ensures { OfSide on result
         × (newest learned.new ≤ suc (newest learned.old))
         × ((D : Prefix) (e f : Constraint) (es : List Constraint)

@@ -12,6 +12,7 @@ ghost use Rattle.book_writer.specs.Writes.{Writes};
 ghost use Rattle.reply_numbers.specs.Answers.{reply_said, closest_said, unless_refused};
 ghost use Rattle.closest_call.specs.Nearest.{padded};
 
+use answers::asked::Asked;
 use answers::in_place::card_of;
 use answers::lent::Searching;
 use book_writer::Written;
@@ -19,6 +20,7 @@ use reply_numbers::{Closest, Reply, of_change};
 use rules::lent::{Adding, Emptying, Withdrawing};
 use state::Lent;
 
+// stays (C): one function for each export; this and `bullacetop_one_in_place` differ in the call of their two lines
 pub fn bullacetop_rule_in_place(tables: &mut Adding<'_>, lits: &[i16]) -> Reply
     ensures held { AddingHeld tables.old tables.new }
     ensures serves { Serves (adding_state tables.old) (rule lits.now) (reply_said result []) (adding_left tables.old tables.new) }
@@ -27,6 +29,7 @@ pub fn bullacetop_rule_in_place(tables: &mut Adding<'_>, lits: &[i16]) -> Reply
     of_change(added)
 }
 
+// stays (C): one function for each export, as `bullacetop_rule_in_place`
 pub fn bullacetop_one_in_place(tables: &mut Adding<'_>, lits: &[i16]) -> Reply
     ensures held { AddingHeld tables.old tables.new }
     ensures serves { Serves (adding_state tables.old) (one lits.now) (reply_said result []) (adding_left tables.old tables.new) }
@@ -51,23 +54,19 @@ pub fn bullacetop_forget_in_place(tables: &mut Emptying<'_>) -> Reply
     of_change(emptied)
 }
 
-pub fn bullacetop_query_in_place(
-    lent: &mut Searching<'_>,
-    on: &[i16],
-    off: &[i16],
-    ceiling: u32,
-) -> Reply
+pub fn bullacetop_query_in_place(lent: &mut Searching<'_>, asked: Asked<'_>) -> Reply
     ensures held { SearchingHeld lent.old lent.new }
     ensures serves { Serves
         (searching_state lent.old)
-        (query ceiling on.now off.now)
+        (query asked.entry.ceiling asked.entry.on.now asked.entry.off.now)
         (reply_said result [])
         (searching_state lent.new) }
 {
-    let asked = answers::in_place::query(lent, on, off, ceiling);
-    Reply::from(asked)
+    let ruled = answers::in_place::query(lent, asked);
+    Reply::from(ruled)
 }
 
+// stays (C): one function for each export; this and `bullacetop_keep_card_in_place` differ in a constant
 pub fn bullacetop_card_in_place(lent: &mut Searching<'_>, table: &mut [u8], ceiling: u32) -> Reply
     ensures held { SearchingHeld lent.old lent.new }
     ensures serves { Serves
@@ -80,6 +79,7 @@ pub fn bullacetop_card_in_place(lent: &mut Searching<'_>, table: &mut [u8], ceil
     Reply::from(shown)
 }
 
+// stays (C): one function for each export, as `bullacetop_card_in_place`
 pub fn bullacetop_keep_card_in_place(
     lent: &mut Searching<'_>,
     table: &mut [u8],
@@ -97,19 +97,16 @@ pub fn bullacetop_keep_card_in_place(
 }
 
 // The reading on the card that differs from a given one in the fewest flags. Its bytes stand first in the lent reading, and zeros behind them.
-// stays (C): the export of this name has these parameters behind the tables of the state, as the header declares
 pub fn bullacetop_closest_in_place(
     lent: &mut Searching<'_>,
-    on: &[i16],
-    off: &[i16],
+    asked: Asked<'_>,
     table: &mut [u8],
     reading: &mut [u8; tables::MOST_FREE],
-    ceiling: u32,
 ) -> Closest
     ensures held { SearchingHeld lent.old lent.new }
     ensures serves { Serves
         (searching_state lent.old)
-        (closest ceiling (length table.old) on.now off.now)
+        (closest asked.entry.ceiling (length table.old) asked.entry.on.now asked.entry.off.now)
         (closest_said
         result
         table.new
@@ -121,7 +118,7 @@ pub fn bullacetop_closest_in_place(
         (fault_of result.refusal)
         (take (free_variables (prefix_in (searching_state lent.old))) reading.new)) }
 {
-    let found = closest_call::closest(lent, on, off, table, reading, ceiling);
+    let found = closest_call::closest(lent, asked, table, reading);
     let reply = Closest::from(found);
     reply
 }

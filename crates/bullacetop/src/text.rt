@@ -19,7 +19,6 @@ use edition_opening::{Editions, open_editions};
 use opening::Opened;
 use reader::call::TABLE;
 use session_line::Spoken;
-use state::State;
 
 pub fn bullacetop_room() -> usize
     ensures { result ≡ answer_bytes }
@@ -49,6 +48,7 @@ pub fn bullacetop_open_qdimacs(text: &[u8]) -> Opened
 }
 
 // A text of edition 1 in edition 2: its rule forms are tagged 1, 2, 3 and so on.
+// stays (C): one function for each export; this and `bullacetop_untag` are one call each
 pub fn bullacetop_tag(text: &[u8], table: &mut [u8]) -> Converted
     ensures { ConvertedAs (length table.old) (to_tagged paper (length table.old) text.now) result table.new }
 {
@@ -56,6 +56,7 @@ pub fn bullacetop_tag(text: &[u8], table: &mut [u8]) -> Converted
 }
 
 // A text of edition 2 in edition 1, where its tags are those.
+// stays (C): one function for each export, as `bullacetop_tag`
 pub fn bullacetop_untag(text: &[u8], table: &mut [u8]) -> Converted
     ensures { ConvertedAs (length table.old) (to_untagged paper (length table.old) text.now) result table.new }
 {
@@ -70,17 +71,14 @@ pub fn bullacetop_no_card() -> Shown
 }
 
 // One line of a session, without its byte 10, and its number in the input. The lines of the card answered last stand in the lent table of cards.
-// stays (C): the export of this name has these parameters, which the header declares
 pub fn bullacetop_line(
-    x: State,
+    held: Held,
     line: &[u8],
     number: u64,
-    shown: Shown,
     cards: &mut [u8; TABLE],
     out: &mut [u8],
 ) -> Spoken
-    ensures { ServesLine x line.now number shown cards.old out.old result cards.new out.new }
+    ensures { ServesLine held.state line.now number held.shown cards.old out.old result cards.new out.new }
 {
-    let before = Held { state: x, shown };
-    session_line::serve_line(before, line, number, cards, out)
+    session_line::serve_line(held, line, number, cards, out)
 }

@@ -9,6 +9,7 @@ ghost use Rattle.book_writer.specs.Writes.{Writes};
 ghost use Rattle.reply_numbers.specs.Answers.{reply_said, closest_said, unless_refused};
 ghost use Rattle.closest_call.specs.Nearest.{padded};
 
+use answers::asked::Asked;
 use answers::lent::Searching;
 use book_writer::Written;
 use reply_numbers::{Closest, Reply};
@@ -272,7 +273,8 @@ pub extern "C" fn bullacetop_query_in_place<'a>(
         learned_cubes,
         learned_cube_sizes,
     };
-    bullacetop::in_place::bullacetop_query_in_place(&mut lent, on, off, ceiling)
+    let asked = Asked { on, off, ceiling };
+    bullacetop::in_place::bullacetop_query_in_place(&mut lent, asked)
 }
 
 // stays (C): the tables of a state, one after another, are what the header declares
@@ -443,7 +445,8 @@ pub extern "C" fn bullacetop_closest_in_place<'a>(
         learned_cubes,
         learned_cube_sizes,
     };
-    bullacetop::in_place::bullacetop_closest_in_place(&mut lent, on, off, table, reading, ceiling)
+    let asked = Asked { on, off, ceiling };
+    bullacetop::in_place::bullacetop_closest_in_place(&mut lent, asked, table, reading)
 }
 
 // The book's text. Nothing of the state is written.

@@ -12,7 +12,7 @@ ghost use Rattle.answer_text.specs.Shown.{no_card};
 ghost use Rattle.serve.specs.Books.{PrintsCard};
 ghost use Rattle.session_line.specs.Line.{ServesLine};
 
-use answer_text::shown::Shown;
+use answer_text::shown::{Held, Shown};
 use book_writer::Written;
 use edition_conversion::Converted;
 use opening::Opened;
@@ -88,5 +88,6 @@ pub extern "C" fn bullacetop_line(
 ) -> Spoken
     ensures { ServesLine x line.now number shown cards.old out.old result cards.new out.new }
 {
-    bullacetop::text::bullacetop_line(x, line, number, shown, cards, out)
+    let held = Held { state: x, shown };
+    bullacetop::text::bullacetop_line(held, line, number, cards, out)
 }

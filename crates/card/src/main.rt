@@ -9,10 +9,12 @@ fn print_card(
     answer: &mut [u8; answer_text::ANSWER],
 ) -> io::Result<()> {
     let written = serve::book::print_card(text, answer);
-    output::print(rt, answer, written.length)
+    rt.write_all(&answer[..written.length])
 }
 
 fn main(rt: HostRuntime) -> io::Result<()> {
+    let mut room = [0u8; program::ROOM];
     let mut answer = [0u8; answer_text::ANSWER];
-    program::with_text(&rt, |text| print_card(&rt, text, &mut answer))
+    let text = program::read(&rt, &mut room);
+    print_card(&rt, text, &mut answer)
 }

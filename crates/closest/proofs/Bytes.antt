@@ -7,7 +7,8 @@ use mathlib.Core.Logic.{inl, inr}
 use mathlib.Core.Bool.{Bool, true, false, cond}
 use mathlib.Core.List.{List, [], ◌∷◌, ◌++◌, map, append_assoc, append-nil}
 use lib.ListN.{length, get_or, set, take, drop, replicate, length-map, drop_of_length-le}
-use lib.Seq.{drop-cons, take-suc, take_at, drop_at, set_at, take_all, length-take-le}
+use lib.Seq.{drop-cons, take_at, drop_at, set_at, take_all, length-take-le}
+use Rattle.std.proofs.lemmas.List.{get_or-append_right, map_more}
 use lib.Dec.{eqb}
 use borrow.Author.Tests.{eq-eqb, ne_eqb}
 use Rattle.qbf.specs.Formula.{Node}
@@ -88,24 +89,28 @@ module _ (row given : List ℕ) where
   distance_end i n h p = let at : distance (line_in (drop i row)) (values_in (drop i given)) ≡ 0 = cc (line_end row i h) in omega arith
 
 -- ---- the flags that a line sets
-module _ (row : List ℕ) where
-  abbrev pub SetUpTo : ℕ → Type 0
-  SetUpTo i = i + length (line_in (drop i row)) ≡ length (line_in row)
+pub none_set : length (line_in []) ≡ 0
+unfolding line_in
+none_set = refl
 
-  pub set_more : (i : ℕ) → i < length row → (get_or row i 0 ≡ 0 → ⊥) → SetUpTo i → SetUpTo (i + 1)
-  set_more i h e p = omega (arith, ap length (line_set row i h e))
+pub one_open : (b : ℕ) (row : List ℕ) → b ≡ 0 → length (line_in (b ∷ row)) ≡ 0
+unfolding line_in
+one_open b row e = ap (λ (x : Bool). length (cond x [] (value_in b ∷ line_in row))) (eq-eqb b 0 e)
 
-  pub set_stop : (i : ℕ) → i < length row → get_or row i 0 ≡ 0 → SetUpTo i → i ≡ length (line_in row)
-  set_stop i h e p = omega (arith, ap length (line_open row i h e))
+pub one_set : (b : ℕ) (row : List ℕ) → (b ≡ 0 → ⊥) → length (line_in (b ∷ row)) ≡ length (line_in row) + 1
+unfolding line_in
+one_set b row e = ap (λ (x : Bool). length (cond x [] (value_in b ∷ line_in row))) (ne_eqb b 0 e) ∙ sym (add-one (length (line_in row)))
 
-  pub set_end : (i : ℕ) → length row ≤ i → SetUpTo i → i ≡ length (line_in row)
-  set_end i h p = omega (arith, ap length (line_end row i h))
+pub line_within : (row : List ℕ) → length (line_in row) ≤ length row
+unfolding line_in
+line_within [] = omega arith
+line_within (b ∷ row) = by (eqb b 0) (line_within row)
+  where
+    by : (x : Bool) → length (line_in row) ≤ length row → length (cond x [] (value_in b ∷ line_in row)) ≤ length (b ∷ row)
+    by true h = omega arith
+    by false h = omega (arith, h)
 
 -- ---- a reading written
-pub values_length : (bs : List ℕ) → length (values_in bs) ≡ length bs
-unfolding values_in
-values_length bs = length-map bs value_in
-
 map_append : {A B : Type 0} (g : A → B) (xs ys : List A) → map g (xs ++ ys) ≡ map g xs ++ map g ys
 map_append g [] ys = refl
 map_append {B = B} g (x ∷ xs) ys = ap {B = List B} (λ l. g x ∷ l) (map_append g xs ys)
@@ -115,35 +120,47 @@ map_drop g zero xs = refl
 map_drop g (suc k) [] = refl
 map_drop g (suc k) (x ∷ xs) = map_drop g k xs
 
-module _ (from : List ℕ) where
-  abbrev pub shown_up_to : ℕ → List ℕ
-  shown_up_to i = map byte_of (values_in (take i from))
+-- a list changed in place by g, in its first i elements
+module _ (g : ℕ → ℕ) (xs : List ℕ) where
+  abbrev pub Changed : ℕ → List ℕ → Type 0
+  Changed i ys = ys ≡ map g (take i xs) ++ drop i xs
 
-  shown_length : (i : ℕ) → i ≤ length from → length (shown_up_to i) ≡ i
-  shown_length i h = length-map (values_in (take i from)) byte_of ∙ values_length (take i from) ∙ length-take-le i from h
+  pub changed_none : Changed 0 xs
+  changed_none = refl
 
-  shown_next : (i v : ℕ) → i < length from → v ≡ byte_of (value_in (get_or from i 0)) → shown_up_to i ++ (v ∷ []) ≡ shown_up_to (i + 1)
-  unfolding values_in
-  shown_next i v h e =
-      ap (λ (x : ℕ). shown_up_to i ++ (x ∷ [])) e
-      ∙ sym
-      (ap (λ (n : ℕ). map byte_of (map value_in (take n from))) (add-one i)
-      ∙ ap (λ (l : List ℕ). map byte_of (map value_in l)) (take-suc from i 0 h)
-      ∙ ap (map byte_of) (map_append value_in (take i from) (get_or from i 0 ∷ []))
-      ∙ map_append byte_of (map value_in (take i from)) (value_in (get_or from i 0) ∷ []))
+  changed_length : (i : ℕ) → i ≤ length xs → length (map g (take i xs)) ≡ i
+  changed_length i h = length-map (take i xs) g ∙ length-take-le i xs h
 
-  pub shown_none : (to : List ℕ) → to ≡ shown_up_to 0 ++ drop 0 to
-  unfolding values_in
-  shown_none to = refl
+  left_is : (i : ℕ) (ys : List ℕ) → i < length xs → Changed i ys → get_or ys i 0 ≡ get_or xs i 0
+  left_is i ys h e =
+      ap (λ (l : List ℕ). get_or l i 0) e
+      ∙ get_or-append_right (map g (take i xs)) (drop i xs) i i 0 (changed_length i (omega arith)) (omega arith)
+      ∙ ap (λ (l : List ℕ). get_or l (i - i) 0) (drop-cons xs i 0 h)
+      ∙ (let z : i - i ≡ 0 = omega arith in rw z refl)
 
-  pub shown_more : (to now : List ℕ) (i v : ℕ) → i < length from → i < length to → v ≡ byte_of (value_in (get_or from i 0)) → now ≡ shown_up_to i ++ drop i to → set now i v ≡ shown_up_to (i + 1) ++ drop (i + 1) to
-  shown_more to now i v h k w e =
-      ap (λ (l : List ℕ). set l i v) e
-      ∙ ap (λ (l : List ℕ). set (shown_up_to i ++ l) i v) (drop-cons to i 0 k)
-      ∙ set_at (shown_up_to i) (get_or to i 0) (drop (suc i) to) v i (shown_length i (omega arith))
-      ∙ sym (append_assoc (shown_up_to i) (v ∷ []) (drop (suc i) to))
-      ∙ ap (λ (l : List ℕ). l ++ drop (suc i) to) (shown_next i v h w)
-      ∙ ap (λ (n : ℕ). shown_up_to (i + 1) ++ drop n to) (sym (add-one i))
+  pub changed_more : (i v : ℕ) (ys : List ℕ) → i < length xs → Changed i ys → v ≡ g (get_or ys i 0) → Changed (i + 1) (set ys i v)
+  changed_more i v ys h e w =
+      ap (λ (l : List ℕ). set l i v) (e ∙ ap (λ (l : List ℕ). map g (take i xs) ++ l) (drop-cons xs i 0 h))
+      ∙ set_at (map g (take i xs)) (get_or xs i 0) (drop (suc i) xs) v i (changed_length i (omega arith))
+      ∙ sym (append_assoc (map g (take i xs)) (v ∷ []) (drop (suc i) xs))
+      ∙ ap (λ (x : ℕ). (map g (take i xs) ++ (x ∷ [])) ++ drop (suc i) xs) (w ∙ ap g (left_is i ys h e))
+      ∙ ap (λ (l : List ℕ). l ++ drop (suc i) xs) (sym (map_more g xs i 0 h))
+      ∙ ap (λ (n : ℕ). map g (take (i + 1) xs) ++ drop n xs) (sym (add-one i))
+
+  pub changed_all : (i : ℕ) (ys : List ℕ) → length xs ≤ i → Changed i ys → ys ≡ map g xs
+  changed_all i ys h e =
+      e
+      ∙ ap (λ (l : List ℕ). map g (take i xs) ++ l) (drop_of_length-le xs h)
+      ∙ append-nil (map g (take i xs))
+      ∙ ap (map g) (take_all i xs h)
+
+abbrev pub shown : ℕ → ℕ
+shown b = byte_of (value_in b)
+
+pub shown_all : (xs : List ℕ) → map shown xs ≡ map byte_of (values_in xs)
+unfolding values_in
+shown_all [] = refl
+shown_all (b ∷ xs) = ap {B = List ℕ} (λ l. byte_of (value_in b) ∷ l) (shown_all xs)
 
 -- a line's values are those of its first bytes
 line_values : (row : List ℕ) → line_in row ≡ values_in (take (length (line_in row)) row)
@@ -156,22 +173,13 @@ line_values (b ∷ row) = by (eqb b 0) (line_values row)
     by false e = ap {B = Node} (λ l. value_in b ∷ l) e
 
 -- the given values, and over them the line's
-pub nearest_written : (row given old mid new : List ℕ) (f k : ℕ) → length given ≡ f → length old ≡ f → k ≡ length (line_in row)
-    → mid ≡ shown_up_to given f ++ drop f old → new ≡ shown_up_to row k ++ drop k mid → new ≡ map byte_of (nearest (line_in row) (values_in given))
-nearest_written row given old mid new f k n o w p q =
-    q
-    ∙ ap (λ (j : ℕ). shown_up_to row j ++ drop j mid) w
-    ∙ ap (λ (s : Node). map byte_of s ++ drop (length (line_in row)) mid) (sym (line_values row))
-    ∙ ap (λ (l : List ℕ). map byte_of (line_in row) ++ drop (length (line_in row)) l) whole
-    ∙ ap (λ (l : List ℕ). map byte_of (line_in row) ++ l) (sym (map_drop byte_of (length (line_in row)) (values_in given)))
-    ∙ sym (map_append byte_of (line_in row) (drop (length (line_in row)) (values_in given)))
-  where
-    whole : mid ≡ map byte_of (values_in given)
-    whole =
-        p
-        ∙ ap (λ (l : List ℕ). shown_up_to given f ++ l) (drop_of_length-le old {i = f} (omega arith))
-        ∙ append-nil (shown_up_to given f)
-        ∙ ap (λ (l : List ℕ). map byte_of (values_in l)) (take_all f given (omega arith))
+pub nearest_written : (row given : List ℕ) (k : ℕ) → k ≡ length (line_in row) → values_in (take k row ++ drop k given) ≡ nearest (line_in row) (values_in given)
+unfolding values_in
+nearest_written row given k w =
+    map_append value_in (take k row) (drop k given)
+    ∙ ap (λ (n : ℕ). map value_in (take n row) ++ map value_in (drop n given)) w
+    ∙ ap (λ (s : Node). s ++ map value_in (drop (length (line_in row)) given)) (sym (line_values row))
+    ∙ ap (λ (s : Node). line_in row ++ s) (map_drop value_in (length (line_in row)) given)
 
 -- ---- a flag's two values by their bytes
 pub differs_byte : (a b : Bool) → byte_of a ≡ byte_of b → 0 ≡ differs a b

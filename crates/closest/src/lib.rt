@@ -1,7 +1,7 @@
 // The closest reading, from the bytes of a card's table: lines of f bytes, 0 open, 1 off, 2 on, their set flags first.
 #![tactic(auto)]
 
-ghost use Rattle.std.specs.Prelude.{◌≡◌, cond, map, ◌++◌, ◌*◌, ◌≤◌, ◌<◌, length, take, drop, leb};
+ghost use Rattle.std.specs.Prelude.{◌≡◌, cond, map, ◌*◌, ◌≤◌, ◌<◌, length, leb};
 ghost use Rattle.qbf.specs.Card.{byte_of};
 ghost use Rattle.qbf.specs.Closest.{differs, distance, closest_in as closestOf};
 ghost use Rattle.closest.specs.Table.{value_in, values_in, line_in, lines_in, answer_of, reading_after, row_at, Best as BestLine};
@@ -46,21 +46,15 @@ fn line_distance(row: &[u8], given: &[u8]) -> usize
 fn set_flags(row: &[u8]) -> usize
     ensures { (result ≡ length (line_in row.now)) × (result ≤ length row.now) }
 {
-    for (i, b) in row.iter().enumerate() {
-        if *b == 0 {
-            return i;
-        }
-    }
-    row.len()
+    row.iter().position(|b| *b == 0).unwrap_or(row.len())
 }
 
-// Values shown in the first cells of a table.
-fn show(from: &[u8], to: &mut [u8])
-    requires { length from.now ≤ length to.old }
-    ensures { to.new ≡ map byte_of (values_in from.now) ++ drop (length from.now) to.old }
+// Each value as it is shown.
+fn show(values: &mut [u8])
+    ensures { values.new ≡ map byte_of (values_in values.old) }
 {
-    for (i, b) in from.iter().enumerate() {
-        to[i] = shown(*b);
+    for value in values.iter_mut() {
+        *value = shown(*value);
     }
 }
 
@@ -125,8 +119,9 @@ impl<'a> Sought<'a> {
         let best = self.best();
         let row = self.row(best.line);
         let set = set_flags(row);
-        show(self.given, reading);
-        show(&row[..set], reading);
+        reading.copy_from_slice(self.given);
+        reading[..set].copy_from_slice(&row[..set]);
+        show(reading);
         Some(best.number)
     }
 }

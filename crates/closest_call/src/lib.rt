@@ -15,14 +15,13 @@ ghost use Rattle.closest.specs.Table.{values_in, lines_in, reading_after};
 ghost use Rattle.answers.specs.Lent.{searching_state, SearchingHeld};
 ghost use Rattle.closest_call.specs.Nearest.{nearest_said, returned, found_said, padded};
 
+use answers::asked::Asked;
 use answers::in_place::card_of;
 use answers::lent::Searching;
 use closest::Sought;
 use reading::Flags;
 use reading::placed::by_place;
 use refusal::Refusal;
-use state::kinds::free_count;
-use state::prefix::Variables;
 
 // The answer: in how many variables the reading differs from the given one.
 #[derive(Clone, Copy)]
@@ -62,7 +61,7 @@ fn clear_reading(reading: &mut [u8; tables::MOST_FREE])
 }
 
 // From the lines of the card, which the table holds. The reading is written over the first of the lent bytes.
-// stays (no plainer): the table is cleared where the card has no line, so that it is lent with its lines for the search alone
+// stays (no plainer): `Sought` has the table with its lines, to be read; here the table is also cleared, where the card has no line
 fn on_lines<'a>(
     table: &mut [u8],
     lines: usize,
@@ -103,19 +102,16 @@ fn on_lines<'a>(
 // "Given a full reading, return a reading on the swap card that differs from it in the fewest flags, and that number." "It works from a card made
 // under a ceiling, whose count .. it also returns and whose lines the table then holds." The reading's bytes are the first of the lent ones, off 1 or
 // on 2 for each free variable in place order, and all others are zero.
-// stays (no plainer): six tables and numbers of an open call, each lent or chosen by the caller for itself
 pub fn closest(
     lent: &mut Searching<'_>,
-    on: &[i16],
-    off: &[i16],
+    asked: Asked<'_>,
     table: &mut [u8],
     reading: &mut [u8; tables::MOST_FREE],
-    ceiling: u32,
 ) -> Nearest
     ensures held { SearchingHeld lent.old lent.new }
     ensures serves { Serves
         (searching_state lent.old)
-        (closest ceiling (length table.old) on.now off.now)
+        (closest asked.entry.ceiling (length table.old) asked.entry.on.now asked.entry.off.now)
         (nearest_said
         result.told
         result.lines
@@ -135,20 +131,14 @@ pub fn closest(
         return Nearest::refused(Refusal::Malformed, 0);
     };
     let numbers = lent.numbers;
-    let levels = lent.levels;
-    let kinds = lent.kinds;
-    let free = free_count(Variables {
-        numbers,
-        levels,
-        kinds,
-    });
+    let free = lent.free_count();
     let mut values = [tables::OPEN; tables::BY_NUMBER];
     let flags = Flags {
         numbers,
         places: &prefix.places,
         free,
     };
-    let Ok(full) = reading::read(flags, &mut values, on, off) else {
+    let Ok(full) = reading::read(flags, &mut values, asked.on, asked.off) else {
         cover::clear(table);
         return Nearest::refused(Refusal::NotFree, 0);
     };
@@ -156,7 +146,7 @@ pub fn closest(
         cover::clear(table);
         return Nearest::refused(Refusal::NotFree, 0);
     }
-    let listed = card_of(lent, table, true, ceiling);
+    let listed = card_of(lent, table, true, asked.ceiling);
     let mut given = [tables::OPEN; tables::BY_NUMBER];
     by_place(&mut given, &values, numbers, free);
     match listed.lines {

@@ -1,22 +1,23 @@
 -- Cells that hold the codes of a list of literals: their last code, the first code that has a status, their count and their elements.
-use Prim.Native.Nat.{ℕ, zero, suc, ◌+◌, ◌-◌, ◌≤◌, ◌<◌}
+use Prim.Native.Nat.{ℕ, zero, suc, ◌-◌, ◌≤◌, ◌<◌}
 use native.Mathlib.Omega.{arith}
 use native.Mathlib.Numerals.{unary_clauses}
 use mathlib.Core.Path.{◌≡◌, refl, sym, ap, ◌∙◌}
-use mathlib.Core.Logic.{◌⊎◌, inl, inr}
 use mathlib.Core.Bool.{false}
 use mathlib.Core.List.{List, [], ◌∷◌, ◌++◌}
 use lib.ListN.{length, get_or, take, length-map}
 use lib.Seq.{length-take-le, take-length, take-take, get_or-take}
 use lib.Dec.{eqb}
-use borrow.Author.Tests.{eq-eqb, ne_eqb}
+use borrow.Author.Tests.{eq-eqb}
 use Rattle.qbf.specs.Formula.{Prefix, Literal}
 use Rattle.qbf.specs.Learning.{Constraint}
-use Rattle.theory.proofs.Basics.{le_or_lt}
 use Rattle.tables.specs.Views.{index_of}
 use Rattle.tables.proofs.Lists.{index_at, index_none}
 use Rattle.tables.specs.Codes.{code_of, codes, last_from, last_code}
 use Rattle.std.specs.Prelude.{Some, None}
+use Rattle.std.specs.Prelude.{Option as Maybe}
+use Rattle.std.specs.Option.{MatchOption}
+use Rattle.std.specs.List.{AllWithin, HoldsAt}
 use Rattle.coding.specs.First.{FirstWith}
 use Rattle.coding.proofs.Ends.{take_last, take_image, get_d_image}
 
@@ -45,16 +46,6 @@ pub record Without (t : List ℕ) (w : ℕ) (cs : List ℕ) (i : ℕ) : Type 0 w
   pub none : (j : ℕ) → j < i → eqb (get_or t (get_or cs j 0) 0) w ≡ false
 
 module _ {t : List ℕ} {w : ℕ} {cs : List ℕ} {i : ℕ} (before : Without t w cs i) where
-  -- nor has the next
-  pub without_more : i < length cs → (get_or t (get_or cs i 0) 0 ≡ w → ⊥) → Without t w cs (i + 1)
-  without_more low h = record { within = omega arith; none = λ j m. by j m (le_or_lt i j) }
-    where
-      by : (j : ℕ) → j < i + 1 → (i ≤ j) ⊎ (j < i) → eqb (get_or t (get_or cs j 0) 0) w ≡ false
-      by j m (inl q) =
-          let e : j ≡ i = omega arith in
-          ap (λ (k : ℕ). eqb (get_or t (get_or cs k 0) 0) w) e ∙ ne_eqb (get_or t (get_or cs i 0) 0) w h
-      by j m (inr q) = before.none j q
-
   -- the next has it
   pub first_here : i < length cs → get_or t (get_or cs i 0) 0 ≡ w → {r : ℕ} → r ≡ get_or cs i 0 → FirstWith (λ (c : ℕ). eqb (get_or t c 0) w) cs (Some r)
   first_here low h {r} e =
@@ -80,3 +71,11 @@ module _ (D : Prefix) (e : Constraint) (cs : List ℕ) (n : ℕ) (within : n ≤
   pub coded_cell : (i : ℕ) (d : Literal) → i < n → get_or cs i 0 ≡ code_of D (get_or e i d)
   coded_cell i d h =
       sym (get_or-take n cs i 0 h) ∙ ap (λ (l : List ℕ). get_or l i 0) coded ∙ get_d_image (code_of D) e i d 0 (omega (arith, coded_length))
+
+-- what the chain `find` gives
+pub first_found : (t : List ℕ) (w : ℕ) (cs : List ℕ) (r : Maybe ℕ)
+    → MatchOption r (AllWithin (λ c. eqb (get_or t c 0) w ≡ false) cs 0 (length cs))
+    (λ x. (get_or t x 0 ≡ w) × (i : ℕ) × (i < length cs) × HoldsAt (λ y. y ≡ x) cs i × AllWithin (λ c. eqb (get_or t c 0) w ≡ false) cs 0 i)
+    → FirstWith (λ (c : ℕ). eqb (get_or t c 0) w) cs r
+first_found t w cs None h = first_none (record { within = omega arith; none = λ j m. h j 0 (omega arith) m }) (omega arith)
+first_found t w cs (Some x) (is, i, l, here, h) = first_here (record { within = omega (arith, l); none = λ j m. h j 0 (omega arith) m }) l (ap (λ (c : ℕ). get_or t c 0) (here 0) ∙ is) (sym (here 0))

@@ -16,7 +16,7 @@ pub fn place_of(code: u16) -> usize
 }
 
 // The code of the opposite literal.
-// stays (no plainer): `code < code_count` is of one cell: a type for it would be taken off at each table that is read by it and put on at each cell of a row.
+// stays (no plainer): `u16 < code_count` is of a number that is read from a cell and is an index of another: a type of it would be made where it is read, and opened at each index
 pub fn opposite(code: u16) -> u16
     requires { code < code_count }
     ensures low { result < code_count }
@@ -30,7 +30,7 @@ pub fn opposite(code: u16) -> u16
 }
 
 // A cell of a table by code; 0 where the code is of no place that a variable can have.
-// stays (no plainer): 0 is open or free there, as a place with no variable is
+// stays (no plainer): the definitions read a table by `get_or t code 0` too: behind its end a code is open, or free, as the two codes of place 0 are, which is no variable's
 pub fn cell<'a>(table: &'a [u8; tables::CODES], code: u16) -> u8
     ensures { result ≡ get_or table.now code 0 }
 {
@@ -62,13 +62,15 @@ pub fn encode(cells: &mut [u16], lits: &[i16], places: &[u16])
         → length D ≤ paper.numbers
         → take (length lits.now) cells.new ≡ codes D lits.now) }
 {
+    // stays (proof): with `cells.iter_mut().zip(lits)` the goal `returns` stays open: of a loop over a zip a proof knows what its iterator gave, and not what
+    // was written through it
     for (i, lit) in lits.iter().enumerate() {
         cells[i] = code_of(places, *lit);
     }
 }
 
 // The literal of a code; 0 where its place has no variable.
-// stays (no plainer): it is written into a table of literals, whose 0 is no literal
+// stays (no plainer): the caller writes it into a lent table of literals (`unloading`), in which 0 is no literal; of an Option it would write 0 for none
 pub fn literal_of<'a>(numbers: &'a [u16], code: u16) -> i16
     ensures { (D : Prefix) (l : Literal)
         → Numbers D numbers.now

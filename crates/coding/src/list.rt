@@ -6,10 +6,10 @@ ghost use Rattle.tables.specs.Codes.{last_code, codes, Quantified};
 ghost use Rattle.coding.specs.First.{FirstWith};
 
 use crate::code::cell;
-use literal::drops;
+use literal::{drops, kept_len};
 
 // The last code; 0 where there is none.
-// stays (no plainer): the definition's last code of an empty list is 0 too, and tables by code have a cell for it
+// stays (no plainer): the definition `last_code` of an empty list is 0, and callers read the cell of that code in a table, or compare its place; an Option would be turned back into 0 at each
 pub fn last_code(cells: &[u16]) -> u16
     ensures { result ≡ last_code cells.now }
 {
@@ -20,6 +20,7 @@ pub fn last_code(cells: &[u16]) -> u16
 }
 
 // A byte in a wider number, where more than bytes are to be told apart.
+// stays (no plainer): it is `From` of a byte, with the bound that a byte has, which each caller would prove for itself
 pub fn wide(byte: u8) -> u16
     ensures { (result ≡ byte) × (result < 256) }
 {
@@ -30,12 +31,10 @@ pub fn wide(byte: u8) -> u16
 pub fn first_with(cells: &[u16], statuses: &[u8; tables::CODES], want: u8) -> Option<u16>
     ensures { FirstWith (λ c. eqb (get_or statuses.now c 0) want) cells.now result }
 {
-    for code in cells {
-        if cell(statuses, *code) == want {
-            return Some(*code);
-        }
-    }
-    None
+    cells
+        .iter()
+        .copied()
+        .find(|code| cell(statuses, *code) == want)
 }
 
 // How many of the codes are left under reduction.
@@ -46,13 +45,7 @@ pub fn reduced_len(cells: &[u16], quantifiers: &[u8; tables::CODES], cube: bool)
         → cells.now ≡ codes D e
         → take result cells.now ≡ codes D (reduce D cube e)) }
 {
-    // stays (proof): with `rposition` both returns stay open, since no lemma of std reads off what its run from the back says of the items
-    for i in (0..cells.len()).rev() {
-        if !drops(wide(cell(quantifiers, cells[i])), cube) {
-            return i + 1;
-        }
-    }
-    0
+    kept_len(cells, |code| drops(wide(cell(quantifiers, code)), cube))
 }
 
 // The codes become the first cells.

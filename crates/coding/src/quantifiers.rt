@@ -20,7 +20,8 @@ fn kind_at<'a>(numbers: &'a [u16], kinds: &'a [u16], place: usize) -> u8
 }
 
 // The quantifier of a place, for its two codes.
-// stays (no plainer): `place ≤ paper.numbers` is that the place's two codes lie within a table of fixed length, asked where it is an index
+// stays (no plainer): `usize ≤ paper.numbers` is asked of a place alone, whose two codes are indices here: `literal::Place` is of any limit and keeps no fact; a struct of one number that
+// did would be made at each call and opened at the index
 fn put(table: &mut [u8; tables::CODES], place: usize, kind: u8)
     requires { place ≤ paper.numbers }
     ensures { table.new ≡ set (set table.old (code_at place false) kind) (code_at place true) kind }
@@ -41,6 +42,7 @@ pub fn quantifiers_of<'a>(numbers: &'a [u16], kinds: &'a [u16]) -> [u8; tables::
     let count = cell_at(numbers, 0) as usize;
     let mut table = [tables::END; tables::CODES];
     put(&mut table, 0, tables::FREE as u8); // no variable's place
+    // stays (no plainer): a chain is `numbers.iter().enumerate().skip(1).take(count)`, three steps and a pair for a range and an accessor by place
     for i in 0..count {
         let place = i + 1;
         let kind = kind_at(numbers, kinds, place);

@@ -15,7 +15,8 @@ pub struct Was {
 }
 
 // The variable of a place is given a value.
-// stays (no plainer): `place ≤ paper.numbers` is that the place's two codes lie within a table of fixed length, asked where it is an index
+// stays (no plainer): `usize ≤ paper.numbers` is asked of a place alone, whose two codes are indices here: `literal::Place` is of any limit and keeps no fact; a struct of one number that
+// did would be made at each call and opened at the index
 pub fn give(statuses: &mut [u8; tables::CODES], place: usize, value: u8) -> Was
     requires { place ≤ paper.numbers }
     ensures { (statuses.new ≡ given place value statuses.old)
@@ -52,7 +53,7 @@ fn value_at<'a>(numbers: &'a [u16], values: &'a [u8], place: usize) -> u8
 }
 
 // The statuses at the node whose values by number are given: the first `at` places have them.
-// stays (no plainer): `at ≤ paper.numbers` is of one number that says how far a table is read; a type for it would be taken off at that table
+// stays (no plainer): `usize ≤ paper.numbers` is of one number that says how far a table is read; a type for it would be taken off at that table
 pub fn statuses_of<'a>(numbers: &'a [u16], values: &'a [u8], at: usize) -> [u8; tables::CODES]
     requires { at ≤ paper.numbers }
     ensures { (D : Prefix) (s : Node)
@@ -64,6 +65,7 @@ pub fn statuses_of<'a>(numbers: &'a [u16], values: &'a [u8], at: usize) -> [u8; 
         → Statuses s result }
 {
     let mut statuses = [tables::OPEN; tables::CODES];
+    // stays (no plainer): a chain is `numbers.iter().enumerate().skip(1).take(at)`, three steps and a pair for a range and an accessor by place
     for i in 0..at {
         let place = i + 1;
         let value = value_at(numbers, values, place);

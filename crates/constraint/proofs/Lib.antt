@@ -1,4 +1,3 @@
 pub mod Lists
-pub mod Reducing
 pub mod Mentioning
 pub mod Inserting

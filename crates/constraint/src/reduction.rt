@@ -5,7 +5,7 @@ ghost use Rattle.qbf.specs.Formula.{Prefix, place, quantifier_at};
 ghost use Rattle.qbf.specs.Learning.{dropped, reduce};
 ghost use Rattle.tables.specs.Views.{Kinds};
 
-use literal::{drops, literal_kind};
+use literal::{drops, kept_len, literal_kind};
 
 fn is_dropped(lit: i16, kinds: &[u16], cube: bool) -> bool
     ensures { (D : Prefix) → Kinds D kinds.now → result ≡ dropped cube (quantifier_at D (place D lit)) }
@@ -18,11 +18,5 @@ pub fn reduced_len(lits: &[i16], kinds: &[u16], cube: bool) -> usize
     ensures { (result ≤ length lits.now)
         × ((D : Prefix) → Kinds D kinds.now → take result lits.now ≡ reduce D cube lits.now) }
 {
-    // stays (proof): with `rposition` both returns stay open, since no lemma of std reads off what its run from the back says of the items
-    for i in (0..lits.len()).rev() {
-        if !is_dropped(lits[i], kinds, cube) {
-            return i + 1;
-        }
-    }
-    0
+    kept_len(lits, |lit| is_dropped(lit, kinds, cube))
 }

@@ -41,6 +41,8 @@ fn write_line(row: &mut [u8], statuses: &[u8; tables::CODES], k: usize, value: u
     requires k_lt_numbers { k < paper.numbers }
     ensures { row.new ≡ first_bytes statuses.now k ++ (value ∷ drop (suc k) row.old) }
 {
+    // stays (proof): over `row[..k].iter_mut().zip(statuses[3..].iter().step_by(2))` the goal `returns` stops at the first k bytes: of a loop over a zip a proof
+    // knows what its iterator gave, and not what was written through it
     for (i, byte) in row[..k].iter_mut().enumerate() {
         *byte = statuses[i * 2 + 3];
     }

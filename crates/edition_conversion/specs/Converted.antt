@@ -3,8 +3,16 @@ use Rattle.std.specs.Prelude.{ℕ, zero, suc, ◌≤◌, ◌≡◌, length, take
 use Rattle.refusal.specs.Refusal.{number_of}
 use Rattle.opening.specs.declared.text.RefusedAt.{RefusedAt}
 use Rattle.layout.specs.Words.{Bytes}
-use Rattle.editions.specs.Converting.{Converted, converted, refused, length_of, table_of}
+use Rattle.qbf.specs.Formula.{Limits}
+use Rattle.editions.specs.Converting.{Converted, converted, refused, length_of, table_of, to_tagged, to_untagged}
+use Rattle.edition_reader.specs.declared.Edition.{Edition}
+use Rattle.edition_reader.specs.declared.Edition.TheVariants.{First, Second}
 use Rattle.edition_conversion.specs.declared.Converted.{Converted as Answer}
+
+-- by the edition that a text is converted to
+abbrev pub conversion : Edition → Limits → ℕ → Bytes → Converted
+conversion First = to_untagged
+conversion Second = to_tagged
 
 -- 0 is no refusal
 abbrev pub refusal_of : Converted → ℕ

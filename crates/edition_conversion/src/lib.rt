@@ -2,17 +2,15 @@
 // then its lines are copied.
 #![tactic(auto)]
 
-ghost use Rattle.std.specs.Prelude.{◌≤◌, length, IfOk};
+ghost use Rattle.std.specs.Prelude.{length};
 ghost use Rattle.qbf.specs.Formula.{paper};
-ghost use Rattle.layout.specs.Opening.{text_bytes};
-ghost use Rattle.editions.specs.Converting as converting;
 ghost use Rattle.editions.specs.Converting.{fitted, to_tagged, to_untagged};
 ghost use Rattle.edition_tags.specs.Appended.{text_to};
-ghost use Rattle.edition_conversion.specs.Converted.{ConvertedAs, WrittenAs};
+ghost use Rattle.edition_conversion.specs.Converted.{conversion, ConvertedAs, WrittenAs};
 
 use edition_opening::{Editions, read_editions};
-use edition_tags::To;
-use edition_tags::text::{lost_line, put_text};
+use edition_reader::Edition;
+use edition_tags::text::{Text, lost_line, put_text};
 use opening::NONE;
 use opening::text::{NO_LINE, RefusedAt, at};
 use refusal::Refusal;
@@ -30,12 +28,56 @@ pub struct Converted {
     pub length: usize,
 }
 
-// "zeroes the rest of its table, all of it when refused"
-fn answer(written: Result<usize, RefusedAt>, table: &mut [u8]) -> Converted
-    requires { IfOk written (λ n. n ≤ length table.old) }
-    ensures { (c : converting.Converted) → WrittenAs c written table.old → ConvertedAs (length table.old) c result table.new }
+// "and last a converted text over its table or 65,536 bytes is 31 at line 0"
+fn write(to: Edition, text: Text<'_>, table: &mut [u8]) -> Result<usize, RefusedAt>
+    ensures { WrittenAs (fitted (length table.old) (text_to to text.entry.bytes.now)) result table.new }
 {
-    match written {
+    let count = put_text(to, text, table);
+    if count > table.len() {
+        return at(NO_LINE, Err(Refusal::TableTooShort));
+    }
+    if count > LONGEST {
+        return at(NO_LINE, Err(Refusal::TableTooShort));
+    }
+    Ok(count)
+}
+
+// "Convert from 1 to 2 by tagging the rule forms 1, 2, 3 and so on": a text that was read is no longer than a text may be.
+fn write_tagged(text: &[u8], table: &mut [u8]) -> Result<usize, RefusedAt>
+    ensures { WrittenAs (to_tagged paper (length table.old) text.now) result table.new }
+{
+    read_editions(Editions::First, text)?;
+    let read = Text { bytes: text };
+    write(Edition::Second, read, table)
+}
+
+// "Convert from 2 to 1 only where the tags are those"; "a tag that would be lost in conversion is 40"
+fn write_untagged(text: &[u8], table: &mut [u8]) -> Result<usize, RefusedAt>
+    ensures { WrittenAs (to_untagged paper (length table.old) text.now) result table.new }
+{
+    read_editions(Editions::Second, text)?;
+    let read = Text { bytes: text };
+    if let Some(line) = lost_line(read) {
+        return at(line, Err(Refusal::TagLost));
+    }
+    write(Edition::First, read, table)
+}
+
+// The length of the converted text, which stands in the first bytes of the table.
+pub fn convert(to: Edition, text: &[u8], table: &mut [u8]) -> Result<usize, RefusedAt>
+    ensures { WrittenAs (conversion to paper (length table.old) text.now) result table.new }
+{
+    match to {
+        Edition::First => write_untagged(text, table),
+        Edition::Second => write_tagged(text, table),
+    }
+}
+
+// "zeroes the rest of its table, all of it when refused"
+fn answer(to: Edition, text: &[u8], table: &mut [u8]) -> Converted
+    ensures { ConvertedAs (length table.old) (conversion to paper (length table.old) text.now) result table.new }
+{
+    match convert(to, text, table) {
         Ok(length) => {
             cover::clear(&mut table[length..]);
             Converted {
@@ -55,51 +97,15 @@ fn answer(written: Result<usize, RefusedAt>, table: &mut [u8]) -> Converted
     }
 }
 
-// "and last a converted text over its table or 65,536 bytes is 31 at line 0"
-// stays (no plainer): `length text ≤ text_bytes` is what reading the text has told; a type for it would be made anew from the same bytes and hold no more.
-fn write(to: To, text: &[u8], table: &mut [u8]) -> Result<usize, RefusedAt>
-    requires { length text.now ≤ text_bytes }
-    ensures { WrittenAs (fitted (length table.old) (text_to to text.now)) result table.new }
-{
-    let count = put_text(to, text, table);
-    if count > table.len() {
-        return at(NO_LINE, Err(Refusal::TableTooShort));
-    }
-    if count > LONGEST {
-        return at(NO_LINE, Err(Refusal::TableTooShort));
-    }
-    Ok(count)
-}
-
-// "Convert from 1 to 2 by tagging the rule forms 1, 2, 3 and so on": the text's length, where it stands in the table.
-pub fn write_tagged(text: &[u8], table: &mut [u8]) -> Result<usize, RefusedAt>
-    ensures { WrittenAs (to_tagged paper (length table.old) text.now) result table.new }
-{
-    read_editions(Editions::First, text)?;
-    write(To::Second, text, table)
-}
-
-// "Convert from 2 to 1 only where the tags are those"; "a tag that would be lost in conversion is 40"
-pub fn write_untagged(text: &[u8], table: &mut [u8]) -> Result<usize, RefusedAt>
-    ensures { WrittenAs (to_untagged paper (length table.old) text.now) result table.new }
-{
-    read_editions(Editions::Second, text)?;
-    if let Some(line) = lost_line(text) {
-        return at(line, Err(Refusal::TagLost));
-    }
-    write(To::First, text, table)
-}
-
+// stays (no plainer): this and `untag` are two public names of one call, each with its own clause, `to_tagged` and `to_untagged`.
 pub fn tag(text: &[u8], table: &mut [u8]) -> Converted
     ensures { ConvertedAs (length table.old) (to_tagged paper (length table.old) text.now) result table.new }
 {
-    let written = write_tagged(text, table);
-    answer(written, table)
+    answer(Edition::Second, text, table)
 }
 
 pub fn untag(text: &[u8], table: &mut [u8]) -> Converted
     ensures { ConvertedAs (length table.old) (to_untagged paper (length table.old) text.now) result table.new }
 {
-    let written = write_untagged(text, table);
-    answer(written, table)
+    answer(Edition::First, text, table)
 }

@@ -18,7 +18,7 @@ use Rattle.state.specs.Reading.{read_state, formula_in}
 use Rattle.std.specs.Prelude.{Result, Ok, Err}
 use Rattle.refusal.specs.declared.Refusal.{Refusal}
 use Rattle.refusal.specs.Refusal.{fault_in}
-use Rattle.serving.specs.Serves.{Said, said_of, number, out_of, next_of, Serves}
+use Rattle.serving.specs.Serves.{Said, said_of, out_of, next_of, Serves}
 use Rattle.layout.specs.Opening.{allowed}
 use Rattle.editions.specs.Lines.{one}
 use Rattle.editions.specs.Opening.{line_fault}
@@ -30,14 +30,11 @@ use Rattle.opening.proofs.Taking.{read_is}
 use Rattle.edition_opening.specs.declared.book.EditionBook.{EditionBook}
 use Rattle.edition_opening.specs.Editions.{accepted, edition_of}
 use Rattle.edition_opening.specs.Lines.{OneTook}
-use Rattle.edition_opening.proofs.Taking.{refused_line, misplaced, placed_fault}
+use Rattle.edition_opening.proofs.Taking.{refused_line, placed_fault}
 
 module _ (z : EditionBook) (lits : List ℤ) where
   abbrev x : State
   x = z.book.state
-
-  pub one_misplaced : {q : Refusal} → Err q ≡ placed (allowed (rank_of z.book.stage) 3) → OneTook z lits (Err q)
-  one_misplaced v = λ ls p q. misplaced (accepted z.accepts) (edition_of z.edition) (rank_of z.book.stage) (formula_in x) (one ls) v
 
   -- the call was answered by r and left x'
   module _ {u : Unit {0}} (v : Ok u ≡ placed (allowed (rank_of z.book.stage) 3)) (r : Result (Unit {0}) Refusal) {x' : State} (w : Serves x (one_call lits) (change_said r) x') where

@@ -1,5 +1,5 @@
 -- A line by what was read of it: it is judged by the items that the table keeps.
-use Prim.Native.Nat.{ℕ, suc, ◌≤◌, min}
+use Prim.Native.Nat.{ℕ, suc, min}
 use mathlib.Core.Path.{◌≡◌, refl, sym, ap, subst, ◌∙◌}
 use mathlib.Core.List.{List, [], ◌∷◌}
 use mathlib.Core.Option.{Option, some}
@@ -8,7 +8,7 @@ use lib.ListN.{length, get_or, take}
 use native.Mathlib.Omega.{arith}
 use Rattle.qbf.specs.Formula.{paper, number_of}
 use Rattle.state.specs.Reading.{formula_in}
-use Rattle.layout.specs.Forms.{book, block, clause, end}
+use Rattle.layout.specs.Forms.{book, block, clause}
 use Rattle.reader.specs.Items.{narrow, Kept}
 use Rattle.reader.proofs.Judged.{rule_cut, rule_cut_same}
 use Rattle.editions.specs.Lines.{says}
@@ -19,16 +19,13 @@ use Rattle.std.specs.Prelude.{Result}
 use Rattle.refusal.specs.declared.Refusal.{Refusal}
 use Rattle.opening.specs.declared.book.Book.{Book}
 use Rattle.opening.specs.Stages.{rank_of}
-use Rattle.opening.specs.Opened.{TookForm, BlockTook}
+use Rattle.opening.specs.Opened.{BlockTook}
 use Rattle.opening.proofs.Judging as own
 use Rattle.edition_opening.specs.declared.book.EditionBook.{EditionBook}
 use Rattle.edition_opening.specs.Editions.{accepted, edition_of}
 use Rattle.edition_opening.specs.Lines.{kept_with, TookOn, Took, PlainTook, TaggedTook, OneTook}
 use Rattle.edition_opening.proofs.Taking.{block_kept}
 use Rattle.edition_opening.proofs.Judged.{one_cut, one_cut_same}
-
-pub block_code : {o : Option form.Line} {κ n : ℕ} {out : List ℤ} → LineIs o (line.Block κ n) out → κ ≤ 2
-block_code (q, c, (ns, f, k)) = own.block_code {o = some (block q ns)} (q, c, (ns, refl, k))
 
 -- the first item of a table that keeps one
 first_kept : (out : List ℤ) (e : ℕ) → length out ≡ suc paper.numbers → Kept 1 out (pos e ∷ []) → get_or out 0 (pos 0) ≡ pos (narrow e)
@@ -41,9 +38,6 @@ TookHere z o r = Took (accepted z.accepts) (edition_of z.edition) (rank_of z.boo
 module _ (z : EditionBook) {o : Option form.Line} where
   line_some : (r : Result EditionBook Refusal) (f : form.Line) → o ≡ some f → TookOn z f r → TookHere z o r
   line_some r f q h = subst (λ (p : Option form.Line). Took (accepted z.accepts) (edition_of z.edition) (rank_of z.book.stage) (formula_in z.book.state) p r) (sym q) h
-
-  pub line_end : (t : Result Book Refusal) → o ≡ some (says end) → TookForm (rank_of z.book.stage) (formula_in z.book.state) end t → TookHere z o (kept_with z t)
-  line_end t q h = line_some (kept_with z t) (says end) q (block_kept z end t h refl refl)
 
   module _ (out : List ℤ) (room : length out ≡ suc paper.numbers) where
     pub line_book : (r : Result EditionBook Refusal) → LineIs o line.Book out → {i : ℤ} → i ≡ get_or out 0 (pos 0) → {m : ℕ} → m ≡ number_of i → ((n : ℕ) → m ≡ narrow n → TookOn z (says (book n)) r) → TookHere z o r

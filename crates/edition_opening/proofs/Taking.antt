@@ -1,6 +1,6 @@
 -- The lines of either edition, each on the state that stands.
 use Prim.Native.Nat.{ℕ, ◌≤◌, ◌<◌}
-use mathlib.Core.Path.{◌≡◌, refl, sym, ap, subst, ◌∙◌}
+use mathlib.Core.Path.{◌≡◌, refl, sym, ap, ◌∙◌}
 use mathlib.Core.Bool.{Bool, true, false, not, ◌||◌, true≢false}
 use mathlib.Core.List.{List, []}
 use mathlib.Core.Option.{some}
@@ -12,29 +12,25 @@ use lib.ListN.{length}
 use Rattle.qbf.specs.Formula.{Formula, Literal}
 use Rattle.qbf.specs.Calls.{given, rule_fault, literal_fault, ◌or_else◌}
 use Rattle.state.specs.Reading.{formula_in}
-use Rattle.std.specs.Prelude.{Some, Result, Ok, Err}
+use Rattle.std.specs.Prelude.{Result, Ok, Err}
 use Rattle.refusal.specs.declared.Refusal.{Refusal}
 use Rattle.refusal.specs.declared.Refusal.TheVariants as refusal
 use Rattle.refusal.specs.Refusal.{number_of, fault_in}
 use Rattle.layout.specs.Forms.{Form, book, clause}
 use Rattle.layout.specs.Opening.{rank, allowed, stage_after, form_fault}
 use Rattle.layout.specs.Opening as own
-use Rattle.layout_laws.proofs.Opened.{allowed_is}
 use Rattle.reader.specs.Items.{narrow}
 use Rattle.editions.specs.Lines.{Line, says, tagged}
 use Rattle.editions.specs.Opening.{Editions, rank_of, tags_fit, said_fault, line_fault, edition_after}
 use Rattle.opening.specs.declared.book.Book.{Book}
-use Rattle.opening.specs.declared.stage.Stage.TheVariants as stages
 use Rattle.opening.specs.Stages as stage_ranks
 use Rattle.opening.specs.Stages.{placed}
-use Rattle.opening.specs.Standing.{Standing}
 use Rattle.opening.specs.Opened.{TookForm, RuleTook}
-use Rattle.edition_opening.specs.declared.Edition.{Edition}
 use Rattle.edition_opening.specs.declared.book.EditionBook.{EditionBook}
 use Rattle.edition_opening.specs.declared.Editions.{Editions as Accepted}
 use Rattle.edition_opening.specs.declared.Editions.TheVariants.{First, Second, Both}
 use Rattle.edition_opening.specs.Editions.{accepted, edition_of, EditionRead}
-use Rattle.edition_opening.specs.Lines.{kept_with, TookLine, TookOn, PlainTook, TaggedTook, out_of_range}
+use Rattle.edition_opening.specs.Lines.{kept_with, TookLine, TookOn, TaggedTook, out_of_range}
 
 -- ---- refusals
 module _ (a : Editions) (e stage : ℕ) (b : Formula) (f : Line) where
@@ -110,9 +106,6 @@ same_taken a e = by (accepted a (narrow e)) refl
         more false p = q ∙ sym p
 
 module _ (z : EditionBook) where
-  pub book_misplaced : {q : Refusal} → Err q ≡ placed (allowed (stage_ranks.rank_of z.book.stage) 0) → (e : ℕ) → TookOn z (says (book e)) (Err q)
-  book_misplaced k e = misplaced (accepted z.accepts) (edition_of z.edition) (stage_ranks.rank_of z.book.stage) (formula_in z.book.state) (says (book e)) k
-
   module _ {u : Unit {0}} (k : Ok u ≡ placed (allowed (stage_ranks.rank_of z.book.stage) 0)) (e : ℕ) {m : ℕ} (p : m ≡ narrow e) where
     fault_is : line_fault (accepted z.accepts) (edition_of z.edition) (stage_ranks.rank_of z.book.stage) (formula_in z.book.state) (says (book e)) ≡ given (not (accepted z.accepts m)) 2
     fault_is =
@@ -124,30 +117,11 @@ module _ (z : EditionBook) where
         refused_line (accepted z.accepts) (edition_of z.edition) (stage_ranks.rank_of z.book.stage) (formula_in z.book.state) (says (book e))
         (fault_is ∙ ap (λ (y : Bool). given (not y) 2) w.1 ∙ ap (λ (r : Refusal). some (number_of r)) (sym w.0))
 
-    pub book_taken : {d : Edition} → EditionRead (accepted z.accepts) m (Ok d) → (t : Standing 1 z.book.state)
-        → TookOn z (says (book e)) (Ok (record { accepts = z.accepts; edition = Some d; book = record { stage = stages.Flags; state = z.book.state; stands = t } }))
-    book_taken {d} w t =
-        record {
-          fault = fault_is ∙ ap (λ (y : Bool). given (not y) 2) w.1;
-          advanced = record { formula = refl; stage = refl; edition = w.0 ∙ p ∙ narrow_small e (subst (λ (n : ℕ). n ≤ 2) p (either z.accepts m w.1)); accepts = refl };
-        }
-
 -- ---- rules
 module _ (z : EditionBook) (lits : List ℤ) where
-  pub plain_untagged : eqb (edition_of z.edition) 1 ≡ false → PlainTook z lits (Err refusal.NotInLayout)
-  plain_untagged h = λ ls p q. untagged (accepted z.accepts) (edition_of z.edition) (stage_ranks.rank_of z.book.stage) (formula_in z.book.state) (says (clause ls)) h
-
-  pub plain_taken : eqb (edition_of z.edition) 1 ≡ true → (r : Result Book Refusal) → RuleTook (stage_ranks.rank_of z.book.stage) z.book.state lits r → PlainTook z lits (kept_with z r)
-  plain_taken h r w = λ ls p q.
-      block_kept z (clause ls) r (w ls p q)
-      (ap (λ (k : ℕ). line_fault (accepted z.accepts) k (stage_ranks.rank_of z.book.stage) (formula_in z.book.state) (says (clause ls))) (eqb-true (edition_of z.edition) 1 h)) refl
-
   module _ (k : ℕ) where
     pub tag_unfit : eqb (edition_of z.edition) 2 ≡ false → TaggedTook z k lits (Err refusal.NotInLayout)
     tag_unfit h = λ ls p q. untagged (accepted z.accepts) (edition_of z.edition) (stage_ranks.rank_of z.book.stage) (formula_in z.book.state) (tagged k ls) h
-
-    pub tag_misplaced : {q : Refusal} → Err q ≡ placed (allowed (stage_ranks.rank_of z.book.stage) 3) → TaggedTook z k lits (Err q)
-    tag_misplaced v = λ ls p q. misplaced (accepted z.accepts) (edition_of z.edition) (stage_ranks.rank_of z.book.stage) (formula_in z.book.state) (tagged k ls) v
 
     module _ (h : eqb (edition_of z.edition) 2 ≡ true) {u : Unit {0}} (v : Ok u ≡ placed (allowed (stage_ranks.rank_of z.book.stage) 3)) where
       full : Bool

@@ -4,7 +4,7 @@ use mathlib.Core.Path.{◌≡◌, refl, sym, ap, subst, ◌∙◌}
 use mathlib.Core.Bool.{Bool, true, false, cond, not}
 use mathlib.Core.List.{List, [], ◌∷◌}
 use mathlib.Core.Option.{Option, none, some}
-use borrow.Author.Tests.{eq-eqb, ne_eqb}
+use borrow.Author.Tests.{ne_eqb}
 use lib.Dec.{eqb}
 use Rattle.std.specs.Prelude.{Result, Ok, Err}
 use Rattle.qbf.specs.Formula.{free, exists, forall, Formula, paper}
@@ -89,11 +89,6 @@ module _ (z : EditionBook) (going : stage_ranks.rank_of z.book.stage ≡ 4 → �
 
 -- ---- the end
 module _ (z : EditionBook) where
-  -- after the end's line nothing may stand
-  pub over_takes : stage_ranks.rank_of z.book.stage ≡ 4 → (l : Bytes) → Takes edition_opens z l (Err NotInLayout)
-  over_takes e [] = λ n m ls. rw (eq-eqb (stage_ranks.rank_of z.book.stage) 4 e)
-  over_takes e (c ∷ l) = λ n m ls. rw (eq-eqb (stage_ranks.rank_of z.book.stage) 4 e)
-
   -- a line is missing, or the book is whole, in either edition alike
   pub same_end : (n : ℕ) → edition_opens z n ([] ∷ []) ≡ book_opens z.book n ([] ∷ [])
   unfolding read_lines own.read_lines

@@ -4,8 +4,8 @@ use Rattle.refusal.specs.declared.Refusal.{Refusal}
 use Rattle.refusal.specs.declared.Refusal.TheVariants as refusal
 use Rattle.editions.specs.Opening.{both, only}
 use Rattle.editions.specs.Opening as text
-use Rattle.edition_opening.specs.declared.Edition.{Edition}
-use Rattle.edition_opening.specs.declared.Edition.TheVariants as edition
+use Rattle.edition_reader.specs.declared.Edition.{Edition}
+use Rattle.edition_reader.specs.declared.Edition.TheVariants as edition
 use Rattle.edition_opening.specs.declared.Editions.{Editions}
 use Rattle.edition_opening.specs.declared.Editions.TheVariants.{First, Second, Both}
 

@@ -8,7 +8,8 @@ ghost use Rattle.opening.specs.Stages.{rank_of};
 ghost use Rattle.edition_opening.specs.Editions.{accepted, number_of, edition_of};
 ghost use Rattle.edition_opening.specs.Lines.{Begun, kept_with, TookLine, Took, edition_opens, edition_unended};
 
-use crate::{Edition, Editions};
+use crate::Editions;
+use edition_reader::Edition;
 use edition_reader::line::{Line, read_line};
 use literal::{Number, number_of};
 use opening::book::Book;
@@ -48,10 +49,7 @@ impl EditionBook {
     pub fn keep(self, taken: Result<Book, Refusal>) -> Result<EditionBook, Refusal>
         ensures { result ≡ kept_with self taken }
     {
-        match taken {
-            Ok(book) => Ok(EditionBook { book, ..self }),
-            Err(refusal) => Err(refusal),
-        }
+        taken.map(|book| EditionBook { book, ..self })
     }
 
     fn take_book(self, number: Number) -> Result<EditionBook, Refusal>

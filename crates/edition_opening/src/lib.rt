@@ -9,6 +9,7 @@ ghost use Rattle.opening.specs.Opened.{OpenedAs};
 ghost use Rattle.edition_opening.specs.Editions.{accepted, number_of, EditionRead};
 
 use book::EditionBook;
+use edition_reader::Edition;
 use opening::Opened;
 use opening::text::{RefusedAt, read_text};
 use refusal::Refusal;
@@ -16,12 +17,6 @@ use state::State;
 
 mod book;
 mod rule;
-
-#[derive(Clone, Copy, PartialEq, Eq)]
-pub enum Edition {
-    First,
-    Second,
-}
 
 // The editions that a reader takes.
 #[derive(Clone, Copy)]

@@ -7,14 +7,13 @@ ghost use Rattle.state.specs.Reading.{formula_in};
 ghost use Rattle.refusal.specs.Refusal as refusal_numbers;
 ghost use Rattle.edition_opening.specs.Lines.{out_of_range, PlainTook, TaggedTook, OneTook};
 
-use crate::Edition;
 use crate::book::EditionBook;
+use edition_reader::Edition;
 use literal::cell_at;
+use opening::add::{Added, add};
 use opening::book::Book;
 use opening::stage::Stage;
 use refusal::Refusal;
-use rules::in_place;
-use rules::lent::Adding;
 use state::State;
 
 const LAST_TAG: u32 = 65535;
@@ -70,19 +69,7 @@ impl EditionBook {
         ensures { OneTook self lits.now result }
     {
         self.book.stage.place(Stage::Rule)?;
-        let mut state = self.book.state;
-        let mut tables = Adding {
-            numbers: &state.numbers,
-            levels: &state.levels,
-            kinds: &state.kinds,
-            clauses: &mut state.clauses,
-            clause_sizes: &mut state.clause_sizes,
-            learned_clauses: &state.learned_clauses,
-            learned_clause_sizes: &state.learned_clause_sizes,
-            learned_cubes: &state.learned_cubes,
-            learned_cube_sizes: &mut state.learned_cube_sizes,
-        };
-        in_place::one(&mut tables, lits)?;
+        let state = add(self.book.state, Added::One, lits)?;
         Ok(EditionBook {
             book: Book {
                 stage: Stage::Rule,

@@ -9,36 +9,39 @@ use Rattle.refusal.specs.Refusal.{number_of}
 use Rattle.layout.specs.Words.{Bytes}
 use Rattle.layout.specs.Output.{refusal_text}
 use Rattle.layout.specs.Opening.{text_bytes}
-use Rattle.editions.specs.Converting.{Converted, converted, refused, to_tagged, to_untagged}
+use Rattle.editions.specs.Converting.{Converted, converted, refused}
 use Rattle.writer.specs.Wrote.{Wrote}
 use Rattle.opening.specs.declared.text.RefusedAt.{RefusedAt}
-use Rattle.edition_conversion.specs.Converted.{WrittenAs}
-use Rattle.edition_printer.specs.Printing.{converted_text, tag_program, untag_program}
+use Rattle.edition_reader.specs.declared.Edition.{Edition}
+use Rattle.edition_reader.specs.declared.Edition.TheVariants.{First, Second}
+use Rattle.edition_conversion.specs.Converted.{conversion, WrittenAs}
+use Rattle.edition_printer.specs.Printing.{converted_text, converting_program, tag_program, untag_program}
 
-module _ (c : Converted) (d₀ : Bytes) where
-  pub refusal_put : (q : RefusedAt) → WrittenAs c (Err q) d₀ → {k : ℕ} → k ≡ number_of q.refusal → {d : Bytes} {r : ℕ} → Wrote d₀ 0 (refusal_text k q.line) d r → Wrote d₀ 0 (converted_text c) d r
-  refusal_put q told e {d} {r} w = by c told
-    where
-      by : (c : Converted) → WrittenAs c (Err q) d₀ → Wrote d₀ 0 (converted_text c) d r
-      by (converted t) h = absurd h
-      by (refused k l) h = subst (λ (t : Bytes). Wrote d₀ 0 t d r) (λ i. refusal_text ((e ∙ h.0) i) (h.1 i)) w
+-- a table at whose start a text stands, after one of its size
+module _ (d₀ d₁ : Bytes) (same : length d₁ ≡ length d₀) where
+  refusal_put : (c : Converted) (q : RefusedAt) → WrittenAs c (Err q) d₁ → {k : ℕ} → k ≡ number_of q.refusal → {d : Bytes} {r : ℕ} → Wrote d₁ 0 (refusal_text k q.line) d r → Wrote d₀ 0 (converted_text c) d r
+  refusal_put (converted t) q h e w = absurd h
+  refusal_put (refused k l) q h e {d} {r} w = subst (λ (t : Bytes). Wrote d₀ 0 t d r) (λ i. refusal_text ((e ∙ h.0) i) (h.1 i)) (record { size = w.size ∙ same; next = w.next; is = w.is })
 
-  pub text_stands : (n : ℕ) → WrittenAs c (Ok n) d₀ → Wrote d₀ 0 (converted_text c) d₀ n
-  text_stands n told = by c told
-    where
-      by : (c : Converted) → WrittenAs c (Ok n) d₀ → Wrote d₀ 0 (converted_text c) d₀ n
-      by (converted t) h = record { size = refl; next = omega (arith, h.0); is = h.2 }
-      by (refused k l) h = absurd h
+  text_stands : (c : Converted) (n : ℕ) → WrittenAs c (Ok n) d₁ → Wrote d₀ 0 (converted_text c) d₁ n
+  text_stands (converted t) n h = record { size = same; next = omega (arith, h.0); is = h.2 }
+  text_stands (refused k l) n h = absurd h
 
--- ---- the programs, of whatever answers a conversion
-module _ (s : Bytes) (a : Result ℕ RefusedAt) (d₀ d₁ d : Bytes) (r : ℕ) (same : length d₁ ≡ length d₀) (put : (c : Converted) → WrittenAs c a d₁ → Wrote d₁ 0 (converted_text c) d r) where
-  again : {t : Bytes} → Wrote d₁ 0 t d r → Wrote d₀ 0 t d r
-  again w = record { size = w.size ∙ same; next = w.next; is = w.is }
+-- ---- the programs, by what the conversion answers
+program_is : (to : Edition) (s : Bytes) → converted_text (conversion to paper text_bytes s) ≡ converting_program to paper s
+unfolding tag_program untag_program
+program_is First s = refl
+program_is Second s = refl
 
-  pub tag_printed : (size : ℕ) → size ≡ text_bytes → WrittenAs (to_tagged paper size s) a d₁ → Wrote d₀ 0 (tag_program paper s) d r
-  unfolding tag_program
-  tag_printed size e told = again (put (to_tagged paper text_bytes s) (subst (λ (n : ℕ). WrittenAs (to_tagged paper n s) a d₁) e told))
+module _ (to : Edition) (s d₀ d₁ : Bytes) (room : length d₀ ≡ text_bytes) (same : length d₁ ≡ length d₀) where
+  fits : (r : Result ℕ RefusedAt) → WrittenAs (conversion to paper (length d₀) s) r d₁ → WrittenAs (conversion to paper text_bytes s) r d₁
+  fits r told = subst (λ (n : ℕ). WrittenAs (conversion to paper n s) r d₁) room told
 
-  pub untag_printed : (size : ℕ) → size ≡ text_bytes → WrittenAs (to_untagged paper size s) a d₁ → Wrote d₀ 0 (untag_program paper s) d r
-  unfolding untag_program
-  untag_printed size e told = again (put (to_untagged paper text_bytes s) (subst (λ (n : ℕ). WrittenAs (to_untagged paper n s) a d₁) e told))
+  printed : {d : Bytes} {r : ℕ} → Wrote d₀ 0 (converted_text (conversion to paper text_bytes s)) d r → Wrote d₀ 0 (converting_program to paper s) d r
+  printed {d} {r} w = subst (λ (t : Bytes). Wrote d₀ 0 t d r) (program_is to s) w
+
+  pub converted_printed : (n : ℕ) → WrittenAs (conversion to paper (length d₀) s) (Ok n) d₁ → Wrote d₀ 0 (converting_program to paper s) d₁ n
+  converted_printed n told = printed (text_stands d₀ d₁ same (conversion to paper text_bytes s) n (fits (Ok n) told))
+
+  pub refused_printed : (q : RefusedAt) → WrittenAs (conversion to paper (length d₀) s) (Err q) d₁ → {k : ℕ} → k ≡ number_of q.refusal → {d : Bytes} {r : ℕ} → Wrote d₁ 0 (refusal_text k q.line) d r → Wrote d₀ 0 (converting_program to paper s) d r
+  refused_printed q told e w = printed (refusal_put d₀ d₁ same (conversion to paper text_bytes s) q (fits (Err q) told) e w)

@@ -3,3 +3,9 @@
 #![tactic(auto)]
 
 pub mod line;
+
+#[derive(Clone, Copy, PartialEq, Eq)]
+pub enum Edition {
+    First,
+    Second,
+}

@@ -14,6 +14,7 @@ use reader::word::{SPACE, cut, same_word};
 
 // What a line holds. The numbers of a block and the literals of a rule are counted here and lie in a lent table, as in the first edition;
 // a tagged rule has its tag, which is judged as it is written.
+// stays (form): as in the first edition's lines, a quantifier is its number in the flat table of kinds, where it is written as it was read.
 #[derive(Clone, Copy)]
 pub enum Line {
     Book,
@@ -25,14 +26,17 @@ pub enum Line {
 }
 
 // A form of the first edition.
-fn form_line(l: reader::keyword::Line) -> Line
-    ensures { result ≡ form_line l }
-{
-    match l {
-        reader::keyword::Line::Book => Line::Book,
-        reader::keyword::Line::Block(kind, n) => Line::Block(kind, n),
-        reader::keyword::Line::Rule(n) => Line::Rule(n),
-        reader::keyword::Line::End => Line::End,
+impl From<reader::keyword::Line> for Line {
+    ghost from_gives = { λ l r. r ≡ form_line l };
+
+    // stays (no plainer): this is the conversion itself
+    fn from(l: reader::keyword::Line) -> Line {
+        match l {
+            reader::keyword::Line::Book => Line::Book,
+            reader::keyword::Line::Block(kind, n) => Line::Block(kind, n),
+            reader::keyword::Line::Rule(n) => Line::Rule(n),
+            reader::keyword::Line::End => Line::End,
+        }
     }
 }
 
@@ -81,7 +85,7 @@ fn read_words(s: &[u8], out: &mut [i16]) -> Option<Line>
         return read_one(left, out);
     }
     let form = read_form(s, out)?;
-    Some(form_line(form))
+    Some(Line::from(form))
 }
 
 pub fn read_line(l: &[u8], out: &mut [i16]) -> Option<Line>

@@ -1,12 +1,11 @@
 -- Appending, where it fits and where it does not.
-use Prim.Native.Nat.{ℕ, ◌+◌, ◌-◌, ◌<◌}
+use Prim.Native.Nat.{ℕ, ◌-◌}
 use mathlib.Core.Path.{◌≡◌, refl, sym, ap, subst, ◌∙◌}
 use mathlib.Core.List.{[], ◌++◌, append_assoc, append-nil}
 use native.Mathlib.Omega.{arith}
-use lib.ListN.{length, take, drop, length-append, length-drop, drop_of_length-le}
+use lib.ListN.{length, take, drop, length-append, length-drop}
 use lib.Seq.{take_all}
 use Rattle.layout.specs.Words.{Bytes}
-use Rattle.writer.specs.Wrote.{Wrote}
 use Rattle.edition_tags.specs.Appended.{Appended}
 
 pub appended_none : (d : Bytes) (n : ℕ) → Appended d n [] d n

@@ -12,8 +12,8 @@ use Rattle.layout_laws.proofs.Decimal.{decimal_length}
 use Rattle.editions.specs.Converting.{rule_head, is_rule, tag_text, insert_tag, remove_tag, has_tag, next}
 use Rattle.editions_laws.proofs.Words.{same_true}
 use Rattle.writer.specs.Wrote.{Wrote}
-use Rattle.edition_tags.specs.declared.To.{To}
-use Rattle.edition_tags.specs.declared.To.TheVariants.{First, Second}
+use Rattle.edition_reader.specs.declared.Edition.{Edition}
+use Rattle.edition_reader.specs.declared.Edition.TheVariants.{First, Second}
 use Rattle.edition_tags.specs.Tagged.{Tagged, most_tag, most_number}
 use Rattle.edition_tags.specs.Appended.{RuleRest, rule_to, line_to}
 use Rattle.std.specs.Prelude.{Option as Answer, Some, None, MatchOption}
@@ -69,7 +69,7 @@ module _ (k : ℕ) (l : Bytes) (rule : is_rule l ≡ true) {r t : Bytes} (e : r 
   lost_as (Some v) h false z = rw (rule, begins_tag h.0)
 
 -- what is written of one
-module _ (to : To) (k : ℕ) (l : Bytes) where
+module _ (to : Edition) (k : ℕ) (l : Bytes) where
   pub rule_line_lem : is_rule l ≡ true → {r : Bytes} → r ≡ drop 5 l → rule_to to k r ≡ line_to to k l
   unfolding insert_tag remove_tag
   rule_line_lem e {r} q = by to
@@ -77,12 +77,12 @@ module _ (to : To) (k : ℕ) (l : Bytes) where
       more : (n : ℕ) → drop n (drop 5 l) ≡ drop (5 + n) l
       more n = drop-drop n 5 l
 
-      by : (to : To) → rule_to to k r ≡ line_to to k l
+      by : (to : Edition) → rule_to to k r ≡ line_to to k l
       by First = rw e (ap (λ (h : Bytes). h ++ drop (length (tag_text k)) r) (sym (head_is l e)) ∙ ap (λ (u : Bytes). take 5 l ++ u) (ap (drop (length (tag_text k))) q ∙ more (length (tag_text k))))
       by Second = rw e (ap (λ (h : Bytes). h ++ (tag_text k ++ r)) (sym (head_is l e)) ∙ ap (λ (u : Bytes). take 5 l ++ (tag_text k ++ u)) q)
 
 -- ---- a line
-module _ (to : To) (k : ℕ) (l : Bytes) where
+module _ (to : Edition) (k : ℕ) (l : Bytes) where
   -- a line grows by a tag at most
   pub line_most : k ≤ most_number → length (line_to to k l) ≤ length l + most_tag
   unfolding insert_tag remove_tag
@@ -98,7 +98,7 @@ module _ (to : To) (k : ℕ) (l : Bytes) where
       each true x q = q
       each false x q = omega arith
 
-      by : (to : To) → length (line_to to k l) ≤ length l + most_tag
+      by : (to : Edition) → length (line_to to k l) ≤ length l + most_tag
       by First = each (is_rule l) (remove_tag k l) removed
       by Second = each (is_rule l) (insert_tag k l) inserted
 

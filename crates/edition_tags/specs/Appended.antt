@@ -4,8 +4,8 @@ use Rattle.std.specs.Prelude.{Option as Answer, Some, None}
 use Rattle.std.specs.Borrow.{Bor}
 use Rattle.layout.specs.Words.{Bytes, ascii}
 use Rattle.editions.specs.Converting.{is_rule, tag_text, tag_line, untag_line, tagged_text, untagged_text}
-use Rattle.edition_tags.specs.declared.To.{To}
-use Rattle.edition_tags.specs.declared.To.TheVariants.{First, Second}
+use Rattle.edition_reader.specs.declared.Edition.{Edition}
+use Rattle.edition_reader.specs.declared.Edition.TheVariants.{First, Second}
 
 -- no conversion of a text of 65,536 bytes has more bytes
 abbrev pub most_bytes : ℕ
@@ -24,18 +24,18 @@ RuleRest l (Some r) = (is_rule l ≡ true) × (r.now ≡ drop 5 l) × (length r.
 
 -- ---- by the edition that a text is converted to
 -- a rule form by what stands behind its `(rule`
-abbrev pub rule_to : To → ℕ → Bytes → Bytes
+abbrev pub rule_to : Edition → ℕ → Bytes → Bytes
 rule_to First k r = ascii "(rule" ++ drop (length (tag_text k)) r
 rule_to Second k r = ascii "(rule" ++ (tag_text k ++ r)
 
-abbrev pub line_to : To → ℕ → Bytes → Bytes
+abbrev pub line_to : Edition → ℕ → Bytes → Bytes
 line_to First k l = untag_line k l
 line_to Second k l = tag_line k l
 
-abbrev pub heading_to : To → Bytes
+abbrev pub heading_to : Edition → Bytes
 heading_to First = ascii "(book 1)"
 heading_to Second = ascii "(book 2)"
 
-abbrev pub text_to : To → Bytes → Bytes
+abbrev pub text_to : Edition → Bytes → Bytes
 text_to First s = untagged_text s
 text_to Second s = tagged_text s

@@ -5,6 +5,7 @@ ghost use Rattle.edition_tags.specs.Appended.{Appended, most_bytes};
 use writer::Output;
 
 // What does not fit is not written.
+// stays (no plainer): an `Output` has room for what is put, and its `at` is how many of its bytes are written; here the length is counted on past the table's end, since it alone decides refusal 31.
 pub fn append(d: &mut [u8], at: usize, w: &[u8]) -> usize
     requires { at + length w.now ≤ most_bytes }
     ensures { Appended d.old at w.now d.new result }

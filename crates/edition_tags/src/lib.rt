@@ -6,10 +6,3 @@ mod bytes; // appending
 mod line; // one line
 mod tag; // a tag
 pub mod text; // a whole text
-
-// The edition that a text is converted to.
-#[derive(Clone, Copy)]
-pub enum To {
-    First,
-    Second,
-}

@@ -6,9 +6,9 @@ ghost use Rattle.editions.specs.Converting as converting;
 ghost use Rattle.edition_tags.specs.Tagged.{most_tag};
 ghost use Rattle.edition_tags.specs.Appended.{Appended, RuleRest, most_bytes, rule_to, line_to};
 
-use crate::To;
 use crate::bytes::{after, append};
 use crate::tag::Tag;
+use edition_reader::Edition;
 
 // What stands behind `(rule` in a rule form.
 fn rule_rest(l: &[u8]) -> Option<&[u8]>
@@ -38,14 +38,15 @@ pub fn is_lost(l: &[u8], tag: &Tag) -> bool
 }
 
 // `(rule` stays; the tag goes in or out behind it.
-fn put_rule(to: To, rest: &[u8], tag: &Tag, d: &mut [u8], at: usize) -> usize
+// stays (no plainer): the place is handed on as `append` has it, which counts past the table's end.
+fn put_rule(to: Edition, rest: &[u8], tag: &Tag, d: &mut [u8], at: usize) -> usize
     requires { at + length rest.now + (5 + most_tag) ≤ most_bytes }
     ensures { Appended d.old at (rule_to to tag.now.number rest.now) d.new result }
 {
     let p = append(d, at, b"(rule");
     match to {
-        To::First => append(d, p, after(rest, tag.length)),
-        To::Second => {
+        Edition::First => append(d, p, after(rest, tag.length)),
+        Edition::Second => {
             let q = append(d, p, tag.text());
             append(d, q, rest)
         }
@@ -53,7 +54,8 @@ fn put_rule(to: To, rest: &[u8], tag: &Tag, d: &mut [u8], at: usize) -> usize
 }
 
 // Behind a byte 10 the line in the other edition.
-pub fn put_line(to: To, l: &[u8], tag: &Tag, d: &mut [u8], at: usize) -> usize
+// stays (no plainer): the place is handed on as `append` has it, which counts past the table's end.
+pub fn put_line(to: Edition, l: &[u8], tag: &Tag, d: &mut [u8], at: usize) -> usize
     requires { at + length l.now + (most_tag + 1) ≤ most_bytes }
     ensures { Appended d.old at (newline ∷ line_to to tag.now.number l.now) d.new result }
 {

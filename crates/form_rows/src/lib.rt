@@ -25,6 +25,7 @@ fn negation(lit: i16) -> i16
 }
 
 // The pairs of a literal and each later one.
+// stays (no plainer): `Named` is of the literals behind one of them, another slice at each turn: a type of them would be made anew, with a proof, at each
 fn add_pairs_with(rows: &mut Clauses<'_>, lit: i16, rest: &[i16], places: &[u16; tables::BY_NUMBER])
     requires { (get_or rows.old.sizes.now 0 0 + length (pairs_with lit rest.now) ≤ paper.clauses)
         × (number_of lit ≤ paper.numbers)
@@ -43,6 +44,7 @@ fn add_pairs(rows: &mut Clauses<'_>, lits: &[i16], places: &[u16; tables::BY_NUM
         × Named lits.now }
     ensures { AddedTo rows.old (pairs lits.now) places.now rows.new }
 {
+    // stays (no plainer): what follows an item is a slice from its index; a chain that gives an item and the rest has to cut the slice by hand too
     for (i, lit) in lits.iter().enumerate() {
         add_pairs_with(rows, *lit, &lits[i + 1..], places);
     }

@@ -12,11 +12,11 @@ use Rattle.qbf.specs.Learning.{Constraint, Store, conclude_by, reduce, lowest_de
 use Rattle.tables.specs.Codes.{codes}
 use Rattle.tables.specs.Sets.{Descended}
 use Rattle.inner.specs.Steps.{first_of, matched, satisfied_or}
-use Rattle.search_entry.specs.Entry.{entry_at, Bounded}
-use Rattle.search_entry.specs.declared.Bounds.{Bounds}
+use Rattle.search_entry.specs.Entry.{entry_at}
+use Rattle.search_entry.specs.declared.bounds.Bounds.{Bounds}
 use Rattle.inner.specs.declared.Leaf.{Leaf}
 use Rattle.inner.specs.declared.Leaf.TheVariants.{No, Yes, Open}
-use Rattle.inner.specs.Inner.{FoundCoded, FoundBounded, LeafCoded, OpenKnown}
+use Rattle.inner.specs.Inner.{FoundCoded, LeafCoded, OpenKnown}
 use Rattle.std.specs.Prelude.{Some, None}
 use Rattle.std.specs.Prelude as code
 
@@ -26,9 +26,6 @@ module _ (D : Prefix) (first next : Option Constraint) {x : code.Option Bounds} 
   dying_found q =
       let g = subst (λ (y : code.Option Bounds). FoundCoded D y cls cs area first) q f in
       (g.0, ap (λ (o : Option Constraint). first_of o next) g.1, g.2)
-
-pub found_bounded : {x : code.Option Bounds} {b : Bounds} → x ≡ Some b → FoundBounded x → Bounded b
-found_bounded q h = subst FoundBounded q h
 
 -- ---- step 4
 module _ (D : Prefix) (s : Node) (cubes : List Constraint) {x : code.Option Bounds} (cls cs qs area : List ℕ) (f : FoundCoded D x cls qs area (eligible_match D eqb true s cubes)) where

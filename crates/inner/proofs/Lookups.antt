@@ -12,10 +12,7 @@ use Rattle.qbf.specs.Formula.{paper, Prefix, Node, value_at}
 use Rattle.qbf.specs.Learning.{Constraint, eligible_match}
 use Rattle.tables.specs.Codes.{code_at, codes, wanted, Statuses}
 use Rattle.tables.specs.Shelves.{length_at, row_at, first_match}
-use Rattle.search_entry.specs.Entry.{entry_at}
-use Rattle.search_entry.specs.declared.Bounds.{Bounds}
-use Rattle.inner.specs.Inner.{FoundCoded, LastGiven}
-use Rattle.std.specs.Prelude.{Some}
+use Rattle.inner.specs.Inner.{LastGiven}
 use Rattle.inner.proofs.LastLiteral.{coded, last_literal}
 
 -- ---- the code of a literal and of its opposite
@@ -59,12 +56,6 @@ module _ {t : List ℕ} (v : Bool) {at code last want : ℕ} (last_is : (p : ℕ
   found_nothing is = uncoded_none D (eligible_match D eqb v s es) (sym is ∙ looked_up)
 
 -- ---- by its bounds
--- what was found, where bounds are those of its row
-pub found_part : (D : Prefix) (o : Option Constraint) {row : List ℕ} (cls cs area : List ℕ) {b : Bounds} (c : Bounds) → b ≡ c → entry_at c cls cs area ≡ row
-    → (e : Constraint) × (o ≡ some e) × (row ≡ codes D e) → FoundCoded D (Some b) cls cs area o
-found_part D o cls cs area c is part (e, h, k) =
-    subst (λ (x : Bounds). FoundCoded D (Some x) cls cs area o) (sym is) (e, h, part ∙ k)
-
 -- as many cells as the first n have
 pub take_again : (n : ℕ) (xs : List ℕ) → take (length (take n xs)) xs ≡ take n xs
 take_again zero xs = refl

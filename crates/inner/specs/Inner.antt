@@ -10,8 +10,8 @@ use Rattle.tables.specs.Formed.{Formed}
 use Rattle.tables.specs.Shelves.{code_count, StoreShown}
 use Rattle.tables.specs.Matrices.{MatrixShown, RowLength}
 use Rattle.tables.specs.Sets.{Descended, dying_row}
-use Rattle.search_entry.specs.Entry.{entry_at, Bounded}
-use Rattle.search_entry.specs.declared.Bounds.{Bounds}
+use Rattle.search_entry.specs.Entry.{entry_at}
+use Rattle.search_entry.specs.declared.bounds.Bounds.{Bounds}
 use Rattle.inner.specs.declared.Leaf.{Leaf}
 use Rattle.inner.specs.declared.Leaf.TheVariants.{No, Yes, Open}
 use Rattle.std.specs.Prelude.{Some, None}
@@ -23,20 +23,10 @@ abbrev pub FoundCoded : Prefix → code.Option Bounds → List ℕ → List ℕ 
 FoundCoded D (Some b) clauses learned area o = (e : Constraint) × (o ≡ some e) × (entry_at b clauses learned area ≡ codes D e)
 FoundCoded D None clauses learned area o = o ≡ none
 
--- it lies within its table
-abbrev pub FoundBounded : code.Option Bounds → Type 0
-FoundBounded (Some b) = Bounded b
-FoundBounded None = Unit {0}
-
 abbrev pub LeafCoded : Prefix → Leaf → List ℕ → List ℕ → List ℕ → List ℕ → Option (Outcome Constraint) → Type 0
 LeafCoded D (No b) clauses cs qs area o = (e : Constraint) × (o ≡ some (decided false e)) × (entry_at b clauses cs area ≡ codes D e)
 LeafCoded D (Yes b) clauses cs qs area o = (e : Constraint) × (o ≡ some (decided true e)) × (entry_at b clauses qs area ≡ codes D e)
 LeafCoded D Open clauses cs qs area o = o ≡ none
-
-abbrev pub LeafBounded : Leaf → Type 0
-LeafBounded (No b) = Bounded b
-LeafBounded (Yes b) = Bounded b
-LeafBounded Open = Unit {0}
 
 -- ---- what is asked
 -- the node s has `at` places, and the code is that of the literal that its last value makes true

@@ -9,7 +9,8 @@ ghost use Rattle.tables.specs.Sets.{MarkedSteps, marked_from};
 use crate::found::true_at;
 use coding::list::reduced_len;
 
-// stays (no plainer): `at ≤ paper.numbers` is of one number that says how far a table is read; a type for it would be taken off at that table
+// stays (no plainer): `usize ≤ paper.numbers` is asked of a place alone: `Given` and `Depth` keep more than that, a code or a row's words, and `literal::Place` is of any limit and keeps
+// no fact; a struct of one number that did would be made at each call and opened at the index
 // The true literals of the marked places among the first `at`, in place order.
 fn marked_codes<'a>(
     marks: &'a [u8; tables::BY_NUMBER],
@@ -25,6 +26,7 @@ fn marked_codes<'a>(
         → take result up.new ≡ marked_from 1 s marks.now) }
 {
     let mut n: usize = 0;
+    // stays (no plainer): the count is the answer, and grows with the places that are marked; a numbered chain over a filter would have to be counted again at its end
     for (i, mark) in marks[1..at + 1].iter().enumerate() {
         up[n] = true_at(statuses, i + 1);
         n += (*mark == 1) as usize;

@@ -9,11 +9,11 @@ ghost use Rattle.tables.specs.Formed.{Formed};
 ghost use Rattle.tables.specs.Matrices.{MatrixShown, left_at, dying_at};
 ghost use Rattle.tables.specs.Sets.{dying_row};
 ghost use Rattle.bitset.specs.Rows.{width, some_below, row};
-ghost use Rattle.inner.specs.Inner.{FoundCoded, FoundBounded, LastGiven, Entered, killing};
+ghost use Rattle.inner.specs.Inner.{FoundCoded, LastGiven, Entered, killing};
 
 use crate::Given;
 use bitset::rows::{any_outside, first_outside};
-use search_entry::{Bounds, Matrix, Source, placed};
+use search_entry::{Bounds, Matrix, Source};
 
 // How many codes universal reduction leaves of clause k.
 fn left_at<'a>(rows: &'a [u16; tables::CLAUSE_ROWS], k: usize) -> u16
@@ -25,8 +25,7 @@ fn left_at<'a>(rows: &'a [u16; tables::CLAUSE_ROWS], k: usize) -> u16
 
 // Clause k under universal reduction: its row, behind its length. Rows that are no clause's are free, and nothing is read there.
 fn clause_at<'a>(rows: &'a [u16; tables::CLAUSE_ROWS], k: usize) -> Option<Bounds>
-    ensures found_bounded { FoundBounded result }
-    ensures found_coded { (D : Prefix) (e : Constraint) (learned area : List ℕ)
+    ensures { (D : Prefix) (e : Constraint) (learned area : List ℕ)
         → k < paper.clauses
         → left_at rows.now k ≤ paper.literals
         → dying_at rows.now k ≡ codes D e
@@ -35,7 +34,11 @@ fn clause_at<'a>(rows: &'a [u16; tables::CLAUSE_ROWS], k: usize) -> Option<Bound
     if k < tables::CLAUSES {
         let size = left_at(rows, k) as usize;
         if size <= tables::LITERALS {
-            return Some(placed(Source::Clauses, k * tables::CLAUSE_ROW + 1, size));
+            return Some(Bounds {
+                source: Source::Clauses,
+                start: k * tables::CLAUSE_ROW + 1,
+                len: size,
+            });
         }
     }
     None
@@ -74,8 +77,7 @@ pub fn any_dies<'a>(
 
 // The clause that dies at an inner node, under universal reduction.
 pub fn dead<'a>(matrix: &'a Matrix, sat: &'a [u64; tables::SATISFIED], g: Given) -> Option<Bounds>
-    ensures found_bounded { FoundBounded result }
-    ensures found_coded { (D : Prefix) (R : List Clause) (s : Node) (st : Store) (k : ℕ) (marks learned area : List ℕ)
+    ensures { (D : Prefix) (R : List Clause) (s : Node) (st : Store) (k : ℕ) (marks learned area : List ℕ)
         → LastGiven s g.at g.code
         → MatrixShown D R g.words matrix.now.rows matrix.now.sets
         → Formed D R st

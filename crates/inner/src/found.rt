@@ -8,15 +8,16 @@ ghost use Rattle.qbf.specs.Learning.{Constraint, eligible_match};
 ghost use Rattle.tables.specs.Codes.{code_at, codes, Statuses};
 ghost use Rattle.tables.specs.Shelves.{code_count};
 ghost use Rattle.shelf.specs.Standing.{rows};
-ghost use Rattle.inner.specs.Inner.{FoundCoded, FoundBounded, LastGiven};
+ghost use Rattle.inner.specs.Inner.{FoundCoded, LastGiven};
 
 use coding::code::opposite;
 use literal::wanted;
-use search_entry::{Bounds, Source, placed};
+use search_entry::{Bounds, Source};
 use shelf::Shelf;
 
 // The code of the true literal of a place that has a value.
-// stays (no plainer): `place ≤ paper.numbers` is that the place's two codes lie within a table of fixed length, asked where it is an index
+// stays (no plainer): `usize ≤ paper.numbers` is asked of a place alone: `Given` and `Depth` keep more than that, a code or a row's words, and `literal::Place` is of any limit and keeps
+// no fact; a struct of one number that did would be made at each call and opened at the index
 pub fn true_at<'a>(statuses: &'a [u8; tables::CODES], place: usize) -> u16
     requires { place ≤ paper.numbers }
     ensures { (result < code_count)
@@ -29,7 +30,7 @@ pub fn true_at<'a>(statuses: &'a [u8; tables::CODES], place: usize) -> u16
     (place * 2) as u16
 }
 
-// stays (no plainer): `code < code_count` is of one cell: a type for it would be taken off at each table that is read by it and put on at each cell of a row.
+// stays (no plainer): `u16 < code_count` is of a number that is made of a place or read from a row's cell, and is an index of a table: a type of it would be made at each of those, and opened at each index
 // The code of the literal of a place that holds in a cube, or fails in a clause, by that of its true literal.
 // stays (no plainer): the polarity is a value of the definitions, and the code is that of one of two literals by it
 fn last_in(code: u16, cube: bool) -> u16
@@ -51,19 +52,22 @@ pub fn lookup<'a>(
     cube: bool,
 ) -> Option<Bounds>
     requires { code < code_count }
-    ensures found_bounded { FoundBounded result }
-    ensures found_coded { (D : Prefix) (s : Node) (at : ℕ) (es : List Constraint) (clauses area : List ℕ)
+    ensures { (D : Prefix) (s : Node) (at : ℕ) (es : List Constraint) (clauses area : List ℕ)
         → Statuses s statuses.now
         → LastGiven s at code
         → 1 ≤ at
         → rows shelf.now ≡ map (codes D) es
         → FoundCoded D result clauses shelf.now.cells area (eligible_match D eqb cube s es) }
 {
+    // stays (no plainer): with `map` the goal `invariant_of-result` stays open until the closure has `requires { slot < paper.constraints }`, which the arm has of `find`; then it is as long
     match shelf.find(last_in(code, cube), statuses, wanted(cube)) {
         Some(slot) => {
             let row = shelf.row_in(slot);
-            let start = slot * (tables::NUMBERS + 1) + 1;
-            Some(placed(Source::Learned, start, row.len()))
+            Some(Bounds {
+                source: Source::Learned,
+                start: slot * (tables::NUMBERS + 1) + 1,
+                len: row.len(),
+            })
         }
         None => None,
     }

@@ -16,17 +16,18 @@ ghost use Rattle.tables.specs.Matrices.{MatrixShown};
 ghost use Rattle.tables.specs.Sets.{ClauseSets, Descended, RowsKept};
 ghost use Rattle.shelf.specs.Standing.{rows};
 ghost use Rattle.inner.specs.Steps.{first_of, matched, satisfied_or};
-ghost use Rattle.inner.specs.Inner.{FoundCoded, FoundBounded, LeafCoded, LeafBounded, Inside, LastGiven, Entered, NodeShown, Concluded};
+ghost use Rattle.inner.specs.Inner.{FoundCoded, LeafCoded, Inside, LastGiven, Entered, NodeShown, Concluded};
 
 use cube::cube;
 use dying::dead;
 use found::{lookup, true_at};
-use node::Position;
-use search_entry::{Bounds, Learned, Matrix, Source, Trail, placed};
+use node::Depth;
+use search_entry::{Bounds, Learned, Matrix, Source, Trail};
 use shelf::Shelf;
 use step_down::step_down;
 
 // What decides the node, with the constraint that goes up by its bounds, or that it is open.
+// stays (no plainer): No, Yes and open are the paper's three outcomes of these steps; as an Option of the first two each would be an enum in an Option, `Some(Leaf::No(b))` for `Leaf::No(b)`
 #[derive(Clone, Copy)]
 pub enum Leaf {
     No(Bounds),
@@ -51,8 +52,7 @@ fn conflict<'a>(
     statuses: &'a [u8; tables::CODES],
     g: Given,
 ) -> Option<Bounds>
-    ensures found_bounded { FoundBounded result }
-    ensures found_coded { (D : Prefix) (R : List Clause) (s : Node) (st : Store) (k : ℕ) (marks area : List ℕ)
+    ensures { (D : Prefix) (R : List Clause) (s : Node) (st : Store) (k : ℕ) (marks area : List ℕ)
         → Statuses s statuses.now
         → LastGiven s g.at g.code
         → MatrixShown D R g.words matrix.now.rows matrix.now.sets
@@ -67,6 +67,8 @@ fn conflict<'a>(
         area
         (first_of (reduced_found D false (lowest_dead D s R)) (eligible_match D eqb false s st.clauses)) }
 {
+    // stays (proof): with `dead(..).or_else(|| lookup(..))` the goal `returns` stays open where no clause dies: no field of what the closure gives has `FoundCoded`; with clauses of its
+    // own the closure would say `lookup`'s contract a second time
     match dead(matrix, sat, g) {
         Some(b) => Some(b),
         None => lookup(learned, statuses, g.code, false),
@@ -75,8 +77,7 @@ fn conflict<'a>(
 
 // Step 4: the oldest eligible cube that is true.
 fn stored_cube<'a>(statuses: &'a [u8; tables::CODES], cubes: &'a Shelf, g: Given) -> Leaf
-    ensures leaf_bounded { LeafBounded result }
-    ensures leaf_coded { (D : Prefix) (s : Node) (qs : List Constraint) (clauses learned area : List ℕ)
+    ensures { (D : Prefix) (s : Node) (qs : List Constraint) (clauses learned area : List ℕ)
         → Statuses s statuses.now
         → LastGiven s g.at g.code
         → rows cubes.now ≡ map (codes D) qs
@@ -96,7 +97,7 @@ fn solution<'a>(
     trail: &mut Trail,
     g: Given,
 ) -> Leaf
-    ensures leaf_bounded { LeafBounded result × RowsKept g.at g.words trail.old.sat trail.new.sat trail.old.marks trail.new.marks }
+    ensures rows_kept { RowsKept g.at g.words trail.old.sat trail.new.sat trail.old.marks trail.new.marks }
     ensures leaf_coded { (D : Prefix) (R : List Clause) (s : Node) (st : Store) (k : ℕ) (clauses learned : List ℕ)
         → Quantified D matrix.now.quantifiers
         → Statuses s statuses.now
@@ -116,7 +117,11 @@ fn solution<'a>(
             g.at,
             &mut trail.cube,
         );
-        return Leaf::Yes(placed(Source::Area, 0, n));
+        return Leaf::Yes(Bounds {
+            source: Source::Area,
+            start: 0,
+            len: n,
+        });
     }
     stored_cube(statuses, cubes, g)
 }
@@ -127,18 +132,18 @@ pub fn conclude<'a>(
     learned: &'a Learned,
     statuses: &'a [u8; tables::CODES],
     trail: &mut Trail,
-    p: Position,
+    here: Depth,
 ) -> Leaf
-    requires { (1 ≤ p.at) × (p.at ≤ paper.numbers) }
-    ensures leaf_bounded { LeafBounded result × RowsKept p.at p.words trail.old.sat trail.new.sat trail.old.marks trail.new.marks }
+    requires { 1 ≤ here.at }
+    ensures rows_kept { RowsKept here.at here.words trail.old.sat trail.new.sat trail.old.marks trail.new.marks }
     ensures concluded { (D : Prefix) (R : List Clause) (s : Node) (st : Store) (k : ℕ)
         → NodeShown
         D
         R
         s
         st
-        p.at
-        p.words
+        here.at
+        here.words
         matrix.now.rows
         matrix.now.sets
         matrix.now.quantifiers
@@ -147,14 +152,14 @@ pub fn conclude<'a>(
         learned.now.clauses.links
         learned.now.cubes.cells
         learned.now.cubes.links
-        → Entered D s R p.words trail.old.sat trail.old.marks k
+        → Entered D s R here.words trail.old.sat trail.old.marks k
         → Concluded
         D
         R
         s
         st
         result
-        p.words
+        here.words
         matrix.now.rows
         learned.now.clauses.cells
         learned.now.cubes.cells
@@ -163,9 +168,9 @@ pub fn conclude<'a>(
         trail.new.marks }
 {
     let g = Given {
-        at: p.at,
-        code: true_at(statuses, p.at),
-        words: p.words,
+        at: here.at,
+        code: true_at(statuses, here.at),
+        words: here.words,
     };
     match conflict(matrix, &trail.sat, &learned.clauses, statuses, g) {
         Some(b) => Leaf::No(b),

@@ -12,7 +12,8 @@ use bitset::rows::{United, unite};
 use search_entry::Trail;
 
 // The mark of a place.
-// stays (no plainer): `at ≤ paper.numbers` is of one number that says how far a table is read; a type for it would be taken off at that table
+// stays (no plainer): `usize ≤ paper.numbers` is asked of a place alone: `Given` and `Depth` keep more than that, a code or a row's words, and `literal::Place` is of any limit and keeps
+// no fact; a struct of one number that did would be made at each call and opened at the index
 pub fn mark(marks: &mut [u8; tables::BY_NUMBER], at: usize, fresh: bool)
     requires { at ≤ paper.numbers }
     ensures { (marks.new ≡ set marks.old at (sign fresh)) × (length marks.old ≡ suc paper.numbers) }

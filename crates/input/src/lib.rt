@@ -26,6 +26,8 @@ fn read_some<R: Read>(reader: &mut R, rest: &mut [u8]) -> usize
 }
 
 // One read behind what is held, which stays: how many bytes it put there, none where the input has ended. Fewer than there is room for are no end.
+// stays (no plainer): with the rest of the buffer lent in place of `text` and `held`, both callers would cut it, and test that no more is held than the buffer has,
+// which this function does once
 pub fn read_more<R: Read>(reader: &mut R, text: &mut [u8], held: usize) -> usize
     ensures { More held text.old result text.new }
 {

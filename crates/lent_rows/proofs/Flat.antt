@@ -2,16 +2,16 @@
 use Prim.Native.Nat.{ℕ, suc, ◌+◌, ◌*◌, ◌-◌, ◌≤◌, ◌<◌}
 use native.Mathlib.Numerals.{add-one}
 use native.Mathlib.Omega.{arith}
-use mathlib.Core.Path.{◌≡◌, ap, ◌∙◌}
+use mathlib.Core.Path.{◌≡◌, sym, ap, ap₂, ◌∙◌}
 use mathlib.Core.Bool.{Bool, true, false}
-use mathlib.Core.List.{List, []}
+use mathlib.Core.List.{List, [], ◌∷◌}
 use lib.IntN.{ℤ}
-use lib.ListN.{length, get_or, take, drop, length-take, length-drop}
-use lib.Seq.{get_or-take, get_or-drop}
-use Rattle.qbf.specs.Formula.{all, any}
+use lib.ListN.{length, get_or, take, drop, length-take, length-drop, drop_of_length-le}
+use lib.Seq.{get_or-take, get_or-drop, drop-cons}
+use Rattle.qbf.specs.Formula.{any}
 use Rattle.tables.specs.Views.{row, rows_of, Standing}
 use Rattle.tables.proofs.Laws.{rows_length, rows_at}
-use Rattle.tables.proofs.Lists.{all_each, all_fails, any_none, any_at}
+use Rattle.tables.proofs.Lists.{any_none, any_at}
 
 module _ {w : ℕ} {flat : List ℤ} {sizes : List ℕ} (t : Standing w flat sizes) (k : ℕ) (low : k < get_or sizes 0 0) where
   -- the size of row k, as the code reads it
@@ -44,14 +44,22 @@ module _ (f : List ℤ → Bool) (w : ℕ) (flat : List ℤ) (sizes : List ℕ) 
   each : {b : Bool} → ((j : ℕ) → j < get_or sizes 0 0 → f (row w flat sizes j) ≡ b) → (j : ℕ) → j < length (rows_of w flat sizes) → f (get_or (rows_of w flat sizes) j []) ≡ b
   each h j m = let l : j < get_or sizes 0 0 = omega (arith, long) in at j l (h j l)
 
-  pub rows_all : ((j : ℕ) → j < get_or sizes 0 0 → f (row w flat sizes j) ≡ true) → all f (rows_of w flat sizes) ≡ true
-  rows_all h = all_each f [] (rows_of w flat sizes) (each h)
-
-  pub rows_fail : (k : ℕ) → k < get_or sizes 0 0 → f (row w flat sizes k) ≡ false → all f (rows_of w flat sizes) ≡ false
-  rows_fail k h e = all_fails f [] (rows_of w flat sizes) k (omega (arith, long)) (at k h e)
-
   pub rows_none : ((j : ℕ) → j < get_or sizes 0 0 → f (row w flat sizes j) ≡ false) → any f (rows_of w flat sizes) ≡ false
   rows_none h = any_none f [] (rows_of w flat sizes) (each h)
 
   pub rows_some : (k : ℕ) → k < get_or sizes 0 0 → f (row w flat sizes k) ≡ true → any f (rows_of w flat sizes) ≡ true
   rows_some k h e = any_at f [] (rows_of w flat sizes) k (omega (arith, long)) (at k h e)
+
+-- ---- the rows one after the other
+module _ (w : ℕ) (flat : List ℤ) (sizes : List ℕ) (k : ℕ) where
+  pub no_more : get_or sizes 0 0 ≤ k → drop k (rows_of w flat sizes) ≡ []
+  no_more h = drop_of_length-le (rows_of w flat sizes) (omega (arith, h, rows_length w flat sizes (get_or sizes 0 0)))
+
+  module _ (h : k < get_or sizes 0 0) where
+    pub next_row : drop k (rows_of w flat sizes) ≡ row w flat sizes k ∷ drop (k + 1) (rows_of w flat sizes)
+    next_row =
+        drop-cons (rows_of w flat sizes) k [] (omega (arith, h, rows_length w flat sizes (get_or sizes 0 0)))
+        ∙ ap₂ (λ (x : List ℤ) (n : ℕ). x ∷ drop n (rows_of w flat sizes)) (rows_at w flat sizes (get_or sizes 0 0) k h) (sym (add-one k))
+
+    pub fewer : length (drop (k + 1) (rows_of w flat sizes)) + 1 ≡ length (drop k (rows_of w flat sizes))
+    fewer = omega (arith, ap length next_row)

@@ -6,6 +6,8 @@ ghost use Rattle.tables.specs.Views.{Standing, row};
 
 use literal::cell_at;
 
+pub mod order; // the rows one after the other
+
 // Row k is the first cells from k * width on; the sizes are the number of rows, then the length of each row.
 #[derive(Clone, Copy)]
 pub struct LentRows<'a> {

@@ -4,16 +4,15 @@
 ghost use Rattle.std.specs.Prelude.{◌≡◌, ◌-◌, ◌≤◌, length, take, drop};
 ghost use Rattle.line_buffer.specs.Numbers.{next_number};
 
-// What is not used yet, at the front; how many bytes it has.
-// stays (no plainer): `held ≤ length text` is of a buffer that is read on while its lines are answered; a struct of both would have to be taken apart for each
-pub fn to_front(text: &mut [u8], at: usize, held: usize) -> usize
-    requires { (at ≤ held) × (held ≤ length text.old) }
-    ensures { (result ≡ held - at)
-        × (length text.new ≡ length text.old)
-        × (take result text.new ≡ take result (drop at text.old)) }
+// Of what is held, what is not used yet goes to the front; how many bytes it has.
+pub fn to_front(held: &mut [u8], at: usize) -> usize
+    requires { at ≤ length held.old }
+    ensures { (result ≡ length held.old - at)
+        × (length held.new ≡ length held.old)
+        × (take result held.new ≡ drop at held.old) }
 {
-    text.copy_within(at..held, 0);
-    held - at
+    held.copy_within(at.., 0);
+    held.len() - at
 }
 
 // A session of more lines than there are numbers keeps the last one.

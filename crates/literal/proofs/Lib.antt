@@ -1,2 +1,3 @@
 pub mod Signed
 pub mod Chains
+pub mod Reducing

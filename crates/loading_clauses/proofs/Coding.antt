@@ -20,7 +20,7 @@ use Rattle.tables.specs.Shelves.{code_count}
 use Rattle.tables.specs.Matrices.{clause_row}
 use Rattle.coding.proofs.Coded.{last_cell}
 use Rattle.loading_clauses.specs.Coded.{Added, Coded, Filled, Low}
-use Rattle.lent_rows.proofs.Rows.{part_kept, part_long, put_part}
+use Rattle.lent_rows.proofs.Rows.{part_kept, put_part}
 
 -- a length before codes that stand already
 module _ (lits : List ℤ) (places quantifiers t : List ℕ) (at left : ℕ) where
@@ -160,14 +160,6 @@ module _ {lits : List ℤ} (k : ℕ) {places quantifiers cells : List ℕ} (c : 
   cut_is =
       let n : (at + 1 + length lits) - (at + 1) ≡ length lits = omega arith in
       ap (λ (m : ℕ). take m (drop (at + 1) cells)) n ∙ ap (λ (b : ℕ). take (length lits) (drop b cells)) (add-one at)
-
-  pub cut_low : Low cut
-  cut_low = subst Low (sym cut_is) c.low
-
-  pub cut_long : at + 1 + length lits ≤ length cells → get_or cells at 0 ≤ length cut
-  cut_long h =
-      let n : (at + 1 + length lits) - (at + 1) ≡ length lits = omega arith in
-      omega (arith, c.less, ap (λ (m : ℕ). length (take m (drop (at + 1) cells))) n, part_long (at + 1) (length lits) cells h)
 
   pub filled : {wc : ℕ} {old sets after : List ℕ} → length cells ≡ length old → take at cells ≡ take at old
       → Added wc cut (take (get_or cells at 0) cut) k sets after → Filled lits places quantifiers wc k old sets cells after

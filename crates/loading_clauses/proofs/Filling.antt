@@ -1,5 +1,5 @@
 -- A clause's number put into the sets by its codes, and the sets of one clause more.
-use Prim.Native.Nat.{ℕ, suc, ◌+◌, ◌*◌, ◌/◌, ◌≤◌, ◌<◌}
+use Prim.Native.Nat.{ℕ, suc, ◌+◌, ◌*◌, ◌≤◌, ◌<◌}
 use native.Mathlib.Nat.{mul-le-mul_right, suc-mul}
 use native.Mathlib.Numerals.{add-one}
 use native.Mathlib.Omega.{arith}
@@ -13,30 +13,14 @@ use Rattle.bitset.specs.Rows.{Cleared, Inserted, member, width}
 use Rattle.bitset.proofs.Members.{member_counted}
 use Rattle.qbf.specs.Formula.{Clause, Prefix, any}
 use Rattle.qbf.specs.Learning.{reduce}
-use Rattle.theory.proofs.Stepwise.{or_none, same_bool}
+use Rattle.theory.proofs.Stepwise.{same_bool}
 use Rattle.theory.proofs.Basics.{eqb_true}
 use borrow.Author.Tests.{eq-eqb}
 use Rattle.tables.specs.Codes.{code_at, code_of, codes, last_code}
 use Rattle.tables.specs.Sets.{ClauseSets, dying_row, has_code, satisfying_row}
 use Rattle.tables.specs.Shelves.{code_count, ends_in}
 use Rattle.clause_sets.proofs.Filling.{dying_apart, inserted_dying, inserted_satisfying, satisfying_apart, sets_more, sets_none}
-use Rattle.loading_clauses.specs.Coded.{Added, Opposite, Satisfying, SetsFor}
-
--- ---- the rows of a code lie within the sets
-module _ {wc k : ℕ} {sets : List ℕ} (room : SetsFor wc k sets) (c : ℕ) (low : c < code_count) where
-  both_within : c * 2 * wc + wc + wc ≤ length sets
-  both_within =
-      omega (arith, room.room, mul-le-mul_right {m = suc (suc (c * 2))} {n = code_count * 2} wc (omega arith), suc-mul (suc (c * 2)) wc, suc-mul (c * 2) wc)
-
-  pub satisfying_within : satisfying_row wc c + k / width < length sets
-  satisfying_within = omega (arith, both_within, room.number)
-
-  pub dying_within : dying_row wc c + k / width < length sets
-  dying_within = omega (arith, both_within, room.number)
-
--- .. and within sets that are as long
-pub sets_long : {wc k : ℕ} {sets after : List ℕ} → SetsFor wc k sets → length after ≡ length sets → SetsFor wc k after
-sets_long room long = record { room = omega (arith, room.room, long); number = room.number }
+use Rattle.loading_clauses.specs.Coded.{Added, Opposite, Satisfying}
 
 -- ---- the code of the opposite literal
 opposite_same : (c d p : ℕ) (b : Bool) → (code_at p b ≡ d → c ≡ code_at p (not b)) → (c ≡ code_at p (not b) → code_at p b ≡ d)
@@ -69,18 +53,6 @@ any_last f (y ∷ xs) x = ap (λ (a : Bool). f y || a) (any_last f xs x) ∙ by 
     by : (a b d : Bool) → (a || (b || d)) ≡ ((a || b) || d)
     by true b d = refl
     by false b d = refl
-
--- no code yet
-pub satisfying_none : (wc : ℕ) (row : List ℕ) (k : ℕ) (t : List ℕ) → Satisfying wc (take 0 row) k t t
-satisfying_none wc row k t = record {
-  long = refl;
-  members = λ c i h. sym (or_none (member t (satisfying_row wc c) i) (by (eqb i k)));
-  others = λ c i h. refl;
-}
-  where
-    by : (a : Bool) → (a && false) ≡ false
-    by true = refl
-    by false = refl
 
 -- one code more
 pub satisfying_more : {wc : ℕ} (row : List ℕ) {k : ℕ} (i : ℕ) {t u after : List ℕ} → Satisfying wc (take i row) k t u → k < wc * width → i < length row

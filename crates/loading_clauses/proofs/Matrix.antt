@@ -1,5 +1,5 @@
 -- The rows and the sets together are the clauses of a search.
-use Prim.Native.Nat.{ℕ, suc, ◌+◌, ◌*◌, ◌≤◌, ◌<◌}
+use Prim.Native.Nat.{ℕ, ◌+◌, ◌*◌, ◌≤◌, ◌<◌}
 use native.Mathlib.Nat.{mul-le-mul_left, mul-le-mul_right, not-suc-le-zero}
 use native.Mathlib.Numerals.{add-one}
 use native.Mathlib.Omega.{arith}
@@ -22,16 +22,12 @@ use Rattle.loading_clauses.specs.Coded.{Filled}
 use Rattle.loading_clauses.proofs.Coding.{CodedBelow, coded_more, row_short}
 use Rattle.loading_clauses.proofs.Filling.{sets_next}
 
--- the words of a row of n clauses have room for one number more
-pub words_room : (n : ℕ) {m : ℕ} → m < suc n → m < words_of n * width
-words_room n h = omega arith
-
--- .. and are not more than the longest row has
+-- the words of a row of n clauses are not more than the longest row has
 words_few : (n : ℕ) → n ≤ paper.clauses → words_of n ≤ row_words
 words_few n h = omega arith
 
 pub row_length : {n words : ℕ} → words ≡ words_of n → n ≤ paper.clauses → RowLength words
-row_length {n} is h = record { few = omega (arith, is, words_few n h); blocks = omega (arith, is) }
+row_length {n} is h = record { few = omega (arith, is, words_few n h) }
 
 -- the rows of the codes below c lie within the sets
 pub codes_within : (c n words : ℕ) → words ≡ words_of n → n ≤ paper.clauses → c ≤ code_count → c * 2 * words ≤ code_count * 2 * row_words

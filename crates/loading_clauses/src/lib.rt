@@ -24,7 +24,7 @@ pub fn words_of(count: usize) -> usize
 }
 
 // A clause's row, from a cell on; the cells before it stay.
-// stays (no plainer): `length lits ≤ paper.literals` is what the clause's table says of it where it is read, at one call
+// stays (no plainer): `length [i16] ≤ paper.literals` is of a row as it is read off its table, at one call: a slice, which keeps no fact
 fn code_row<'a>(
     rows: &mut [u16],
     at: usize,
@@ -45,7 +45,7 @@ fn code_row<'a>(
 }
 
 // Clause k goes into the row of each of its codes.
-// stays (no plainer): `SetsFor words k sets` speaks of a clause's number too, another at each call, so no type of the sets says it
+// stays (no plainer): `SetsFor words k sets` says that each row of the sets has room for the bit of clause k; k is another at each call, so a type would be made anew for each clause
 fn add_satisfying<'a>(sets: &mut [u64], words: usize, row: &'a [u16], k: usize)
     requires { SetsFor words k sets.old × Low row.now }
     ensures { Satisfying words row.now k sets.old sets.new }
@@ -67,36 +67,29 @@ fn add_clause<'a>(sets: &mut [u64], words: usize, row: &'a [u16], left: usize, k
 }
 
 // Clause k: its row, and its number in the sets.
-// stays (proof): seven parameters, since a part of a struct's rows cannot be lent beside its sets, which the last step does
-fn load_clause<'a>(
-    lits: &'a [i16],
-    places: &'a [u16],
-    quantifiers: &'a [u8; tables::CODES],
-    rows: &mut [u16],
-    sets: &mut [u64],
-    words: usize,
-    k: usize,
-)
+fn load_clause<'a>(lits: &'a [i16], places: &'a [u16], matrix: &mut Matrix, words: usize, k: usize)
     requires { (length lits.now ≤ paper.literals)
         × (k < paper.clauses)
-        × (length rows.old ≡ paper.clauses * clause_row)
-        × SetsFor words k sets.old }
-    ensures { Filled
+        × (length matrix.old.rows ≡ paper.clauses * clause_row)
+        × SetsFor words k matrix.old.sets }
+    ensures { (matrix.new.quantifiers ≡ matrix.old.quantifiers)
+        × Filled
         lits.now
         places.now
-        quantifiers.now
+        matrix.old.quantifiers
         words
         k
-        rows.old
-        sets.old
-        rows.new
-        sets.new }
+        matrix.old.rows
+        matrix.old.sets
+        matrix.new.rows
+        matrix.new.sets }
 {
-    let len = lits.len();
     let at = k * tables::CLAUSE_ROW;
-    code_row(rows, at, lits, places, quantifiers);
-    let left = rows[at] as usize;
-    add_clause(sets, words, &rows[at + 1..at + 1 + len], left, k);
+    code_row(&mut matrix.rows, at, lits, places, &matrix.quantifiers);
+    let left = matrix.rows[at] as usize;
+    let rows: &[u16] = &matrix.rows;
+    let codes = &rows[at + 1..at + 1 + lits.len()];
+    add_clause(&mut matrix.sets, words, codes, left, k);
 }
 
 // The clauses one after the other.
@@ -119,21 +112,15 @@ fn add_clauses<'a>(clauses: LentRows<'a>, places: &'a [u16], matrix: &mut Matrix
         matrix.new.sets) }
 {
     let count = clauses.count();
+    // stays (no plainer): k is the clause's number too; and `row(k)` says how long the row is, which what `rows()` yields does not
     for k in 0..count {
-        load_clause(
-            clauses.row(k),
-            places,
-            &matrix.quantifiers,
-            &mut matrix.rows,
-            &mut matrix.sets,
-            words,
-            k,
-        );
+        load_clause(clauses.row(k), places, matrix, words, k);
     }
 }
 
 // The rows and the sets of the clauses, under places up to `last`, where the quantifiers are there. Their content before is free: of the sets the rows of
 // the places' codes are cleared first.
+// stays (no plainer): `usize ≤ paper.numbers` is of one number that says how far a table is read; a type for it would be taken off at that table
 pub fn load_clauses<'a>(clauses: LentRows<'a>, places: &'a [u16], last: usize, matrix: &mut Matrix)
     requires { Held clauses.width paper.clauses clauses.cells.now clauses.sizes.now
         × (clauses.width ≤ paper.literals)

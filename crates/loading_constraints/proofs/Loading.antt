@@ -5,10 +5,10 @@ use native.Mathlib.Numerals.{add-one}
 use mathlib.Core.Path.{◌≡◌, sym, ap, subst, ◌∙◌}
 use mathlib.Core.List.{List, [], ◌∷◌, ◌++◌, map, map-append}
 use lib.IntN.{ℤ}
-use lib.ListN.{length, get_or, take, drop, length-map}
+use lib.ListN.{length, take, drop, length-map}
 use Rattle.qbf.specs.Formula.{paper, Prefix}
 use Rattle.qbf.specs.Learning.{push}
-use Rattle.tables.specs.Views.{Places, row, rows, rows_of}
+use Rattle.tables.specs.Views.{Places, row, rows}
 use Rattle.tables.specs.Codes.{codes}
 use Rattle.tables.specs.Shelves.{Entries, entries_of, newest_of, base_of, shelf_rows, ring_rows}
 use Rattle.tables.proofs.Laws.{rows_length, rows_suc, rows_zero}
@@ -71,11 +71,3 @@ load_more {w} {f} {l} {places} {k} {cells} {links} inv low cells' links' s e h =
       (omega (arith, rows_length w f l k))
       ∙ ap (map (codes D)) (sym (rows_suc w f l k) ∙ ap (rows w f l) (sym (add-one k)));
 }
-
--- all rows
-pub load_end : {w : ℕ} {f : List ℤ} {l places : List ℕ} {k : ℕ} {cells links : List ℕ} → Loaded w f l places k cells links
-    → k ≡ get_or l 0 0
-    → Entries cells links × (newest_of links ≡ get_or l 0 0)
-    × ((D : Prefix) → Places D places → length D ≤ paper.numbers → entries_of cells links ≡ map (codes D) (rows_of w f l))
-load_end {w} {f} {l} {places} {k} {cells} {links} inv e =
-    (inv.shelf, inv.newest ∙ e, λ D p few. inv.is D p few ∙ ap (λ (n : ℕ). map (codes D) (rows w f l n)) e)

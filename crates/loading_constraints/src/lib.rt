@@ -14,6 +14,7 @@ use lent_rows::LentRows;
 use shelf::Shelf;
 
 // One constraint more goes onto the shelf.
+// stays (no plainer): `Room Shelf` is used up, a number by each row: a shelf that kept it could not be written to
 fn load_row<'a>(literals: &'a [i16], places: &'a [u16], shelf: &mut Shelf)
     requires { (length literals.now ≤ paper.numbers) × Room shelf.old }
     ensures { (newest shelf.new ≡ suc (newest shelf.old))
@@ -40,6 +41,7 @@ pub fn load<'a>(table: LentRows<'a>, places: &'a [u16], shelf: &mut Shelf)
         ≡ map (codes D) (rows_of table.entry.width table.entry.cells.now table.entry.sizes.now)) }
 {
     let count = table.count();
+    // stays (proof): with `for row in table.rows()` the goal `load_row-requires` stays open: what the iterator yields says nothing of how long a row is, which `row(k)` does
     for k in 0..count {
         load_row(table.row(k), places, shelf);
     }

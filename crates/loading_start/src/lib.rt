@@ -12,11 +12,11 @@ use bitset::rows::{clear, insert};
 use inner::Given;
 use inner::found::true_at;
 use inner::step_down::{mark, row_down};
-use node::Position;
+use node::Depth;
 use search_entry::Trail;
 
 // Before the first place: the row has every number that is no clause's.
-// stays (no plainer): `count` counts the clauses, and not the words of the row
+// stays (no plainer): `words` is how much of the table the row is, and the table is longer; a slice of that many words would be cut at both calls, whose contracts are of the table
 pub fn first_row(sat: &mut [u64], words: usize, count: usize)
     requires { RowLength words × (words ≤ length sat.old) }
     ensures { FirstRow count words sat.old sat.new }
@@ -27,28 +27,27 @@ pub fn first_row(sat: &mut [u64], words: usize, count: usize)
     }
 }
 
-// The row and the mark of place p.
+// The row and the mark of the last place.
 fn step<'a>(
     sets: &'a [u64; tables::CLAUSE_SETS],
     statuses: &'a [u8; tables::CODES],
-    words: usize,
-    p: usize,
+    here: Depth,
     trail: &mut Trail,
 )
-    requires { (1 ≤ p) × (p ≤ paper.numbers) × RowLength words }
+    requires { 1 ≤ here.at }
     ensures { (D : Prefix) (R : List Clause) (s : Node) (at : ℕ)
-        → StartShown D R s words at sets.now statuses.now
-        → p ≤ at
-        → Descended D s R words trail.old.sat trail.old.marks (p - 1)
-        → Descended D s R words trail.new.sat trail.new.marks p }
+        → StartShown D R s here.words at sets.now statuses.now
+        → here.at ≤ at
+        → Descended D s R here.words trail.old.sat trail.old.marks (here.at - 1)
+        → Descended D s R here.words trail.new.sat trail.new.marks here.at }
 {
     let given = Given {
-        at: p,
-        code: true_at(statuses, p),
-        words,
+        at: here.at,
+        code: true_at(statuses, here.at),
+        words: here.words,
     };
     let step = row_down(sets, &mut trail.sat, given);
-    mark(&mut trail.marks, p, step.fresh);
+    mark(&mut trail.marks, here.at, step.fresh);
 }
 
 // The rows and the marks of the places before a search's start, where there are `count` clauses.
@@ -57,17 +56,17 @@ pub fn start_rows<'a>(
     sets: &'a [u64; tables::CLAUSE_SETS],
     statuses: &'a [u8; tables::CODES],
     count: usize,
-    start: Position,
+    start: Depth,
     trail: &mut Trail,
 )
-    requires { start.at ≤ paper.numbers }
     ensures { (D : Prefix) (R : List Clause) (s : Node)
         → StartShown D R s start.words start.at sets.now statuses.now
         → length R ≡ count
         → Descended D s R start.words trail.new.sat trail.new.marks (length s) }
 {
     first_row(&mut trail.sat, start.words, count);
-    for p in 0..start.at {
-        step(sets, statuses, start.words, p + 1, trail);
+    for at in 1..=start.at {
+        let words = start.words;
+        step(sets, statuses, Depth { at, words }, trail);
     }
 }

@@ -8,9 +8,8 @@ ghost use Rattle.qbf.specs.Formula.{number_of, positive};
 ghost use Rattle.layout.specs.Session.{named};
 ghost use Rattle.reader.specs.Items.{narrow, Kept};
 
-use literal::number_of;
+use literal::{number_of, put};
 use reader::item::narrow;
-use reader::items::put_literal;
 
 // Whether a literal has the sign.
 fn is_of(l: i16, on: bool) -> bool
@@ -32,9 +31,10 @@ pub fn named(lits: &[i16], on: bool, out: &mut [i16]) -> usize
     ensures { Kept result out.new (named on lits.now) }
 {
     let mut n: usize = 0;
+    // stays (no plainer): the count is the answer, and grows with the literals kept; a numbered chain over a filter would have to be counted again at its end
     for l in lits {
         if is_of(*l, on) {
-            put_literal(out, n, number_in(*l));
+            put(out, n, number_in(*l));
             n += 1;
         }
     }

@@ -8,13 +8,13 @@ use Rattle.tables.specs.Codes.{code_at, codes, last_code, Statuses, Quantified}
 use Rattle.tables.specs.Shelves.{code_count, newest_of}
 use Rattle.tables.specs.Records.{Ledger, StoreKept}
 use Rattle.cover.specs.Cover.{Covers}
-use Rattle.search_entry.specs.Entry.{entry_at, Bounded}
+use Rattle.search_entry.specs.Entry.{entry_at}
+use Rattle.search_entry.specs.Within.{nowhere}
 use Rattle.search_entry.specs.declared.Source.TheVariants.{Area}
-use Rattle.search_entry.specs.declared.Bounds.{Bounds}
+use Rattle.search_entry.specs.declared.bounds.Bounds.{Bounds}
 use Rattle.node.specs.declared.Verdict.{Verdict}
 use Rattle.node.specs.declared.Verdict.TheVariants.{Yes, No, Mixed}
-use Rattle.node.specs.declared.position.Position.{Position}
-use Rattle.node.specs.declared.Answer.{Answer}
+use Rattle.node.specs.declared.answer.Answer.{Answer}
 
 -- ---- verdicts
 -- the verdict is p: Yes where that is true, No where it is false
@@ -30,14 +30,14 @@ is_mixed Mixed = true
 
 -- ---- the constraint that goes up
 abbrev pub bounds_of : Answer → Bounds
-bounds_of r = record { source = r.source; start = r.start; len = r.len }
+bounds_of r = record { source = r.source; start = r.start; len = r.len; inside = r.inside }
 
 -- the answer with other bounds; Mixed, which has no constraint
 abbrev pub rebound_of : Answer → Bounds → Answer
-rebound_of r b = record { verdict = r.verdict; source = b.source; start = b.start; len = b.len; budget = r.budget; lines = r.lines }
+rebound_of r b = record { verdict = r.verdict; source = b.source; start = b.start; len = b.len; budget = r.budget; lines = r.lines; inside = b.inside }
 
 abbrev pub mixed_of : Answer → Answer
-mixed_of r = record { verdict = Mixed; source = Area; start = 0; len = 0; budget = r.budget; lines = r.lines }
+mixed_of r = record { verdict = Mixed; source = Area; start = 0; len = 0; budget = r.budget; lines = r.lines; inside = nowhere }
 
 -- the learned constraints of a verdict's polarity
 abbrev pub stored_by : Verdict → List ℕ → List ℕ → List ℕ
@@ -102,7 +102,6 @@ Fits D e = (length e ≤ paper.numbers) × (last_code (codes D e) < code_count)
 
 -- both sides done: the counts are the on side's
 pub record Finished (on r : Answer) : Type 0 where
-  pub bounded : Bounded (bounds_of r)
   pub budget : r.budget ≡ on.budget
   pub lines : r.lines ≡ on.lines
 
@@ -115,12 +114,12 @@ pub record Grown (cl ql cl' ql' : List ℕ) : Type 0 where
   pub clauses : newest_of cl' ≤ suc (newest_of cl)
   pub cubes : newest_of ql' ≤ suc (newest_of ql)
 
--- the tables show what a line is written from
-pub record LineTask (s : Node) (ls : List Node) (statuses table : List ℕ) (p : Position) (lines : ℕ) : Type 0 where
+-- the tables show what a line of a node of `at` places is written from, where there are so many free variables and lines
+pub record LineTask (s : Node) (ls : List Node) (statuses table : List ℕ) (at free lines : ℕ) : Type 0 where
   pub statused : Statuses s statuses
-  pub long : length s ≡ p.at
-  pub inside : p.at < p.free
-  pub covers : Covers p.free table ls
+  pub long : length s ≡ at
+  pub inside : at < free
+  pub covers : Covers free table ls
   pub counted : lines ≡ length ls
 
 -- whether a side is a line by itself, by the quantifier's code, that of a free variable being 0, and the verdict p of the lines

@@ -1,4 +1,4 @@
-// Where a visit stands at a node, and where a node stands that has visited its off side.
+// Where a visit stands at a node, and what of that the steps at it read; and where a node stands that has visited its off side.
 ghost use Rattle.std.specs.Prelude.{◌≤◌, ◌<◌};
 ghost use Rattle.qbf.specs.Formula.{paper};
 ghost use Rattle.tables.specs.Matrices.{RowLength};
@@ -17,6 +17,15 @@ pub struct Position {
     pub words: usize,
     pub yes: bool,
     pub ghost few: { free ≤ paper.numbers },
+    pub ghost long: { RowLength words },
+}
+
+// How far the rows of clauses are read at a node: its length, and the words of a row.
+#[derive(Clone, Copy)]
+pub struct Depth {
+    pub at: usize,
+    pub words: usize,
+    pub ghost within: { at ≤ paper.numbers },
     pub ghost long: { RowLength words },
 }
 

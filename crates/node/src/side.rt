@@ -21,7 +21,7 @@ pub fn is_of(v: Verdict, yes: bool) -> bool
 pub fn is_mixed(v: Verdict) -> bool
     ensures { result ≡ is_mixed v }
 {
-    matches!(v, Verdict::Mixed)
+    v == Verdict::Mixed
 }
 
 // The learned constraints of the verdict's polarity: clauses for No, cubes for Yes.

@@ -8,7 +8,6 @@ use lib.ListN.{length, length-append}
 use Rattle.qbf.specs.Formula.{Node, ◌▹◌}
 use Rattle.cover.specs.Cover.{Covers}
 use Rattle.node.specs.declared.Verdict.{Verdict}
-use Rattle.node.specs.declared.position.Position.{Position}
 use Rattle.node.specs.Node.{is_of, LineTask, lined_of, settled_lines, SettledTo}
 
 -- ---- whether a side is a line
@@ -34,8 +33,8 @@ pub count_same : (a b : Bool) (n : ℕ) → b ≡ false → n ≡ settled_lines 
 count_same a true n e = absurd (true≢false e)
 count_same a false n e = refl
 
-module _ {s : Node} {ls : List Node} {statuses before after : List ℕ} {p : Position} {lines : ℕ} (task : LineTask s ls statuses before p lines) (popped : (ms : List Node) (x : Node) → length ms + 1 ≡ lines → Covers p.free before (ms ++ (x ∷ [])) → Covers p.free after ms) where
-  back : (ms : List Node) (x : Node) → ls ≡ ms ++ (x ∷ []) → Covers p.free after ms
+module _ {s : Node} {ls : List Node} {statuses before after : List ℕ} {at free lines : ℕ} (task : LineTask s ls statuses before at free lines) (popped : (ms : List Node) (x : Node) → length ms + 1 ≡ lines → Covers free before (ms ++ (x ∷ [])) → Covers free after ms) where
+  back : (ms : List Node) (x : Node) → ls ≡ ms ++ (x ∷ []) → Covers free after ms
   back ms x e = popped ms x (omega (arith, ap length e, length-append ms (x ∷ []), task.counted)) (rw e at task.covers)
 
 -- only the on side is a line: it is added, as `line_if` does it

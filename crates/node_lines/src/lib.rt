@@ -8,10 +8,19 @@ ghost use Rattle.cover.specs.Cover.{Covers};
 ghost use Rattle.node.specs.Node.{LineTask, lined_of, settled_lines, SettledTo};
 
 use cover::CardLines;
+use node::Verdict;
 use node::side::is_of;
-use node::{Position, Verdict};
 
 mod line; // one line more
+
+// Where a node's lines stand: its length, the count of the free variables, and the lines so far.
+#[derive(Clone, Copy)]
+pub struct NodeLines {
+    pub at: usize,
+    pub free: usize,
+    pub count: usize,
+    pub ghost few: { free ≤ paper.numbers },
+}
 
 // Whether a side of that verdict is a line by itself, the lines being Yes nodes or No nodes: below the free variables there are none.
 pub fn lined(v: Verdict, kind: u16, yes: bool) -> bool
@@ -24,60 +33,61 @@ pub fn lined(v: Verdict, kind: u16, yes: bool) -> bool
     false
 }
 
-// A line more where the side with that value is one. The position says how many there are.
-// stays (no plainer): the branch would stand in the caller's cycle of visitors, where its two ways meet again
+// A line more where the side with that value is one.
+// stays (no plainer): the choice would stand in `sides` of the search, whose proof would say of the table, where the two ways meet, what this contract says
 pub fn line_if<'a>(
     one: bool,
     value: u8,
     table: &mut [u8],
-    p: Position,
+    here: NodeLines,
     statuses: &'a [u8; tables::CODES],
 ) -> usize
-    requires { p.lines < 2 ^ 63 }
+    requires { here.count < 2 ^ 63 }
     ensures table_len_unchanged { (length table.new ≡ length table.old)
-        × (result ≡ cond one (p.lines + 1) p.lines)
+        × (result ≡ cond one (here.count + 1) here.count)
         × (one ≡ false → table.new ≡ table.old) }
     ensures covers { (s : Node) (b : Bool) (ls : List Node)
-        → LineTask s ls statuses.now table.old p p.lines
+        → LineTask s ls statuses.now table.old here.at here.free here.count
         → value ≡ byte_of b
-        → Covers p.free table.new (ls ++ cond one ((s ▹ b) ∷ []) []) }
+        → Covers here.free table.new (ls ++ cond one ((s ▹ b) ∷ []) []) }
 {
     if !one {
-        return p.lines;
+        return here.count;
     }
-    line::add_line(table, value, p, statuses);
-    p.lines + 1
+    line::add_line(table, value, here, statuses);
+    here.count + 1
 }
 
+// stays (no plainer): each bool is what `lined` says of one side; an enum of the three cases would be made by a match of the same two, and matched here again
 // After both sides: two lines are one line above, so the off side's line is taken back; else the on side's line is added where it is one.
 pub fn settle_lines<'a>(
     first: bool,
     second: bool,
     table: &mut [u8],
-    p: Position,
+    here: NodeLines,
     statuses: &'a [u8; tables::CODES],
 ) -> usize
-    requires { (p.lines < 2 ^ 63) × (first ≡ true → second ≡ true → 1 ≤ p.lines) }
+    requires { (here.count < 2 ^ 63) × (first ≡ true → second ≡ true → 1 ≤ here.count) }
     ensures table_len_unchanged { (length table.new ≡ length table.old)
-        × (result ≡ settled_lines first second p.lines)
+        × (result ≡ settled_lines first second here.count)
         × (second ≡ false → table.new ≡ table.old) }
     ensures settled_to { (s : Node) (ls : List Node)
-        → LineTask s ls statuses.now table.old p p.lines
-        → SettledTo first second s ls p.free table.new }
+        → LineTask s ls statuses.now table.old here.at here.free here.count
+        → SettledTo first second s ls here.free table.new }
 {
     match (first, second) {
-        (_, false) => p.lines,
+        (_, false) => here.count,
         (true, true) => {
             let lines = CardLines {
-                count: p.lines,
-                free: p.free,
+                count: here.count,
+                free: here.free,
             };
             cover::pop_line(table, lines);
-            p.lines - 1
+            here.count - 1
         }
         (false, true) => {
-            line::add_line(table, tables::ON, p, statuses);
-            p.lines + 1
+            line::add_line(table, tables::ON, here, statuses);
+            here.count + 1
         }
     }
 }

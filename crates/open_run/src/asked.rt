@@ -2,6 +2,7 @@
 ghost use Rattle.open_run.specs.OpenRun.{Ready};
 
 // The tables of a formula, and the values by number of a reading of its free variables, some of them open.
+// stays (no plainer): `answers::task::Task` has three of these tables and `free` too; it starts at a node and is searched on a state, where this lends clauses
 #[derive(Clone, Copy)]
 pub struct Asked<'a> {
     pub numbers: &'a [u16; tables::BY_NUMBER],

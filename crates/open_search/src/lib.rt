@@ -79,7 +79,8 @@ impl Fork {
 }
 
 // The code of the literal that a place's value makes true.
-// stays (no plainer): `place ≤ paper.numbers` is that the place's two codes lie within a table of fixed length, asked where it is an index
+// stays (no plainer): `usize ≤ paper.numbers` is asked of a place alone: `Place` keeps more than that, a row's words, and `literal::Place` is of any limit and keeps no fact; a struct of
+// one number that did would be made at the call and opened here
 fn code_at(place: usize, on: bool) -> u16
     requires { place ≤ paper.numbers }
     ensures { (result ≡ code_at place on) × (result < code_count) }
@@ -190,6 +191,8 @@ fn branch<'a>(
 
 // "An exists node visits the off side and stops on Yes".
 // stays (form): the visitors of the three quantifiers are over one body
+// stays (no plainer): `matrix, recorded, sat` go through the visitors together; a struct of them would be taken apart at each call out of the cycle, as `any_dies` and `row_down` take
+// the sets and `sat`, `next_kind` the quantifiers, and `recorded_in` only what is recorded
 #[cycle(branch_exists_forall_free_sides_visit)]
 fn exists<'a>(
     matrix: &'a Matrix,

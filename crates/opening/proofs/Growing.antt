@@ -1,8 +1,8 @@
 -- The variables of a block, declared from the left.
-use Prim.Native.Nat.{ℕ, ◌+◌, ◌<◌, ◌≤◌}
+use Prim.Native.Nat.{ℕ, ◌+◌, ◌<◌}
 use mathlib.Core.Path.{◌≡◌, refl, sym, ap, subst, ◌∙◌}
 use mathlib.Core.Bool.{Bool, true, false, not, ◌||◌}
-use mathlib.Core.List.{List, [], ◌∷◌, ◌++◌, map, append_assoc, append-nil}
+use mathlib.Core.List.{List, [], ◌∷◌, ◌++◌, map, append_assoc}
 use mathlib.Core.Option.{Option, none, some}
 use native.Mathlib.Omega.{arith}
 use lib.Dec.{eqb, ltb}
@@ -11,13 +11,12 @@ use lib.ListN.{length, get_or, drop}
 use Rattle.qbf.specs.Formula.{paper, Quantifier, Prefix, quantifiers, number_of, place_of}
 use Rattle.qbf.specs.Calls.{given, numbers_are_ok, free_first, prefix_is_ok, ◌or_else◌}
 use Rattle.theory.proofs.Basics.{and_both}
-use Rattle.constraint.proofs.Lists.{drop_more, drop_end}
+use Rattle.constraint.proofs.Lists.{drop_more}
 use Rattle.state.specs.Reading.{quantifier_of, prefix_of}
-use Rattle.state.specs.Declare.{variable_fault, with_variable, refusal_of, Declarable, Declared}
+use Rattle.state.specs.Declare.{variable_fault, with_variable, Declarable, Declared}
 use Rattle.state.proofs.SoundPrefix.{sound_free_first}
-use Rattle.std.specs.Prelude.{Ok, Err}
+use Rattle.std.specs.Prelude.{Err}
 use Rattle.refusal.specs.declared.Refusal.{Refusal}
-use Rattle.refusal.specs.Refusal.{fault_in}
 use Rattle.refusal.specs.Refusal.{number_of as refusal_number}
 use Rattle.layout.specs.Opening.{variable, declare_fault}
 use Rattle.layout_laws.proofs.Blocks.{Before, before_more, in_range, prefix_more}

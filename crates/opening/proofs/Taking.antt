@@ -1,17 +1,15 @@
 -- The forms of a text's lines, each on the state that stands.
 use Prim.Native.Nat.{ℕ, zero, suc, ◌≤◌, ◌<◌}
 use mathlib.Core.Path.{◌≡◌, refl, sym, ap, subst, ◌∙◌}
-use mathlib.Core.Bool.{Bool, true, false, cond, not}
+use mathlib.Core.Bool.{Bool, true, false, cond}
 use mathlib.Core.List.{List, [], ◌++◌, map}
 use mathlib.Core.Option.{Option, none, some}
 use lib.ListN.{get_or}
 use native.Mathlib.Omega.{arith}
-use borrow.Author.Tests.{ne_eqb}
-use lib.Dec.{eqb}
 use lib.IntN.{ℤ}
 use Rattle.qbf.specs.Formula.{paper, Prefix, quantifiers, Literal, number_of, all, is_free}
 use Rattle.qbf.specs.Learning.{Store, empty_store}
-use Rattle.qbf.specs.Calls.{rule, answer, rule_reply, given, rule_fault, with_rule, store_after_rule, clause_ok, constraint_ok, formula_is_ok, well_formed, guarded, State as Read}
+use Rattle.qbf.specs.Calls.{rule, answer, rule_reply, rule_fault, with_rule, store_after_rule, clause_ok, constraint_ok, formula_is_ok, well_formed, guarded, State as Read}
 use Rattle.qbf.specs.Runs.{fresh}
 use Rattle.theory.proofs.Basics.{and_left, and_both}
 use Rattle.theory.proofs.WellFormed.{formula_facts}
@@ -20,16 +18,14 @@ use Rattle.state.specs.Reading.{at_most, quantifier_of, rows_fit, prefix_of, pre
 use Rattle.state.proofs.Valid.{valid_facts}
 use Rattle.state.specs.Declare.{Sound}
 use Rattle.state.proofs.SoundPrefix.{valid_sound, sound_valid}
-use Rattle.serving.specs.Serves.{Said, said_of, number, out_of, next_of, Serves}
+use Rattle.serving.specs.Serves.{Said, said_of, out_of, next_of, Serves}
 use Rattle.std.specs.Prelude.{Result, Ok, Err}
 use Rattle.refusal.specs.declared.Refusal.{Refusal}
-use Rattle.refusal.specs.declared.Refusal.TheVariants.{Edition}
 use Rattle.refusal.specs.Refusal.{fault_in}
-use Rattle.layout.specs.Forms.{book, block, clause, end}
+use Rattle.layout.specs.Forms.{block, clause}
 use Rattle.layout.specs.Opening.{rank, allowed, stage_after, variable}
 use Rattle.layout_laws.proofs.Blocks.{Before}
 use Rattle.layout_laws.proofs.Opened.{allowed_is, fresh_formed}
-use Rattle.reader.specs.Items.{narrow}
 use Rattle.opening.specs.Blocks.{block_rank, Growable, Grown}
 use Rattle.opening.specs.declared.book.Book.{Book}
 use Rattle.opening.specs.declared.stage.Stage.TheVariants as stages
@@ -37,8 +33,8 @@ use Rattle.opening.specs.declared.stage.Stage.{Stage}
 use Rattle.opening.specs.Stages.{rank_of, placed}
 use Rattle.rules.specs.Rules.{change_said}
 use Rattle.opening.specs.Standing.{Standing}
-use Rattle.opening.specs.Opened.{TookForm, BlockTook, RuleTook}
-use Rattle.opening.proofs.Standing.{standing_valid, nothing_stored, fresh_read, misplaced, refused_form, taken_form, stands_after}
+use Rattle.opening.specs.Opened.{BlockTook, RuleTook}
+use Rattle.opening.proofs.Standing.{standing_valid, nothing_stored, fresh_read, refused_form, taken_form, stands_after}
 
 abbrev book_at : (s : Stage) (x : State) → Standing (rank_of s) x → Book
 book_at s x p = record { stage = s; state = x; stands = p }

@@ -3,3 +3,4 @@ pub mod Blocks
 pub mod Lines
 pub mod Opened
 pub mod Stages
+pub mod Adding

@@ -6,6 +6,8 @@ use refusal::Refusal;
 use state::declare::declare;
 
 // The first fault from the left, or all are declared.
+// stays (form): the kind is the number that `declare` writes into the flat table of kinds, as the line has it.
+// stays (no plainer): the three tables are those of `declare`, whose line says why they are no struct
 pub fn declare_all(
     numbers: &mut [u16; tables::BY_NUMBER],
     levels: &mut [u16; tables::BY_NUMBER],

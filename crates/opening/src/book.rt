@@ -2,6 +2,7 @@
 ghost use Rattle.opening.specs.Stages.{rank_of};
 ghost use Rattle.opening.specs.Standing.{Standing};
 
+use crate::add::{Added, add};
 use crate::block::declare_all;
 use crate::stage::{Stage, of_block};
 use crate::text::LineByLine;
@@ -9,8 +10,6 @@ use literal::{Number, number_of};
 use reader::keyword::Line;
 use reader::line::{kept, read_line};
 use refusal::Refusal;
-use rules::in_place;
-use rules::lent::Adding;
 use state::State;
 
 // "2 edition not 1"
@@ -59,7 +58,7 @@ impl Book {
         })
     }
 
-    // stays (form): `kind ≤ quantifier_code forall` is of a number that is a cell of the flat tables, handed on as it is
+    // stays (form): `u16 ≤ quantifier_code forall` is of the number that a keyword gives a quantifier, and that is written into a cell of the flat tables as it is
     pub fn take_block(self, kind: u16, lits: &[i16]) -> Result<Book, Refusal>
         requires { kind ≤ quantifier_code forall }
         ensures { BlockTook (rank_of self.stage) self.state kind lits.now result }
@@ -83,19 +82,7 @@ impl Book {
         ensures { RuleTook (rank_of self.stage) self.state lits.now result }
     {
         self.stage.place(Stage::Rule)?;
-        let mut state = self.state;
-        let mut tables = Adding {
-            numbers: &state.numbers,
-            levels: &state.levels,
-            kinds: &state.kinds,
-            clauses: &mut state.clauses,
-            clause_sizes: &mut state.clause_sizes,
-            learned_clauses: &state.learned_clauses,
-            learned_clause_sizes: &state.learned_clause_sizes,
-            learned_cubes: &state.learned_cubes,
-            learned_cube_sizes: &mut state.learned_cube_sizes,
-        };
-        in_place::rule(&mut tables, lits)?;
+        let state = add(self.state, Added::Rule, lits)?;
         Ok(Book {
             stage: Stage::Rule,
             state,

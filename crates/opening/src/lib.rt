@@ -9,6 +9,7 @@ use book::Book;
 use state::State;
 use text::{NO_LINE, RefusedAt, read_text};
 
+pub mod add;
 mod block;
 pub mod book;
 pub mod lines;

@@ -39,6 +39,7 @@ impl Stage {
 }
 
 // Free variables stand on the flags' line, quantified ones in blocks.
+// stays (form): the kind is the number that a line has, and that `declare` writes into the flat table of kinds.
 pub fn of_block(kind: u16) -> Stage
     ensures { rank_of result ≡ block_rank kind }
 {

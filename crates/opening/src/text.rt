@@ -41,10 +41,7 @@ pub trait LineByLine: Copy {
 pub fn at<T>(line: usize, judged: Result<T, Refusal>) -> Result<T, RefusedAt>
     ensures { result ≡ at_line line judged }
 {
-    match judged {
-        Ok(value) => Ok(value),
-        Err(refusal) => Err(RefusedAt { refusal, line }),
-    }
+    judged.map_err(|refusal| RefusedAt { refusal, line })
 }
 
 // The state that a text's lines build, or the first refusal.
@@ -59,6 +56,7 @@ pub fn read_text<R: LineByLine>(start: R, text: &[u8]) -> Result<State, RefusedA
     }
     let mut read = start;
     let mut number: usize = 1;
+    // stays (no plainer): the number is asked for after the loop too, for the line that is missing; that of a zip ends with it.
     for line in Lines::of(text) {
         let line = at(number, line)?;
         read = at(number, read.take(line))?;

@@ -44,7 +44,7 @@ fn sign(b: u8) -> u8
 fn shown(n: usize) -> usize
     ensures { result ≡ min n flag_columns }
 {
-    if n <= FLAGS { n } else { FLAGS }
+    n.min(FLAGS)
 }
 
 // "Row 1 is the word CARD, blanks, and the page number, from 1, right-aligned in columns 67 to 71."
@@ -88,6 +88,8 @@ fn line_row(numbered: Numbered, line: &[u8]) -> [u8; COLUMNS]
     row[4] = digit(number);
     row[END] = b'\n';
     let flags = &line[..shown(line.len())];
+    // stays (proof): over `row[FLAG..END].iter_mut().zip(line)` the goal `returns` stops at the cells: of a loop over a zip a proof knows what its iterator
+    // gave, and not what was written through it
     for (i, flag) in flags.iter().enumerate() {
         row[FLAG + i] = sign(*flag);
     }

@@ -33,7 +33,7 @@ use Rattle.refusal.specs.declared.Refusal.{Refusal}
 use Rattle.serve.specs.Line.{prefix_read}
 use Rattle.serve.proofs.FreeLines.{card_lines}
 use Rattle.serve.proofs.CardTexts.{Listed, Refused, formed_cases, said_by}
-use Rattle.printer.specs.declared.Made.{Made}
+use Rattle.cover.specs.declared.CardLines.{CardLines}
 use Rattle.printer.specs.Making.{ReplyMade, CardMade, MakesCard}
 
 -- a formula that opens is well-formed with its empty store
@@ -65,11 +65,11 @@ module _ (x : State) (b : Formula) (e : read_state x ≡ some (fresh b)) (ok : f
     said_is v q reply z = ap (λ (o : Result ℕ Refusal). card_said o k tb) (sym q) ∙ s.answered ∙ ap said_of out_is ∙ said_by a reply z
 
     -- lines stand in the table
-    pub lines_made : (n : ℕ) → p ≡ Ok n → (f : ℕ) → f ≡ free_variables b.prefix → CardMade size (opened b) (Ok (record { lines = n; free = f })) tb
+    pub lines_made : (n : ℕ) → p ≡ Ok n → (f : ℕ) → f ≡ free_variables b.prefix → CardMade size (opened b) (Ok (record { count = n; free = f })) tb
     lines_made n q f free = by (formed_cases highest_ceiling true size (fresh b))
       where
-        r : Result Made RefusedAt
-        r = Ok (record { lines = n; free = f })
+        r : Result CardLines RefusedAt
+        r = Ok (record { count = n; free = f })
 
         by : Refused a.reply ⊎ Listed highest_ceiling true size (fresh b) a.reply → ReplyMade b.prefix a.reply r tb
         by (inl (m, tb', z)) = absurd (some_none (sym (ap (λ (v : Said). v.refusal) (said_is (Ok n) q (card_refused (suc m) tb') z))))
@@ -81,7 +81,7 @@ module _ (x : State) (b : Formula) (e : read_state x ≡ some (fresh b)) (ok : f
     pub refusal_made : (k : Refusal) → p ≡ Err k → CardMade size (opened b) (Err (record { refusal = k; line = 0 })) tb
     refusal_made k q = by (formed_cases highest_ceiling true size (fresh b))
       where
-        r : Result Made RefusedAt
+        r : Result CardLines RefusedAt
         r = Err (record { refusal = k; line = 0 })
 
         by : Refused a.reply ⊎ Listed highest_ceiling true size (fresh b) a.reply → ReplyMade b.prefix a.reply r tb
@@ -96,7 +96,7 @@ pub text_refused : (size : ℕ) (o : Opened) (k : RefusedAt) (t : Bytes) → Rea
 text_refused size (refused n line) k t w z = (w.0, w.1, z)
 text_refused size (opened b) k t w z = absurd w
 
-pub text_made : (s : Bytes) (size : ℕ) (x : State) (r : Result Made RefusedAt) (t : Bytes) → ReadAs (open_editions both paper s) (Ok x)
+pub text_made : (s : Bytes) (size : ℕ) (x : State) (r : Result CardLines RefusedAt) (t : Bytes) → ReadAs (open_editions both paper s) (Ok x)
     → ((b : Formula) → read_state x ≡ some (fresh b) → formula_is_ok b ≡ true → CardMade size (opened b) r t) → MakesCard s size r t
 text_made s size x r t w made = by (open_editions both paper s) refl w
   where

@@ -31,7 +31,7 @@ use Rattle.serve.proofs.FreeLines.{card_lines, lines_within, one_line}
 use Rattle.serve.proofs.CardTexts.{Listed, Refused, formed_cases}
 use Rattle.page.specs.Lent.{PageLent}
 use Rattle.page.proofs.Cards.{table_printable}
-use Rattle.printer.specs.declared.Made.{Made}
+use Rattle.cover.specs.declared.CardLines.{CardLines}
 use Rattle.printer.specs.Making.{ListsMade, RefusalMade, ReplyMade, CardMade, MakesCard, PagesWritten, printed_by, PagesOf}
 use Rattle.printer.proofs.Making.{opened_formed}
 
@@ -70,16 +70,16 @@ pages_joined table count f (suc k) n (d ∷ ds) ((d₀, r, e, w), h) =
 -- ---- the program
 module _ (size : ℕ) (t : Bytes) (ds : List Bytes) where
   -- a number and a line
-  told : (r : Result Made RefusedAt) (n k : ℕ) (table : Bytes) → RefusalMade n k table r t → printed_by r ds ≡ refusal_text n k
+  told : (r : Result CardLines RefusedAt) (n k : ℕ) (table : Bytes) → RefusalMade n k table r t → printed_by r ds ≡ refusal_text n k
   told (Ok m) n k table w = absurd w
   told (Err q) n k table w = λ i. refusal_text (w.0 i) (w.1 i)
 
   -- or lines
-  listed : (r : Result Made RefusedAt) → PagesOf r t ds → (D : Prefix) (n : ℕ) (table : Bytes) → ListsMade D n table r t → printed_by r ds ≡ pages_text table n (free_variables D)
-  listed (Ok m) p D n table (c, g, q) = pages_joined t m.lines m.free (pages m.lines) 1 ds p ∙ (λ i. pages_text (q i) (c i) (g i))
+  listed : (r : Result CardLines RefusedAt) → PagesOf r t ds → (D : Prefix) (n : ℕ) (table : Bytes) → ListsMade D n table r t → printed_by r ds ≡ pages_text table n (free_variables D)
+  listed (Ok m) p D n table (c, g, q) = pages_joined t m.count m.free (pages m.count) 1 ds p ∙ (λ i. pages_text (q i) (c i) (g i))
   listed (Err k) p D n table w = absurd w
 
-  of_reply : (r : Result Made RefusedAt) → PagesOf r t ds → (b : Formula) → formula_is_ok b ≡ true → CardMade size (opened b) r t → printed_by r ds ≡ opened_pages size (opened b)
+  of_reply : (r : Result CardLines RefusedAt) → PagesOf r t ds → (b : Formula) → formula_is_ok b ≡ true → CardMade size (opened b) r t → printed_by r ds ≡ opened_pages size (opened b)
   of_reply r p b ok h = by (formed_cases highest_ceiling true size (fresh b))
     where
       a : Reply
@@ -94,7 +94,7 @@ module _ (size : ℕ) (t : Bytes) (ds : List Bytes) where
           listed r p D (length (card_lines (fresh b) true)) (table_of (free_variables D) size (card_lines (fresh b) true)) (subst (λ (q : Reply). ReplyMade D q r t) z h) ∙ ap (pages_printed D) (sym z)
 
 -- Whatever makes the card of a text and writes each of its pages as their contracts say: all that is printed is what the program `pages` prints.
-pub printed_pages : (s : Bytes) (size : ℕ) (r : Result Made RefusedAt) (t : Bytes) (ds : List Bytes) → MakesCard s size r t → PagesOf r t ds → printed_by r ds ≡ pages_program paper size s
+pub printed_pages : (s : Bytes) (size : ℕ) (r : Result CardLines RefusedAt) (t : Bytes) (ds : List Bytes) → MakesCard s size r t → PagesOf r t ds → printed_by r ds ≡ pages_program paper size s
 unfolding pages_program
 printed_pages s size r t ds h p = by (open_editions both paper s) refl h
   where

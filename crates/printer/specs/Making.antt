@@ -14,19 +14,19 @@ use Rattle.editions.specs.Opening.{both, open_editions}
 use Rattle.page.specs.Lent.{PageLent}
 use Rattle.refusal.specs.Refusal.{number_of}
 use Rattle.opening.specs.declared.text.RefusedAt.{RefusedAt}
-use Rattle.printer.specs.declared.Made.{Made}
+use Rattle.cover.specs.declared.CardLines.{CardLines}
 
 -- ---- the card
 -- a reply with lines or a refusal, the only ones that a card has
-abbrev pub ListsMade : Prefix → ℕ → Bytes → Result Made RefusedAt → Bytes → Type 0
-ListsMade D n table (Ok m) t = (m.lines ≡ n) × (m.free ≡ free_variables D) × (t ≡ table)
+abbrev pub ListsMade : Prefix → ℕ → Bytes → Result CardLines RefusedAt → Bytes → Type 0
+ListsMade D n table (Ok m) t = (m.count ≡ n) × (m.free ≡ free_variables D) × (t ≡ table)
 ListsMade D n table (Err q) t = ⊥
 
-abbrev pub RefusalMade : ℕ → ℕ → Bytes → Result Made RefusedAt → Bytes → Type 0
+abbrev pub RefusalMade : ℕ → ℕ → Bytes → Result CardLines RefusedAt → Bytes → Type 0
 RefusalMade n line table (Ok m) t = ⊥
 RefusalMade n line table (Err q) t = (number_of q.refusal ≡ n) × (q.line ≡ line) × (t ≡ table)
 
-abbrev pub ReplyMade : Prefix → Reply → Result Made RefusedAt → Bytes → Type 0
+abbrev pub ReplyMade : Prefix → Reply → Result CardLines RefusedAt → Bytes → Type 0
 ReplyMade D (lines ls table) r t = ListsMade D (length ls) table r t
 ReplyMade D (card_refused n table) r t = RefusalMade n 0 table r t
 ReplyMade D done r t = ⊥
@@ -36,11 +36,11 @@ ReplyMade D keep r t = ⊥
 ReplyMade D unsettled r t = ⊥
 ReplyMade D (found ls tb z) r t = ⊥
 
-abbrev pub CardMade : ℕ → opening.Opened → Result Made RefusedAt → Bytes → Type 0
+abbrev pub CardMade : ℕ → opening.Opened → Result CardLines RefusedAt → Bytes → Type 0
 CardMade size (opening.refused n line) r t = RefusalMade n line (zero_table size) r t
 CardMade size (opening.opened b) r t = ReplyMade b.prefix (learning_card true b empty_store highest_ceiling size).out.reply r t
 
-abbrev pub MakesCard : Bytes → ℕ → Result Made RefusedAt → Bytes → Type 0
+abbrev pub MakesCard : Bytes → ℕ → Result CardLines RefusedAt → Bytes → Type 0
 MakesCard s size r t = CardMade size (open_editions both paper s) r t
 
 -- ---- its pages
@@ -52,10 +52,10 @@ PagesWritten table count f (suc k) n [] = ⊥
 PagesWritten table count f (suc k) n (d ∷ ds) = ((d₀ : Bytes) × (r : ℕ) × (length d₀ ≡ page_bytes) × PageLent table count f n d₀ r d) × PagesWritten table count f k (suc n) ds
 
 -- what is printed: all pages of a card, or the refusal
-abbrev pub printed_by : Result Made RefusedAt → List Bytes → Bytes
+abbrev pub printed_by : Result CardLines RefusedAt → List Bytes → Bytes
 printed_by (Ok m) ds = joined ds
 printed_by (Err q) ds = refusal_text (number_of q.refusal) q.line
 
-abbrev pub PagesOf : Result Made RefusedAt → Bytes → List Bytes → Type 0
-PagesOf (Ok m) t ds = PagesWritten t m.lines m.free (pages m.lines) 1 ds
+abbrev pub PagesOf : Result CardLines RefusedAt → Bytes → List Bytes → Type 0
+PagesOf (Ok m) t ds = PagesWritten t m.count m.free (pages m.count) 1 ds
 PagesOf (Err q) t ds = Unit {0}

@@ -13,33 +13,20 @@ ghost use Rattle.writer.specs.Wrote.{Wrote};
 ghost use Rattle.printer.specs.Making.{CardMade, MakesCard};
 
 use answer_text::refused::write_refusal;
+use cover::CardLines;
 use edition_opening::{Editions, read_editions};
 use opening::text::{NO_LINE, RefusedAt};
 use state::State;
 
-// How many lines stand in the table, and the count of free variables.
-#[derive(Clone, Copy)]
-pub struct Made {
-    pub lines: usize,
-    pub free: usize,
-}
-
 // The card of a state with an empty store; its refusal has no line.
-fn card_of(x: State, table: &mut [u8]) -> Result<Made, RefusedAt>
+fn card_of(x: State, table: &mut [u8]) -> Result<CardLines, RefusedAt>
     ensures { (b : Formula) → read_state x ≡ some (fresh b) → formula_is_ok b ≡ true → CardMade (length table.old) (opened b) result table.new }
 {
-    let numbers = x.numbers;
-    let levels = x.levels;
-    let kinds = x.kinds;
-    let free = state::kinds::free_count(state::prefix::Variables {
-        numbers: &numbers,
-        levels: &levels,
-        kinds: &kinds,
-    });
+    let free = x.free_count();
     let mut next = x;
     let shown = answers::on_state::card_of(&mut next, table, true, tables::HIGHEST_CEILING);
     match shown.lines {
-        Ok(lines) => Ok(Made { lines, free }),
+        Ok(lines) => Ok(CardLines { count: lines, free }),
         Err(refusal) => Err(RefusedAt {
             refusal,
             line: NO_LINE,
@@ -48,7 +35,7 @@ fn card_of(x: State, table: &mut [u8]) -> Result<Made, RefusedAt>
 }
 
 // The table is zero where the text or its card is refused.
-pub fn make_card(text: &[u8], table: &mut [u8]) -> Result<Made, RefusedAt>
+pub fn make_card(text: &[u8], table: &mut [u8]) -> Result<CardLines, RefusedAt>
     ensures { MakesCard text.now (length table.old) result table.new }
 {
     match read_editions(Editions::Both, text) {
@@ -61,6 +48,7 @@ pub fn make_card(text: &[u8], table: &mut [u8]) -> Result<Made, RefusedAt>
 }
 
 // A refusal's text, in a table for a page.
+// stays (no plainer): `refusal_text` is of every number; a `Refusal` is one of 23, and would ask more of a caller
 pub fn put_refusal(out: &mut [u8; page::lent::BYTES], refusal: u16, line: usize) -> usize
     ensures { Wrote out.old 0 (refusal_text refusal line) out.new result }
 {

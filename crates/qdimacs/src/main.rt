@@ -4,9 +4,9 @@
 use std::io;
 
 fn main(rt: HostRuntime) -> io::Result<()> {
-    program::with_text(&rt, |text| {
-        let mut out = [0u8; qdimacs_printer::ROOM];
-        let length = qdimacs_printer::print_book(text, &mut out);
-        output::print(&rt, &out, length)
-    })
+    let mut room = [0u8; program::ROOM];
+    let mut out = [0u8; qdimacs_printer::ROOM];
+    let text = program::read(&rt, &mut room);
+    let length = qdimacs_printer::print_book(text, &mut out);
+    rt.write_all(&out[..length])
 }

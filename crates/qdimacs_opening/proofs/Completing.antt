@@ -1,10 +1,9 @@
 -- The completed formula: flags, then groups, and no clause yet.
 use Prim.Native.Nat.{ℕ, suc, ◌≤◌, zero-le}
 use mathlib.Core.Path.{◌≡◌, refl, sym, ap, subst, ◌∙◌}
-use mathlib.Core.Bool.{Bool, true, cond}
+use mathlib.Core.Bool.{true}
 use mathlib.Core.List.{List, [], ◌++◌}
 use native.Mathlib.Omega.{arith}
-use borrow.Author.Tests.{eq-eqb, ne_eqb}
 use lib.ListN.{replicate}
 use Rattle.qbf.specs.Formula.{paper, free, Prefix}
 use Rattle.qbf.specs.Calls.{numbers_are_ok}
@@ -16,14 +15,12 @@ use Rattle.state.proofs.Valid.{prefix_numbers}
 use Rattle.state.proofs.SoundPrefix.{sound_none, valid_sound}
 use Rattle.layout_laws.proofs.Blocks.{Before}
 use Rattle.opening.specs.Blocks.{Growable}
-use Rattle.opening.specs.Standing.{Standing}
 use Rattle.opening.proofs.Standing.{standing_valid}
 use Rattle.opening.proofs.Taking.{grown_state, grown_standing}
-use Rattle.qdimacs_form.specs.Opening.{flag_variables, completed, whole}
+use Rattle.qdimacs_form.specs.Opening.{flag_variables, completed}
 use Rattle.qdimacs_laws.proofs.Flags.{completed_numbers}
-use Rattle.qdimacs_opening.specs.declared.head.Head.{Head}
 use Rattle.qdimacs_opening.specs.Completed.{Flagged, Joinable, Joined}
-use Rattle.qdimacs_opening.specs.Stands.{part_of, own_stage, reading_of, Grouped, Stands}
+use Rattle.qdimacs_opening.specs.Stands.{Grouped}
 use Rattle.qdimacs_opening.specs.Lines.{Whole}
 
 -- ---- no variable yet
@@ -59,18 +56,3 @@ module _ {x : State} (g : Grouped x) {v : ℕ} (few : v ≤ paper.numbers) where
         }
 
 -- ---- at each stage
-module _ {h : Head} {x : State} (s : Stands h x) where
-  pub groups_stand : part_of h.part ≡ 1 → Grouped x
-  groups_stand e = record { stands = subst (λ (k : ℕ). Standing (own_stage k) x) e s.stands; none_free = s.none_free (omega (arith, e)) }
-
-  pub whole_completed : part_of h.part ≡ 1 → {y : State} → Whole (completed h.variables (formula_in x)) y → Whole (whole (reading_of h x)) y
-  whole_completed e {y} = subst (λ (t : Bool). Whole (cond t (completed h.variables (formula_in x)) (formula_in x)) y) (sym (eq-eqb (part_of h.part) 1 e))
-
-  pub whole_standing : (part_of h.part ≡ 1 → ⊥) → Whole (whole (reading_of h x)) x
-  whole_standing e =
-      subst (λ (t : Bool). Whole (cond t (completed h.variables (formula_in x)) (formula_in x)) x) (sym (ne_eqb (part_of h.part) 1 e))
-      (record {
-        formula = refl;
-        stands =
-            record { read = s.stands.read; reached = record { few = s.stands.reached.few; facts = s.stands.reached.facts; no_variables = λ q. absurd (omega (arith, q)); no_clauses = λ q. absurd (omega (arith, q)) } };
-      })

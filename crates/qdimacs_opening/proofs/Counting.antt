@@ -1,18 +1,18 @@
 -- A quantifier line: its numbers up to the first that is above the header's count are declared, and then that one is refused.
-use Prim.Native.Nat.{ℕ, zero, suc, ◌+◌, ◌≤◌, ◌<◌, zero-le}
+use Prim.Native.Nat.{ℕ, zero, suc, ◌+◌, ◌≤◌, zero-le}
 use mathlib.Core.Path.{◌≡◌, refl, sym, ap, ◌∙◌}
 use mathlib.Core.Bool.{Bool, true, false, cond, not, ◌&&◌, ◌||◌}
 use mathlib.Core.List.{List, [], ◌∷◌, ◌++◌, map}
 use mathlib.Core.Option.{Option}
+use native.Mathlib.Numerals.{add-one}
 use native.Mathlib.Omega.{arith}
-use borrow.Author.Tests.{ne_eqb, lt-leb, le-leb, lt-ltb, le-ltb, ltb-true, ltb-false}
-use lib.IntN.{ℤ, pos}
-use lib.ListN.{length, get_or, take, drop, length-map, length-take}
+use borrow.Author.Tests.{ne_eqb, lt-leb, le-leb, le-ltb, ltb-true, ltb-false}
+use lib.IntN.{ℤ}
+use lib.ListN.{length, take, length-map, length-take}
 use lib.Dec.{eqb, leb, ltb, eqb-suc-suc}
 use Rattle.qbf.specs.Formula.{paper, Quantifier, Prefix, number_of, place_of}
 use Rattle.qbf.specs.Calls.{given, ◌or_else◌}
 use Rattle.theory.proofs.Basics.{or_false_right}
-use Rattle.constraint.proofs.Lists.{drop_more, drop_end}
 use Rattle.layout.specs.Opening.{variable, declare_fault}
 use Rattle.qdimacs_form.specs.Opening.{group_fault}
 use Rattle.qdimacs_opening.specs.Stands.{above, counted}
@@ -22,42 +22,16 @@ module _ (v n : ℕ) where
   pub above_not : n ≤ v → false ≡ above v n
   above_not h = sym (ap (λ (t : Bool). t && leb n paper.numbers) (le-ltb v n h))
 
-  pub above_is : v < n → leb n paper.numbers ≡ above v n
-  above_is h = sym (ap (λ (t : Bool). t && leb n paper.numbers) (lt-ltb v n h))
+-- ---- a line's numbers, by the first of them
+module _ (v : ℕ) where
+  pub counted_none : counted v (map number_of []) ≡ 0
+  counted_none = refl
 
--- ---- a line's numbers
--- the numbers from i on are left, and none before is above the count
-pub record Counting (v : ℕ) (lits : List ℤ) (i : ℕ) : Type 0 where
-  pub most : i ≤ length lits
-  pub same : counted v (map number_of lits) ≡ i + counted v (map number_of (drop i lits))
+  pub counted_above : (l : ℤ) (lits : List ℤ) → above v (number_of l) ≡ true → counted v (map number_of (l ∷ lits)) ≡ 0
+  counted_above l lits e = ap (λ (t : Bool). cond t 0 (suc (counted v (map number_of lits)))) e
 
-pub count_none : (v : ℕ) (lits : List ℤ) → Counting v lits 0
-count_none v lits = record { most = zero-le; same = omega arith }
-
-module _ {v : ℕ} {lits : List ℤ} {i : ℕ} (h : Counting v lits i) where
-  pub count_all : length lits ≤ i → i ≡ counted v (map number_of lits)
-  count_all q = sym (h.same ∙ ap (λ (l : List ℤ). i + counted v (map number_of l)) (drop_end lits i q) ∙ (let z : i + 0 ≡ i = omega arith in z))
-
-  module _ (q : i < length lits) {l : ℤ} (at : l ≡ get_or lits i (pos 0)) {n : ℕ} (is : n ≡ number_of l) {t : Bool} (told : t ≡ above v n) where
-    next : counted v (map number_of (drop i lits)) ≡ cond t 0 (suc (counted v (map number_of (drop (i + 1) lits))))
-    next =
-        ap (λ (ls : List ℤ). counted v (map number_of ls)) (drop_more lits i (pos 0) q)
-        ∙ ap (λ (k : ℕ). cond (above v k) 0 (suc (counted v (map number_of (drop (i + 1) lits))))) (sym (is ∙ ap number_of at))
-        ∙ ap (λ (x : Bool). cond x 0 (suc (counted v (map number_of (drop (i + 1) lits))))) (sym told)
-
-    pub count_found : t ≡ true → i ≡ counted v (map number_of lits)
-    count_found z =
-        sym (h.same ∙ ap (λ (k : ℕ). i + k) (next ∙ ap (λ (x : Bool). cond x 0 (suc (counted v (map number_of (drop (i + 1) lits))))) z) ∙ (let y : i + 0 ≡ i = omega arith in y))
-
-    pub count_more : t ≡ false → Counting v lits (i + 1)
-    count_more z =
-        record {
-          most = omega (arith, q);
-          same =
-              h.same
-              ∙ ap (λ (k : ℕ). i + k) (next ∙ ap (λ (x : Bool). cond x 0 (suc (counted v (map number_of (drop (i + 1) lits))))) z)
-              ∙ (let y : (k : ℕ) → i + suc k ≡ i + 1 + k = λ k. omega arith in y (counted v (map number_of (drop (i + 1) lits))));
-        }
+  pub counted_within : (l : ℤ) (lits : List ℤ) → above v (number_of l) ≡ false → counted v (map number_of (l ∷ lits)) ≡ counted v (map number_of lits) + 1
+  counted_within l lits e = ap (λ (t : Bool). cond t 0 (suc (counted v (map number_of lits)))) e ∙ sym (add-one (counted v (map number_of lits)))
 
 -- ---- the fault of a line
 counted_most : (v : ℕ) (ns : List ℕ) → counted v ns ≤ length ns

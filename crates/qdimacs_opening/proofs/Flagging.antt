@@ -1,11 +1,10 @@
 -- The flags are declared in rising number, each without a fault.
-use Prim.Native.Nat.{ℕ, suc, ◌+◌, ◌≤◌, ◌<◌, zero-le}
+use Prim.Native.Nat.{ℕ, suc, ◌+◌, ◌-◌, ◌≤◌, ◌<◌}
 use mathlib.Core.Path.{◌≡◌, sym, ap, subst, ◌∙◌}
 use mathlib.Core.Bool.{Bool, true, not}
 use mathlib.Core.List.{List, [], ◌∷◌, ◌++◌}
 use mathlib.Core.Option.{Option, none, some}
 use native.Mathlib.Omega.{arith}
-use native.Mathlib.Numerals.{add-one}
 use borrow.Author.Tests.{ne_eqb, le-ltb}
 use lib.ListN.{get_or}
 use lib.Dec.{eqb, ltb}
@@ -63,18 +62,24 @@ module _ {ns ls ks : List ℕ} (g : Growable ns ls ks (quantifier_code free)) wh
     flag_quantified z =
         record { growable = g; prefix = λ D m shown e h. h ∙ sym (ap (flag_variables D) e ∙ flags_same D m (λ q. z (shown.at n ∙ ap (place_of D) e ∙ q))) }
 
--- ---- the loop: the numbers up to n are judged
+-- ---- the loop: the numbers below n are judged
 pub record Flagging (ns₀ ls₀ ks₀ places ns ls ks : List ℕ) (v n : ℕ) : Type 0 where
-  pub most : n ≤ v
+  pub least : 1 ≤ n
+  pub most : n ≤ v + 1
   pub growable : Growable ns ls ks (quantifier_code free)
-  pub prefix : (D : Prefix) → Places D places → prefix_of ns₀ ls₀ ks₀ ≡ [] → prefix_of ns ls ks ≡ flag_variables D n
+  pub prefix : (D : Prefix) → Places D places → prefix_of ns₀ ls₀ ks₀ ≡ [] → prefix_of ns ls ks ≡ flag_variables D (n - 1)
 
-pub flag_none : {ns ls ks : List ℕ} (places : List ℕ) (v : ℕ) → Growable ns ls ks (quantifier_code free) → Flagging ns ls ks places ns ls ks v 0
-flag_none places v g = record { most = zero-le; growable = g; prefix = λ D shown e. e }
+pub flag_first : {ns ls ks : List ℕ} (places : List ℕ) (v : ℕ) → Growable ns ls ks (quantifier_code free) → Flagging ns ls ks places ns ls ks v 1
+flag_first places v g = record { least = omega arith; most = omega arith; growable = g; prefix = λ D s e. e }
 
-module _ {ns₀ ls₀ ks₀ places ns ls ks : List ℕ} {v n : ℕ} (h : Flagging ns₀ ls₀ ks₀ places ns ls ks v n) where
-  pub flag_more : n < v → {ns' ls' ks' : List ℕ} → FlagDeclared ns ls ks places (n + 1) ns' ls' ks' → Flagging ns₀ ls₀ ks₀ places ns' ls' ks' v (n + 1)
-  flag_more q d = record { most = omega (arith, q); growable = d.growable; prefix = λ D shown e. d.prefix D n shown (add-one n) (h.prefix D shown e) }
+module _ {ns₀ ls₀ ks₀ places ns ls ks : List ℕ} {v n : ℕ} (i : Flagging ns₀ ls₀ ks₀ places ns ls ks v n) {ns' ls' ks' : List ℕ} (d : FlagDeclared ns ls ks places n ns' ls' ks') where
+  judged : (D : Prefix) → Places D places → prefix_of ns₀ ls₀ ks₀ ≡ [] → prefix_of ns' ls' ks' ≡ flag_variables D n
+  judged D s e = d.prefix D (n - 1) s (omega (arith, i.least)) (i.prefix D s e)
 
-  pub flag_all : v ≤ n → Flagged ns₀ ls₀ ks₀ places v ns ls ks
-  flag_all q = let same : n ≡ v = omega (arith, q, h.most) in record { growable = h.growable; prefix = λ D shown e. h.prefix D shown e ∙ ap (flag_variables D) same }
+  pub flag_next : n < v → Flagging ns₀ ls₀ ks₀ places ns' ls' ks' v (n + 1)
+  flag_next h =
+      let same : n ≡ n + 1 - 1 = omega arith in
+      record { least = omega arith; most = omega (arith, h); growable = d.growable; prefix = λ D s e. judged D s e ∙ ap (flag_variables D) same }
+
+  pub flag_last : n ≡ v → Flagged ns₀ ls₀ ks₀ places v ns' ls' ks'
+  flag_last q = record { growable = d.growable; prefix = λ D s e. judged D s e ∙ ap (flag_variables D) q }

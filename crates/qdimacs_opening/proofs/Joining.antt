@@ -1,23 +1,22 @@
 -- The variables of the groups are declared after the flags, each without a fault.
-use Prim.Native.Nat.{ℕ, zero, suc, ◌+◌, ◌≤◌, ◌<◌, zero-le}
+use Prim.Native.Nat.{ℕ, zero, suc, ◌+◌, ◌≤◌, ◌<◌}
 use mathlib.Core.Path.{◌≡◌, refl, sym, ap, subst, ◌∙◌}
 use mathlib.Core.Bool.{Bool, true, false, not, ◌||◌}
-use mathlib.Core.List.{List, [], ◌∷◌, ◌++◌, append_assoc, append-nil}
+use mathlib.Core.List.{List, [], ◌∷◌, ◌++◌, append_assoc}
 use mathlib.Core.Option.{Option, none}
 use native.Mathlib.Omega.{arith}
 use native.Mathlib.Numerals.{add-one}
-use borrow.Author.Tests.{leb-true}
 use lib.ListN.{length, get_or, take, drop}
 use lib.Seq.{take-suc, take_all, split_at}
-use lib.Dec.{eqb, leb, ltb}
+use lib.Dec.{eqb, ltb}
 use Rattle.qbf.specs.Formula.{paper, Quantifier, free, exists, forall, is_free, Variable, Prefix, quantifiers, quantifier_at, all, place_of}
 use Rattle.qbf.specs.Calls.{numbers_are_ok, given, ◌or_else◌}
-use Rattle.theory.proofs.Basics.{and_left, not_true}
+use Rattle.theory.proofs.Basics.{not_true}
 use Rattle.tables.specs.Views.{quantifier_code}
-use Rattle.state.specs.Reading.{quantifier_of, entry_at, code_at, variable_at, prefix_of, levels_fit}
+use Rattle.state.specs.Reading.{quantifier_of, entry_at, code_at, variable_at, prefix_of}
 use Rattle.state.specs.Derived.{code_for}
 use Rattle.state.specs.Declare.{Sound, variable_fault, with_variable, Declarable, Declared}
-use Rattle.state.proofs.SoundPrefix.{sound_fits, sound_quantified}
+use Rattle.state.proofs.SoundPrefix.{sound_quantified}
 use Rattle.state.proofs.Listing.{listing_length, listing_at, listing_map, listing_all}
 use Rattle.layout.specs.Opening.{variable}
 use Rattle.layout_laws.proofs.Blocks.{Before}
@@ -41,9 +40,6 @@ quantified (suc (suc k)) ks e = tt
 module _ {m ml mk : List ℕ} (s : Sound m ml mk) where
   abbrev E : Prefix
   E = prefix_of m ml mk
-
-  pub group_count : get_or m 0 0 ≤ paper.numbers
-  group_count = leb-true (get_or m 0 0) paper.numbers (and_left (leb (get_or m 0 0) paper.numbers) (levels_fit paper m ml mk) (sound_fits m ml mk s))
 
   long : length E ≡ get_or m 0 0
   long = listing_length (variable_at m ml mk) 0 (get_or m 0 0)
@@ -126,9 +122,6 @@ pub record Joining (F : Prefix) (m ml mk ns ls ks : List ℕ) (i : ℕ) : Type 0
 pub join_more : {F : Prefix} {m ml mk ns ls ks : List ℕ} {i : ℕ} → Sound m ml mk → Joinable F (prefix_of m ml mk) → Joining F m ml mk ns ls ks i → i < get_or m 0 0
     → {kind : ℕ} → kind ≡ code_for ml mk (i + 1) → {n : ℕ} → n ≡ entry_at m i → {o : Option ℕ} {ns' ls' ks' : List ℕ} → Declared ns ls ks n kind o ns' ls' ks' → Joining F m ml mk ns' ls' ks' (i + 1)
 join_more s j h q coded is d = record { most = omega (arith, q); sound = d.sound; prefix = join_prefix s j q coded is h.sound h.prefix d }
-
-pub join_none : (m ml mk : List ℕ) {ns ls ks : List ℕ} → Sound ns ls ks → Joining (prefix_of ns ls ks) m ml mk ns ls ks 0
-join_none m ml mk {ns} {ls} {ks} s = record { most = zero-le; sound = s; prefix = sym (append-nil (prefix_of ns ls ks)) }
 
 pub join_all : {F : Prefix} {m ml mk ns ls ks : List ℕ} {i : ℕ} → Joining F m ml mk ns ls ks i → get_or m 0 0 ≤ i → Joined F (prefix_of m ml mk) ns ls ks
 join_all {F} {m} {ml} {mk} {i = i} h q =

@@ -1,14 +1,14 @@
 -- A line by what was read of it: it is judged by the items that the table keeps.
-use Prim.Native.Nat.{ℕ, zero, suc, ◌≤◌, ◌<◌, min}
+use Prim.Native.Nat.{ℕ, zero, suc, ◌<◌, min}
 use mathlib.Core.Path.{◌≡◌, refl, sym, ap, subst, ◌∙◌}
-use mathlib.Core.Bool.{true, false}
+use mathlib.Core.Bool.{true}
 use mathlib.Core.List.{List, [], ◌∷◌, map}
 use mathlib.Core.Option.{Option, none}
 use native.Mathlib.Omega.{arith}
 use lib.IntN.{ℤ, pos, negsuc}
 use lib.ListN.{length, take}
 use lib.Seq.{take_all}
-use Rattle.qbf.specs.Formula.{paper, Quantifier, free, exists, forall, is_free, Prefix, Literal, number_of, Formula}
+use Rattle.qbf.specs.Formula.{paper, Quantifier, free, exists, forall, Prefix, Literal, number_of, Formula}
 use Rattle.qbf.specs.Calls.{numbers_are_ok}
 use Rattle.theory.proofs.WellFormed.{numbers_ok}
 use Rattle.tables.specs.Views.{quantifier_code}
@@ -67,14 +67,6 @@ code_back : (q : Quantifier) → quantifier_of (quantifier_code q) ≡ q
 code_back free = refl
 code_back exists = refl
 code_back forall = refl
-
-pub group_code : {o : Option Line} {κ n : ℕ} {out : List ℤ} → LineIs o (line.Group κ n) out → (0 < κ) × (κ ≤ quantifier_code forall)
-group_code (q, c, f, r) = subst (λ (k : ℕ). (0 < k) × (k ≤ quantifier_code forall)) (sym c) (by q f)
-  where
-    by : (q : Quantifier) → is_free q ≡ false → (0 < quantifier_code q) × (quantifier_code q ≤ quantifier_code forall)
-    by free e = absurd (let z : ◌≡◌ {A = ℕ} 0 1 = cc in omega (arith, z))
-    by exists e = (omega arith, omega arith)
-    by forall e = (omega arith, omega arith)
 
 pub line_is : (s : Reading) (r : Result Problem Refusal) {o p : Option Line} → o ≡ p → Took s p r → Took s o r
 line_is s r e = subst (λ (q : Option Line). Took s q r) (sym e)

@@ -5,13 +5,13 @@ use mathlib.Core.Bool.{Bool, true, false, cond, not}
 use mathlib.Core.List.{List, [], ◌∷◌, ◌++◌, map}
 use mathlib.Core.Option.{Option, none, some}
 use native.Mathlib.Omega.{arith}
-use borrow.Author.Tests.{eq-eqb, ne_eqb, lt-ltb, le-ltb}
+use borrow.Author.Tests.{eq-eqb, ne_eqb}
 use lib.IntN.{ℤ}
 use lib.ListN.{length, take, length-map, length-take}
 use lib.Seq.{take-length}
 use lib.Dec.{eqb, ltb}
 use Rattle.qbf.specs.Formula.{paper, Quantifier, is_free, Prefix, quantifiers, Literal, number_of, Formula}
-use Rattle.qbf.specs.Calls.{given, no_free, rule_fault, with_rule, ◌or_else◌}
+use Rattle.qbf.specs.Calls.{given, no_free, rule_fault, ◌or_else◌}
 use Rattle.theory.proofs.Basics.{and_left, and_right, and_both}
 use Rattle.state.specs.declared.State.{State}
 use Rattle.state.specs.Reading.{quantifier_of, prefix_in, formula_in}
@@ -28,18 +28,13 @@ use Rattle.opening.specs.declared.book.Book.{Book}
 use Rattle.opening.specs.Standing.{Standing}
 use Rattle.opening.specs.Opened.{TookForm, BlockTook, RuleTook}
 use Rattle.opening.specs.Opened as own
-use Rattle.qdimacs_form.specs.Lines.{Line, comment, header, group, clause}
+use Rattle.qdimacs_form.specs.Lines.{Line, header, group}
 use Rattle.qdimacs_form.specs.Opening.{completed, Reading, group_fault, whole, line_fault}
 use Rattle.qdimacs_opening.specs.declared.head.Head.{Head}
-use Rattle.qdimacs_opening.specs.declared.head.Part.{Part}
-use Rattle.qdimacs_opening.specs.declared.head.Part.TheVariants as part
 use Rattle.qdimacs_opening.specs.declared.problem.Problem.{Problem}
 use Rattle.qdimacs_opening.specs.Stands.{counted, part_of, own_stage, reading_of, Stands}
-use Rattle.qdimacs_opening.specs.Lines.{Whole, Advanced, TookLine, GroupTook, ClauseTook}
+use Rattle.qdimacs_opening.specs.Lines.{Whole, Advanced, TookLine, GroupTook}
 use Rattle.qdimacs_opening.proofs.Counting.{group_cut, counted_part}
-
-abbrev pub head_of : Part → ℕ → ℕ → Head
-head_of s v c = record { part = s; variables = v; clauses = c }
 
 abbrev taken : (h : Head) (x : State) → Stands h x → Problem
 taken h x s = record { head = h; state = x; stands = s }
@@ -57,21 +52,6 @@ module _ {h : Head} {x : State} (s : Stands h x) where
     module _ (e : part_of h.part ≡ 0) where
       first : line_fault (reading_of h x) (header v c) ≡ given (ltb paper.numbers v) 3
       first = rw (eq-eqb (part_of h.part) 0 e)
-
-      pub header_large : paper.numbers < v → line_fault (reading_of h x) (header v c) ≡ some 3
-      header_large q = first ∙ ap (λ (t : Bool). given t 3) (lt-ltb paper.numbers v q)
-
-      pub header_taken : v ≤ paper.numbers → (k : Stands (head_of part.Groups v c) x) → TookLine (reading_of h x) (header v c) (Ok (taken (head_of part.Groups v c) x k))
-      header_taken q k = record { fault = first ∙ ap (λ (t : Bool). given t 3) (le-ltb paper.numbers v q); advanced = record { reading = refl } }
-
-      pub header_stands : v ≤ paper.numbers → Stands (head_of part.Groups v c) x
-      header_stands q = record { stands = start; few = q; none_free = λ _. s.none_free (omega (arith, e)) }
-        where
-          empty : Standing 0 x
-          empty = subst (λ (k : ℕ). Standing (own_stage k) x) e s.stands
-
-          start : Standing 2 x
-          start = record { read = empty.read; reached = record { few = empty.reached.few; facts = empty.reached.facts; no_variables = λ z. absurd (omega (arith, z)); no_clauses = λ _. empty.reached.no_clauses (omega arith) } }
 
 -- ---- a quantifier line
 none_free_block : (κ : Quantifier) → is_free κ ≡ false → (ns : List ℕ) → no_free (quantifiers (map (variable κ) ns)) ≡ true
@@ -103,9 +83,6 @@ kind_quantified (suc (suc k)) h = refl
 module _ {h : Head} {x : State} (s : Stands h x) (kind : ℕ) (lits : List ℤ) where
   abbrev κ : Quantifier
   κ = quantifier_of kind
-
-  pub group_misplaced : (part_of h.part ≡ 1 → ⊥) → GroupTook (reading_of h x) kind lits (Err refusal.NotInLayout)
-  group_misplaced e = λ ns p q. refused_line (reading_of h x) (group κ ns) (rw (ne_eqb (part_of h.part) 1 e))
 
   module _ (e : part_of h.part ≡ 1) (quantifies : 0 < kind) {n : ℕ} (is : n ≡ counted h.variables (map number_of lits)) (t : Result Book Refusal) (took : BlockTook 2 x kind (take n lits) t) where
     ms : List ℕ
@@ -186,30 +163,7 @@ whole_limits s e = by (eqb s.stage 1)
     by false = e
 
 module _ {h : Head} {x : State} (s : Stands h x) (lits : List ℤ) where
-  pub clause_misplaced : part_of h.part ≡ 0 → ClauseTook (reading_of h x) lits (Err refusal.NotInLayout)
-  clause_misplaced e = λ ls p q. refused_line (reading_of h x) (clause ls) (rw (eq-eqb (part_of h.part) 0 e))
-
   module _ (e : part_of h.part ≡ 0 → ⊥) {y : State} (w : Whole (whole (reading_of h x)) y) where
     clause_took : (t : Result Book Refusal) → RuleTook 3 y lits t → (ls : List Literal) → rule_fault (whole (reading_of h x)) lits ≡ rule_fault (whole (reading_of h x)) ls
         → (rule_fault (whole (reading_of h x)) ls ≡ none → lits ≡ ls) → TookForm 3 (formula_in y) (own_clause ls) t
     clause_took t took ls p q = took ls (ap (λ (b : Formula). rule_fault b lits) w.formula ∙ p ∙ sym (ap (λ (b : Formula). rule_fault b ls) w.formula)) (λ z. q (sym (ap (λ (b : Formula). rule_fault b ls) w.formula) ∙ z))
-
-    clause_judged : (ls : List Literal) → line_fault (reading_of h x) (clause ls) ≡ rule_fault (formula_in y) ls
-    clause_judged ls = ap (λ (b : Bool). given b 1 or_else rule_fault (whole (reading_of h x)) ls) (ne_eqb (part_of h.part) 0 e) ∙ sym (ap (λ (b : Formula). rule_fault b ls) w.formula)
-
-    pub clause_refused : {q : Refusal} → RuleTook 3 y lits (Err q) → ClauseTook (reading_of h x) lits (Err q)
-    clause_refused {q} took = λ ls p z. refused_line (reading_of h x) (clause ls) (clause_judged ls ∙ (clause_took (Err q) took ls p z).fault)
-
-    pub clause_stands : {t : Book} → RuleTook 3 y lits (Ok t) → Stands (head_of part.Clauses h.variables h.clauses) t.state
-    clause_stands {t} took = record { stands = subst (λ (k : ℕ). Standing k t.state) (took lits refl (λ _. refl)).advanced.stage t.stands; few = s.few; none_free = λ q. absurd (omega (arith, q)) }
-
-    pub clause_taken : {t : Book} → RuleTook 3 y lits (Ok t) → (k : Stands (head_of part.Clauses h.variables h.clauses) t.state) → ClauseTook (reading_of h x) lits (Ok (taken (head_of part.Clauses h.variables h.clauses) t.state k))
-    clause_taken {t} took k = λ ls p z.
-        let f = clause_took (Ok t) took ls p z in
-        let a = f.advanced in
-        record {
-          fault = clause_judged ls ∙ f.fault;
-          advanced = record {
-            reading = ap (λ (b : Formula). record { stage = 2; variables = h.variables; clauses = h.clauses; formula = b }) (a.formula ∙ ap (λ (b : Formula). with_rule none b ls) w.formula);
-          };
-        }

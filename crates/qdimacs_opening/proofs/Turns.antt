@@ -20,7 +20,6 @@ use Rattle.refusal.specs.declared.Refusal.TheVariants.{NotInLayout, Miscounted}
 use Rattle.refusal.specs.Refusal.{number_of}
 use Rattle.layout.specs.Words.{Bytes, newline, split}
 use Rattle.layout.specs.Opening.{Opened, refused, opened, refused_or, empty_formula}
-use Rattle.layout_laws.proofs.Opened.{Reached, reached_none}
 use Rattle.opening.specs.Lines.{Takes, Ends, ReadAs, within_text}
 use Rattle.opening.proofs.Taking.{read_is}
 use Rattle.opening.proofs.Turns.{empty_stands}
@@ -109,14 +108,6 @@ not_part Groups Clauses p q e = omega (arith, e)
 not_part Clauses Start p q e = omega (arith, e)
 not_part Clauses Groups p q e = omega (arith, e)
 not_part Clauses Clauses p q e = cc
-
--- where the test is that they differ
-pub other_part : (s t : Part) {b : Bool} → b ≡ not (sameb the_type s t) → b ≡ true → part_of s ≡ part_of t → ⊥
-other_part s t p q = by (sameb the_type s t) refl p q
-  where
-    by : (x : Bool) → sameb the_type s t ≡ x → {b : Bool} → b ≡ not x → b ≡ true → part_of s ≡ part_of t → ⊥
-    by true i p q = cc
-    by false i p q = not_part s t refl i
 
 pub same_part : (s t : Part) {b : Bool} → b ≡ not (sameb the_type s t) → b ≡ false → part_of s ≡ part_of t
 same_part s t p q = by (sameb the_type s t) refl p q

@@ -1,10 +1,10 @@
 -- What the answers of a line say.
-use Rattle.std.specs.Prelude.{ℕ, zero, suc, ◌≤◌, ◌≡◌, Bool, true, cond, ◌&&◌, List, [], ◌∷◌, map, ℤ, leb, ltb, refl, Result, Err, IfOk}
+use Rattle.std.specs.Prelude.{ℕ, ◌≡◌, List, [], ◌∷◌, map, ℤ, refl, Result, Err, IfOk}
 use Rattle.std.proofs.Math.Option.{Option, none, some}
-use Rattle.qbf.specs.Formula.{Formula, paper, quantifiers, Literal, number_of}
-use Rattle.qbf.specs.Calls.{no_free, rule_fault}
+use Rattle.qbf.specs.Formula.{Formula, paper, Literal, number_of}
+use Rattle.qbf.specs.Calls.{rule_fault}
 use Rattle.state.specs.declared.State.{State}
-use Rattle.state.specs.Reading.{quantifier_of, read_state, empty_state, prefix_in, formula_in}
+use Rattle.state.specs.Reading.{quantifier_of, read_state, empty_state, formula_in}
 use Rattle.refusal.specs.declared.Refusal.{Refusal}
 use Rattle.refusal.specs.declared.Refusal.TheVariants.{NotInLayout}
 use Rattle.refusal.specs.Refusal.{fault_in}
@@ -14,9 +14,7 @@ use Rattle.opening.specs.Lines.{Opens}
 use Rattle.opening.specs.Standing.{Standing}
 use Rattle.qdimacs_form.specs.Lines.{Line, group, clause}
 use Rattle.qdimacs_form.specs.Opening.{Reading, group_fault, whole, line_fault, after, read_lines}
-use Rattle.qdimacs_opening.specs.declared.head.Head.{Head}
-use Rattle.qdimacs_opening.specs.declared.head.Part.{Part}
-use Rattle.qdimacs_opening.specs.declared.head.Part.TheVariants.{Start, Groups, Clauses}
+use Rattle.qdimacs_opening.specs.declared.head.Part.TheVariants.{Start}
 use Rattle.qdimacs_opening.specs.declared.problem.Problem.{Problem}
 use Rattle.qdimacs_opening.specs.Stands.{reading_of}
 

@@ -9,6 +9,7 @@ use literal::Number;
 use state::declare::declare;
 
 // The places are those of the quantified variables.
+// stays (no plainer): the three tables are those of `declare`, whose line says why they are no struct
 fn declare_flag(
     numbers: &mut [u16; tables::BY_NUMBER],
     levels: &mut [u16; tables::BY_NUMBER],
@@ -33,6 +34,8 @@ fn declare_flag(
     }
 }
 
+// stays (no plainer): `usize ≤ paper.numbers` is of how many numbers the text declares, and bounds a loop over them; `Number` is one of them, of any size;
+// the three tables are those of `declare`, whose line says why they are no struct
 pub fn declare_flags(
     numbers: &mut [u16; tables::BY_NUMBER],
     levels: &mut [u16; tables::BY_NUMBER],
@@ -51,7 +54,7 @@ pub fn declare_flags(
         levels.new
         kinds.new }
 {
-    for n in 0..variables {
-        declare_flag(numbers, levels, kinds, places, Number(n + 1));
+    for n in 1..=variables {
+        declare_flag(numbers, levels, kinds, places, Number(n));
     }
 }

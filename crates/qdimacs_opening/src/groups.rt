@@ -9,6 +9,7 @@ use state::declare::declare;
 use state::kinds::kind_at;
 use state::prefix::Variables;
 
+// stays (no plainer): the three tables are those of `declare`, whose line says why they are no struct; those that are read are one, `Variables`
 pub fn declare_groups(
     numbers: &mut [u16; tables::BY_NUMBER],
     levels: &mut [u16; tables::BY_NUMBER],
@@ -26,6 +27,7 @@ pub fn declare_groups(
         levels.new
         kinds.new }
 {
+    // stays (no plainer): over a zip of the numbers and the levels the kinds are indexed by each level still, which `kind_at` does for a place.
     for i in 0..count(more.numbers) {
         let kind = kind_at(more.levels, more.kinds, Place(i + 1));
         let number = Number(entry(more.numbers, i));

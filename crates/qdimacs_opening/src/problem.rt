@@ -37,12 +37,9 @@ fn is_above(number: Number, variables: usize) -> bool
 fn within(lits: &[i16], variables: usize) -> usize
     ensures { result ≡ counted variables (map number_of lits.now) }
 {
-    for (i, lit) in lits.iter().enumerate() {
-        if is_above(number_of(*lit), variables) {
-            return i;
-        }
-    }
-    lits.len()
+    lits.iter()
+        .position(|lit| is_above(number_of(*lit), variables))
+        .unwrap_or(lits.len())
 }
 
 impl Problem {
@@ -99,7 +96,7 @@ impl Problem {
     }
 
     // "a variable above the count 5": the fault of the numbers before it comes first.
-    // stays (form): `kind ≤ quantifier_code forall` is of a number that is a cell of the flat tables, handed on as it is
+    // stays (form): `u16 ≤ quantifier_code forall` is of the number that a keyword gives a quantifier, and that is written into a cell of the flat tables as it is
     fn take_group(self, kind: u16, lits: &[i16]) -> Result<Problem, Refusal>
         requires { (0 < kind) × (kind ≤ quantifier_code forall) }
         ensures { GroupTook (reading_of self.head self.state) kind lits.now result }

@@ -13,6 +13,7 @@ use state::numbers::places_of;
 use state::prefix::Variables;
 
 // The flags stand before the groups, though they are found after them.
+// stays (no plainer): `usize ≤ paper.numbers` as at `declare_flags`, to which it is handed on
 pub fn complete(x: State, variables: usize) -> State
     requires { Grouped x × (variables ≤ paper.numbers) }
     ensures { Whole (completed variables (formula_in x)) result }

@@ -27,6 +27,8 @@ fn put_book(x: State, out: &mut [u8; ROOM]) -> usize
 }
 
 // The first bytes of the table are what the program prints for the text.
+// stays (no plainer): serve's `print_text` is this match over another reading, another table (an `Answer`) and another printing of a state and of a refusal; a
+// function of both would take these four, for a match of two arms.
 pub fn print_book(text: &[u8], out: &mut [u8; ROOM]) -> usize
     ensures { Printed (qdimacs_program paper text.now) result out.new }
 {

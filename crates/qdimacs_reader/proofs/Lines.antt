@@ -1,25 +1,24 @@
 -- A line by its first word.
-use Prim.Native.Nat.{ℕ, zero, suc, ◌-◌}
+use Prim.Native.Nat.{ℕ, zero, suc}
 use mathlib.Core.Path.{◌≡◌, refl, sym, ap, subst, ◌∙◌}
-use mathlib.Core.Bool.{Bool, true, false, cond, not, true≢false, false≢true}
+use mathlib.Core.Bool.{Bool, true, false, cond, not}
 use mathlib.Core.List.{List, [], ◌∷◌}
 use mathlib.Core.Option.{Option, none, some}
 use native.Mathlib.Omega.{arith}
 use lib.IntN.{ℤ}
-use lib.ListN.{length, get_or}
+use lib.ListN.{get_or}
 use lib.Dec.{eqb}
 use Rattle.std.specs.Prelude.{Option as Answer, Some, None}
 use Rattle.qbf.specs.Formula.{Quantifier, exists, forall, is_free, Literal}
 use Rattle.theory.proofs.Basics.{not_false, not_true}
 use Rattle.tables.specs.Views.{quantifier_code}
-use Rattle.layout.specs.Words.{Bytes, space, split, same, number}
+use Rattle.layout.specs.Words.{Bytes, space, split, same}
 use Rattle.layout.specs.Forms.{then}
 use Rattle.reader.specs.Items.{Filled}
 use Rattle.qdimacs_form.specs.Lines.{edged, filled, literals, header_word, exists_word, forall_word, cnf_word, header_of, header_from, comment_byte}
 use Rattle.qdimacs_form.specs.Lines as form
 use Rattle.std.specs.Borrow.{Bor}
-use Rattle.std.specs.Option.{is_some}
-use Rattle.qdimacs_reader.specs.Words.{words, First, NextWord}
+use Rattle.qdimacs_reader.specs.Words.{words, First}
 use Rattle.qdimacs_reader.specs.declared.word.Word.{Word as Span}
 use Rattle.qdimacs_reader.specs.Lines.{word_of, group_line, LineRead}
 use Rattle.qdimacs_reader.specs.declared.line.Word.{Word}

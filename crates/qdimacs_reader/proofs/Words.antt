@@ -1,6 +1,6 @@
 -- Words of a line: empty pieces between spaces are passed over.
-use Prim.Native.Nat.{ℕ, ◌≤◌, ◌<◌, ◌-◌}
-use mathlib.Core.Path.{◌≡◌, refl, sym, ap, ◌∙◌}
+use Prim.Native.Nat.{◌≤◌, ◌-◌}
+use mathlib.Core.Path.{◌≡◌, refl, ap, ◌∙◌}
 use mathlib.Core.Bool.{false, not}
 use mathlib.Core.List.{List, [], ◌∷◌}
 use native.Mathlib.Omega.{arith}
@@ -9,11 +9,10 @@ use lib.ListN.{length, get_or}
 use lib.Dec.{eqb}
 use Rattle.std.specs.Prelude.{Option as Answer, Some, None}
 use Rattle.std.specs.Borrow.{Bor}
-use Rattle.layout.specs.Words.{Bytes, space, split}
+use Rattle.layout.specs.Words.{Bytes, space}
 use Rattle.reader.specs.Pieces.{pieces, size_left, Cut}
 use Rattle.qdimacs_form.specs.Lines.{filled, edged}
 use Rattle.qdimacs_reader.specs.Words.{words, First, NextWord}
-use Rattle.qdimacs_reader.specs.declared.word.Word.{Word}
 
 -- ---- the next word
 -- the words of what is left are all the words

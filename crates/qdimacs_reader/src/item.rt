@@ -25,6 +25,7 @@ fn is_off(w: &[u8], signed: bool) -> bool
 }
 
 // `0` is no literal.
+// stays (no plainer): `signed` is that of the definition `literal signed`; a function for each of its values would read the plain number a second time.
 pub fn read_literal(w: &[u8], signed: bool) -> Option<i16>
     ensures { LiteralRead (literal signed w.now) result }
 {

@@ -5,7 +5,7 @@ ghost use Rattle.qdimacs_reader.specs.Words.{words};
 
 use crate::item::{is_zero, read_literal};
 use crate::word::next_word;
-use reader::items::put_literal;
+use literal::put;
 
 pub fn read_literals(left: Option<&[u8]>, signed: bool, out: &mut [i16]) -> Option<usize>
     ensures { Filled (literals signed (words left.entry)) result out.new }
@@ -15,7 +15,7 @@ pub fn read_literals(left: Option<&[u8]>, signed: bool, out: &mut [i16]) -> Opti
     while let Some(next) = next_word(item.left) {
         // stays (no plainer): a word is an item only where another follows, so it goes from word to word with the one before.
         let x = read_literal(item.word, signed)?;
-        put_literal(out, n, x);
+        put(out, n, x);
         n += 1;
         item = next;
     }

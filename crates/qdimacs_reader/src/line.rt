@@ -13,6 +13,7 @@ const COMMENT: u8 = b'c';
 
 // What a line holds. The numbers of a quantifier line and the literals of a clause are counted here and lie in a lent table; a quantifier
 // line has its quantifier's code, tables::EXISTS or FORALL; a header has the counts of variables and of clauses.
+// stays (form): as in our own text's lines, a quantifier is its number in the flat table of kinds, where it is written as it was read.
 #[derive(Clone, Copy)]
 pub enum Line {
     Comment,
@@ -44,6 +45,7 @@ fn word_of(w: &[u8]) -> Option<Word>
 }
 
 // A quantifier line has at least one number.
+// stays (no plainer): as `block_of` of our own text, which makes a line of another type: what they share is `then_some`.
 fn group_of(quantifier: u16, n: usize) -> Option<Line>
     ensures { result ≡ group_line quantifier n }
 {

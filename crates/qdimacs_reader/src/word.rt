@@ -18,7 +18,7 @@ pub fn next_word(line: Option<&[u8]>) -> Option<Word<'_>>
 {
     let mut left = line;
     while let Some(l) = left {
-        // stays (no plainer): it goes down what is left of the line, from space to space.
+        // stays (no plainer): a `for` over words has each word, and not what is left behind it, which is answered too.
         let (word, more) = cut(l, SPACE);
         if !word.is_empty() {
             return Some(Word { word, left: more });

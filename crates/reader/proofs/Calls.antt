@@ -9,7 +9,7 @@ use native.Mathlib.Omega.{arith}
 use borrow.Author.Tests.{ne_eqb, le-ltb, lt-ltb, eqb-true}
 use lib.Dec.{leb, eqb}
 use lib.IntN.{ℤ, pos}
-use lib.ListN.{length, get_or, take, drop}
+use lib.ListN.{length, get_or}
 use Rattle.std.specs.Prelude.{Option as Answer, Some, None}
 use Rattle.std.specs.Bool.{then_some}
 use Rattle.qbf.specs.Formula.{Literal}

@@ -1,5 +1,5 @@
 -- An item that may end a call's line: the words before the item's, and what its line says.
-use Prim.Native.Nat.{ℕ, suc, ◌+◌, ◌<◌, ◌≤◌, ◌-◌}
+use Prim.Native.Nat.{ℕ, suc, ◌≤◌, ◌-◌}
 use mathlib.Core.Path.{◌≡◌, refl, sym, ap, subst, ◌∙◌}
 use mathlib.Core.Bool.{Bool, true, false, cond}
 use mathlib.Core.List.{List, [], ◌∷◌, ◌++◌, append_assoc}
@@ -13,7 +13,7 @@ use lib.Seq.{take-append_seam}
 use Rattle.std.specs.Prelude.{Option as Answer, Some, None}
 use Rattle.std.specs.Borrow.{Bor}
 use Rattle.qbf.specs.Calls.{Call}
-use Rattle.layout.specs.Words.{Bytes, space, on_first, split, same, closed}
+use Rattle.layout.specs.Words.{Bytes, space, on_first, split, same}
 use Rattle.layout.specs.Forms.{then}
 use Rattle.layout.specs.Endings.{last_item, Ended, item, after, ended}
 use Rattle.layout.specs.Session.{takes_given, ended_call}

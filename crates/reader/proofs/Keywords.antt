@@ -1,5 +1,5 @@
 -- Keywords: the tests in the order of the code, and the form of a line by its keyword.
-use Prim.Native.Nat.{ℕ, suc, ◌+◌}
+use Prim.Native.Nat.{ℕ, suc}
 use mathlib.Core.Path.{◌≡◌, refl, sym, ap, subst, ◌∙◌}
 use mathlib.Core.Bool.{Bool, true, false, cond}
 use mathlib.Core.List.{List, [], ◌∷◌, map}
@@ -7,7 +7,7 @@ use mathlib.Core.Option.{Option, none, some}
 use native.Mathlib.Omega.{arith}
 use borrow.Author.Tests.{ne_eqb}
 use lib.IntN.{ℤ, pos}
-use lib.ListN.{length, take}
+use lib.ListN.{length}
 use Rattle.std.specs.Prelude.{Option as Answer, Some, None}
 use Rattle.std.specs.Bool.{then_some}
 use Rattle.qbf.specs.Formula.{Literal, free, exists, forall, number_of}

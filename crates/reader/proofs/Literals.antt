@@ -1,5 +1,5 @@
 -- Items of a line: one at a place, then all of them into a table.
-use Prim.Native.Nat.{ℕ, ◌+◌, ◌<◌, ◌≤◌, zero-le, ◌-◌}
+use Prim.Native.Nat.{ℕ, ◌+◌, ◌<◌, ◌≤◌}
 use mathlib.Core.Path.{◌≡◌, refl, sym, ap, ◌∙◌}
 use mathlib.Core.Bool.{Bool, true, false, ◌&&◌}
 use mathlib.Core.List.{List, [], ◌∷◌, ◌++◌, map, append_assoc, append-nil}
@@ -7,14 +7,12 @@ use mathlib.Core.Option.{Option, none, some}
 use native.Mathlib.Omega.{arith}
 use native.Mathlib.Numerals.{add-one}
 use native.Mathlib.Decide.{dec_lt}
-use borrow.Author.Tests.{lt-leb}
-use lib.Dec.{leb-zero}
 use lib.IntN.{ℤ, pos}
 use lib.Signed.{mag}
 use mir.Syntax.{w16}
 use mir.Val.{to_z, of_z}
 use mir.Facts.{to_z-of_z}
-use lib.ListN.{length, take, drop, set, length-set, length-append, length-map}
+use lib.ListN.{length, take, set, length-set, length-append, length-map}
 use lib.Seq.{take_all, take-nil, take-suc-set, take-append-le, set_out}
 use Rattle.qbf.specs.Formula.{Literal}
 use Rattle.theory.proofs.Basics.{and_right}

@@ -40,6 +40,7 @@ fn unlimited(line: CallLine) -> CeiledLine
 }
 
 // The call between a line's brackets.
+// stays (no plainer): as `read_sized`, which it calls for the words before the item.
 fn read_ceiled(s: &[u8], out: &mut [i16]) -> Option<CeiledLine>
     ensures { CeiledRead (ceiled_call (split space s.now)) result out.new }
 {

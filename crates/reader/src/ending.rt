@@ -43,7 +43,7 @@ fn first_item<'a>(s: &'a [u8], word: &[u8]) -> Option<Begun<'a>>
 {
     let mut left = Some(s);
     while let Some(words) = left {
-        // stays (no plainer): it goes down the words that are left, which are also what it answers.
+        // stays (no plainer): a `for` over words has each word, and not what is left behind it, which is the answer and tells what stands before it.
         let (first, behind) = cut(words, SPACE);
         if same_word(first, word) {
             return Some(Begun {

@@ -19,11 +19,7 @@ pub struct Item<'a> {
 pub fn narrow(v: u32) -> u16
     ensures { result ≡ narrow v }
 {
-    if v < tables::BY_NUMBER as u32 {
-        v as u16
-    } else {
-        tables::BY_NUMBER as u16
-    }
+    v.min(tables::BY_NUMBER as u32) as u16
 }
 
 // "positive means on, its negation off"
@@ -50,6 +46,7 @@ fn is_no(w: &[u8], signed: bool) -> bool
 }
 
 // The first item of some words. A negated one takes two of them, where signs are allowed.
+// stays (no plainer): `signed` is that of the definition `items signed`; a function for each of its values would read the plain number a second time.
 pub fn read_item(words: &[u8], signed: bool) -> Option<Item<'_>>
     ensures { ItemRead signed words.now result }
 {

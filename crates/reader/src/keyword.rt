@@ -16,6 +16,7 @@ pub enum Word {
 
 // What a line holds. The numbers of a block and the literals of a rule are counted here and lie in a lent table; a block has its
 // quantifier's code, tables::FREE, EXISTS or FORALL; the edition of a book is the table's first number.
+// stays (form): a quantifier is its number in the flat table of kinds, where it is written as it was read; an enum would be turned back into that number there.
 #[derive(Clone, Copy)]
 pub enum Line {
     Book,
@@ -58,6 +59,7 @@ impl Word {
 }
 
 // "any `(exists ..)` or `(forall ..)` with at least one number"
+// stays (no plainer): `group_of` of QDIMACS makes a line of another type; one function of both is given the line that it may answer, and is `then_some`.
 fn block_of(quantifier: u16, n: usize) -> Option<Line>
     ensures { result ≡ block_of quantifier n }
 {

@@ -24,11 +24,7 @@ pub fn read_form(s: &[u8], out: &mut [i16]) -> Option<Line>
 pub fn kept(n: usize) -> usize
     ensures { result ≡ min n (suc paper.numbers) }
 {
-    if n < tables::BY_NUMBER {
-        n
-    } else {
-        tables::BY_NUMBER
-    }
+    n.min(tables::BY_NUMBER)
 }
 
 pub fn read_line(l: &[u8], out: &mut [i16]) -> Option<Line>

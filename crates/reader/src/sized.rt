@@ -19,6 +19,8 @@ fn with_table(line: CallLine, size: usize) -> Option<CallLine>
     }
 }
 
+// stays (no plainer): one function for this and for the ceiling would take the words, the table, the item's word and limit, what reads the words before it and
+// what its number makes of them: six parameters, two of them closures, for two calls.
 pub fn read_sized(s: &[u8], out: &mut [i16]) -> Option<CallLine>
     ensures { CallRead (sized_call (split space s.now)) result out.new }
 {

@@ -1,25 +1,15 @@
 // The lines of a text.
-ghost use Rattle.std.specs.Prelude.{◌≡◌, ◌≤◌, length};
-ghost use Rattle.layout.specs.Words.{newline, same};
+ghost use Rattle.std.specs.Prelude.{◌≡◌};
+ghost use Rattle.layout.specs.Words.{same};
 ghost use Rattle.layout.specs.Session.{end_line};
 ghost use Rattle.std.specs.Iterator.{at_most};
 ghost use Rattle.reader.specs.Books.{count_of_lines, NextLine, BookEnd};
-ghost use Rattle.reader.specs.Pieces.{Piece, size_left};
+ghost use Rattle.reader.specs.Pieces.{size_left};
 
-use crate::word::{NEWLINE, cut, find, same_word};
+use crate::word::{NEWLINE, cut, same_word};
 
 // "text over 65,536 bytes"
 pub const TEXT: usize = 65536;
-
-// Where the line that starts at a place ends: at its byte 10, or where the text does.
-pub fn line_end(text: &[u8], at: usize) -> usize
-    ensures { at ≤ length text.now → Piece newline text.now at result }
-{
-    if text.len() < at {
-        return text.len();
-    }
-    find(text, at, NEWLINE)
-}
 
 // The lines of a text that are left, without their bytes 10; the last of them is what stands behind the last byte 10.
 #[derive(Drop)]
@@ -53,7 +43,7 @@ pub fn book_end(text: &[u8]) -> Option<usize>
 {
     let mut lines = text;
     loop {
-        // stays (no plainer): it goes down the lines that are left, by whose length the book's is known.
+        // stays (no plainer): a `for` over `Lines` has each line, and not what is left behind it, by whose length the book's is known.
         let (line, left) = cut(lines, NEWLINE);
         let next = left?;
         if is_end(line) {

@@ -1,7 +1,7 @@
-// Words of a line: where one ends, and whether it is a given one.
-ghost use Rattle.std.specs.Prelude.{◌≡◌, ◌==◌, ◌≤◌, length, position};
+// Words of a line: a text is cut at a byte, and a word is a given one or not.
+ghost use Rattle.std.specs.Prelude.{◌≡◌, ◌==◌, position};
 ghost use Rattle.layout.specs.Words.{same};
-ghost use Rattle.reader.specs.Pieces.{Cut, Piece};
+ghost use Rattle.reader.specs.Pieces.{Cut};
 
 pub const NEWLINE: u8 = b'\n';
 
@@ -15,17 +15,6 @@ fn first(s: &[u8], c: u8) -> Option<usize>
     ensures { result ≡ position (λ b. b == c) s.now }
 {
     s.iter().position(|b| *b == c)
-}
-
-// The first place from `at` on where c stands, or the length: the end of the piece that starts at `at`.
-pub fn find(s: &[u8], at: usize, c: u8) -> usize
-    requires { at ≤ length s.now }
-    ensures { Piece c s.now at result }
-{
-    match first(&s[at..], c) {
-        Some(n) => at + n,
-        None => s.len(),
-    }
 }
 
 // What stands before the first byte c of a text, and what is left behind that byte, where there is one.

@@ -1,20 +1,21 @@
 -- The literals of a query from the left: the loop's values after the first i of them.
 use Prim.Native.Nat.{ℕ, suc, ◌+◌, ◌≤◌, ◌<◌, zero-le}
-use native.Mathlib.Nat.{not-suc-le-zero}
+use native.Mathlib.Nat.{zero-add}
 use native.Mathlib.Numerals.{add-one}
 use native.Mathlib.Omega.{arith}
 use mathlib.Core.Path.{◌≡◌, refl, sym, ap, ◌∙◌}
-use mathlib.Core.Logic.{◌⊎◌, inl, inr}
 use mathlib.Core.Bool.{Bool, true, false, not, ◌||◌, false≢true}
 use mathlib.Core.List.{List, [], ◌∷◌}
 use lib.ListN.{length, get_or, set, drop, drop_of_length-le, length-set}
 use lib.Seq.{drop-cons}
-use lib.Dec.{eqb}
 use lib.IntN.{pos}
 use borrow.Author.Tests.{not-true, not-false}
 use Rattle.qbf.specs.Formula.{Literal, number_of}
-use Rattle.theory.proofs.Basics.{le_or_lt, or_false_left, or_false_right}
-use Rattle.reading.specs.Marking.{barred, any_barred, named, Marked, Named, open_after}
+use Rattle.theory.proofs.Basics.{or_false_left, or_false_right}
+use Rattle.std.specs.Bool.{MatchBool}
+use Rattle.std.specs.List.{range_with_len, AllWithin, HoldsAt}
+use Rattle.std.proofs.lemmas.List.FromFn.{length-range_with_len, get_or-range_with_len}
+use Rattle.reading.specs.Marking.{barred, any_barred, named, Marked, Named, open_after, FullBy}
 
 module _ (places : List ℕ) (free v : ℕ) where
   -- ---- one literal more
@@ -85,24 +86,12 @@ module _ (places : List ℕ) (free v : ℕ) where
                   ∙ ap (λ (vs : List ℕ). named v vs (drop (suc i) ls)) (sym (r.shown e));
             })
 
--- ---- the numbers of the first places: the first i are recorded
-module _ (values ns : List ℕ) (free : ℕ) where
-  pub record Filled (i : ℕ) : Type 0 where
-    pub low : i ≤ free
-    pub so_far : (j : ℕ) → j < i → open_after values ns j ≡ false
-
-  pub filled_none : Filled 0
-  filled_none = record { low = zero-le; so_far = λ j z. absurd (not-suc-le-zero z) }
-
-  module _ {i : ℕ} (f : Filled i) where
-    -- b is whether the next is open, and n its number
-    module _ (more : i < free) {b : Bool} {n : ℕ} (is : b ≡ eqb (get_or values n 0) 0) (at : n ≡ get_or ns (suc i) 0) where
-      here : b ≡ open_after values ns i
-      here = is ∙ ap (λ (k : ℕ). eqb (get_or values k 0) 0) at
-
-      pub filled_more : b ≡ false → Filled (i + 1)
-      filled_more e = rw add-one (record { low = more; so_far = λ j z. by j (le_or_lt i j) z })
-        where
-          by : (j : ℕ) → (i ≤ j) ⊎ (j < i) → j < suc i → open_after values ns j ≡ false
-          by j (inl h) z = ap (open_after values ns) (omega (arith, h, z)) ∙ sym here ∙ e
-          by j (inr h) z = f.so_far j h
+-- ---- the numbers of the first places
+-- each of them was tried, or one that is open was found
+pub filled : (values ns : List ℕ) (free : ℕ) (r : Bool)
+    → MatchBool r (AllWithin (λ i. open_after values ns i ≡ false) (range_with_len 0 free) 0 (length (range_with_len 0 free))) ((k : ℕ) × (k < length (range_with_len 0 free)) × HoldsAt (λ i. open_after values ns i ≡ true) (range_with_len 0 free) k)
+    → FullBy values ns free r
+filled values ns free true h = λ i l. ap (open_after values ns) (sym (get_or-range_with_len 0 free i 0 l ∙ zero-add i)) ∙ h i 0 zero-le (omega (arith, l, length-range_with_len 0 free))
+filled values ns free false (k, l, h) =
+    let more : k < free = omega (arith, l, length-range_with_len 0 free) in
+    (k, more, ap (open_after values ns) (sym (get_or-range_with_len 0 free k 0 more ∙ zero-add k)) ∙ h 0)

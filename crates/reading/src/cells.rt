@@ -1,5 +1,5 @@
-// Cells of the tables, read and written where they are.
-ghost use Rattle.std.specs.Prelude.{◌≡◌, suc, get_or, set, eqb};
+// Cells of the tables, read where they are.
+ghost use Rattle.std.specs.Prelude.{◌≡◌, suc, get_or, eqb};
 
 use literal::Number;
 
@@ -10,7 +10,8 @@ pub fn is_open<'a>(values: &'a [u8], number: Number) -> bool
 }
 
 // The number of the variable after i others; 0 past the table.
-// stays (no plainer): the definitions read 0 there too, which is the number of no variable
+// stays (no plainer): the definitions read 0 there too, which is the number of no variable. `state::cells::cell_after` reads such a cell as it is; this crate does not
+// stand on `state`, and over one of the two in `literal` this would still be the function that makes a `Number` of it
 pub fn number_after<'a>(numbers: &'a [u16], i: usize) -> Number
     ensures { result.0 ≡ get_or numbers.now (suc i) 0 }
 {
@@ -19,13 +20,4 @@ pub fn number_after<'a>(numbers: &'a [u16], i: usize) -> Number
         return Number(literal::cell_at(numbers, place) as usize);
     }
     Number(0)
-}
-
-// A cell that is there is written.
-pub fn put(values: &mut [u8], i: usize, value: u8)
-    ensures { values.new ≡ set values.old i value }
-{
-    if i < values.len() {
-        values[i] = value;
-    }
 }

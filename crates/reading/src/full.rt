@@ -8,10 +8,6 @@ use crate::cells::{is_open, number_after};
 pub fn is_full(values: &[u8], flags: Flags<'_>) -> bool
     ensures { FullBy values.now flags.entry.numbers.now flags.entry.free result }
 {
-    for i in 0..flags.free {
-        if is_open(values, number_after(flags.numbers, i)) {
-            return false;
-        }
-    }
-    true
+    // stays (no plainer): the clause is of each of the `free` places, and behind the table's end a place's number reads 0; an iterator over the numbers ends with them
+    (0..flags.free).all(|i| !is_open(values, number_after(flags.numbers, i)))
 }

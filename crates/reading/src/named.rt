@@ -3,8 +3,8 @@ ghost use Rattle.std.specs.Prelude.{◌≡◌};
 ghost use Rattle.reading.specs.Marking.{barred, MarkedAs, NamedAs};
 
 use crate::Flags;
-use crate::cells::{is_open, put};
-use literal::{literal_place, number_of};
+use crate::cells::is_open;
+use literal::{literal_place, number_of, put};
 use refusal::Refusal;
 
 // "8 a query names a non-flag, or a flag twice"; "A number given both as on and as off is 8."

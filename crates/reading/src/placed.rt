@@ -2,8 +2,8 @@
 ghost use Rattle.std.specs.Prelude.{◌<◌, length};
 ghost use Rattle.reading.specs.Placed.{Placed};
 
-use crate::cells::{number_after, put};
-use literal::byte_at;
+use crate::cells::number_after;
+use literal::{byte_at, put};
 
 // The free variables have the first places.
 pub fn by_place<'a>(recorded: &mut [u8], values: &'a [u8], numbers: &'a [u16], free: usize)
@@ -15,6 +15,7 @@ pub fn by_place<'a>(recorded: &mut [u8], values: &'a [u8], numbers: &'a [u16], f
         recorded.old
         recorded.new }
 {
+    // stays (no plainer): `numbers.iter().skip(1).take(free)` ends with the table, and the clause is of each of the `free` places: behind the end a place's number reads 0
     for i in 0..free {
         put(recorded, i + 1, byte_at(values, number_after(numbers, i).0));
     }

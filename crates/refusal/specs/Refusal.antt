@@ -35,10 +35,6 @@ number_if None = 0
 number_if (Some r) = number_of r
 
 -- What refuses, as the definitions tell it: the number, or none.
-abbrev pub fault_if : Option Refusal → fault.Option ℕ
-fault_if None = none
-fault_if (Some r) = some (number_of r)
-
 abbrev pub fault_in : {T : Type 0} → Result T Refusal → fault.Option ℕ
 fault_in (Ok t) = none
 fault_in (Err r) = some (number_of r)

@@ -79,7 +79,7 @@ impl Refusal {
 }
 
 // The number that other languages read: 0 where nothing is refused.
-// stays (C): the exported structs hold it
+// stays (C): the structs that other languages read hold a number, 0 where nothing is refused
 pub fn number_if(refused: Option<Refusal>) -> u16
     ensures { result ≡ number_if refused }
 {

@@ -20,8 +20,7 @@ pub enum Ruling {
 }
 
 impl Ruling {
-    // The number by which other languages read it.
-    // stays (C): this is the conversion to a number itself
+    // stays (C): other languages read the ruling as this number, and this is the conversion to it
     pub fn number(self) -> u16
         ensures { result ≡ ruling_number self }
     {

@@ -1,6 +1,6 @@
 -- A stored constraint.
 use Rattle.std.specs.Prelude.{◌≡◌, List, ℕ, take, drop}
-use Rattle.search_entry.specs.declared.Bounds.{Bounds}
+use Rattle.search_entry.specs.declared.bounds.Bounds.{Bounds}
 use Rattle.search_entry.specs.declared.Source.TheVariants.{Learned}
 
 -- the bounds are those of a stored row

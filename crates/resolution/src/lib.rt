@@ -9,16 +9,16 @@ ghost use Rattle.qbf.specs.Calls.{in_order};
 ghost use Rattle.tables.specs.Codes.{codes, last_code, Quantified};
 ghost use Rattle.tables.specs.Shelves.{code_count};
 ghost use Rattle.shelf.specs.Standing.{Room, rows, newest};
-ghost use Rattle.search_entry.specs.Entry.{Bounded};
 ghost use Rattle.resolution.specs.Stored.{Stored};
 
 use coding::code::place_of;
 use coding::list::{last_code, reduced_len};
 use coding::union::unite;
-use search_entry::{Bounds, Source, placed};
+use search_entry::{Bounds, Source};
 use shelf::Shelf;
 
 // A constraint that two give: its codes are the first cells.
+// stays (no plainer): `len ≤ length cells` is said once, by the one function that makes one, and used at once by its one caller, which cuts the cells; a ghost field would say it again
 #[derive(Drop)]
 pub struct Resolvent {
     pub cells: [u16; tables::AREA],
@@ -51,6 +51,7 @@ fn trimmed<'a>(row: &'a [u16], at: usize) -> &'a [u16]
 }
 
 // The resolvent of two rows, without the place after `at`.
+// stays (no plainer): `length [u16] ≤ paper.numbers` is what its one caller, `join`, has of `Aside` and of the answer's part; a struct of each row would be made there and taken apart here
 pub fn resolve<'a>(
     off: &'a [u16],
     on: &'a [u16],
@@ -78,10 +79,10 @@ pub fn resolve<'a>(
 
 // A row is stored: its bounds. A constraint has at most one literal of a variable, so that there is always room for its codes, and its last code has
 // a link; the tests keep that from being asked of every caller.
+// stays (no plainer): `Room Shelf` is used up, a number by each row: a shelf that kept it could not be written to
 pub fn store<'a>(learned: &mut Shelf, row: &'a [u16]) -> Bounds
     requires { Room learned.old }
-    ensures { Bounded result
-        × (newest learned.new ≤ suc (newest learned.old))
+    ensures { (newest learned.new ≤ suc (newest learned.old))
         × (length row.now ≤ paper.numbers
         → last_code row.now < code_count
         → Stored result row.now learned.new.cells
@@ -90,8 +91,16 @@ pub fn store<'a>(learned: &mut Shelf, row: &'a [u16]) -> Bounds
 {
     let last = last_code(row) as usize;
     if tables::NUMBERS < row.len() || tables::CODES <= last {
-        return placed(Source::Area, 0, 0);
+        return Bounds {
+            source: Source::Area,
+            start: 0,
+            len: 0,
+        };
     }
     let slot = learned.push(row);
-    placed(Source::Learned, slot * (tables::NUMBERS + 1) + 1, row.len())
+    Bounds {
+        source: Source::Learned,
+        start: slot * (tables::NUMBERS + 1) + 1,
+        len: row.len(),
+    }
 }

@@ -3,6 +3,7 @@ ghost use Rattle.std.specs.Prelude.{◌≤◌, length};
 ghost use Rattle.qbf.specs.Formula.{paper};
 ghost use Rattle.tables.specs.Views.{Table};
 
+// stays (no plainer): these are written, so they are `&mut` arrays, with room for every clause (`Table`); `lent_rows::LentRows` is read, and any table may be
 #[derive(Drop)]
 pub struct Clauses<'a> {
     pub cells: &'a mut [i16; tables::CLAUSE_CELLS],

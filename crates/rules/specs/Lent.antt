@@ -2,6 +2,7 @@
 use Rattle.std.specs.Prelude.{◌≡◌}
 use Rattle.state.specs.declared.State.{State}
 use Rattle.state.specs.Reading.{state_of}
+use Rattle.serving.specs.Left.{with_clauses, with_learned_clauses, with_learned_cubes}
 use Rattle.rules.specs.declared.lent.Adding.{Adding}
 use Rattle.rules.specs.declared.lent.Withdrawing.{Withdrawing}
 use Rattle.rules.specs.declared.lent.Emptying.{Emptying}
@@ -48,40 +49,19 @@ emptying_state t =
 -- the state that a call left: the tables that it may write are as it left them
 abbrev pub adding_left : Adding → Adding → State
 adding_left t t' =
-    state_of
-    t.numbers.now
-    t.levels.now
-    t.kinds.now
-    t'.clauses.now
-    t'.clause_sizes.now
-    t.learned_clauses.now
-    t.learned_clause_sizes.now
-    t.learned_cubes.now
-    t'.learned_cube_sizes.now
+    with_learned_cubes (with_clauses (adding_state t) t'.clauses.now t'.clause_sizes.now) t.learned_cubes.now t'.learned_cube_sizes.now
 
 abbrev pub withdrawing_left : Withdrawing → Withdrawing → State
 withdrawing_left t t' =
-    state_of
-    t.numbers.now
-    t.levels.now
-    t.kinds.now
-    t.clauses.now
-    t'.clause_sizes.now
+    with_learned_clauses
+    (with_clauses (withdrawing_state t) t.clauses.now t'.clause_sizes.now)
     t'.learned_clauses.now
     t'.learned_clause_sizes.now
-    t.learned_cubes.now
-    t.learned_cube_sizes.now
 
 abbrev pub emptying_left : Emptying → Emptying → State
 emptying_left t t' =
-    state_of
-    t.numbers.now
-    t.levels.now
-    t.kinds.now
-    t.clauses.now
-    t.clause_sizes.now
-    t.learned_clauses.now
-    t'.learned_clause_sizes.now
+    with_learned_cubes
+    (with_learned_clauses (emptying_state t) t.learned_clauses.now t'.learned_clause_sizes.now)
     t.learned_cubes.now
     t'.learned_cube_sizes.now
 

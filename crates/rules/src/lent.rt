@@ -67,7 +67,7 @@ impl<'a> Adding<'a> {
 }
 
 impl<'a> Withdrawing<'a> {
-    // stays (no plainer): likewise
+    // stays (no plainer): as `Adding`'s, of a struct whose references are others
     pub fn lent(&self) -> Lent<'_>
         ensures { lent_state result ≡ withdrawing_state self.now }
     {
@@ -86,7 +86,7 @@ impl<'a> Withdrawing<'a> {
 }
 
 impl<'a> Emptying<'a> {
-    // stays (no plainer): likewise
+    // stays (no plainer): as `Adding`'s, of a struct whose references are others
     pub fn lent(&self) -> Lent<'_>
         ensures { lent_state result ≡ emptying_state self.now }
     {

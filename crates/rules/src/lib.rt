@@ -11,7 +11,7 @@ pub mod in_place; // the calls
 pub mod lent; // the tables of a state, of which a call writes some
 
 // The number of a refusal, 0 where there is none.
-// stays (C): other languages read the refusal as a number
+// stays (C): other languages read the refusal as a number, and what is printed for a change is made of the same number
 pub fn refusal_of(change: Result<(), Refusal>) -> u16
     ensures { result ≡ number (change_said change).refusal }
 {

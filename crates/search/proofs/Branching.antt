@@ -37,7 +37,7 @@ use Rattle.node.specs.Node.{Ended, goes_up_of, onward_of, resolvent_of, Fits}
 use Rattle.inner.proofs.Stepping.{formula_of, facts, rising}
 use Rattle.search.specs.Search.{Done, Halted, Says, Result, visit_of}
 use Rattle.node.specs.declared.position.Position.{Position}
-use Rattle.node.specs.declared.Answer.{Answer}
+use Rattle.node.specs.declared.answer.Answer.{Answer}
 
 -- ---- a branch by its off side's outcome
 module _ (D : Prefix) (R : List Clause) (κ : Quantifier) (f : Node → Store → LearningResult) (s : Node) (st : Store) where

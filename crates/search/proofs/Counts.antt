@@ -8,24 +8,22 @@ use Rattle.qbf.specs.Formula.{paper, Prefix, Node}
 use Rattle.qbf.specs.Ceiling.{Attempt}
 use Rattle.tables.specs.Shelves.{newest_of}
 use Rattle.tables.specs.Records.{Ledger}
-use Rattle.search_entry.specs.Entry.{Bounded}
-use Rattle.search_entry.specs.declared.Bounds.{Bounds}
+use Rattle.search_entry.specs.declared.bounds.Bounds.{Bounds}
 use Rattle.node.specs.Node.{bounds_of, Finished, Grown, settled_lines}
-use Rattle.inner.specs.Inner.{LeafBounded}
 use Rattle.inner.specs.declared.Leaf.{Leaf}
 use Rattle.inner.specs.declared.Leaf.TheVariants as found
 use Rattle.search.specs.Search.{side_at, AskedOpen, AskedBelow, Counts, Result, is_open, concluded_of}
 use Rattle.node.specs.declared.Verdict.{Verdict}
 use Rattle.node.specs.declared.Verdict.TheVariants.{Yes, No}
 use Rattle.node.specs.declared.position.Position.{Position}
-use Rattle.node.specs.declared.Answer.{Answer}
+use Rattle.node.specs.declared.answer.Answer.{Answer}
 
 -- the positions of the sides, and an answer, as the code makes them
 abbrev pub below : Position → ℕ → ℕ → Position
 below p v l = side_at p v l
 
 abbrev pub answered : Verdict → Bounds → ℕ → ℕ → Answer
-answered v b k l = record { verdict = v; source = b.source; start = b.start; len = b.len; budget = k; lines = l }
+answered v b k l = record { verdict = v; source = b.source; start = b.start; len = b.len; budget = k; lines = l; inside = b.inside }
 
 -- the off side's line is one more at most
 pub off_lines : (v : Bool) (n l : ℕ) → l ≡ cond v (n + 1) n → (n ≤ l) × (l ≤ n + 1)
@@ -44,16 +42,16 @@ settle_low true false m l n e h = omega arith
 settle_low false false m l n e h = omega arith
 
 module _ (p : Position) where
-  pub counts_settled : {cl ql : List ℕ} (r : Answer) (v : Verdict) (b : Bounds) → r ≡ answered v b (p.budget - 1) p.lines → Bounded b → Counts cl ql p r cl ql
-  counts_settled {cl} {ql} r v b e h =
+  pub counts_settled : {cl ql : List ℕ} (r : Answer) (v : Verdict) (b : Bounds) → r ≡ answered v b (p.budget - 1) p.lines → Counts cl ql p r cl ql
+  counts_settled {cl} {ql} r v b e =
       subst (λ (x : Answer). Counts cl ql p x cl ql) (sym e)
-      (record { bounded = h; lines_more = omega arith; lines_fewer = omega arith; clauses = omega arith; cubes = omega arith })
+      (record { lines_more = omega arith; lines_fewer = omega arith; clauses = omega arith; cubes = omega arith })
 
   -- a step decided the node
-  pub counts_concluded : {cl ql : List ℕ} (l : Leaf) → is_open l ≡ false → LeafBounded l → (r : Answer) → r ≡ concluded_of l p → Counts cl ql p r cl ql
-  counts_concluded (found.No b) h bounded r e = counts_settled r No b e bounded
-  counts_concluded (found.Yes b) h bounded r e = counts_settled r Yes b e bounded
-  counts_concluded found.Open h bounded r e = absurd (true≢false h)
+  pub counts_concluded : {cl ql : List ℕ} (l : Leaf) → is_open l ≡ false → (r : Answer) → r ≡ concluded_of l p → Counts cl ql p r cl ql
+  counts_concluded (found.No b) h r e = counts_settled r No b e
+  counts_concluded (found.Yes b) h r e = counts_settled r Yes b e
+  counts_concluded found.Open h r e = absurd (true≢false h)
 
   module _ (more : p.at < paper.numbers) where
     -- what a side asks
@@ -69,7 +67,6 @@ module _ (p : Position) where
       pub counts_up : Counts cl ql p off cl₁ ql₁
       counts_up =
           record {
-            bounded = c.bounded;
             lines_more = c.lines_more;
             lines_fewer = omega (arith, c.lines_fewer);
             clauses = omega (arith, c.clauses);
@@ -81,11 +78,10 @@ module _ (p : Position) where
         d = subst (λ (x : Position). Counts cl₁ ql₁ x on cl₂ ql₂) e d'
 
         -- this visit itself counts for the row that is stored last
-        counts_both : {cl₃ ql₃ : List ℕ} (r : Answer) → 2 ≤ p.budget → l ≤ off.lines + 1 → Bounded (bounds_of r) → r.budget ≡ on.budget → p.lines ≤ r.lines → r.lines ≤ on.lines + 1
+        counts_both : {cl₃ ql₃ : List ℕ} (r : Answer) → 2 ≤ p.budget → l ≤ off.lines + 1 → r.budget ≡ on.budget → p.lines ≤ r.lines → r.lines ≤ on.lines + 1
             → Grown cl₂ ql₂ cl₃ ql₃ → Counts cl ql p r cl₃ ql₃
-        counts_both r made hl hs hv hm hf g =
+        counts_both r made hl hv hm hf g =
             record {
-              bounded = hs;
               lines_more = hm;
               lines_fewer = omega (arith, c.lines_fewer, d.lines_fewer, hl, hf, hv, made);
               clauses = omega (arith, c.clauses, d.clauses, g.clauses, hv, made);
@@ -103,7 +99,7 @@ module _ (p : Position) where
               → (r' : Answer) → r' ≡ answered r.verdict (bounds_of r) r.budget n → Counts cl ql p r' cl₃ ql₃
           counts_sides {cl₃} {ql₃} r made f g n settled r' e =
               subst (λ (x : Answer). Counts cl ql p x cl₃ ql₃) (sym e)
-              (counts_both (answered r.verdict (bounds_of r) r.budget n) made (off_lines v off.lines l lined).1 f.bounded f.budget
+              (counts_both (answered r.verdict (bounds_of r) r.budget n) made (off_lines v off.lines l lined).1 f.budget
               (omega (arith, low, c.lines_more)) (omega (arith, settle_high v w on.lines, settled)) g)
             where
               low : off.lines ≤ n

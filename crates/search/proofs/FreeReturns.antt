@@ -18,15 +18,16 @@ use Rattle.tables.specs.Codes.{Statuses}
 use Rattle.tables.specs.Records.{Ledger}
 use Rattle.cover.specs.Cover.{Covers}
 use Rattle.node.specs.Node.{is_of, bounds_of, entry_of, Reads, onward_of, new_lines, Joined, LineTask, settled_lines, SettledTo}
+use Rattle.both_sides.specs.Step.{OnwardIn}
 use Rattle.search.specs.Search.{Kept, Task, Opened, Done, Result, SideVisited, branch_of}
 use Rattle.node.specs.declared.Verdict.{Verdict}
 use Rattle.node.specs.declared.Verdict.TheVariants.{Yes, No, Mixed}
 use Rattle.node.specs.declared.position.Position.{Position}
-use Rattle.node.specs.declared.Answer.{Answer}
+use Rattle.node.specs.declared.answer.Answer.{Answer}
 use Rattle.search.proofs.Counts as counts
 use Rattle.inner.proofs.Stepping.{facts}
 use Rattle.search.proofs.Branching.{Came, rest, free_at}
-use Rattle.search.proofs.Returns.{UpSays, FinishSays, tried, off_r, on_r, whole_r, off_ended, on_came, on_halted, joined, onward_is, both_end, visits_both}
+use Rattle.search.proofs.Returns.{UpSays, tried, off_r, on_r, whole_r, off_ended, on_came, on_halted, joined, onward_is, both_end, visits_both}
 
 -- ---- the lines of both sides, of the verdict y
 -- the outcome is a line by itself
@@ -165,13 +166,13 @@ module _ {cls sets kd ss cs cl qs ql tb sat mk : List ℕ} (kind : ℕ) (code : 
     (off : Answer) {up₁ cs₁ cl₁ qs₁ ql₁ tb₁ : List ℕ} (offs : SideVisited 1 q off cls sets kd ss cs cl qs ql tb sat mk up₁ cs₁ cl₁ qs₁ ql₁ tb₁) (t : Bool)
     (ups : UpSays off kind (entry_of off cls cs₁ qs₁ up₁) p.at t) {ss₁ sat₁ mk₁ : List ℕ} (kept : Kept q.at q.words ss ss₁ tb tb₁ sat sat₁ mk mk₁)
     (one : Bool) (one_is : one ≡ is_of p.yes off.verdict) {tbₐ : List ℕ} (l : ℕ) (counted : l ≡ cond one (off.lines + 1) off.lines)
-    (lined : (s : Node) (b : Bool) (ls : List Node) → LineTask s ls ss₁ tb₁ p off.lines → 1 ≡ byte_of b → Covers p.free tbₐ (ls ++ cond one ((s ▹ b) ∷ []) []))
+    (lined : (s : Node) (b : Bool) (ls : List Node) → LineTask s ls ss₁ tb₁ p.at p.free off.lines → 1 ≡ byte_of b → Covers p.free tbₐ (ls ++ cond one ((s ▹ b) ∷ []) []))
     (q' : Position) (eq' : q' ≡ counts.below p off.budget l) (on : Answer) {up₂ cs₂ cl₂ qs₂ ql₂ tb₂ : List ℕ}
     (ons : SideVisited 2 q' on cls sets kd ss₁ cs₁ cl₁ qs₁ ql₁ tbₐ sat₁ mk₁ up₂ cs₂ cl₂ qs₂ ql₂ tb₂)
     (saved : List ℕ) (aside : saved ≡ entry_of off cls cs₁ qs₁ up₁) (r : Answer) {cs₃ cl₃ qs₃ ql₃ : List ℕ}
-    (fins : FinishSays kd off.verdict on kind saved cls up₂ p.at cs₂ cl₂ qs₂ ql₂ r cs₃ cl₃ qs₃ ql₃) (unup : t ≡ false) (visits : r.budget ≡ on.budget)
+    (fins : OnwardIn off.verdict kind p.at saved on kd cls up₂ cs₂ cl₂ qs₂ ql₂ r cs₃ cl₃ qs₃ ql₃) (unup : t ≡ false) (visits : r.budget ≡ on.budget)
     {ss₂ : List ℕ} (same₂ : ss₂ ≡ ss₁) (two : Bool) (two_is : two ≡ is_of p.yes on.verdict) (tb₃ : List ℕ) (n : ℕ) (settled : n ≡ settled_lines one two on.lines)
-    (settling : (s : Node) (ls : List Node) → LineTask s ls ss₂ tb₂ p on.lines → SettledTo one two s ls p.free tb₃) where
+    (settling : (s : Node) (ls : List Node) → LineTask s ls ss₂ tb₂ p.at p.free on.lines → SettledTo one two s ls p.free tb₃) where
   pub free_result : (D : Prefix) (s : Node) (ls : List Node) (R : List Clause) (g : Ledger) (st : Store) → Task D s ls R g st cls sets kd ss cs cl qs ql tb p.at p
       → Opened D s R p sat mk → p.at < length D → quantifier_at D (suc p.at) ≡ free
       → Result D g ls (branch_of D R free p s st) p (counts.answered r.verdict (bounds_of r) r.budget n) cls up₂ cs₃ cl₃ qs₃ ql₃ tb₃
@@ -199,7 +200,7 @@ module _ {cls sets kd ss cs cl qs ql tb sat mk : List ℕ} (kind : ℕ) (code : 
             free_at (quantifiers D) (length s) (drop (p.at + 1) (quantifiers D)) (free_before _ (facts task.formed)) (rest D R free s p.at task.shown.long inside is),
           )
 
-      line_task : (xs : List ℕ) → xs ≡ ss → (ys : List ℕ) (ms : List Node) (i : ℕ) → Covers p.free ys ms → i ≡ length ms → LineTask s ms xs ys p i
+      line_task : (xs : List ℕ) → xs ≡ ss → (ys : List ℕ) (ms : List Node) (i : ℕ) → Covers p.free ys ms → i ≡ length ms → LineTask s ms xs ys p.at p.free i
       line_task xs e ys ms i c h =
           record { statused = subst (Statuses s) (sym e) task.shown.statused; long = task.shown.long; inside = among; covers = c; counted = h }
 

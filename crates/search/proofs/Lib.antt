@@ -6,3 +6,4 @@ pub mod FreeReturns
 pub mod SidesReturns
 pub mod Visiting
 pub mod Setting
+pub mod Opening

@@ -19,33 +19,26 @@ use Rattle.theory.proofs.Search.{Below}
 use Rattle.theory.proofs.Unmixed.{Unmixed}
 use Rattle.theory.proofs.WellFormed.{numbers_ok}
 use Rattle.tables.specs.Views.{quantifier_code}
-use Rattle.tables.specs.Codes.{Quantified}
 use Rattle.tables.specs.Records.{Ledger, StoreKept}
 use Rattle.cover.specs.Cover.{Covers}
 use Rattle.tables.specs.Formed.{Formed}
 use Rattle.node.specs.Node.{bounds_of, entry_of, Reads, Ended, Shown, goes_up_of, onward_of, resolvent_of, Fits, new_lines, Joined}
+use Rattle.both_sides.specs.Step.{OnwardIn}
 use Rattle.search.specs.Search.{Kept, Task, Opened, Done, Halted, Result, SideVisited, branch_of}
 use Rattle.node.specs.declared.Verdict.{Verdict}
 use Rattle.node.specs.declared.Verdict.TheVariants.{Yes, No, Mixed}
 use Rattle.node.specs.declared.position.Position.{Position}
-use Rattle.node.specs.declared.Answer.{Answer}
+use Rattle.node.specs.declared.answer.Answer.{Answer}
 use Rattle.search.proofs.Counts as counts
 use Rattle.search.proofs.Keeping.{kept_up, opened_at, opened_on}
 use Rattle.inner.proofs.Stepping.{facts}
 use Rattle.search.proofs.Branching.{goes_on, goes_up_within, goes_on_within, stops_within, Came, came, side_at_lem, formed_on, shaped_side, unmixed_side, unmixed_here, quantified, resolvent_fits, ended}
 
--- ---- what the callees ensure
+-- ---- what `up_or_aside` ensures
 abbrev pub UpSays : Answer → ℕ → List ℕ → ℕ → Bool → Type 0
 UpSays off kind codes at t =
     ((D : Prefix) (κ : Quantifier) (o : Outcome Constraint) → quantifier_code κ ≡ kind → Reads D off.verdict codes o → Ended D (suc at) o → 1 ≤ off.budget → t ≡ goes_up_of D κ (suc at) o)
     × (off.verdict ≡ Mixed → off.budget ≡ 0 → t ≡ true)
-
-abbrev pub FinishSays : List ℕ → Verdict → Answer → ℕ → List ℕ → List ℕ → List ℕ → ℕ → List ℕ → List ℕ → List ℕ → List ℕ
-    → Answer → List ℕ → List ℕ → List ℕ → List ℕ → Type 0
-FinishSays kinds v on kind saved clauses up at cs cl qs ql r cs' cl' qs' ql' =
-    (D : Prefix) (R : List Clause) (s : Node) (κ : Quantifier) (a o : Outcome Constraint) (g : Ledger) (st : Store) (k : ℕ) → Quantified D kinds → length s ≡ at → quantifier_code κ ≡ kind
-    → Reads D v saved a → Reads D on.verdict (entry_of on clauses cs qs up) o → Ended D (suc at) a → Ended D (suc at) o → Fits D (resolvent_of D (suc at) a o)
-    → g.clauses ≡ length R → StoreKept D g st cs cl qs ql → Joined D g (onward_of D R κ s a o st k) r clauses up cs' cl' qs' ql'
 
 onward_visits : (D : Prefix) (R : List Clause) (κ : Quantifier) (s : Node) (a o : Outcome Constraint) (st : Store) (k : ℕ) → (onward_of D R κ s a o st k).visits ≡ k
 onward_visits D R κ s (decided b e) o st k = on_visits paper D R κ s b e o st k
@@ -163,7 +156,7 @@ module _ {cls sets kd ss cs cl qs ql tb sat mk : List ℕ} (κ : Quantifier) (ki
             (opened_at p q' off.budget l eq' open_on) inside (at_side q' off.budget l eq') refl)))
 
         module _ (saved : List ℕ) (aside : saved ≡ entry_of off cls cs₁ qs₁ up₁) (r : Answer) {cs₃ cl₃ qs₃ ql₃ : List ℕ}
-            (fins : FinishSays kd off.verdict on kind saved cls up₂ p.at cs₂ cl₂ qs₂ ql₂ r cs₃ cl₃ qs₃ ql₃) (unup : t ≡ false) where
+            (fins : OnwardIn off.verdict kind p.at saved on kd cls up₂ cs₂ cl₂ qs₂ ql₂ r cs₃ cl₃ qs₃ ql₃) (unup : t ≡ false) where
           abbrev k : ℕ
           k = suc (off_r.visits + on_r.visits)
 
@@ -234,7 +227,7 @@ module _ {cls sets kd ss cs cl qs ql tb sat mk : List ℕ} (κ : Quantifier) (ki
       (q' : Position) (eq' : q' ≡ counts.below p off.budget l) (on : Answer) {up₂ cs₂ cl₂ qs₂ ql₂ tb₂ : List ℕ}
       (ons : SideVisited 2 q' on cls sets kd ss₁ cs₁ cl₁ qs₁ ql₁ tbₐ sat₁ mk₁ up₂ cs₂ cl₂ qs₂ ql₂ tb₂)
       (saved : List ℕ) (aside : saved ≡ entry_of off cls cs₁ qs₁ up₁) (r : Answer) {cs₃ cl₃ qs₃ ql₃ : List ℕ}
-      (fins : FinishSays kd off.verdict on kind saved cls up₂ p.at cs₂ cl₂ qs₂ ql₂ r cs₃ cl₃ qs₃ ql₃) (unup : t ≡ false)
+      (fins : OnwardIn off.verdict kind p.at saved on kd cls up₂ cs₂ cl₂ qs₂ ql₂ r cs₃ cl₃ qs₃ ql₃) (unup : t ≡ false)
       (visits : r.budget ≡ on.budget) {tb₃ : List ℕ} (same₃ : tb₃ ≡ tb₂) (n : ℕ) (lines₃ : n ≡ on.lines) where
     pub both_result : (D : Prefix) (s : Node) (ls : List Node) (R : List Clause) (g : Ledger) (st : Store) → Task D s ls R g st cls sets kd ss cs cl qs ql tb p.at p
         → Opened D s R p sat mk → p.at < length D → quantifier_at D (suc p.at) ≡ κ

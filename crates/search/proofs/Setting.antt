@@ -1,13 +1,11 @@
--- What the nodes above put aside stays, and the row of a node is what it put there; and a position with other lines.
+-- What the nodes above put aside stays, and the row of a node is what it put there.
 use Prim.Native.Nat.{ℕ, zero, suc, ◌+◌, ◌*◌, ◌≤◌}
 use native.Mathlib.Omega.{arith}
 use mathlib.Core.Path.{◌≡◌, refl, sym, ap, ◌∙◌, subst}
 use mathlib.Core.List.{List, [], ◌∷◌}
 use lib.ListN.{take, drop}
 use lib.Seq.{take-take}
-use Rattle.qbf.specs.Formula.{paper, Node}
-use Rattle.cover.specs.Cover.{Covers}
-use Rattle.node.specs.Node.{LineTask}
+use Rattle.qbf.specs.Formula.{paper}
 use Rattle.node.specs.declared.position.Position.{Position}
 use Rattle.search.specs.Search.{AsideKept}
 use Rattle.search.proofs.Counts.{below}
@@ -34,13 +32,3 @@ part_take (suc f) n (suc m) (x ∷ a) h = part_take f n m a (omega (arith, h))
 
 pub aside_row : {m : ℕ} {a a' : List ℕ} (f n : ℕ) → f + n ≤ m → AsideKept m a a' → take n (drop f a') ≡ take n (drop f a)
 aside_row {m} {a} {a'} f n h k = sym (part_take f n m a' h) ∙ ap (λ (x : List ℕ). take n (drop f x)) k.first ∙ part_take f n m a h
-
--- ---- a position with other lines
-pub line_at : {s : Node} {ls : List Node} {ss tb : List ℕ} {p q : Position} {n : ℕ} → q.at ≡ p.at → q.free ≡ p.free → LineTask s ls ss tb p n → LineTask s ls ss tb q n
-line_at {ls = ls} {tb = tb} at free t = record {
-  statused = t.statused;
-  long = t.long ∙ sym at;
-  inside = omega (arith, t.inside, at, free);
-  covers = subst (λ (k : ℕ). Covers k tb ls) (sym free) t.covers;
-  counted = t.counted;
-}

@@ -15,10 +15,11 @@ use Rattle.cover.specs.Cover.{Covers}
 use Rattle.node.specs.Node.{bounds_of, entry_of, LineTask, lined_of, settled_lines, SettledTo}
 use Rattle.node.specs.declared.Verdict.{Verdict}
 use Rattle.node.specs.declared.position.Position.{Position}
-use Rattle.node.specs.declared.Answer.{Answer}
+use Rattle.node.specs.declared.answer.Answer.{Answer}
+use Rattle.both_sides.specs.Step.{OnwardIn}
 use Rattle.search.specs.Search.{Kept, Task, Opened, Result, SideVisited, branch_of}
 use Rattle.search.proofs.Counts as counts
-use Rattle.search.proofs.Returns.{UpSays, FinishSays, both_result}
+use Rattle.search.proofs.Returns.{UpSays, both_result}
 use Rattle.search.proofs.FreeReturns.{free_result}
 
 module _ {cls sets kd ss cs cl qs ql tb sat mk : List ℕ} (kind : ℕ) (p q : Position) (eq : q ≡ counts.below p (p.budget - 1) p.lines)
@@ -26,13 +27,13 @@ module _ {cls sets kd ss cs cl qs ql tb sat mk : List ℕ} (kind : ℕ) (p q : P
     (ups : UpSays off kind (entry_of off cls cs₁ qs₁ up₁) p.at t)
     {ss₁ sat₁ mk₁ : List ℕ} (kept : Kept q.at q.words ss ss₁ tb tb₁ sat sat₁ mk mk₁)
     (one : Bool) (one_is : one ≡ lined_of kind p.yes off.verdict) {tbₐ : List ℕ} (l : ℕ) (counted : l ≡ cond one (off.lines + 1) off.lines) (same : one ≡ false → tbₐ ≡ tb₁)
-    (lined : (s : Node) (b : Bool) (ls : List Node) → LineTask s ls ss₁ tb₁ p off.lines → 1 ≡ byte_of b → Covers p.free tbₐ (ls ++ cond one ((s ▹ b) ∷ []) []))
+    (lined : (s : Node) (b : Bool) (ls : List Node) → LineTask s ls ss₁ tb₁ p.at p.free off.lines → 1 ≡ byte_of b → Covers p.free tbₐ (ls ++ cond one ((s ▹ b) ∷ []) []))
     (q' : Position) (eq' : q' ≡ counts.below p off.budget l) (on : Answer) {up₂ cs₂ cl₂ qs₂ ql₂ tb₂ : List ℕ}
     (ons : SideVisited 2 q' on cls sets kd ss₁ cs₁ cl₁ qs₁ ql₁ tbₐ sat₁ mk₁ up₂ cs₂ cl₂ qs₂ ql₂ tb₂)
     (saved : List ℕ) (aside : saved ≡ entry_of off cls cs₁ qs₁ up₁) (r : Answer) {cs₃ cl₃ qs₃ ql₃ : List ℕ}
-    (fins : FinishSays kd off.verdict on kind saved cls up₂ p.at cs₂ cl₂ qs₂ ql₂ r cs₃ cl₃ qs₃ ql₃) (unup : t ≡ false) (visits : r.budget ≡ on.budget)
+    (fins : OnwardIn off.verdict kind p.at saved on kd cls up₂ cs₂ cl₂ qs₂ ql₂ r cs₃ cl₃ qs₃ ql₃) (unup : t ≡ false) (visits : r.budget ≡ on.budget)
     {ss₂ : List ℕ} (same₂ : ss₂ ≡ ss₁) (two : Bool) (two_is : two ≡ lined_of kind p.yes on.verdict) {tb₃ : List ℕ} (n : ℕ) (settled : n ≡ settled_lines one two on.lines) (same₃ : two ≡ false → tb₃ ≡ tb₂)
-    (settling : (s : Node) (ls : List Node) → LineTask s ls ss₂ tb₂ p on.lines → SettledTo one two s ls p.free tb₃) where
+    (settling : (s : Node) (ls : List Node) → LineTask s ls ss₂ tb₂ p.at p.free on.lines → SettledTo one two s ls p.free tb₃) where
   -- whether a side is a line, where the code is that of the quantifier
   lines_by : (κ : Quantifier) → quantifier_code κ ≡ kind → (b : Bool) (v : Verdict) → b ≡ lined_of kind p.yes v → b ≡ lined_of (quantifier_code κ) p.yes v
   lines_by κ code b v e = e ∙ ap (λ (k : ℕ). lined_of k p.yes v) (sym code)

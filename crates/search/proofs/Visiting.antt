@@ -29,7 +29,7 @@ use Rattle.inner.specs.Inner.{Concluded, LeafCoded, NodeShown, OpenKnown}
 use Rattle.inner.specs.declared.Leaf.{Leaf}
 use Rattle.inner.specs.declared.Leaf.TheVariants as found
 use Rattle.search_entry.specs.Entry.{table_of, entry_at}
-use Rattle.search_entry.specs.declared.Bounds.{Bounds}
+use Rattle.search_entry.specs.declared.bounds.Bounds.{Bounds}
 use Rattle.cover.specs.Cover.{Covers}
 use Rattle.node.specs.Node.{stored_by, Reads, Shown, NextKind}
 use Rattle.node.proofs.NextPlace.{code_known, next_inside, kind_here}
@@ -37,7 +37,7 @@ use Rattle.search.specs.Search.{Task, Opened, Result, Visited, Followed, visit_o
 use Rattle.node.specs.declared.Verdict.{Verdict}
 use Rattle.node.specs.declared.Verdict.TheVariants.{Yes, No}
 use Rattle.node.specs.declared.position.Position.{Position}
-use Rattle.node.specs.declared.Answer.{Answer}
+use Rattle.node.specs.declared.answer.Answer.{Answer}
 use Rattle.search.proofs.Counts as counts
 use Rattle.search.proofs.Keeping.{entered_below}
 use Rattle.inner.proofs.Stepping.{facts, rising}
@@ -204,14 +204,6 @@ pub open_is : (l : Leaf) → is_open l ≡ true → l ≡ found.Open
 open_is (found.No b) e = absurd (true≢false (sym e))
 open_is (found.Yes b) e = absurd (true≢false (sym e))
 open_is found.Open e = refl
-
--- the start node is open, and its rows are as they were
-pub followed_as : {p : Position} {r r' : Answer} {cls sets kd ss cs cl qs ql tb sat sat₁ mk mk₁ up cs' cl' qs' ql' tb' : List ℕ} → r ≡ r' → sat₁ ≡ sat → mk₁ ≡ mk
-    → Followed p r cls sets kd ss cs cl qs ql tb sat₁ mk₁ up cs' cl' qs' ql' tb' → Followed p r' cls sets kd ss cs cl qs ql tb sat mk up cs' cl' qs' ql' tb'
-followed_as {p} {r} {r'} {cls} {sets} {kd} {ss} {cs} {cl} {qs} {ql} {tb} {sat} {sat₁} {mk} {mk₁} {up} {cs'} {cl'} {qs'} {ql'} {tb'} e a b w =
-    subst (λ (x : Answer). Followed p x cls sets kd ss cs cl qs ql tb sat mk up cs' cl' qs' ql' tb') e
-    (subst (λ (x : List ℕ). Followed p r cls sets kd ss cs cl qs ql tb x mk up cs' cl' qs' ql' tb') a
-    (subst (λ (x : List ℕ). Followed p r cls sets kd ss cs cl qs ql tb sat₁ x up cs' cl' qs' ql' tb') b w))
 
 -- ---- one value longer
 -- a side is the visit of the node one place longer

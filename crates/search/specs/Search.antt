@@ -1,6 +1,6 @@
 -- What a visitor asks of the lent tables, what it leaves of them, and what its answer says: safety without a prefix, and the learning search for
 -- every prefix, clauses, store, node and list of lines that the tables show.
-use Rattle.std.specs.Prelude.{ℕ, suc, ◌+◌, ◌-◌, ◌^◌, ◌≤◌, ◌<◌, ◌≡◌, Bool, true, false, cond, List, [], ◌∷◌, ◌++◌, length, take, drop, eqb}
+use Rattle.std.specs.Prelude.{ℕ, suc, ◌+◌, ◌-◌, ◌^◌, ◌≤◌, ◌<◌, ◌≡◌, Bool, true, false, List, ◌++◌, length, take, drop, eqb}
 use Rattle.std.proofs.Math.Option.{none}
 use Rattle.qbf.specs.Formula.{paper, Quantifier, Prefix, Clause, Node, ◌▹◌, quantifiers}
 use Rattle.qbf.specs.Truth.{free_variables}
@@ -13,15 +13,15 @@ use Rattle.tables.specs.Shelves.{newest_of}
 use Rattle.tables.specs.Records.{Ledger, StoreKept}
 use Rattle.tables.specs.Matrices.{MatrixShown}
 use Rattle.tables.specs.Sets.{Descended, RowsKept}
-use Rattle.inner.specs.Inner.{LeafBounded, Entered, NodeShown, Concluded}
+use Rattle.inner.specs.Inner.{Entered}
 use Rattle.inner.specs.declared.Leaf.{Leaf}
 use Rattle.inner.specs.declared.Leaf.TheVariants.{No, Yes, Open}
-use Rattle.search_entry.specs.Entry.{Bounded}
+use Rattle.search_entry.specs.Within.{nowhere}
 use Rattle.search_entry.specs.declared.Source.TheVariants.{Area}
-use Rattle.node.specs.Node.{bounds_of, entry_of, Reads, Shown, new_lines, LineTask, lined_of}
+use Rattle.node.specs.Node.{entry_of, Reads, Shown, new_lines}
 use Rattle.node.specs.declared.Verdict.TheVariants as verdict
 use Rattle.node.specs.declared.position.Position.{Position}
-use Rattle.node.specs.declared.Answer.{Answer}
+use Rattle.node.specs.declared.answer.Answer.{Answer}
 
 -- ---- what is asked
 -- the position of a side, with that budget and those lines
@@ -54,7 +54,6 @@ pub record AskedBelow (cl ql : List ℕ) (p : Position) : Type 0 where
 -- ---- what is left of the tables
 -- the answer's counts: no more lines and rows than the budget fell
 pub record Counts (cl ql : List ℕ) (p : Position) (r : Answer) (cl' ql' : List ℕ) : Type 0 where
-  pub bounded : Bounded (bounds_of r)
   pub lines_more : p.lines ≤ r.lines
   pub lines_fewer : r.lines + (r.budget + r.budget) ≤ p.lines + (p.budget + p.budget)
   pub clauses : newest_of cl' + r.budget ≤ newest_of cl + p.budget
@@ -163,35 +162,6 @@ is_open Open = true
 
 -- the answer of the node that they decide; an open one has none yet
 abbrev pub concluded_of : Leaf → Position → Answer
-concluded_of (No b) p = record { verdict = verdict.No; source = b.source; start = b.start; len = b.len; budget = p.budget - 1; lines = p.lines }
-concluded_of (Yes b) p = record { verdict = verdict.Yes; source = b.source; start = b.start; len = b.len; budget = p.budget - 1; lines = p.lines }
-concluded_of Open p = record { verdict = verdict.Mixed; source = Area; start = 0; len = 0; budget = 0; lines = p.lines }
-
--- at the start node nothing is done; at an inner node they are taken
-pub record StepsTaken (start : Bool) (at words : ℕ) (r : Leaf) (clauses sets quantifiers statuses cs cl qs ql sat marks area sat' marks' : List ℕ) : Type 0 where
-  pub bounded : LeafBounded r
-  pub rows : RowsKept at words sat sat' marks marks'
-  pub skipped : start ≡ true → (r ≡ Open) × (sat' ≡ sat) × (marks' ≡ marks)
-  pub taken : start ≡ false → (D : Prefix) (R : List Clause) (s : Node) (st : Store) (k : ℕ)
-      → NodeShown D R s st at words clauses sets quantifiers statuses cs cl qs ql → Entered D s R words sat marks k
-      → Concluded D R s st r words clauses cs qs area sat' marks'
-
--- ---- step 5, between the sides
--- The off side's line is written where `one` says that it is one: n lines become `lines`, and the table becomes `table'`.
-pub record OffLined (one : Bool) (p : Position) (n : ℕ) (statuses table table' : List ℕ) (lines : ℕ) : Type 0 where
-  pub counted : lines ≡ cond one (n + 1) n
-  pub size : length table' ≡ length table
-  pub same : one ≡ false → table' ≡ table
-  pub covers : (s : Node) (b : Bool) (ls : List Node) → LineTask s ls statuses table p n → 1 ≡ byte_of b → Covers p.free table' (ls ++ cond one ((s ▹ b) ∷ []) [])
-
--- the on side of a variable whose quantifier has that code: the off side's line is written, then the side is visited
-pub record Turned (kind : ℕ) (p : Position) (off r : Answer)
-    (clauses sets quantifiers statuses cs cl qs ql table sat marks saved area cs' cl' qs' ql' statuses' table' sat' marks' saved' : List ℕ) : Type 0 where
-  pub lines : ℕ
-  pub between : List ℕ
-  pub lined : OffLined (lined_of kind p.yes off.verdict) p off.lines statuses table between lines
-  pub position : Position
-  pub is : position ≡ side_at p off.budget lines
-  pub left : Left position.at position r cl ql statuses between sat marks cl' ql' statuses' table' sat' marks'
-  pub aside : AsideKept off.len saved saved'
-  pub visited : SideVisited 2 position r clauses sets quantifiers statuses cs cl qs ql between sat marks area cs' cl' qs' ql' table'
+concluded_of (No b) p = record { verdict = verdict.No; source = b.source; start = b.start; len = b.len; budget = p.budget - 1; lines = p.lines; inside = b.inside }
+concluded_of (Yes b) p = record { verdict = verdict.Yes; source = b.source; start = b.start; len = b.len; budget = p.budget - 1; lines = p.lines; inside = b.inside }
+concluded_of Open p = record { verdict = verdict.Mixed; source = Area; start = 0; len = 0; budget = 0; lines = p.lines; inside = nowhere }

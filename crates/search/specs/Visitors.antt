@@ -5,7 +5,7 @@ use Rattle.tables.specs.Views.{quantifier_code}
 use Rattle.search_entry.specs.declared.Matrix.{Matrix}
 use Rattle.search_entry.specs.declared.Search.{Search}
 use Rattle.node.specs.declared.position.Position.{Position}
-use Rattle.node.specs.declared.Answer.{Answer}
+use Rattle.node.specs.declared.answer.Answer.{Answer}
 use Rattle.node.specs.Node.{NextKind}
 use Rattle.search.specs.Search.{AskedAt, AskedOpen, AskedBelow, AsideKept, Left, SideVisited, Followed, Reached}
 

@@ -14,17 +14,19 @@ ghost use Rattle.tables.specs.Views.{quantifier_code};
 ghost use Rattle.search.specs.Visitors.{MayVisit, MayBranch, MayTurn, MayGoDown, Leaves, Follows, Reaches, GoesDown};
 
 use below::{to_off, to_on};
-use both_sides::finish;
+use both_sides::{finish, put_by};
 use coding::statuses::{give, restore};
+use inner::{Leaf, conclude};
 use node::{
-    Answer, OffSide, Position, Verdict, next_kind, settled, stopped, up_or_aside, with_lines,
+    Answer, Depth, OffSide, Position, Verdict, entry_of, next_kind, settled, stopped, up_or_aside,
+    with_lines,
 };
-use node_lines::{line_if, lined, settle_lines};
-use search_entry::{Matrix, Search, Source, placed};
-use steps::{concluded, is_open, take_steps};
+use node_lines::{NodeLines, line_if, lined, settle_lines};
+use search_entry::{Bounds, Matrix, Search, Source};
+use steps::{concluded, is_open};
 
 mod below; // the positions of a node's two sides
-mod steps; // steps 1 to 4 of a visit
+mod steps; // what steps 1 to 4 of a visit say
 
 // The search at a start node, where steps 1 to 4 have been taken and leave it open: its visit is counted, and it branches.
 pub fn start<'a>(matrix: &'a Matrix, search: &mut Search, table: &mut [u8], p: Position) -> Answer
@@ -35,7 +37,8 @@ pub fn start<'a>(matrix: &'a Matrix, search: &mut Search, table: &mut [u8], p: P
     visit(matrix, search, table, p, true)
 }
 
-// At an inner node: steps 1 to 4, else step 5; at the start node step 5. "The walk stops before the visit that would exceed" the ceiling.
+// stays (speed): with `start` on `branch`, which is then called from two places, a level is two calls, and a card took 1.15 times as long (docs/DECISIONS.md)
+// At an inner node: steps 1 to 4, else step 5; at the start node, where they have been taken, step 5. "The walk stops before the visit that would exceed" the ceiling.
 #[cycle(branch_exists_forall_free_side_sides_visit)]
 fn visit<'a>(
     matrix: &'a Matrix,
@@ -52,14 +55,21 @@ fn visit<'a>(
     if spent {
         return stopped(p.lines);
     }
-    let leaf = take_steps(
-        matrix,
-        &search.learned,
-        &search.statuses,
-        &mut search.trail,
-        p,
-        at_start,
-    );
+    let leaf = if at_start {
+        Leaf::Open
+    } else {
+        let here = Depth {
+            at: p.at,
+            words: p.words,
+        };
+        conclude(
+            matrix,
+            &search.learned,
+            &search.statuses,
+            &mut search.trail,
+            here,
+        )
+    };
     if is_open(leaf) {
         let below = branch(matrix, search, table, p);
         return with_lines(below, below.lines); // not copied whole: see `side`
@@ -77,7 +87,12 @@ fn branch<'a>(matrix: &'a Matrix, search: &mut Search, table: &mut [u8], p: Posi
 {
     let kind = next_kind(&matrix.quantifiers, p.at);
     if kind > tables::FORALL {
-        return settled(Verdict::No, placed(Source::Area, 0, 0), p.budget, p.lines);
+        let nowhere = Bounds {
+            source: Source::Area,
+            start: 0,
+            len: 0,
+        };
+        return settled(Verdict::No, nowhere, p.budget, p.lines);
     }
     if kind == tables::FREE {
         free(matrix, search, table, p)
@@ -90,6 +105,8 @@ fn branch<'a>(matrix: &'a Matrix, search: &mut Search, table: &mut [u8], p: Posi
 
 // "An exists node visits the off side and stops on Yes".
 // stays (form): the visitors of the three quantifiers are over one body
+// stays (no plainer): `matrix, search, table` go through the visitors together; a struct of them would be taken apart at each call out of the cycle, as `conclude`, `finish`, `give`
+// and `line_if` take a part of one or two of them
 #[cycle(branch_exists_forall_free_side_sides_visit)]
 fn exists<'a>(matrix: &'a Matrix, search: &mut Search, table: &mut [u8], p: Position) -> Answer
     requires { MayTurn (quantifier_code exists) matrix.now search.old p }
@@ -123,6 +140,7 @@ fn free<'a>(matrix: &'a Matrix, search: &mut Search, table: &mut [u8], p: Positi
 
 // What they share: the off side goes up, or it is put aside, the on side is visited, and both are finished. An off side that is a line is written
 // before the on side is visited.
+// stays (no plainer): the two literals copy `at`, and NodeLines `free`, of the position; the other fields are not the position's, and each has just what its callees read
 #[cycle(branch_exists_forall_free_side_sides_visit)]
 fn sides<'a>(
     matrix: &'a Matrix,
@@ -141,18 +159,18 @@ fn sides<'a>(
         kind,
         answer: off,
     };
-    if up_or_aside(
-        first,
-        matrix,
-        &search.learned,
-        &search.trail.cube,
-        &mut search.aside,
-    ) {
+    let (clauses, cubes) = (&search.learned.clauses, &search.learned.cubes);
+    let area = &search.trail.cube;
+    let row = entry_of(off, &matrix.rows, &clauses.cells, &cubes.cells, area);
+    if up_or_aside(first, row, &mut search.aside) {
         return with_lines(off, off.lines); // not copied whole: see `side`
     }
     let one = lined(off.verdict, kind, p.yes);
-    let mut here = p;
-    here.lines = off.lines;
+    let mut here = NodeLines {
+        at: p.at,
+        free: p.free,
+        count: off.lines,
+    };
     let lines = line_if(one, tables::OFF, table, here, &search.statuses);
     let on = side(
         matrix,
@@ -161,17 +179,10 @@ fn sides<'a>(
         to_on(p, off.budget, lines),
         tables::ON,
     );
-    let both = finish(
-        first,
-        on,
-        matrix,
-        &search.aside,
-        &search.trail.cube,
-        &mut search.learned,
-    );
+    let put = put_by(&search.aside, first);
+    let both = finish(put, on, matrix, &search.trail.cube, &mut search.learned);
     let two = lined(on.verdict, kind, p.yes);
-    let mut here = p;
-    here.lines = on.lines;
+    here.count = on.lines;
     let after = settle_lines(one, two, table, here, &search.statuses);
     with_lines(both, after)
 }

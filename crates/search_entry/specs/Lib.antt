@@ -1,2 +1,3 @@
+pub mod Within
 pub mod Entry
 pub mod Tables

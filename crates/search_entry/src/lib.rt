@@ -3,9 +3,12 @@
 #![tactic(auto)]
 
 ghost use Rattle.std.specs.Prelude.{◌≡◌, ◌+◌, ◌≤◌, ◌<◌, length, take, drop};
-ghost use Rattle.search_entry.specs.Entry.{entry_at, Bounded};
+ghost use Rattle.search_entry.specs.Entry.{entry_at};
 
+pub use bounds::Bounds;
 use shelf::Shelf;
+
+mod bounds; // where a constraint lies that goes up
 
 // The clauses, each in a row under universal reduction and all in sets by code; and by code the quantifiers.
 #[derive(Drop)]
@@ -51,19 +54,6 @@ pub enum Source {
     Area,
 }
 
-#[derive(Clone, Copy)]
-pub struct Bounds {
-    pub source: Source,
-    pub start: usize,
-    pub len: usize,
-}
-
-pub fn placed(source: Source, start: usize, len: usize) -> Bounds
-    ensures { result ≡ record { source = source; start = start; len = len } }
-{
-    Bounds { source, start, len }
-}
-
 // The codes of a constraint that goes up, where it is one of the clauses, of the learned constraints of that shelf, or a cube.
 pub fn entry<'a>(
     clauses: &'a [u16; tables::CLAUSE_ROWS],
@@ -71,7 +61,6 @@ pub fn entry<'a>(
     area: &'a [u16; tables::AREA],
     b: Bounds,
 ) -> &'a [u16]
-    requires { Bounded b }
     ensures { (result.now ≡ entry_at b clauses.now learned.now area.now) × (length result.now ≡ b.len) }
 {
     let cells: &[u16] = match b.source {

@@ -4,7 +4,7 @@
 
 ghost use Rattle.qbf.specs.Formula.{paper};
 ghost use Rattle.tables.specs.Views.{Standing};
-ghost use Rattle.lowest_dead.specs.Found.{FoundLowest};
+ghost use Rattle.lowest_dead.specs.Found.{LowestIn};
 ghost use Rattle.search_finder.specs.Lent.{Tells};
 
 use lent_rows::LentRows;
@@ -12,7 +12,7 @@ use literal::{ByNumber, cell_at};
 use lowest_dead::lowest_dead;
 
 // Whether the rows that stand lie within the table.
-// stays (C): the tables are those of the exported function, and are rows only once this has said so
+// stays (C): the tables are those of the exported function, and `LentRows` is made of them only once this has said that they are rows
 fn stand(cells: &[i16], sizes: &[u16]) -> bool
     ensures { Tells result cells.now sizes.now }
 {
@@ -20,47 +20,33 @@ fn stand(cells: &[i16], sizes: &[u16]) -> bool
     if sizes.len() <= count {
         return false;
     }
-    for k in 0..count {
-        let end = k * tables::LITERALS + cell_at(sizes, k + 1) as usize;
-        let outside = cells.len() < end;
-        if outside {
-            return false;
-        }
-    }
-    true
+    let lengths = &sizes[1..=count];
+    lengths
+        .iter()
+        .enumerate()
+        .all(|(k, n)| k * tables::LITERALS + *n as usize <= cells.len())
 }
 
-// The index of the clause that step 1 takes; the count of the clauses where none is dead, and where they do not lie within their table.
-// stays (C): the number of none is the exported function's
-pub fn search_finder_lowest_dead<'a>(
-    clauses: &'a [i16],
-    sizes: &'a [u16],
-    places: &'a [u16],
-    kinds: &'a [u16],
-    values: &'a [u8],
-) -> usize
+// The index of the clause that step 1 takes; none where no clause is dead, and where they do not lie within their table.
+// stays (C): the tables are those of the exported function, and `LentRows` is made of them only once `stand` has said that they are rows
+pub fn search_finder_lowest_dead(clauses: &[i16], sizes: &[u16], shown: ByNumber) -> Option<usize>
     ensures { Standing paper.literals clauses.now sizes.now
-        → FoundLowest
+        → LowestIn
+        paper.literals
         clauses.now
         sizes.now
-        places.now
-        kinds.now
-        values.now
+        shown.entry.places.now
+        shown.entry.kinds.now
+        shown.entry.values.now
         result }
 {
-    let count = cell_at(sizes, 0) as usize;
     if !stand(clauses, sizes) {
-        return count;
+        return None;
     }
     let rows = LentRows {
         cells: clauses,
         sizes,
         width: tables::LITERALS,
     };
-    let shown = ByNumber {
-        places,
-        kinds,
-        values,
-    };
-    lowest_dead(rows, shown).unwrap_or(count)
+    lowest_dead(rows, shown)
 }

@@ -1,4 +1,4 @@
-// The finder of `search_finder` as a static library: the export calls the function of its name, and has its clause.
+// The finder of `search_finder` as a static library: the export calls the function of its name, and answers a number.
 #![tactic(auto)]
 
 ghost use Rattle.qbf.specs.Formula.{paper};
@@ -6,8 +6,10 @@ ghost use Rattle.tables.specs.Views.{Standing};
 ghost use Rattle.lowest_dead.specs.Found.{FoundLowest};
 ghost use Rattle.search_finder.specs.Lent.{Tells};
 
+use literal::{ByNumber, cell_at};
+
 // The index of the clause that step 1 takes; the count of the clauses where none is dead, and where they do not lie within their table.
-// stays (C): the number of none is the exported function's
+// stays (C): a C function answers a number; the function that it calls answers an Option
 #[unsafe(no_mangle)]
 pub extern "C" fn search_finder_lowest_dead<'a>(
     clauses: &'a [i16],
@@ -25,5 +27,11 @@ pub extern "C" fn search_finder_lowest_dead<'a>(
         values.now
         result }
 {
-    search_finder::search_finder_lowest_dead(clauses, sizes, places, kinds, values)
+    let shown = ByNumber {
+        places,
+        kinds,
+        values,
+    };
+    let count = cell_at(sizes, 0) as usize;
+    search_finder::search_finder_lowest_dead(clauses, sizes, shown).unwrap_or(count)
 }

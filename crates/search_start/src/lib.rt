@@ -17,6 +17,7 @@ pub mod matches; // learned constraints
 pub mod satisfied;
 
 // What steps 1 to 4 decide, or that the node is open.
+// stays (no plainer): three outcomes of steps 1 to 4, which `Starts` names one by one and both callers match on; node's `Verdict`, of which an Option could hold two, has a third that is none of these
 #[derive(Clone, Copy)]
 pub enum Start {
     No,

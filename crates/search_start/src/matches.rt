@@ -38,10 +38,5 @@ pub fn any_match(learned: LentRows, shown: ByNumber, cube: bool, at: usize) -> b
         (matching D cube s)
         (rows_of learned.entry.width learned.entry.cells.now learned.entry.sizes.now) }
 {
-    for k in 0..learned.count() {
-        if is_match(learned.row(k), shown, cube, at) {
-            return true;
-        }
-    }
-    false
+    learned.rows().any(|row| is_match(row, shown, cube, at))
 }

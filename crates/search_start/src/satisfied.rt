@@ -18,10 +18,5 @@ pub fn all_satisfied(clauses: LentRows, values: &[u8]) -> bool
         → result
         ≡ all (satisfied D s) (rows_of clauses.entry.width clauses.entry.cells.now clauses.entry.sizes.now) }
 {
-    for k in 0..clauses.count() {
-        if !is_satisfied(clauses.row(k), values) {
-            return false;
-        }
-    }
-    true
+    clauses.rows().all(|row| is_satisfied(row, values))
 }

@@ -55,7 +55,7 @@ module _ {x : State} {number : ℕ} {s : Shown} {r : Turn} {d : Bytes} (n : ℕ)
   adding_turned make ls told shows k e h = λ t. by (subst (λ (m : ℕ). Turned x (some (make (take m lits))) number s t r t d) e (h t))
     where
       by : {t : Bytes} → Turned x (some (make (take (min n (suc paper.numbers)) lits))) number s t r t d → Turned x (some (make ls)) number s t r t d
-      by {t} u = record { within = u.within; served = told (take r.length d) r.state u.served; shown = u.shown ∙ shows (card_in s t) }
+      by {t} u = record { within = u.within; served = told (take r.length d) r.held.state u.served; shown = u.shown ∙ shows (card_in s t) }
 
   pub rule_turned : (k : ℕ) → k ≡ min n (suc paper.numbers) → TurnedBeside x (some (rule (take k lits))) number s r d → (ls : List Literal) → Kept n lits ls → TurnedBeside x (some (rule ls)) number s r d
   rule_turned k e h ls q = adding_turned rule ls (λ t x' w. rule_served x n lits wide number t x' ls q w) (rule_card x n lits wide ls q) k e h
@@ -64,17 +64,18 @@ module _ {x : State} {number : ℕ} {s : Shown} {r : Turn} {d : Bytes} (n : ℕ)
   one_turned k e h ls q = adding_turned one ls (λ t x' w. one_served x n lits wide number t x' ls q w) (one_card x n lits wide ls q) k e h
 
 -- a call that names flags, by those that decide
-module _ {x : State} {number : ℕ} {r : Turn} {d : Bytes} (top : ℕ) (ls : List Literal) (on off : List ℤ) (e : on ≡ named true (deciding ls)) (f : off ≡ named false (deciding ls)) where
-  pub query_turned : {s : Shown} → TurnedBeside x (some (query top on off)) number s r d → TurnedBeside x (some (query top (named true ls) (named false ls))) number s r d
-  query_turned h = λ t.
-      let u = h t in
-      record { within = u.within; served = query_served x ls on off e f number (take r.length d) r.state top u.served; shown = u.shown }
+module _ {x : State} {number : ℕ} {r : Turn} {d : Bytes} (top : ℕ) (ls : List Literal) (on off : List ℤ) (e : on ≡ named true (deciding ls)) (f : off ≡ named false (deciding ls)) {ceiling : ℕ} (g : ceiling ≡ top) where
+  pub query_turned : {s : Shown} → TurnedBeside x (some (query ceiling on off)) number s r d → TurnedBeside x (some (query top (named true ls) (named false ls))) number s r d
+  query_turned {s} h = λ t.
+      let u = subst (λ (m : ℕ). Turned x (some (query m on off)) number s t r t d) g (h t) in
+      record { within = u.within; served = query_served x ls on off e f number (take r.length d) r.held.state top u.served; shown = u.shown }
 
-  pub closest_turned : (size : ℕ) {t : Bytes} (s₀ : Shown) (t₀ : Bytes) → Turned x (some (closest top size on off)) number s₀ t₀ r t d → Turned x (some (closest top size (named true ls) (named false ls))) number s₀ t₀ r t d
-  closest_turned size s₀ t₀ u =
+  pub closest_turned : (size : ℕ) {t : Bytes} (s₀ : Shown) (t₀ : Bytes) → Turned x (some (closest ceiling size on off)) number s₀ t₀ r t d → Turned x (some (closest top size (named true ls) (named false ls))) number s₀ t₀ r t d
+  closest_turned size {t} s₀ t₀ h =
+      let u = subst (λ (m : ℕ). Turned x (some (closest m size on off)) number s₀ t₀ r t d) g h in
       record {
         within = u.within;
-        served = closest_served x ls on off e f number (take r.length d) r.state top size u.served;
+        served = closest_served x ls on off e f number (take r.length d) r.held.state top size u.served;
         shown = u.shown ∙ closest_card x ls on off e f top size (card_in s₀ t₀);
       }
 

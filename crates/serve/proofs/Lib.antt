@@ -9,4 +9,4 @@ pub mod LastCard
 pub mod Called
 pub mod Books
 pub mod Writing
-pub mod Added
+pub mod Changes

@@ -15,7 +15,7 @@ use Rattle.serve.specs.declared.Turn.{Turn}
 use Rattle.serve.specs.Line.{CallServed, line_card, Turned}
 
 pub turned : {d₀ d t : Bytes} {r : ℕ} (x : State) (c : Option Call) (n : ℕ) (x' : State) (s₀ s : Shown) → Wrote d₀ 0 t d r → ((u : Bytes) → u ≡ t → CallServed x c n u x')
-    → (t₀ t₁ : Bytes) → card_in s t₁ ≡ line_card (read_state x) c (card_in s₀ t₀) → Turned x c n s₀ t₀ (record { state = x'; length = r; shown = s }) t₁ d
+    → (t₀ t₁ : Bytes) → card_in s t₁ ≡ line_card (read_state x) c (card_in s₀ t₀) → Turned x c n s₀ t₀ (record { held = record { state = x'; shown = s }; length = r }) t₁ d
 turned {d₀} {d} {t} {r} x c n x' s₀ s w served t₀ t₁ shown = record { within = within w; served = served (take r d) w.is; shown = shown }
 
 -- a call whose table is a part of a table

@@ -50,7 +50,7 @@ module _ (n : ℕ) where
 -- the part of the table that the line asks for has so many bytes
 module _ (x : State) (size n : ℕ) (s : Shown) (refusal : ℕ) where
   pub write_refused_lem : {count m : ℕ} {part d₀ d : Bytes} {r : ℕ} → m ≡ size → Writes x m refusal count part → (refusal ≡ 0 → ⊥) → Wrote d₀ 0 (refusal_text refusal n) d r
-      → WriteTurned x (some size) n s (record { state = x; length = r; shown = s }) d
+      → WriteTurned x (some size) n s (record { held = record { state = x; shown = s }; length = r }) d
   write_refused_lem {count} {m} {part} {d₀} {d} {r} e w h v =
       record {
         within = within v;
@@ -60,7 +60,7 @@ module _ (x : State) (size n : ℕ) (s : Shown) (refusal : ℕ) where
       }
 
   pub write_shown : {count m : ℕ} {part : Bytes} → refusal ≡ 0 → m ≡ size → (after : Bytes) → Writes x m refusal count part
-      → WriteTurned x (some size) n s (record { state = x; length = count; shown = s }) (part ++ after)
+      → WriteTurned x (some size) n s (record { held = record { state = x; shown = s }; length = count }) (part ++ after)
   write_shown {count} {m} {part} z e after w =
       record {
         within = omega (arith, count_within none_refused, length-append part after);

@@ -61,8 +61,8 @@ line_card o (some c) z = card_after (prefix_read o) c (out_of o c).reply z
 -- the answer stands at the start of the table d; the card answered last was told by s₀ and t₀, and is by the turn and t
 pub record Turned (x : State) (c : Option Call) (n : ℕ) (s₀ : Shown) (t₀ : Bytes) (r : Turn) (t d : Bytes) : Type 0 where
   pub within : r.length ≤ length d
-  pub served : CallServed x c n (take r.length d) r.state
-  pub shown : card_in r.shown t ≡ line_card (read_state x) c (card_in s₀ t₀)
+  pub served : CallServed x c n (take r.length d) r.held.state
+  pub shown : card_in r.held.shown t ≡ line_card (read_state x) c (card_in s₀ t₀)
 
 -- a call that is no card does not touch that table
 abbrev pub TurnedBeside : State → Option Call → ℕ → Shown → Turn → Bytes → Type 0
@@ -72,5 +72,5 @@ TurnedBeside x c n s r d = (t : Bytes) → Turned x c n s t r t d
 pub record WriteTurned (x : State) (size : Option ℕ) (n : ℕ) (s : Shown) (r : Turn) (d : Bytes) : Type 0 where
   pub within : r.length ≤ length d
   pub text : take r.length d ≡ write_answer (read_state x) n size
-  pub state : r.state ≡ x
-  pub shown : r.shown ≡ s
+  pub state : r.held.state ≡ x
+  pub shown : r.held.shown ≡ s

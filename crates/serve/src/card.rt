@@ -14,7 +14,7 @@ ghost use Rattle.serve.specs.Line.{line_answer, Turned};
 use crate::{Filled, Sought, Turn};
 use answer_text::Answer;
 use answer_text::refused::put_search_refusal;
-use answer_text::shown::card_of;
+use answer_text::shown::{Held, card_of};
 use replies::Listed;
 use state::State;
 use writer::Output;
@@ -38,13 +38,7 @@ pub fn put_shown(
         result }
 {
     let numbers = x.numbers;
-    let levels = x.levels;
-    let kinds = x.kinds;
-    let free = state::kinds::free_count(state::prefix::Variables {
-        numbers: &numbers,
-        levels: &levels,
-        kinds: &kinds,
-    });
+    let free = x.free_count();
     let lines = Lines {
         numbers: &numbers,
         table: filled.table,
@@ -106,9 +100,9 @@ pub fn serve_card(
     let made = card_of(x, listed.lines, table.len());
     let filled = Filled { sought, table };
     let length = put_listed(out, x, filled, listed, line);
-    Turn {
+    let held = Held {
         state: next,
-        length: length,
         shown: made,
-    }
+    };
+    Turn { held, length }
 }

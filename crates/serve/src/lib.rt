@@ -5,9 +5,9 @@
 ghost use Rattle.std.specs.Prelude.{◌≤◌, length};
 ghost use Rattle.layout.specs.Program.{table_bytes};
 
-use answer_text::shown::Shown;
-use state::State;
+use answer_text::shown::Held;
 
+mod asked;
 pub mod book;
 pub mod call;
 mod card;
@@ -15,14 +15,6 @@ mod change; // rule, one, withdraw, forget
 mod nearest;
 mod query;
 pub mod write; // the book's text
-
-// Of a query or a closest reading: the variables that are on, those that are off, and the ceiling of visits.
-#[derive(Clone, Copy)]
-pub struct Asked<'a> {
-    pub on: &'a [i16],
-    pub off: &'a [i16],
-    pub ceiling: u32,
-}
 
 // Of a card, or of a keep card where `yes` is false.
 #[derive(Clone, Copy)]
@@ -42,7 +34,6 @@ struct Filled<'a> {
 // The answer stands in the first bytes of the lent table.
 #[derive(Clone, Copy)]
 pub struct Turn {
-    pub state: State,
+    pub held: Held,
     pub length: usize,
-    pub shown: Shown,
 }

@@ -9,10 +9,11 @@ ghost use Rattle.answer_text.specs.Answered.{AnswerHeld, Answered};
 ghost use Rattle.serve.specs.Line.{line_answer, Turned};
 ghost use Rattle.serve.specs.Nearest.{card_found, NearestFound};
 
-use crate::{Asked, Turn};
+use crate::Turn;
 use answer_text::Answer;
 use answer_text::refused::put_search_refusal;
-use answer_text::shown::card_of;
+use answer_text::shown::{Held, card_of};
+use answers::asked::Asked;
 use answers::lent::Searching;
 use closest_call::Nearest;
 use refusal::Refusal;
@@ -24,10 +25,7 @@ use writer::answer::Closest;
 fn card_found(told: Result<usize, Refusal>, lines: usize) -> Result<usize, Refusal>
     ensures { result ≡ card_found told lines }
 {
-    match told {
-        Ok(_) => Ok(lines),
-        Err(refusal) => Err(refusal),
-    }
+    told.map(|_| lines)
 }
 
 // The reading, which the first of the lent bytes show, or the refusal.
@@ -43,13 +41,7 @@ fn put_nearest(
         → Answered out.old (line_answer (read_state x) line (some (closest f.ceiling (length f.table) f.on f.off))) out.new result }
 {
     let numbers = x.numbers;
-    let levels = x.levels;
-    let kinds = x.kinds;
-    let free = state::kinds::free_count(state::prefix::Variables {
-        numbers: &numbers,
-        levels: &levels,
-        kinds: &kinds,
-    });
+    let free = x.free_count();
     match nearest.told {
         Ok(differs) => {
             let shown = &reading[..free];
@@ -70,6 +62,8 @@ fn put_nearest(
 }
 
 // A closest reading from a card in a lent table.
+// stays (proof): as in `answers::on_state::card_of`, with `Searching::of(state)` nothing says what `state` is when its loan ends: a clause says that where one `&mut` is
+// returned, and not a struct of four
 #[inline(never)]
 pub fn serve_closest(
     x: State,
@@ -103,20 +97,13 @@ pub fn serve_closest(
         learned_cubes: &mut next.learned_cubes,
         learned_cube_sizes: &mut next.learned_cube_sizes,
     };
-    let nearest = closest_call::closest(
-        &mut lent,
-        asked.on,
-        asked.off,
-        table,
-        &mut reading,
-        asked.ceiling,
-    );
+    let nearest = closest_call::closest(&mut lent, asked, table, &mut reading);
     let found = card_found(nearest.told, nearest.lines);
     let made = card_of(x, found, table.len());
     let length = put_nearest(out, x, &reading, nearest, line);
-    Turn {
+    let held = Held {
         state: next,
-        length: length,
         shown: made,
-    }
+    };
+    Turn { held, length }
 }

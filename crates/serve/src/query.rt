@@ -4,11 +4,14 @@ ghost use Rattle.qbf.specs.Calls.{query};
 ghost use Rattle.answer_text.specs.Answered.{AnswerHeld};
 ghost use Rattle.serve.specs.Line.{TurnedBeside};
 
-use crate::{Asked, Turn};
+use crate::Turn;
 use answer_text::Answer;
 use answer_text::query::put_ruling;
 use answer_text::shown::Held;
+use answers::asked::Asked;
 
+// stays (no plainer): of `held`, `line` and `out`, the state goes to the query, and `line` and `out` to `put_ruling` alone: a struct of them would be made by the
+// caller and taken apart here
 #[inline(never)]
 pub fn serve_query(held: Held, asked: Asked<'_>, line: u64, out: &mut Answer<'_>) -> Turn
     ensures held { AnswerHeld out.old out.new }
@@ -21,12 +24,11 @@ pub fn serve_query(held: Held, asked: Asked<'_>, line: u64, out: &mut Answer<'_>
         out.new.bytes.now }
 {
     let mut next = held.state;
-    let ruled = answers::on_state::query(&mut next, asked.on, asked.off, asked.ceiling);
+    let ruled = answers::on_state::query(&mut next, asked);
     let length = put_ruling(out, ruled.ruling, ruled.visits, line);
-    let shown = held.shown;
-    Turn {
+    let held = Held {
         state: next,
-        length: length,
-        shown: shown,
-    }
+        ..held
+    };
+    Turn { held, length }
 }

@@ -10,6 +10,8 @@ use answer_text::refused::refuse;
 use answer_text::shown::Held;
 use book_writer::{LONGEST, NONE, write_book};
 
+// stays (no plainer): of `held`, `line` and `out`, `line` is asked for where the text is refused alone, and a part of `out` is lent before it: a struct of them would
+// be made by each caller and taken apart here
 // `(write 4)`: the first bytes of the table, as many as the line asks for.
 #[inline(never)]
 pub fn serve_write(held: Held, size: usize, line: u64, out: &mut Answer<'_>) -> Turn
@@ -17,26 +19,21 @@ pub fn serve_write(held: Held, size: usize, line: u64, out: &mut Answer<'_>) -> 
     ensures held { AnswerHeld out.old out.new }
     ensures turned { WriteTurned held.state (some size) line held.shown result out.new.bytes.now }
 {
-    let x = held.state;
-    let shown = held.shown;
     let bytes = &mut *out.bytes;
-    let written = write_book(x, &mut bytes[..size]);
+    let written = write_book(held.state, &mut bytes[..size]);
+    // `write_book` answers the two numbers of `Written`
     if written.refusal != NONE {
         let length = refuse(out, written.refusal, line);
-        return Turn {
-            state: x,
-            length: length,
-            shown: shown,
-        };
+        return Turn { held, length };
     }
     Turn {
-        state: x,
+        held,
         length: written.length,
-        shown: shown,
     }
 }
 
 // `(write)`: a table that holds every text.
+// stays (no plainer): `held`, `line` and `out` as in `serve_write`
 #[inline(never)]
 pub fn serve_whole(held: Held, line: u64, out: &mut Answer<'_>) -> Turn
     ensures held { AnswerHeld out.old out.new }

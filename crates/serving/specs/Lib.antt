@@ -1,2 +1,3 @@
 pub mod Serves
 pub mod Demands
+pub mod Left

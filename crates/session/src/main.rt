@@ -3,9 +3,8 @@
 
 use answer_text::ANSWER;
 use input::read_more;
-use output::print;
 use reader::call::TABLE;
-use session_turn::{ROOM, turn};
+use session_turn::{ROOM, Stage, turn};
 use std::io;
 use std::io::{Input, Read};
 
@@ -19,14 +18,14 @@ fn run<R: Read>(
 ) -> io::Result<()> {
     let mut s = session_turn::start();
     for _ in 0..u64::MAX {
-        let got = if s.waits {
+        let got = if s.stage.waits() {
             read_more(reader, text, s.held)
         } else {
             0
         };
         s = turn(s, got, text, cards, answer);
-        print(rt, answer, s.length)?;
-        if s.over {
+        rt.write_all(answer.get(..s.length).unwrap_or(&[]))?;
+        if s.stage == Stage::Over {
             break;
         }
     }

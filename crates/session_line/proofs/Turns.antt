@@ -61,7 +61,7 @@ module _ (s : Shown) (t : Bytes) (n k : ℕ) where
       ap (λ (u : Bytes). page_rows u s.lines s.free n k) (ap (λ (j : ℕ). take j t) e ∙ take_min s.size t)
       ∙ sym (ap (λ (r : ℕ). page_answer (cond (eqb r 0) (some (record { table = take s.size t; lines = s.lines; free = s.free })) none) n k) z)
 
-pub page_turned : {d₀ d : Bytes} {r : ℕ} (x : State) (k n : ℕ) (s : Shown) (t : Bytes) → Wrote d₀ 0 (page_answer (card_in s t) n k) d r → PageTurned x k n s t (record { state = x; length = r; shown = s }) d
+pub page_turned : {d₀ d : Bytes} {r : ℕ} (x : State) (k n : ℕ) (s : Shown) (t : Bytes) → Wrote d₀ 0 (page_answer (card_in s t) n k) d r → PageTurned x k n s t (record { held = record { state = x; shown = s }; length = r }) d
 page_turned x k n s t w = record { within = within w; text = w.is; state = refl; shown = refl }
 
 -- ---- by what the line asks for

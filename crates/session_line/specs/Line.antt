@@ -34,17 +34,17 @@ page_rows table lines free n k = cond (no_page table lines free k) (refusal_text
 pub record PageTurned (x : State) (k n : ℕ) (s : Shown) (t : Bytes) (r : Turn) (d : Bytes) : Type 0 where
   pub within : r.length ≤ length d
   pub text : take r.length d ≡ page_answer (card_in s t) n k
-  pub state : r.state ≡ x
-  pub shown : r.shown ≡ s
+  pub state : r.held.state ≡ x
+  pub shown : r.held.shown ≡ s
 
 -- ---- the lent tables
 -- the answer stands at the start of the table d; the card answered last was told by s₀ and t₀, and is by the turn and t
 pub record RequestTurned (x : State) (q : Option Request) (n : ℕ) (s₀ : Shown) (t₀ : Bytes) (r : Turn) (t d : Bytes) : Type 0 where
   pub within : r.length ≤ length d
-  pub served : RequestServed x (card_in s₀ t₀) q n (take r.length d) r.state (card_in r.shown t)
+  pub served : RequestServed x (card_in s₀ t₀) q n (take r.length d) r.held.state (card_in r.held.shown t)
 
 abbrev pub spoken_turn : Spoken → Turn
-spoken_turn r = record { state = r.state; length = r.length; shown = r.shown }
+spoken_turn r = record { held = record { state = r.state; shown = r.shown }; length = r.length }
 
 -- An answer that is written has no number, whatever its text says. In a table that is too short nothing is served.
 pub record ServesLine (x : State) (l : Bytes) (n : ℕ) (s₀ : Shown) (t₀ d₀ : Bytes) (r : Spoken) (t d : Bytes) : Type 0 where

@@ -73,23 +73,21 @@ pub fn serve_line(
 {
     if out.len() < ANSWER {
         cover::clear(out);
-        let x = held.state;
-        let shown = held.shown;
+        let Held { state, shown } = held;
         return Spoken {
             refusal: Refusal::TableTooShort.number(),
             length: 0,
-            state: x,
-            shown: shown,
+            state,
+            shown,
         };
     }
     let mut answer = Answer { bytes: out };
     let turn = serve_request(held, line, number, cards, &mut answer);
-    let next = turn.state;
-    let last = turn.shown;
+    let Held { state, shown } = turn.held;
     Spoken {
         refusal: NONE,
         length: turn.length,
-        state: next,
-        shown: last,
+        state,
+        shown,
     }
 }

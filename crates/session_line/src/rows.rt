@@ -42,6 +42,8 @@ fn put_shown(out: &mut Answer<'_>, cards: &[u8], shown: Shown, k: usize, line: u
 }
 
 // The state and the card are left.
+// stays (no plainer): of `held`, `line` and `out`, the card goes to `put_shown` with `line` and `out`, and `held` is answered whole: a struct of them would be made by
+// the caller and taken apart here
 #[inline(never)]
 pub fn serve_page(
     held: Held,
@@ -53,12 +55,6 @@ pub fn serve_page(
     ensures held { AnswerHeld out.old out.new }
     ensures turned { PageTurned held.state k line held.shown cards.now result out.new.bytes.now }
 {
-    let shown = held.shown;
-    let length = put_shown(out, cards, shown, k, line);
-    let x = held.state;
-    Turn {
-        state: x,
-        length: length,
-        shown: shown,
-    }
+    let length = put_shown(out, cards, held.shown, k, line);
+    Turn { held, length }
 }

@@ -1,6 +1,4 @@
 pub mod Books
-pub mod Served
+pub mod Requests
 pub mod Turns
-pub mod Answered
-pub mod Ends
 pub mod Runs

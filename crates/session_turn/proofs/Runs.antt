@@ -18,9 +18,11 @@ use Rattle.feeding.specs.Sessions.{Held, over, start, behind, on_byte, at_end, s
 use Rattle.feeding.proofs.Lines.{fed_append, line_steps}
 use Rattle.feeding.proofs.Sessions.{fed_over, fed_calls, fed_book, whole, by_steps}
 use Rattle.answer_text.specs.Shown.{card_in}
+use Rattle.session_turn.specs.declared.Stage.{Stage}
+use Rattle.session_turn.specs.declared.Stage.TheVariants.{Book, Calls, Over}
 use Rattle.session_turn.specs.declared.Session.{Session}
 use Rattle.line_buffer.specs.Numbers.{last_number}
-use Rattle.session_turn.specs.Turns.{started, part_in, Shows, Quiet, unused, feed, Ready, Went, Finished, has_ended}
+use Rattle.session_turn.specs.Turns.{started, waits, skips, part_in, Shows, Quiet, unused, feed, Ready, Went, Finished, has_ended}
 use Rattle.session_turn.specs.Runs.{Reading, Round, Ran}
 use Rattle.session_turn.proofs.Books.{all_book}
 use Rattle.session_turn.proofs.Turns.{true_false, shows_over, shows_book, as_over, as_book, as_calls}
@@ -30,16 +32,16 @@ quiet_book : (q : Bytes) → Quiet start q → (feed start q).text ≡ []
 quiet_book q h = ap (λ (x : Step Held). x.text) ((fed_book paper q).begun (omega (arith, h.1, ap length (all_book q h.0))) h.0).2
 
 pub quiet_text : (s : Session) (cards : Bytes) (h : Held) → Shows s cards h → (q : Bytes) → Quiet h q → (feed h q).text ≡ []
-quiet_text s cards h w q k = by s.over refl s.calling refl
+quiet_text s cards h w q k = by s.stage refl
   where
-    by : (o : Bool) → s.over ≡ o → (c : Bool) → s.calling ≡ c → (feed h q).text ≡ []
-    by true e c f = ap (λ (x : Held). (feed x q).text) (as_over s cards e h w) ∙ ap (λ (x : Step Held). x.text) (fed_over paper q)
-    by false e true f =
-        let v = as_calls s cards e f h w in
+    by : (g : Stage) → s.stage ≡ g → (feed h q).text ≡ []
+    by Over e = ap (λ (x : Held). (feed x q).text) (as_over s cards e h w) ∙ ap (λ (x : Step Held). x.text) (fed_over paper q)
+    by (Calls l) e =
+        let v = as_calls s cards l e h w in
         ap (λ (x : Held). (feed x q).text) v.2
-        ∙ ap (λ (x : Step Held). x.text) (fed_calls paper (record { number = s.number; part = part_in s.skipping; left = record { state = v.0; shown = card_in s.shown cards } }) q)
-        ∙ ap (λ (ls : List Bytes). (behind (line_steps serve_call (record { number = s.number; part = part_in s.skipping; left = record { state = v.0; shown = card_in s.shown cards } }) ls)).text) (subst (λ (x : Held). Quiet x q) v.2 k)
-    by false e false f = let v = as_book s cards e f h w in ap (λ (x : Held). (feed x q).text) v.0 ∙ quiet_book q (subst (λ (x : Held). Quiet x q) v.0 k)
+        ∙ ap (λ (x : Step Held). x.text) (fed_calls paper (record { number = s.number; part = part_in (skips s.stage); left = record { state = v.0; shown = card_in s.left.shown cards } }) q)
+        ∙ ap (λ (ls : List Bytes). (behind (line_steps serve_call (record { number = s.number; part = part_in (skips s.stage); left = record { state = v.0; shown = card_in s.left.shown cards } }) ls)).text) (subst (λ (x : Held). Quiet x q) v.2 k)
+    by Book e = let v = as_book s cards e h w in ap (λ (x : Held). (feed x q).text) v.0 ∙ quiet_book q (subst (λ (x : Held). Quiet x q) v.0 k)
 
 -- ---- what was read stands behind what was held
 module _ (s : Session) (text input : Bytes) (got : ℕ) (text' input' : Bytes) (at : s.at ≤ s.held) (held : s.held ≤ length text) (r : Reading s text input got text' input') where
@@ -53,9 +55,9 @@ module _ (s : Session) (text input : Bytes) (got : ℕ) (text' input' : Bytes) (
       ∙ ap (λ (u : Bytes). drop s.at u ++ take got (drop s.held text')) (r.kept ∙ sym (ap (λ (k : ℕ). take k text) bare))
 
   pub all_read : unused s got text' ++ input' ≡ unused s 0 text ++ input
-  all_read = by s.waits refl
+  all_read = by (waits s.stage) refl
     where
-      by : (t : Bool) → s.waits ≡ t → unused s got text' ++ input' ≡ unused s 0 text ++ input
+      by : (t : Bool) → waits s.stage ≡ t → unused s got text' ++ input' ≡ unused s 0 text ++ input
       by true e = ap (λ (u : Bytes). u ++ input') behind_held ∙ append_assoc (unused s 0 text) (take got (drop s.held text')) input' ∙ ap (λ (u : Bytes). unused s 0 text ++ u) (sym (r.more e).0)
       by false e = λ i. drop s.at (take (s.held + (r.none e).0 i) ((r.none e).1 i)) ++ (r.none e).2 i
 
@@ -79,10 +81,10 @@ steps h q out next p rest e =
     ∙ ap (λ (x : Step Held). out ++ whole paper x) (sym (fed_append (on_byte paper) next p rest))
 
 abbrev Claim : Session → Bytes → Bytes → Bytes → List Bytes → Type 0
-Claim s text cards input outs = (h : Held) → Shows s cards h → (s.waits ≡ true → Quiet h (unused s 0 text)) → s.number + length (unused s 0 text) + length input ≤ last_number → joined outs ≡ whole paper (feed h (unused s 0 text ++ input))
+Claim s text cards input outs = (h : Held) → Shows s cards h → (waits s.stage ≡ true → Quiet h (unused s 0 text)) → s.number + length (unused s 0 text) + length input ≤ last_number → joined outs ≡ whole paper (feed h (unused s 0 text ++ input))
 
 module _ (s : Session) (text cards input out : Bytes) (f : Fine s text) (x : Round s text cards input out) (outs : List Bytes)
-    (go : Fine x.next x.text' → Claim x.next x.text' x.cards' x.rest outs) (h : Held) (w : Shows s cards h) (q : s.waits ≡ true → Quiet h (unused s 0 text))
+    (go : Fine x.next x.text' → Claim x.next x.text' x.cards' x.rest outs) (h : Held) (w : Shows s cards h) (q : waits s.stage ≡ true → Quiet h (unused s 0 text))
     (few : s.number + length (unused s 0 text) + length input ≤ last_number) where
   ready : Ready s x.got x.read x.lent
   ready = record { at = f.at; held = x.reading.room; room = x.reading.size ∙ f.room; answer = x.room }
@@ -99,7 +101,7 @@ module _ (s : Session) (text cards input out : Bytes) (f : Fine s text) (x : Rou
       ∙ sym (steps h (unused s x.got x.read) (take x.next.length x.answer) v.next (unused x.next 0 x.text') x.rest v.fed)
       ∙ ap (λ (u : Bytes). whole paper (feed h u)) read
     where
-      v : Went s (unused s x.got x.read) x.read h x.next x.text' x.cards' x.answer
+      v : Went s.number (unused s x.got x.read) x.read h x.next x.text' x.cards' x.answer
       v = x.turned.goes e ready h w (omega (arith, few, size))
 
       fine : Fine x.next x.text'
@@ -113,25 +115,25 @@ module _ (s : Session) (text cards input out : Bytes) (f : Fine s text) (x : Rou
       ∙ sym (ap (λ (t : Bytes). t ++ at_end paper (feed h (unused s x.got x.read)).held) (quiet_text s cards h w (unused s x.got x.read) quiet))
       ∙ ap (λ (u : Bytes). whole paper (feed h u)) (sym (append-nil (unused s x.got x.read)) ∙ ap (λ (u : Bytes). unused s x.got x.read ++ u) (sym nothing) ∙ read)
     where
-      waits : s.waits ≡ true
-      waits = (both s.waits (eqb x.got 0) e).0
+      waiting : waits s.stage ≡ true
+      waiting = (both (waits s.stage) (eqb x.got 0) e).0
 
       zero : x.got ≡ 0
-      zero = eqb-true x.got 0 (both s.waits (eqb x.got 0) e).1
+      zero = eqb-true x.got 0 (both (waits s.stage) (eqb x.got 0) e).1
 
       none : input ≡ []
-      none = (x.reading.more waits).1 zero
+      none = (x.reading.more waiting).1 zero
 
       nothing : x.rest ≡ []
-      nothing = sym ((x.reading.more waits).0 ∙ ap (λ (k : ℕ). take k (drop s.held x.read) ++ x.rest) zero) ∙ none
+      nothing = sym ((x.reading.more waiting).0 ∙ ap (λ (k : ℕ). take k (drop s.held x.read) ++ x.rest) zero) ∙ none
 
       same : unused s 0 text ≡ unused s x.got x.read
       same = sym (append-nil (unused s 0 text)) ∙ ap (λ (u : Bytes). unused s 0 text ++ u) (sym none) ∙ sym read ∙ ap (λ (u : Bytes). unused s x.got x.read ++ u) nothing ∙ append-nil (unused s x.got x.read)
 
       quiet : Quiet h (unused s x.got x.read)
-      quiet = subst (Quiet h) same (q waits)
+      quiet = subst (Quiet h) same (q waiting)
 
-      v : Finished s (unused s x.got x.read) x.read h x.next x.text' x.answer
+      v : Finished s.number (unused s x.got x.read) x.read h x.next x.text' x.answer
       v = x.turned.ends e ready h w quiet
 
       fine : Fine x.next x.text'
@@ -157,7 +159,7 @@ no_lines = refl
 -- program is over is what the session prints.
 pub session_printed : (s : Session) (text cards input : Bytes) (outs : List Bytes) → started s → length text ≡ suc text_bytes → length input < last_number → Ran s text cards input outs → joined outs ≡ session_program paper input
 session_printed s text cards input outs b room few ran =
-    rounds outs s text cards input ran (record { at = omega (arith, b.at); held = omega (arith, b.held); room = room }) start (shows_book s cards b.over b.calling b.at b.number)
+    rounds outs s text cards input ran (record { at = omega (arith, b.at); held = omega (arith, b.held); room = room }) start (shows_book s cards b.stage b.at b.number)
     (λ e. (ap (λ (u : Bytes). (parted (split newline u)).rest) empty ∙ no_lines, omega (arith, ap length empty))) (omega (arith, few, b.number, ap length empty))
     ∙ ap (λ (u : Bytes). whole paper (feed start (u ++ input))) empty
     ∙ by_steps paper input

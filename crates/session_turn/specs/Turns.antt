@@ -1,5 +1,5 @@
 -- What a turn of the program `session` owes for every buffer: what it prints and leaves is what the definition by steps prints and holds.
-use Rattle.std.specs.Prelude.{Option as Answer, Some, None, ℕ, suc, ◌+◌, ◌-◌, ◌≤◌, ◌<◌, ◌≡◌, Bool, true, false, cond, ◌&&◌, ◌||◌, [], ◌∷◌, eqb, ltb, length, take, drop}
+use Rattle.std.specs.Prelude.{Option as Answer, Some, None, ℕ, suc, ◌+◌, ◌-◌, ◌≤◌, ◌≡◌, Bool, true, false, cond, ◌&&◌, ◌||◌, [], ◌∷◌, eqb, ltb, length, take, drop}
 use Rattle.std.proofs.Math.Option.{some}
 use Rattle.qbf.specs.Formula.{paper}
 use Rattle.qbf.specs.Calls.{State as Read}
@@ -13,20 +13,39 @@ use Rattle.sessions.specs.Session.{request_of, Turn, turn_of}
 use Rattle.feeding.specs.Lines.{Step, after, fed, Part, begun, overlong}
 use Rattle.feeding.specs.Sessions.{Held, book, calls, over, start, unended_book, on_byte, at_end}
 use Rattle.reader.specs.Books.{count_of_lines, BookEnd}
-use Rattle.reader.specs.Pieces.{Piece}
 use Rattle.state.specs.Reading.{read_state}
 use Rattle.answer_text.specs.Shown.{card_in, no_card}
 use Rattle.answer_text.specs.Room.{answer_bytes}
 use Rattle.line_buffer.specs.Numbers.{last_number, next_number}
+use Rattle.session_turn.specs.declared.Line.TheVariants.{Next, Begun, Overlong}
+use Rattle.session_turn.specs.declared.Stage.{Stage}
+use Rattle.session_turn.specs.declared.Stage.TheVariants as stage
+use Rattle.session_turn.specs.declared.Line.{Line}
 use Rattle.session_turn.specs.declared.Session.{Session}
+
+-- ---- the stages
+-- more is to be read before the next turn
+abbrev pub waits : Stage → Bool
+waits stage.Book = true
+waits (stage.Calls Next) = false
+waits (stage.Calls Begun) = true
+waits (stage.Calls Overlong) = true
+waits stage.Over = false
+
+-- a line that is too long is passed over to its end
+abbrev pub skips : Stage → Bool
+skips stage.Book = false
+skips (stage.Calls Next) = false
+skips (stage.Calls Begun) = false
+skips (stage.Calls Overlong) = true
+skips stage.Over = false
 
 -- ---- what is printed stands at the start of the table d, where that was large enough
 abbrev pub Printed : Bytes → Bytes → ℕ → Bytes → Type 0
 Printed t d₀ n d = answer_bytes ≤ length d₀ → (n ≤ length d) × (take n d ≡ t)
 
 pub record Over (n : ℕ) (r : Session) : Type 0 where
-  pub over : r.over ≡ true
-  pub waits : r.waits ≡ false
+  pub stage : r.stage ≡ stage.Over
   pub at : r.at ≡ 0
   pub held : r.held ≡ 0
   pub number : r.number ≡ 0
@@ -39,9 +58,7 @@ pub record Ends (t d₀ : Bytes) (r : Session) (d : Bytes) : Type 0 where
 
 -- ---- the book
 pub record WaitsForBook (k : ℕ) (r : Session) : Type 0 where
-  pub calling : r.calling ≡ false
-  pub over : r.over ≡ false
-  pub waits : r.waits ≡ true
+  pub stage : r.stage ≡ stage.Book
   pub at : r.at ≡ 0
   pub held : r.held ≡ k
   pub number : r.number ≡ 1
@@ -51,27 +68,24 @@ abbrev pub started : Session → Type 0
 started r = WaitsForBook 0 r
 
 -- before a line, or within one: text[at..held] is not used yet
-pub record Calling (i k n : ℕ) (long wait : Bool) (r : Session) : Type 0 where
-  pub calling : r.calling ≡ true
-  pub over : r.over ≡ false
-  pub waits : r.waits ≡ wait
-  pub skipping : r.skipping ≡ long
+pub record Calling (i k n : ℕ) (l : Line) (r : Session) : Type 0 where
+  pub stage : r.stage ≡ stage.Calls l
   pub at : r.at ≡ i
   pub held : r.held ≡ k
   pub number : r.number ≡ n
 
 pub record Behind (b : Read) (n end held : ℕ) (r : Session) : Type 0 where
-  pub calling : Calling end held (next_number n) false false r
+  pub calling : Calling end held (next_number n) Next r
   pub printed : r.length ≡ 0
-  pub state : read_state r.state ≡ some b
-  pub shown : r.shown ≡ no_card
+  pub state : read_state r.left.state ≡ some b
+  pub shown : r.left.shown ≡ no_card
 
 abbrev pub BookLeft : Opened → ℕ → ℕ → ℕ → Bytes → Session → Bytes → Type 0
 BookLeft (refused k line) n end held d₀ r d = Ends (refusal_text k line) d₀ r d
 BookLeft (opened b) n end held d₀ r d = Behind (fresh b) n end held r
 
 abbrev pub BookOpened : Bytes → ℕ → Bytes → Session → Bytes → Type 0
-BookOpened q end d₀ r d = BookLeft (open_editions both paper (take end q)) (count_of_lines (take end q)) end (length q) d₀ r d
+BookOpened b held d₀ r d = BookLeft (open_editions both paper b) (count_of_lines b) (length b) held d₀ r d
 
 abbrev pub BookClosed : Bytes → Bytes → Session → Bytes → Type 0
 BookClosed q d₀ r d = Ends (unended_book (open_editions both paper q)) d₀ r d
@@ -83,7 +97,7 @@ BookNotEnded false q d₀ r d = WaitsForBook (length q) r
 -- by where the book ends in what was read, if it does
 abbrev pub BookAt : Answer ℕ → Bytes → Bool → Bytes → Session → Bytes → Type 0
 BookAt None q last d₀ r d = BookNotEnded last q d₀ r d
-BookAt (Some e) q last d₀ r d = BookOpened q e d₀ r d
+BookAt (Some e) q last d₀ r d = BookOpened (take e q) (length q) d₀ r d
 
 abbrev pub BookTurned : Bytes → Bool → Bytes → Session → Bytes → Type 0
 BookTurned q last d₀ r d = (e : Answer ℕ) × BookEnd q e × BookAt e q last d₀ r d
@@ -92,53 +106,36 @@ BookTurned q last d₀ r d = (e : Answer ℕ) × BookEnd q e × BookAt e q last 
 pub record Served (t : Turn) (r : Session) (cards d : Bytes) : Type 0 where
   pub within : r.length ≤ length d
   pub text : take r.length d ≡ t.text
-  pub state : read_state r.state ≡ some t.state
-  pub shown : card_in r.shown cards ≡ t.shown
+  pub state : read_state r.left.state ≡ some t.state
+  pub shown : card_in r.left.shown cards ≡ t.shown
 
 -- one that is too long is served as an empty one
-abbrev pub line_from : Session → ℕ → ℕ
-line_from s end = cond s.skipping end s.at
+abbrev pub line_served : Session → Bytes → Bytes
+line_served s l = cond (skips s.stage) [] l
 
-abbrev pub line_at : Session → ℕ → Bytes → Bytes
-line_at s end text = take (end - line_from s end) (drop (line_from s end) text)
-
--- the line of the held text that ends there
-pub record LineAnswered (s : Session) (end : ℕ) (text cards d₀ : Bytes) (r : Session) (cards' d : Bytes) : Type 0 where
-  pub calling : Calling (end + 1) (length text) (next_number s.number) false false r
-  pub served : answer_bytes ≤ length d₀ → (y : Read) → read_state s.state ≡ some y → Served (turn_of y (card_in s.shown cards) s.number (request_of (line_at s end text))) r cards' d
+-- a line that ends with its byte 10, behind which what is not used yet begins
+pub record LineAnswered (s : Session) (l cards d₀ : Bytes) (r : Session) (cards' d : Bytes) : Type 0 where
+  pub calling : Calling (s.at + length l + 1) s.held (next_number s.number) Next r
+  pub served : answer_bytes ≤ length d₀ → (y : Read) → read_state s.left.state ≡ some y → Served (turn_of y (card_in s.left.shown cards) s.number (request_of (line_served s l))) r cards' d
 
 abbrev pub last_text : Bool → Bytes → Bytes
 last_text unended t = cond unended t []
 
-pub record LineEnded (s : Session) (held : ℕ) (cards d₀ : Bytes) (r : Session) (d : Bytes) : Type 0 where
+pub record LineEnded (s : Session) (cards d₀ : Bytes) (r : Session) (d : Bytes) : Type 0 where
   pub over : Over r.length r
-  pub printed : (y : Read) → read_state s.state ≡ some y → Printed (last_text (s.skipping || ltb s.at held) (turn_of y (card_in s.shown cards) s.number (request_of [])).text) d₀ r.length d
+  pub printed : (y : Read) → read_state s.left.state ≡ some y → Printed (last_text (skips s.stage || ltb s.at s.held) (turn_of y (card_in s.left.shown cards) s.number (request_of [])).text) d₀ r.length d
 
 -- a line that fills the buffer is too long, and none of it is kept
-abbrev pub skips : Session → ℕ → ℕ → Bool
-skips s held room = cond s.skipping true (eqb (held - s.at) room)
+abbrev pub too_long : Session → ℕ → Bool
+too_long s room = cond (skips s.stage) true (eqb (s.held - s.at) room)
 
-pub record Refilled (s : Session) (held : ℕ) (text : Bytes) (r : Session) (text' : Bytes) : Type 0 where
-  pub calling : Calling 0 (cond (skips s held (length text)) 0 (held - s.at)) s.number (skips s held (length text)) true r
+pub record Refilled (s : Session) (text : Bytes) (r : Session) (text' : Bytes) : Type 0 where
+  pub calling : Calling 0 (cond (too_long s (length text)) 0 (s.held - s.at)) s.number (cond (too_long s (length text)) Overlong Begun) r
   pub printed : r.length ≡ 0
-  pub state : r.state ≡ s.state
-  pub shown : r.shown ≡ s.shown
+  pub state : r.left.state ≡ s.left.state
+  pub shown : r.left.shown ≡ s.left.shown
   pub size : length text' ≡ length text
-  pub front : take (held - s.at) text' ≡ take (held - s.at) (drop s.at text)
-
--- where the input has not ended
-pub record LineTurned (s : Session) (held : ℕ) (text cards d₀ : Bytes) (r : Session) (text' cards' d : Bytes) : Type 0 where
-  pub end : ℕ
-  pub piece : Piece newline (take held text) s.at end
-  pub whole : end < held → LineAnswered s end (take held text) cards d₀ r cards' d × (text' ≡ text)
-  pub more : held ≤ end → Refilled s held text r text' × (cards' ≡ cards)
-
--- where it has: of the held text
-pub record LastTurned (s : Session) (text cards d₀ : Bytes) (r : Session) (cards' d : Bytes) : Type 0 where
-  pub end : ℕ
-  pub piece : Piece newline text s.at end
-  pub whole : end < length text → LineAnswered s end text cards d₀ r cards' d
-  pub last : length text ≤ end → LineEnded s (length text) cards d₀ r d
+  pub front : take (s.held - s.at) text' ≡ drop s.at (take s.held text)
 
 -- ---- a turn
 -- what the definition holds before the bytes that are not used yet
@@ -147,15 +144,15 @@ part_in true = overlong
 part_in false = begun []
 
 abbrev pub calls_in : Session → Bytes → Read → Held
-calls_in s cards y = calls (record { number = s.number; part = part_in s.skipping; left = record { state = y; shown = card_in s.shown cards } })
+calls_in s cards y = calls (record { number = s.number; part = part_in (skips s.stage); left = record { state = y; shown = card_in s.left.shown cards } })
 
-abbrev pub ShowsAs : Bool → Bool → Session → Bytes → Held → Type 0
-ShowsAs true c s cards h = h ≡ over
-ShowsAs false true s cards h = (y : Read) × (read_state s.state ≡ some y) × (h ≡ calls_in s cards y)
-ShowsAs false false s cards h = (h ≡ start) × (s.at ≡ 0) × (s.number ≡ 1)
+abbrev pub ShowsAs : Stage → Session → Bytes → Held → Type 0
+ShowsAs stage.Book s cards h = (h ≡ start) × (s.at ≡ 0) × (s.number ≡ 1)
+ShowsAs (stage.Calls l) s cards h = (y : Read) × (read_state s.left.state ≡ some y) × (h ≡ calls_in s cards y)
+ShowsAs stage.Over s cards h = h ≡ over
 
 abbrev pub Shows : Session → Bytes → Held → Type 0
-Shows s cards h = ShowsAs s.over s.calling s cards h
+Shows s cards h = ShowsAs s.stage s cards h
 
 -- nothing is left to be done before more is read
 abbrev pub Quiet : Held → Bytes → Type 0
@@ -176,32 +173,31 @@ pub record Ready (s : Session) (got : ℕ) (text d₀ : Bytes) : Type 0 where
   pub room : length text ≡ suc text_bytes
   pub answer : answer_bytes ≤ length d₀
 
--- it fits into the buffer for the next turn, and numbers do not run out before bytes do
-pub record Kept (s : Session) (q text : Bytes) (r : Session) (text' d : Bytes) : Type 0 where
+-- it fits into the buffer for the next turn, and numbers do not run out before bytes do; the next line was number n
+pub record Kept (n : ℕ) (q text : Bytes) (r : Session) (text' d : Bytes) : Type 0 where
   pub at : r.at ≤ r.held
   pub held : r.held ≤ length text'
   pub room : length text' ≡ length text
   pub within : r.length ≤ length d
-  pub few : r.number + length (unused r 0 text') ≤ s.number + length q
+  pub few : r.number + length (unused r 0 text') ≤ n + length q
 
 -- a turn of an input that has not ended
-pub record Went (s : Session) (q text : Bytes) (h : Held) (r : Session) (text' cards' d : Bytes) : Type 0 where
-  pub left : Kept s q text r text' d
+pub record Went (n : ℕ) (q text : Bytes) (h : Held) (r : Session) (text' cards' d : Bytes) : Type 0 where
+  pub left : Kept n q text r text' d
   pub next : Held
   pub shows : Shows r cards' next
   pub fed : feed h q ≡ after (take r.length d) (feed next (unused r 0 text'))
-  pub quiet : r.waits ≡ true → Quiet next (unused r 0 text')
+  pub quiet : waits r.stage ≡ true → Quiet next (unused r 0 text')
 
 -- the turn at the input's end
-pub record Finished (s : Session) (q text : Bytes) (h : Held) (r : Session) (text' d : Bytes) : Type 0 where
-  pub left : Kept s q text r text' d
-  pub over : r.over ≡ true
-  pub waits : r.waits ≡ false
+pub record Finished (n : ℕ) (q text : Bytes) (h : Held) (r : Session) (text' d : Bytes) : Type 0 where
+  pub left : Kept n q text r text' d
+  pub over : r.stage ≡ stage.Over
   pub printed : take r.length d ≡ at_end paper (feed h q).held
 
 abbrev pub has_ended : Session → ℕ → Bool
-has_ended s got = s.waits && eqb got 0
+has_ended s got = waits s.stage && eqb got 0
 
 pub record Turned (s : Session) (got : ℕ) (text cards d₀ : Bytes) (r : Session) (text' cards' d : Bytes) : Type 0 where
-  pub goes : has_ended s got ≡ false → Ready s got text d₀ → (h : Held) → Shows s cards h → s.number + length (unused s got text) ≤ last_number → Went s (unused s got text) text h r text' cards' d
-  pub ends : has_ended s got ≡ true → Ready s got text d₀ → (h : Held) → Shows s cards h → Quiet h (unused s got text) → Finished s (unused s got text) text h r text' d
+  pub goes : has_ended s got ≡ false → Ready s got text d₀ → (h : Held) → Shows s cards h → s.number + length (unused s got text) ≤ last_number → Went s.number (unused s got text) text h r text' cards' d
+  pub ends : has_ended s got ≡ true → Ready s got text d₀ → (h : Held) → Shows s cards h → Quiet h (unused s got text) → Finished s.number (unused s got text) text h r text' d

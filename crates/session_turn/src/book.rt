@@ -1,45 +1,41 @@
 // The book at the start of the input.
-ghost use Rattle.std.specs.Prelude.{◌≤◌, true, false, length};
+ghost use Rattle.std.specs.Prelude.{true, false};
 ghost use Rattle.layout.specs.Output.{refusal_text};
+ghost use Rattle.refusal.specs.Refusal.{number_of};
 ghost use Rattle.session_turn.specs.Turns.{Ends, BookOpened, BookClosed, BookTurned, WaitsForBook};
 
-use crate::{Session, over};
+use crate::{Line, Session, Stage, over};
 use answer_text::book::print_refusal;
-use answer_text::shown::no_card;
-use edition_opening::{Editions, open_editions};
+use answer_text::shown::{Held, no_card};
+use edition_opening::{Editions, read_editions};
 use line_buffer::next_number;
+use opening::text::RefusedAt;
 use reader::text::{book_end, line_count};
 
-fn refused(refusal: u16, line: usize, answer: &mut [u8]) -> Session
-    ensures { Ends (refusal_text refusal line) answer.old result answer.new }
+fn refused(at: RefusedAt, answer: &mut [u8]) -> Session
+    ensures { Ends (refusal_text (number_of at.refusal) at.line) answer.old result answer.new }
 {
-    let written = print_refusal(refusal, line, answer);
+    let written = print_refusal(at.refusal.number(), at.line, answer);
     over(written.length)
 }
 
-// The book is text[..end].
-fn open_book(text: &[u8], end: usize, answer: &mut [u8]) -> Session
-    requires { end ≤ length text.now }
-    ensures { BookOpened text.now end answer.old result answer.new }
+// The book, and how many bytes are held of it and of what stands behind it.
+fn open_book(book: &[u8], held: usize, answer: &mut [u8]) -> Session
+    ensures { BookOpened book.now held answer.old result answer.new }
 {
-    let opened = open_editions(Editions::Both, &text[..end]);
-    if opened.refusal != opening::NONE {
-        return refused(opened.refusal, opened.line, answer);
-    }
-    let before = line_count(&text[..end]);
-    let x = opened.state;
-    let card = no_card();
+    let state = match read_editions(Editions::Both, book) {
+        Ok(state) => state,
+        Err(at) => return refused(at, answer),
+    };
+    let before = line_count(book);
+    let shown = no_card();
     Session {
-        calling: true,
-        over: false,
-        waits: false,
-        skipping: false,
-        at: end,
-        held: text.len(),
+        stage: Stage::Calls(Line::Next),
+        at: book.len(),
+        held: held,
         number: next_number(before as u64),
         length: 0,
-        state: x,
-        shown: card,
+        left: Held { state, shown },
     }
 }
 
@@ -47,30 +43,25 @@ fn open_book(text: &[u8], end: usize, answer: &mut [u8]) -> Session
 fn close_book(text: &[u8], answer: &mut [u8]) -> Session
     ensures { BookClosed text.now answer.old result answer.new }
 {
-    let opened = open_editions(Editions::Both, text);
-    if opened.refusal != opening::NONE {
-        return refused(opened.refusal, opened.line, answer);
+    match read_editions(Editions::Both, text) {
+        Ok(_) => over(0),
+        Err(at) => refused(at, answer),
     }
-    over(0)
 }
 
 // More of the book is to be read behind what is held.
 pub fn wait(held: usize) -> Session
     ensures { WaitsForBook held result }
 {
-    let none = state::closed();
-    let card = no_card();
+    let state = state::closed();
+    let shown = no_card();
     Session {
-        calling: false,
-        over: false,
-        waits: true,
-        skipping: false,
+        stage: Stage::Book,
         at: 0,
         held: held,
         number: 1,
         length: 0,
-        state: none,
-        shown: card,
+        left: Held { state, shown },
     }
 }
 
@@ -79,7 +70,7 @@ pub fn book_turn(text: &[u8], answer: &mut [u8]) -> Session
     ensures { BookTurned text.now false answer.old result answer.new }
 {
     match book_end(text) {
-        Some(end) => open_book(text, end, answer),
+        Some(end) => open_book(&text[..end], text.len(), answer),
         None => wait(text.len()),
     }
 }
@@ -89,7 +80,7 @@ pub fn last_book_turn(text: &[u8], answer: &mut [u8]) -> Session
     ensures { BookTurned text.now true answer.old result answer.new }
 {
     match book_end(text) {
-        Some(end) => open_book(text, end, answer),
+        Some(end) => open_book(&text[..end], text.len(), answer),
         None => close_book(text, answer),
     }
 }

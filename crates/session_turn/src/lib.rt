@@ -2,31 +2,75 @@
 // printed, and whether more has to be read first.
 #![tactic(auto)]
 
-ghost use Rattle.session_turn.specs.Turns.{Turned, Over, started};
+ghost use Rattle.std.specs.Prelude.{◌≡◌, ◌&&◌, eqb};
+ghost use Rattle.session_turn.specs.Turns.{Turned, Over, started, waits, skips};
 
-use answer_text::shown::{Shown, no_card};
+use answer_text::shown::Held;
 use book::{book_turn, last_book_turn, wait};
-use lines::{last_turn, line_turn};
+use lines::{answer_line, last_line, refill};
 use reader::call::TABLE;
-use state::State;
+use reader::word::{NEWLINE, cut};
 
 mod book; // the book
 mod lines; // the lines behind it
 
-// text[at..held] has been read and is not used yet; where the program waits, more is to be read behind it. A line that is too long is skipped to
-// its end. The last turn's answer has so many bytes.
+// What is known of the line that the bytes begin with which are not used yet.
+#[derive(Clone, Copy, PartialEq, Eq)]
+pub enum Line {
+    // nothing: its end is looked for first
+    Next,
+    // its end has not been read
+    Begun,
+    // it is too long: it is passed over to its end
+    Overlong,
+}
+
+#[derive(Clone, Copy, PartialEq, Eq)]
+pub enum Stage {
+    // in the book, which is read to its end first
+    Book,
+    // in the lines behind it
+    Calls(Line),
+    // after the last answer
+    Over,
+}
+
+impl Stage {
+    // More is to be read before the next turn.
+    pub fn waits(self) -> bool
+        ensures { result ≡ waits self }
+    {
+        matches!(
+            self,
+            Stage::Book | Stage::Calls(Line::Begun) | Stage::Calls(Line::Overlong)
+        )
+    }
+
+    // None of what it waited for was read: the input has ended.
+    fn ended(self, got: usize) -> bool
+        ensures { result ≡ (waits self && eqb got 0) }
+    {
+        self.waits() && got == 0
+    }
+
+    fn skips(self) -> bool
+        ensures { result ≡ skips self }
+    {
+        matches!(self, Stage::Calls(Line::Overlong))
+    }
+}
+
+// text[at..held] has been read and is not used yet; where the program waits, more is to be read behind it. The last turn's answer has `length` bytes, and what it left is for the next line.
+// stays (no plainer): `at` and `held` are numbers beside the buffer `text`, and no slice of it: the session is answered by a turn that is lent the buffer anew, where
+// what is held is moved to its front and more is read behind it
 #[derive(Clone, Copy)]
 pub struct Session {
-    pub calling: bool,
-    pub over: bool,
-    pub waits: bool,
-    pub skipping: bool,
+    pub stage: Stage,
     pub at: usize,
     pub held: usize,
     pub number: u64,
     pub length: usize,
-    pub state: State,
-    pub shown: Shown,
+    pub left: Held,
 }
 
 // One byte more than a text or a line may have.
@@ -43,19 +87,11 @@ pub fn start() -> Session
 fn over(length: usize) -> Session
     ensures { Over length result }
 {
-    let none = state::closed();
-    let card = no_card();
     Session {
-        calling: false,
-        over: true,
-        waits: false,
-        skipping: false,
-        at: 0,
-        held: 0,
+        stage: Stage::Over,
         number: 0,
-        length: length,
-        state: none,
-        shown: card,
+        length,
+        ..wait(0)
     }
 }
 
@@ -70,29 +106,31 @@ pub fn turn(
 ) -> Session
     ensures { Turned s got text.old cards.old answer.old result text.new cards.new answer.new }
 {
-    if s.over {
+    if s.held < s.at || text.len() < s.held || text.len() - s.held < got {
         return over(0);
     }
-    if s.held < s.at {
-        return over(0);
-    }
-    if text.len() < s.held {
-        return over(0);
-    }
-    if text.len() - s.held < got {
-        return over(0);
-    }
-    let held = s.held + got;
-    let ended = s.waits && got == 0;
-    if s.calling {
-        if ended {
-            return last_turn(s, &text[..held], cards, answer);
+    let read = Session {
+        held: s.held + got,
+        ..s
+    };
+    let ended = s.stage.ended(got);
+    let full = read.held == text.len();
+    let unused = &text[..read.held][read.at..];
+    match s.stage {
+        Stage::Book => {
+            if ended || full {
+                return last_book_turn(unused, answer);
+            }
+            book_turn(unused, answer)
         }
-        return line_turn(s, held, text, cards, answer);
+        Stage::Calls(_) => {
+            let (line, left) = cut(unused, NEWLINE);
+            match left {
+                Some(_) => answer_line(read, line, cards, answer),
+                None if ended => last_line(read, cards, answer),
+                None => refill(read, text),
+            }
+        }
+        Stage::Over => over(0),
     }
-    let last = ended || held == text.len();
-    if last {
-        return last_book_turn(&text[..held], answer);
-    }
-    book_turn(&text[..held], answer)
 }

@@ -20,6 +20,8 @@ fn owed(total: u32, used: u32) -> u32
 }
 
 // The visits used and still owed, together: with used numbers of any size they take more than 32 bits.
+// stays (no plainer): the total is the day's and never changes, and `charge` writes the eight numbers: a struct of both, lent to be written, would need a clause more, that
+// the total is as it was
 fn committed(used: [u32; BOOKS], total: u32) -> u64
     ensures { result ≡ usedOf used + owing total used }
 {
@@ -32,7 +34,8 @@ fn committed(used: [u32; BOOKS], total: u32) -> u64
 
 // The visits that a call may use. "A call may use what remains of its own floor, plus what is neither used nor still owed to any floor." "a place
 // without a book, or outside 1 to 8, is 38", before all else; then "a state whose visits used and still owed together exceed T is 22".
-// stays (no plainer): whether a book stands at the place is a fact about it, judged first as the place's bounds are; no other step asks it
+// stays (no plainer): whether a book stands at the place is a fact about it, judged first as the place's bounds are; no other step asks it. `used` and `total` are two, as
+// for `committed`
 pub fn allowance(used: [u32; BOOKS], total: u32, place: usize, book: bool) -> Result<u32, Refusal>
     ensures { result ≡ share_of total used place book }
 {
@@ -55,6 +58,7 @@ pub fn allowance(used: [u32; BOOKS], total: u32, place: usize, book: bool) -> Re
 }
 
 // The visits that a call may make: its own ceiling, or what its place may use.
+// stays (no plainer): a struct of the two numbers would be taken apart in each of these three functions, which compare them or hand them on, and carries no fact
 pub fn limit(own: u32, may: u32) -> u32
     ensures { result ≡ min own may }
 {
@@ -62,6 +66,7 @@ pub fn limit(own: u32, may: u32) -> u32
 }
 
 // "A walk stopped by the shared total returns 37 where its own ceiling is higher, otherwise 34"
+// stays (no plainer): the two numbers are those of `limit`, whose line says why they are no struct
 fn stop(own: u32, may: u32) -> Refusal
     ensures { number_of result ≡ stop_number own may }
 {
@@ -73,7 +78,7 @@ fn stop(own: u32, may: u32) -> Refusal
 }
 
 // The number of a call's refusal at its place, from that of the call under the limit; 0 where there is none.
-// stays (no plainer): it takes and gives the number of any call's answer, 0 with them, as `stop_as` does
+// stays (no plainer): it takes and gives the number of any call's answer, 0 with them, as `stop_as` does; the ceiling and the share are two, as for `limit`
 pub fn refusal(number: u16, own: u32, may: u32) -> u16
     ensures { result ≡ stop_as (stop_number own may) number }
 {
@@ -86,6 +91,7 @@ pub fn refusal(number: u16, own: u32, may: u32) -> u16
 }
 
 // Whether a place may use so many visits.
+// stays (no plainer): `used` and `total` are two, as for `committed`
 fn may_use(used: [u32; BOOKS], total: u32, place: usize, visits: u64) -> bool
     ensures { (result ≡ allows_of (share_of total used place true) visits) × (length used ≡ books) }
 {
@@ -96,6 +102,7 @@ fn may_use(used: [u32; BOOKS], total: u32, place: usize, visits: u64) -> bool
 }
 
 // "refused calls' visits count": the visits of a call are charged to its place, where it may use them; nothing else is charged.
+// stays (no plainer): of `used` and `total` only the first is written, as the line of `committed` says
 pub fn charge(used: &mut [u32; BOOKS], total: u32, place: usize, visits: u64)
     ensures { used.new ≡ settled total used.old place visits }
 {

@@ -4,12 +4,15 @@ use native.Mathlib.Omega.{arith}
 use mathlib.Core.Path.{◌≡◌, refl, sym, ap, subst, ◌∙◌}
 use mathlib.Core.Bool.{Bool, true, false, cond}
 use mathlib.Core.List.{List, []}
-use mathlib.Core.Option.{none, some}
-use borrow.Author.Tests.{lt-ltb, le-ltb, eqb-true}
+use mathlib.Core.Option.{Option, none, some}
+use borrow.Author.Tests.{eqb-true}
 use lib.ListN.{length, get_or, take, drop, take-append-drop}
 use lib.Seq.{take-length, drop-length, length-take-le, get_or-take, drop-append-le}
 use Rattle.tables.specs.Codes.{last_code, all_are}
-use Rattle.tables.specs.Shelves.{code_count, row_at, head_of, newest_of, link_of, base_of, shelf_rows, ends_in, newest, Points, Shelf, found_at, first_match}
+use Rattle.tables.specs.Shelves.{code_count, row_at, head_of, newest_of, link_of, base_of, shelf_rows, ends_in, newest, Points, Shelf, first_match}
+use Rattle.std.specs.Prelude.{Some, None}
+use Rattle.std.specs.Prelude as value
+use Rattle.shelf.specs.Standing.{FoundIn}
 use Rattle.shelf.proofs.Newest.{points_same, newest_le, none_match, Latest, latest, points_above, points_none, points_le}
 use Rattle.shelf.proofs.Ring.{ring_length, ring_at}
 
@@ -21,12 +24,12 @@ module _ (stride slots : ℕ) (cells links statuses : List ℕ) (code want : ℕ
   test = ends_in code
 
   -- the rows from m on have been passed; the next one is that of the number
-  pub record Finding (base number found : ℕ) : Type 0 where
+  pub record Finding (base number : ℕ) (found : value.Option ℕ) : Type 0 where
     pub based : base ≡ base_of slots links
     pub m : ℕ
     pub within : m ≤ length rows
     pub points : Points base (newest test (take m rows)) number
-    pub same : found_at stride slots cells found ≡ first_match code statuses want (drop m rows)
+    pub same : FoundIn stride slots cells found (first_match code statuses want (drop m rows))
 
 module _ {stride slots : ℕ} {cells links : List ℕ} (statuses : List ℕ) (code want : ℕ) (shelf : Shelf stride slots cells links) where
   abbrev all : List (List ℕ)
@@ -40,31 +43,30 @@ module _ {stride slots : ℕ} {cells links : List ℕ} (statuses : List ℕ) (co
 
   -- at the start no row has been passed
   pub find_start : (base number : ℕ) → base ≡ base_of slots links → code < code_count → number ≡ head_of links code
-      → Finding stride slots cells links statuses code want base number slots
+      → Finding stride slots cells links statuses code want base number None
   find_start base number e low h = record {
     based = e;
     m = length all;
     within = omega arith;
     points = rw (take-length, e, h) (shelf.head code low);
-    same =
-        ap (λ (b : Bool). cond b (some (row_at stride cells slots)) none) (le-ltb slots slots (omega arith))
-        ∙ sym (ap (first_match code statuses want) (drop-length all));
+    same = ap (first_match code statuses want) (drop-length all);
   }
 
-  module _ {base number found : ℕ} (inv : Finding stride slots cells links statuses code want base number found) where
+  module _ {base number : ℕ} {found : value.Option ℕ} (inv : Finding stride slots cells links statuses code want base number found) where
     -- no row is left that ends in the code
-    pub find_end : number ≤ base → found_at stride slots cells found ≡ first_match code statuses want all
+    pub find_end : number ≤ base → FoundIn stride slots cells found (first_match code statuses want all)
     find_end h =
+        subst (FoundIn stride slots cells found)
+        (sym (none_match is has (take inv.m all) (drop inv.m all) (points_none base (newest is (take inv.m all)) number inv.points h))
+        ∙ ap (first_match code statuses want) (take-append-drop inv.m all))
         inv.same
-        ∙ sym (none_match is has (take inv.m all) (drop inv.m all) (points_none base (newest is (take inv.m all)) number inv.points h))
-        ∙ ap (first_match code statuses want) (take-append-drop inv.m all)
 
     -- one turn, at a row that ends in the code
-    module _ (above : base < number) (slot : ℕ) (hit : Bool) (next found' : ℕ)
+    module _ (above : base < number) (slot : ℕ) (hit : Bool) (next : ℕ) (found' : value.Option ℕ)
         (slot_is : slot ≡ (number - 1) % slots) (slot_low : slot < slots)
         (hit_is : hit ≡ all_are statuses want (row_at stride cells slot))
         (next_is : next ≡ link_of links slot)
-        (found_is : found' ≡ cond hit slot found) where
+        (found_is : found' ≡ cond hit (Some slot) found) where
       abbrev before : List (List ℕ)
       before = take inv.m all
 
@@ -125,9 +127,9 @@ module _ {stride slots : ℕ} {cells links : List ℕ} (statuses : List ℕ) (co
           ∙ the.match
           ∙ ap (λ (r : List ℕ). cond (has r) (some r) (first_match code statuses want (drop inv.m all))) row_before
 
-      found_cond : (b : Bool) → found_at stride slots cells (cond b slot found) ≡ cond b (some (row_at stride cells slot)) (found_at stride slots cells found)
-      found_cond true = ap (λ (b : Bool). cond b (some (row_at stride cells slot)) none) (lt-ltb slot slots slot_low)
-      found_cond false = refl
+      found_by : (b : Bool) (o : Option (List ℕ)) → FoundIn stride slots cells found o → FoundIn stride slots cells (cond b (Some slot) found) (cond b (some (row_at stride cells slot)) o)
+      found_by true o h = (slot_low, refl)
+      found_by false o h = h
 
       pub find_more : Finding stride slots cells links statuses code want base next found'
       find_more = record {
@@ -136,9 +138,8 @@ module _ {stride slots : ℕ} {cells links : List ℕ} (statuses : List ℕ) (co
         within = omega (arith, n_within);
         points = link;
         same =
-            ap (found_at stride slots cells) found_is
-            ∙ found_cond hit
-            ∙ ap (λ (b : Bool). cond b (some (row_at stride cells slot)) (found_at stride slots cells found)) hit_is
-            ∙ ap (cond (has (row_at stride cells slot)) (some (row_at stride cells slot))) inv.same
-            ∙ sym tail;
+            subst (λ (f : value.Option ℕ). FoundIn stride slots cells f (first_match code statuses want (drop n all))) (sym found_is)
+            (subst (FoundIn stride slots cells (cond hit (Some slot) found))
+            (ap (λ (b : Bool). cond b (some (row_at stride cells slot)) (first_match code statuses want (drop inv.m all))) hit_is ∙ sym tail)
+            (found_by hit _ inv.same));
       }

@@ -5,13 +5,10 @@ use native.Mathlib.Nat.{suc-mul, mul-le-mul_right, div-add-mod'}
 use mathlib.Core.Path.{◌≡◌, sym, ap, subst, ◌∙◌}
 use mathlib.Core.Logic.{◌⊎◌, inl, inr}
 use mathlib.Core.List.{List}
-use mathlib.Core.Bool.{Bool, cond}
-use mathlib.Core.Option.{none, some}
 use lib.ListN.{length, get_or, take, drop, length-drop}
 use lib.Seq.{length-take-le}
 use Rattle.theory.proofs.Basics.{le_or_lt}
-use borrow.Author.Tests.{lt-ltb}
-use Rattle.tables.specs.Shelves.{length_at, row_at, found_at, Shelf}
+use Rattle.tables.specs.Shelves.{length_at, row_at, Shelf}
 
 -- a slot ends before a later one begins
 pub slot_end : (w j n : ℕ) → j < n → j * w + w ≤ n * w
@@ -60,8 +57,3 @@ module _ {stride slots : ℕ} {cells links : List ℕ} (shelf : Shelf stride slo
 
   pub row_short : length (row_at stride cells j) ≤ stride
   row_short = rw row_length (shelf.short j low)
-
--- ---- what is in a slot
-module _ (stride slots : ℕ) (cells : List ℕ) (r : ℕ) where
-  pub slot_row : r < slots → found_at stride slots cells r ≡ some (row_at stride cells r)
-  slot_row low = ap (λ (b : Bool). cond b (some (row_at stride cells r)) none) (lt-ltb r slots low)

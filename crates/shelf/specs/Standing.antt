@@ -22,7 +22,10 @@ newest x = newest_of x.links
 abbrev pub Room : Shelf → Type 0
 Room x = newest x < 2 ^ 63
 
--- a slot that was found holds the row o; where none was found there is none
+-- a slot that was found, of so many, holds the row o; where none was found there is none
+abbrev pub FoundIn : ℕ → ℕ → List ℕ → code.Option ℕ → Option (List ℕ) → Type 0
+FoundIn stride slots cells (Some r) o = (r < slots) × (o ≡ some (row_at stride cells r))
+FoundIn stride slots cells None o = o ≡ none
+
 abbrev pub Found : Shelf → code.Option ℕ → Option (List ℕ) → Type 0
-Found x (Some r) o = (r < paper.constraints) × (o ≡ some (row_at paper.numbers x.cells r))
-Found x None o = o ≡ none
+Found x f o = FoundIn paper.numbers paper.constraints x.cells f o

@@ -2,8 +2,8 @@
 // oldest; the last one that matches on the way is the oldest.
 ghost use Rattle.std.specs.Prelude.{◌≡◌, suc, ◌-◌, ◌*◌, ◌%◌, ◌≤◌, ◌<◌, length};
 ghost use Rattle.qbf.specs.Formula.{paper};
-ghost use Rattle.tables.specs.Shelves.{code_count, shelf_rows, row_at, found_at, first_match};
-ghost use Rattle.shelf.specs.Standing.{rows, Found};
+ghost use Rattle.tables.specs.Shelves.{code_count, shelf_rows, row_at, first_match};
+ghost use Rattle.shelf.specs.Standing.{rows, Found, FoundIn};
 
 use crate::row::all_are;
 use crate::{LentShelf, Shelf};
@@ -15,16 +15,15 @@ fn before_oldest(newest: u64, slots: usize) -> u64
     newest.saturating_sub(slots as u64)
 }
 
-// The slot of a row's number.
-// stays (no plainer): `0 < slots` is asked of the one number that a remainder divides by
-fn slot_of(number: u64, slots: usize) -> usize
-    requires { (0 < number) × (0 < slots) }
-    ensures { (result ≡ (number - 1) % slots) × (result < slots) }
-{
-    ((number - 1) % slots as u64) as usize
-}
-
 impl<'a> LentShelf<'a> {
+    // The slot of a row's number.
+    fn slot_of(self, number: u64) -> usize
+        requires { 0 < number }
+        ensures { (result ≡ (number - 1) % self.entry.slots) × (result < self.entry.slots) }
+    {
+        ((number - 1) % self.slots as u64) as usize
+    }
+
     // The row in a slot.
     pub fn row_in(self, slot: usize) -> &'a [u16]
         requires { slot < self.slots }
@@ -35,23 +34,26 @@ impl<'a> LentShelf<'a> {
         &self.cells[from + 1..from + 1 + len]
     }
 
-    // stays (no plainer): `code < code_count` is of one cell: a type for it would be taken off at each table that is read by it and put on at each cell of a row.
-    // The slot of the oldest match; the number of slots where no row matches.
-    // stays (no plainer): `found_at` tells a row by its slot, and none by their number; `Shelf::find` makes the Option
-    pub fn find(self, code: u16, statuses: &[u8; tables::CODES], want: u8) -> usize
+    // stays (no plainer): `u16 < code_count` is of a number that is made of a place or read from a row's cell, and is an index of a table: a type of it would be made at each of those, and opened at each index
+    // The slot of the oldest match.
+    pub fn find(self, code: u16, statuses: &[u8; tables::CODES], want: u8) -> Option<usize>
         requires { code < code_count }
-        ensures { found_at self.entry.stride self.entry.slots self.entry.cells.now result
-            ≡ first_match code statuses.now want (shelf_rows self.entry.stride self.entry.slots self.entry.cells.now self.entry.links.now) }
+        ensures { FoundIn
+            self.entry.stride
+            self.entry.slots
+            self.entry.cells.now
+            result
+            (first_match code statuses.now want (shelf_rows self.entry.stride self.entry.slots self.entry.cells.now self.entry.links.now)) }
     {
         let base = before_oldest(self.links[tables::CODES], self.slots);
-        let mut found = self.slots;
+        let mut found = None;
         let mut number = self.links[code as usize];
         // stays (no plainer): the rows are those that the links lead to, and no list's
         while base < number {
-            let slot = slot_of(number, self.slots);
+            let slot = self.slot_of(number);
             let row = self.row_in(slot);
             let hit = all_are(row, statuses, want);
-            found = if hit { slot } else { found };
+            found = if hit { Some(slot) } else { found };
             number = self.links[tables::CODES + 1 + slot];
         }
         found
@@ -59,18 +61,27 @@ impl<'a> LentShelf<'a> {
 }
 
 impl Shelf {
+    // Its own tables, as lent ones.
+    fn lent<'a>(&'a self) -> LentShelf<'a>
+        ensures { (result.cells.now ≡ self.now.cells)
+            × (result.links.now ≡ self.now.links)
+            × (result.stride ≡ paper.numbers)
+            × (result.slots ≡ paper.constraints) }
+    {
+        LentShelf {
+            cells: &self.cells,
+            links: &self.links,
+            stride: tables::NUMBERS,
+            slots: tables::CONSTRAINTS,
+        }
+    }
+
     // The row in a slot.
     pub fn row_in<'a>(&'a self, slot: usize) -> &'a [u16]
         requires { slot < paper.constraints }
         ensures { (result.now ≡ row_at paper.numbers self.now.cells slot) × (length result.now ≤ paper.numbers) }
     {
-        let lent = LentShelf {
-            cells: &self.cells,
-            links: &self.links,
-            stride: tables::NUMBERS,
-            slots: tables::CONSTRAINTS,
-        };
-        lent.row_in(slot)
+        self.lent().row_in(slot)
     }
 
     // The slot of the oldest match.
@@ -83,16 +94,6 @@ impl Shelf {
         requires { code < code_count }
         ensures { Found self.now result (first_match code statuses.now want (rows self.now)) }
     {
-        let lent = LentShelf {
-            cells: &self.cells,
-            links: &self.links,
-            stride: tables::NUMBERS,
-            slots: tables::CONSTRAINTS,
-        };
-        let slot = lent.find(code, statuses, want);
-        if slot < tables::CONSTRAINTS {
-            return Some(slot);
-        }
-        None
+        self.lent().find(code, statuses, want)
     }
 }

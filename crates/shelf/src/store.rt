@@ -12,7 +12,6 @@ use crate::Shelf;
 use coding::list::last_code;
 
 // The slot that the row after the newest takes.
-// stays (no plainer): `0 < slots` is asked of the one number that a remainder divides by
 fn next_slot(newest: u64, slots: usize) -> usize
     requires { 0 < slots }
     ensures { (result ≡ newest % slots) × (result < slots) }
@@ -30,7 +29,7 @@ fn write_row<'a>(cells: &mut [u16], at: usize, row: &'a [u16])
     cells[at + 1..at + 1 + row.len()].copy_from_slice(row);
 }
 
-// stays (no plainer): `code < code_count` is of one cell: a type for it would be taken off at each table that is read by it and put on at each cell of a row.
+// stays (no plainer): `u16 < code_count` is of a number that is made of a place or read from a row's cell, and is an index of a table: a type of it would be made at each of those, and opened at each index
 // The new row is the newest of all and of those that end in its last code; the one that was is the next older.
 fn write_links(links: &mut [u64], code: u16, slot: usize, newest: u64)
     requires { (suc code_count + slot < length links.old) × (slot < 65536) × (newest < 2 ^ 63) × (code < code_count) }
@@ -47,7 +46,8 @@ fn write_links(links: &mut [u64], code: u16, slot: usize, newest: u64)
 
 // One row more, in lent tables of any width and for any number of rows. It takes the slot of its number, which is that of the oldest row where all slots
 // are taken, and which is handed back.
-// stays (no plainer): both tables are written in turn, and agree again only at the end; a struct that keeps the fact lends neither alone
+// stays (no plainer): its one caller, `Shelf::push`, would make a struct of both tables, the width and the slots for this one call; and unlike the facts that `Clauses` and `Left` keep,
+// which hold after each cell that they write, `Agree` holds only once both tables are written
 pub fn push(cells: &mut [u16], links: &mut [u64], stride: usize, slots: usize, row: &[u16]) -> usize
     requires { Agree stride slots cells.old links.old
         × (0 < slots)
@@ -72,8 +72,9 @@ pub fn push(cells: &mut [u16], links: &mut [u64], stride: usize, slots: usize, r
 }
 
 impl Shelf {
-    // stays (no plainer): `length row ≤ paper.numbers` is of a part of a table, and a slice keeps no fact
     // One row more, in the shelf's own tables.
+    // stays (no plainer): `length [u16] ≤ paper.numbers` is what its two callers have just tested (`resolution::store`) or cut the row by (`load_row`): a struct of the row would be made there and taken apart here
+    // stays (no plainer): `Room self` is used up, a number by each row: a shelf that kept it could not be written to
     pub fn push<'a>(&mut self, row: &'a [u16]) -> usize
         requires { (length row.now ≤ paper.numbers) × (last_code row.now < code_count) × Room self.old }
         ensures { (rows self.new ≡ push paper.constraints row.now (rows self.old))

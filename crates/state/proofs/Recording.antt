@@ -1,27 +1,19 @@
 -- The test of the records of the learned clauses.
-use Prim.Native.Nat.{ℕ, ◌+◌, ◌≤◌, ◌<◌}
-use native.Mathlib.Omega.{arith}
-use mathlib.Core.Path.{◌≡◌, refl, sym, ap}
-use mathlib.Core.Bool.{Bool, true, false}
+use Prim.Native.Nat.{ℕ, zero, suc, ◌+◌}
+use Rattle.std.proofs.Common.{arith}
+use mathlib.Core.Path.{◌≡◌, refl, ap, ◌∙◌}
+use mathlib.Core.Bool.{Bool, ◌&&◌}
 use mathlib.Core.List.{List}
-use lib.ListN.{get_or}
 use lib.Dec.{leb}
-use borrow.Author.Tests.{leb-true}
-use Rattle.state.specs.Reading.{at_most, record_at, records_of}
-use Rattle.state.proofs.Listing.{listing_all, listing_most}
+use Rattle.std.specs.List.{range_with_len}
+use Rattle.qbf.specs.Formula.{all}
+use Rattle.state.specs.Reading.{listing, at_most, record_at}
 
--- none of the first k is above n
-pub record Recording (sizes : List ℕ) (n count k : ℕ) : Type 0 where
-  pub counted : count ≡ get_or sizes 0 0
-  pub low : (j : ℕ) → j < k → record_at sizes j ≤ n
+-- a test of the numbers of a range is one of the elements that they list
+listed : {A : Type 0} (t : A → Bool) (f : ℕ → A) (i k : ℕ) → all (λ j. t (f j)) (range_with_len i k) ≡ all t (listing f i k)
+listed t f i zero = refl
+listed t f i (suc k) =
+    let e : i + 1 ≡ suc i = omega arith in ap (λ q. t (f i) && q) (ap (λ j. all (λ m. t (f m)) (range_with_len j k)) e ∙ listed t f (suc i) k)
 
-module _ {sizes : List ℕ} {n count : ℕ} where
-  pub recording_end : {k : ℕ} → Recording sizes n count k → count ≤ k → true ≡ at_most n (records_of sizes)
-  recording_end {k} inv h = sym (listing_most n (record_at sizes) 0 (get_or sizes 0 0) (λ j a b. inv.low j (omega (arith, b, inv.counted, h))))
-
-  pub recording_bad : {k r : ℕ} → Recording sizes n count k → k < count → r ≡ record_at sizes k → n < r → false ≡ at_most n (records_of sizes)
-  recording_bad {k} {r} inv m e h = by (at_most n (records_of sizes)) refl
-    where
-      by : (b : Bool) → at_most n (records_of sizes) ≡ b → false ≡ b
-      by false q = refl
-      by true q = let z : 0 + k ≡ k = omega arith in absurd (omega (arith, ap (record_at sizes) z, leb-true (record_at sizes (0 + k)) n (listing_all (λ i. leb i n) (record_at sizes) 0 (get_or sizes 0 0) q k (omega (arith, m, inv.counted))), e, h))
+pub records_most : (n : ℕ) (sizes : List ℕ) (k : ℕ) → all (λ j. leb (record_at sizes j) n) (range_with_len 0 k) ≡ at_most n (listing (record_at sizes) 0 k)
+records_most n sizes k = listed (λ r. leb r n) (record_at sizes) 0 k

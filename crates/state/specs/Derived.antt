@@ -1,6 +1,7 @@
 -- What the tables of a state say of its prefix, and what is ensured of the tables that are derived from them.
 use Rattle.std.specs.Prelude.{ℕ, zero, suc, ◌+◌, ◌*◌, ◌≤◌, ◌<◌, ◌≡◌, Bool, true, false, not, ◌&&◌, List, [], length, get_or, leb, eqb, ℤ}
 use Rattle.qbf.specs.Formula.{Limits, paper, Quantifier, free, exists, forall, is_free, Prefix, quantifiers, quantifier_at, level_beside, all}
+use Rattle.qbf.specs.Truth.{free_variables}
 use Rattle.qbf.specs.Calls.{numbers_are_ok, free_first, clause_ok, constraint_ok}
 use Rattle.tables.specs.Views.{quantifier_code, Numbers, Places, Kinds, rows_of}
 use Rattle.state.specs.declared.State.{State}
@@ -26,6 +27,10 @@ pub record Placing (L : Limits) (ns : List ℕ) (ok : Bool) (places : List ℕ) 
 -- the levels and the codes of the levels show each place's quantifier
 pub record Quantified (D : Prefix) (ls ks : List ℕ) : Type 0 where
   pub at : (i : ℕ) → i < length D → code_at ls ks i ≡ quantifier_code (quantifier_at D (suc i))
+
+-- n is how many variables are free
+abbrev pub FreeCounted : State → ℕ → Type 0
+FreeCounted x n = (D : Prefix) → Numbers D x.numbers → Quantified D x.levels x.kinds → n ≡ free_variables D
 
 -- the quantifier's code at a place; where there is none it is free
 abbrev pub code_for : List ℕ → List ℕ → ℕ → ℕ

@@ -29,6 +29,8 @@ pub fn next_level(levels: &[u16], kinds: &[u16], last: Place, kind: u16) -> Leve
 }
 
 // The variable is declared; or it is refused, and the tables are as they were. "3 number not 1 to 40", "4 declared twice"
+// stays (no plainer): a struct of these three `&mut` could not keep `Declarable` as its fact, since they are written one after the other below; it would be made for
+// each state that is opened, only to be taken apart here, and `requires` would stay as it is
 pub fn declare(
     numbers: &mut [u16; tables::BY_NUMBER],
     levels: &mut [u16; tables::BY_NUMBER],

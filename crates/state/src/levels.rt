@@ -10,7 +10,7 @@ use crate::prefix::Variables;
 use literal::Level;
 
 // The level of a place, next to one of the level and the quantifier given first.
-// stays (form): `kind ≤ quantifier_code forall` is of a number that is a cell of the flat tables, handed on as it is
+// stays (form): `u16 ≤ quantifier_code forall` is of a number that is a cell of the flat tables, handed on as it is
 pub fn level_beside(level: u16, beside: u16, kind: u16) -> Level
     requires { (beside ≤ quantifier_code forall) × (kind ≤ quantifier_code forall) }
     ensures { result.0 ≡ level_beside level (quantifier_of beside) (quantifier_of kind) }
@@ -57,6 +57,7 @@ pub fn levels_ok(variables: Variables<'_>, limit: usize) -> bool
     }
     let mut level: u16 = 0;
     let mut beside = tables::FREE;
+    // stays (no plainer): `levels.iter().skip(1).take(count)` ends with the table; a place behind its end has level 0 and is judged as any other, by the clause
     for i in 0..count {
         let next = crate::cells::cell_after(variables.levels, i);
         if next as usize > limit {

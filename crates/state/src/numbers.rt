@@ -31,6 +31,7 @@ pub fn place_numbers(numbers: &[u16], limit: usize, places: &mut [u16]) -> bool
     if count > limit {
         return false;
     }
+    // stays (no plainer): `numbers.iter().skip(1).take(count)` ends with the table; a place behind its end has number 0, which is refused, and the place is written too
     for i in 0..count {
         let n = crate::cells::entry(numbers, i);
         if !is_fresh(places, limit, Number(n)) {

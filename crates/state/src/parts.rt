@@ -28,6 +28,7 @@ fn limits_ok(limits: Limits) -> bool
 }
 
 // A flat table: the literals of its rows, and the count of the rows with the length of each.
+// stays (no plainer): `lent_rows::LentRows` keeps it that its rows lie within the table, which the check of these has still to find
 #[derive(Clone, Copy)]
 pub struct Rows<'a> {
     pub flat: &'a [i16],

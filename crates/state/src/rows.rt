@@ -115,6 +115,8 @@ fn rows_ok(shown: Shown<'_>, holding: Holding, rows: Rows<'_>, most: usize, widt
     if count > most {
         return false;
     }
+    // stays (no plainer): `sizes.iter().skip(1).take(count)` ends with the table, and a row behind its end, of size 0, is judged too; beside it `flat.chunks(width)`
+    // asks for a width above 0, and a state's limit for numbers may be 0
     for k in 0..count {
         let len = crate::cells::entry(rows.sizes, k);
         if len > width {
@@ -133,12 +135,8 @@ fn records_ok(sizes: &[u16], clauses: usize) -> bool
     ensures { result ≡ at_most clauses (records_of sizes.now) }
 {
     let count = crate::cells::count(sizes);
-    for k in 0..count {
-        if crate::cells::record(sizes, k) > clauses {
-            return false;
-        }
-    }
-    true
+    // stays (no plainer): over the table it is `sizes[sizes.len().min(tables::CONSTRAINT_SIZES)..].iter().take(count)`, which says again where a record stands
+    (0..count).all(|k| crate::cells::record(sizes, k) <= clauses)
 }
 
 // Clauses, learned clauses, learned cubes, and the records of the learned clauses, under the limits for numbers and clauses.

@@ -1,6 +1,5 @@
 -- The state that opening starts from is empty and valid under its limits.
 use Prim.Native.Nat.{ℕ, ◌+◌, ◌≤◌, ◌<◌, min, zero-le}
-use native.Mathlib.Nat.{min-eq_left, min_comm}
 use native.Mathlib.Omega.{arith}
 use mathlib.Core.Path.{◌≡◌, refl, sym, ap, subst, ◌∙◌}
 use mathlib.Core.Logic.{◌⊎◌, inl, inr}
@@ -24,7 +23,7 @@ use Rattle.state.specs.Reading.{listing, entry_at, at_most, variable_at, prefix_
 use Rattle.state.specs.Derived.{clauses_fine, constraints_fine}
 use Rattle.state.proofs.Rooms.{room_is}
 use Rattle.state.proofs.SoundPrefix.{none_sound, sound_under}
-use Rattle.state_parts.specs.Parts.{Lesser, part, limits_of, by_number, clause_count, cube_sizes, recorded, numbers_at, clause_sizes_at, learned_clause_sizes_at, learned_cube_sizes_at, parts_under, state_at, read_at, valid_at, Whole}
+use Rattle.state_parts.specs.Parts.{part, limits_of, by_number, clause_count, cube_sizes, recorded, numbers_at, clause_sizes_at, learned_clause_sizes_at, learned_cube_sizes_at, parts_under, state_at, read_at, valid_at, Whole}
 use Rattle.state_parts.specs.Initial.{empty_under, initial_cells, Initial}
 use Rattle.state_parts.proofs.Cutting.{part_at}
 use Rattle.state_parts.proofs.Written.{whole_exact, exact_roomy}
@@ -212,13 +211,6 @@ module _ (n m : ℕ) (cells : List ℕ) where
         by (inr e) = e
 
 -- ---- as it is written: the lesser limits, and six cells
-lesser_min : (a b r : ℕ) → Lesser a b r → r ≡ min a b
-lesser_min a b r l = by l.one
-  where
-    by : ((a ≤ b) × (r ≡ a)) ⊎ ((b < a) × (r ≡ b)) → r ≡ min a b
-    by (inl p) = p.1 ∙ sym (min-eq_left p.0)
-    by (inr p) = let h : b ≤ a = omega (arith, p.0) in p.1 ∙ sym (min_comm a b ∙ min-eq_left h)
-
 initial_cells_lem : (a b : ℕ) (cells : List ℕ) → Initial (capped a b) cells (initial_cells (capped a b) cells)
 initial_cells_lem a b cells =
     let n = min a highest.numbers in
@@ -229,7 +221,7 @@ initial_cells_lem a b cells =
       short = initial_short n m cells (capped_ok a b);
     }
 
-pub initial_written : (a b : ℕ) (cells : List ℕ) {n m : ℕ} → Lesser a highest.numbers n → Lesser b highest.clauses m
+pub initial_written : (a b : ℕ) (cells : List ℕ) {n m : ℕ} → n ≡ min a highest.numbers → m ≡ min b highest.clauses
     → {t₁ t₂ t₃ t₄ t₅ t₆ : List ℕ} → t₁ ≡ set cells 0 n → t₂ ≡ set t₁ 1 m → t₃ ≡ set t₂ numbers_at 0
     → {k₄ : ℕ} → k₄ ≡ clause_sizes_at (own n m) → t₄ ≡ set t₃ k₄ 0
     → {k₅ : ℕ} → k₅ ≡ learned_clause_sizes_at (own n m) → t₅ ≡ set t₄ k₅ 0
@@ -245,5 +237,5 @@ initial_written a b cells {n} {m} p q {t₁} {t₂} {t₃} {t₄} {t₅} {t₆} 
         ∙ ap (λ (t : List ℕ). set t (learned_cube_sizes_at (own n m)) 0) (e₅ ∙ ap (λ (k : ℕ). set t₄ k 0) h₅)
         ∙ ap (λ (t : List ℕ). set (set t (learned_clause_sizes_at (own n m)) 0) (learned_cube_sizes_at (own n m)) 0) (e₄ ∙ ap (λ (k : ℕ). set t₃ k 0) h₄)
         ∙ ap (λ (t : List ℕ). set (set (set t (clause_sizes_at (own n m)) 0) (learned_clause_sizes_at (own n m)) 0) (learned_cube_sizes_at (own n m)) 0) (e₃ ∙ ap (λ (t : List ℕ). set t numbers_at 0) (e₂ ∙ ap (λ (t : List ℕ). set t 1 m) e₁))
-        ∙ ap (λ (i : ℕ). initial_cells (own i m) cells) (lesser_min a highest.numbers n p)
-        ∙ ap (λ (j : ℕ). initial_cells (own (min a highest.numbers) j) cells) (lesser_min b highest.clauses m q)
+        ∙ ap (λ (i : ℕ). initial_cells (own i m) cells) p
+        ∙ ap (λ (j : ℕ). initial_cells (own (min a highest.numbers) j) cells) q

@@ -1,18 +1,13 @@
 -- A state in two lent tables, part behind part: its own limits, the cells of the prefix and the sizes in one, the literals of the clauses and of the
 -- learned constraints in the other. What lies behind the last part is not read. Paper 02, wish 8: "A book is opened with its own limits for numbers and
 -- rules, capped at these (a state with higher ones is 22)".
-use Rattle.std.specs.Prelude.{ℕ, suc, ◌+◌, ◌*◌, ◌≤◌, ◌<◌, ◌≡◌, ◌⊎◌, Bool, true, cond, List, ℤ, length, get_or, take, drop}
+use Rattle.std.specs.Prelude.{ℕ, suc, ◌+◌, ◌*◌, ◌≤◌, ◌≡◌, Bool, true, cond, List, ℤ, length, get_or, take, drop}
 use Rattle.std.proofs.Math.Option.{Option, none}
 use Rattle.qbf.specs.Formula.{Limits}
 use Rattle.qbf.specs.Calls.{State as Read}
 use Rattle.tables.specs.Views.{Places, Kinds}
 use Rattle.state.specs.declared.State.{State}
 use Rattle.state.specs.Reading.{own, state_of, prefix_in, roomy, read_under, well_formed_read}
-
--- r is the lesser of the two
-pub record Lesser (a b r : ℕ) : Type 0 where
-  pub within : r ≤ b
-  pub one : ((a ≤ b) × (r ≡ a)) ⊎ ((b < a) × (r ≡ b))
 
 abbrev pub part : {A : Type 0} → ℕ → ℕ → List A → List A
 part from len t = take len (drop from t)

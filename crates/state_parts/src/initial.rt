@@ -1,27 +1,18 @@
 // The state that opening starts from.
-ghost use Rattle.std.specs.Prelude.{◌≡◌, set};
 ghost use Rattle.qbf.specs.Formula.{capped};
 ghost use Rattle.state_parts.specs.Initial.{Initial};
 
-use crate::layout::{NUMBERS_AT, least};
+use crate::layout::NUMBERS_AT;
 use crate::limits::Layout;
-
-// A cell that is there is written.
-fn put(cells: &mut [u16], i: usize, v: u16)
-    ensures { cells.new ≡ set cells.old i v }
-{
-    if i < cells.len() {
-        cells[i] = v;
-    }
-}
+use literal::put;
 
 // No variable, no clause and an empty store, under these limits, "capped at" the highest. Nothing is refused: on tables too short for them every call is
 // refused with 22. The table of the literals is not written.
 pub fn initial(cells: &mut [u16], numbers: usize, clauses: usize)
     ensures { Initial (capped numbers clauses) cells.old cells.new }
 {
-    let n = least(numbers, tables::HIGHEST_NUMBERS);
-    let m = least(clauses, tables::HIGHEST_CLAUSES);
+    let n = numbers.min(tables::HIGHEST_NUMBERS);
+    let m = clauses.min(tables::HIGHEST_CLAUSES);
     let at = Layout {
         numbers: n,
         clauses: m,

@@ -1,6 +1,6 @@
 // The limits of a state, which stand in its first two cells, and where its parts begin under them.
 ghost use Rattle.std.specs.Prelude.{◌≡◌, get_or};
-ghost use Rattle.state_parts.specs.Parts.{Lesser, levels_at, kinds_at, clause_sizes_at, learned_clause_sizes_at, learned_cube_sizes_at, clause_cells, learned_cells, learned_cubes_at};
+ghost use Rattle.state_parts.specs.Parts.{levels_at, kinds_at, clause_sizes_at, learned_clause_sizes_at, learned_cube_sizes_at, clause_cells, learned_cells, learned_cubes_at};
 ghost use Rattle.state_parts.specs.Layout.{limits_in, LayoutRead};
 
 use crate::limits::Layout;
@@ -9,13 +9,6 @@ use crate::limits::Layout;
 pub const NUMBERS_AT: usize = 2;
 
 const LEVELS_AT: usize = NUMBERS_AT + 1;
-
-// The lesser of two.
-pub fn least(a: usize, b: usize) -> usize
-    ensures { Lesser a b result }
-{
-    if a <= b { a } else { b }
-}
 
 pub fn numbers_limit(cells: &[u16]) -> usize
     ensures { result ≡ get_or cells.now 0 0 }

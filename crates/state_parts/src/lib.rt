@@ -15,10 +15,9 @@ pub mod parts;
 
 use limits::Layout;
 use refusal::Refusal;
-use state::parts::{Limits, Parts, Rows};
-use state::prefix::Variables;
+use state::parts::Limits;
 
-// The check of the parts that these limits give. The tables by number have a cell for each number up to the limit, and one more.
+// The check of the parts that these limits give.
 fn check_parts(
     layout: Layout,
     cells: &[u16],
@@ -36,30 +35,13 @@ fn check_parts(
         places.new
         by_number.new }
 {
-    let parts = Parts {
-        variables: Variables {
-            numbers: parts::numbers(layout, cells),
-            levels: parts::levels(layout, cells),
-            kinds: parts::kinds(layout, cells),
-        },
-        clauses: Rows {
-            flat: parts::clauses(layout, literals),
-            sizes: parts::clause_sizes(layout, cells),
-        },
-        learned_clauses: Rows {
-            flat: parts::learned_clauses(layout, literals),
-            sizes: parts::learned_clause_sizes(layout, cells),
-        },
-        learned_cubes: Rows {
-            flat: parts::learned_cubes(layout, literals),
-            sizes: parts::learned_cube_sizes(layout, cells),
-        },
-    };
     let limits = Limits {
         numbers: layout.numbers,
         clauses: layout.clauses,
     };
-    parts.check(limits, places, by_number)
+    layout
+        .parts(cells, literals)
+        .check(limits, places, by_number)
 }
 
 // The limits of the state; or "22 the state is malformed": they are too high, a table is shorter than they ask, or what stands in them is not well formed.

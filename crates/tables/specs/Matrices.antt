@@ -1,6 +1,6 @@
 -- The clauses inside a search: of each the codes that universal reduction leaves, in a row with their number first, and the sets of clauses by code
 -- (Sets). Clauses are numbered from 0 in the order of adding. Cells of rows that are no clause's are free.
-use Rattle.std.specs.Prelude.{ℕ, zero, suc, ◌*◌, ◌/◌, ◌%◌, ◌≤◌, ◌<◌, ◌≡◌, false, List, [], ◌∷◌, ◌++◌, length, get_or, take, drop}
+use Rattle.std.specs.Prelude.{ℕ, zero, suc, ◌*◌, ◌/◌, ◌≤◌, ◌<◌, ◌≡◌, false, List, [], ◌∷◌, ◌++◌, length, get_or, take, drop}
 use Rattle.bitset.specs.Rows.{width}
 use Rattle.qbf.specs.Formula.{paper, Prefix, Clause}
 use Rattle.qbf.specs.Learning.{reduce}
@@ -25,7 +25,7 @@ abbrev pub dying_at : List ℕ → ℕ → List ℕ
 dying_at cells k = take (left_at cells k) (drop (suc (k * clause_row)) cells)
 
 -- ---- the sets
--- words that are united at a time
+-- the words of a row are a multiple of these
 abbrev pub block : ℕ
 block = 4
 
@@ -39,7 +39,6 @@ row_words = words_of paper.clauses
 -- how long a row of words may be
 pub record RowLength (wc : ℕ) : Type 0 where
   pub few : wc ≤ row_words
-  pub blocks : wc % block ≡ 0
 
 -- both show the clauses R
 pub record MatrixShown (D : Prefix) (R : List Clause) (wc : ℕ) (cells sets : List ℕ) : Type 0 where

@@ -1,8 +1,8 @@
 -- A shelf: constraints as codes in a ring of slots, each found by its last code. Rows are numbered from 1 as they are put in; the newest
 -- row's number says which slots hold the rows that stand. Of each last code the shelf has the number of the newest row, and of each row
 -- the number of the next older one with the same last code; a number that is not above `base` is that of no row that stands.
-use Rattle.std.specs.Prelude.{ℕ, zero, suc, ◌+◌, ◌-◌, ◌*◌, ◌%◌, ◌≤◌, ◌<◌, ◌≡◌, Bool, cond, ◌&&◌, List, [], ◌∷◌, ◌++◌, map, length, get_or, take, drop, eqb, ltb}
-use Rattle.std.proofs.Math.Option.{Option, none, some}
+use Rattle.std.specs.Prelude.{ℕ, zero, suc, ◌+◌, ◌-◌, ◌*◌, ◌%◌, ◌≤◌, ◌<◌, ◌≡◌, Bool, cond, ◌&&◌, List, [], ◌∷◌, ◌++◌, map, length, get_or, take, drop, eqb}
+use Rattle.std.proofs.Math.Option.{Option}
 use Rattle.qbf.specs.Formula.{paper, Prefix}
 use Rattle.qbf.specs.Learning.{Store, first}
 use Rattle.tables.specs.Codes.{codes, last_code, all_are}
@@ -70,10 +70,6 @@ pub record Shelf (stride slots : ℕ) (cells links : List ℕ) : Type 0 where
       (link_of links ((base_of slots links + i) % slots))
 
 -- ---- looking up
--- the row in slot r; none where r is no slot
-abbrev pub found_at : ℕ → ℕ → List ℕ → ℕ → Option (List ℕ)
-found_at stride slots cells r = cond (ltb r slots) (some (row_at stride cells r)) none
-
 -- the oldest row that ends in c and whose codes all have the status w
 abbrev pub first_match : ℕ → List ℕ → ℕ → List (List ℕ) → Option (List ℕ)
 first_match c statuses w rows = first (λ row. ends_in c row && all_are statuses w row) rows

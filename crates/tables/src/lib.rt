@@ -65,25 +65,25 @@ pub const CONSTRAINT_LINKS: usize = CODES + 1 + CONSTRAINTS;
 pub const HIGHEST_CEILING: u32 = 4294967295;
 
 // Values of a table by number.
-// stays (form): a cell of the flat tables is a number
+// stays (form): a cell of the flat tables, which other programs lend as numbers
 pub const OPEN: u8 = 0;
 
-// stays (form): a cell of the flat tables is a number
+// stays (form): a cell of the flat tables, which other programs lend as numbers
 pub const OFF: u8 = 1;
 
-// stays (form): a cell of the flat tables is a number
+// stays (form): a cell of the flat tables, which other programs lend as numbers
 pub const ON: u8 = 2;
 
 // Quantifiers of a table by number.
-// stays (form): a cell of the flat tables is a number
+// stays (form): a cell of the flat tables, which other programs lend as numbers
 pub const FREE: u16 = 0;
 
-// stays (form): a cell of the flat tables is a number
+// stays (form): a cell of the flat tables, which other programs lend as numbers
 pub const EXISTS: u16 = 1;
 
-// stays (form): a cell of the flat tables is a number
+// stays (form): a cell of the flat tables, which other programs lend as numbers
 pub const FORALL: u16 = 2;
 
 // In a table by code: no quantifier, after the last variable's place.
-// stays (form): a cell of the flat tables is a number
+// stays (form): the cells of this table are the quantifiers' numbers of the flat tables, which `literal::drops` reads in both; docs/DECISIONS.md has in it "a value of its own after the last place", 3 in the definition `Quantified`
 pub const END: u8 = 3;

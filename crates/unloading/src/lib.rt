@@ -7,7 +7,6 @@ ghost use Rattle.qbf.specs.Learning.{Constraint};
 ghost use Rattle.qbf.specs.Card.{Mem};
 ghost use Rattle.qbf.specs.Calls.{numbers_are_ok};
 ghost use Rattle.tables.specs.Views.{Numbers, rows_of};
-ghost use Rattle.tables.specs.Formed.{Constraints};
 ghost use Rattle.tables.specs.Codes.{codes};
 ghost use Rattle.tables.specs.Shelves.{newest_of, base_of};
 ghost use Rattle.shelf.specs.Standing.{rows, newest};
@@ -29,6 +28,7 @@ fn standing(newest: u64) -> usize
 }
 
 // The number before that of the oldest row that stands.
+// stays (no plainer): `before_oldest` of shelf takes the number of slots and is private there: for this one subtraction it would be public, and be given that number at each call
 fn base_of(newest: u64) -> u64
     ensures { result ≡ newest - paper.constraints }
 {
@@ -56,6 +56,8 @@ fn decode<'a>(store: &mut [i16], at: usize, row: &'a [u16], numbers: &'a [u16])
         → ((l : Literal) → Mem l e → 1 ≤ place D l)
         → take (length row.now) (drop at store.new) ≡ e) }
 {
+    // stays (proof): with `store[at..].iter_mut().zip(row)` the goal `returns` stays open: an invariant of that loop has what the iterator gave, and no cell
+    // that was written through it
     for (i, code) in row.iter().enumerate() {
         store[at + i] = literal_of(numbers, *code);
     }
@@ -105,30 +107,6 @@ pub fn unload_rows<'a>(shelf: &'a Shelf, numbers: &'a [u16], table: &mut LentTab
     table.sizes[0] = count as u16;
 }
 
-// The rows that stand are the table's, from the oldest, in a state in arrays.
-// stays (proof): a table of a lent state becomes a slice only here, since two of its fields cannot be lent as slices at once
-pub fn unload<'a>(
-    shelf: &'a Shelf,
-    numbers: &'a [u16; tables::BY_NUMBER],
-    cells: &mut [i16; tables::CONSTRAINT_CELLS],
-    sizes: &mut [u16; tables::CONSTRAINT_SIZES],
-)
-    ensures { Constraints cells.new sizes.new
-        × ((D : Prefix) (es : List Constraint)
-        → Numbers D numbers.now
-        → numbers_are_ok paper [] D ≡ true
-        → rows shelf.now ≡ map (codes D) es
-        → ((e : Constraint) → Mem e es → (l : Literal) → Mem l e → 1 ≤ place D l)
-        → rows_of paper.numbers cells.new sizes.new ≡ es) }
-{
-    let mut table = LentTable {
-        cells,
-        sizes,
-        width: tables::NUMBERS,
-    };
-    unload_rows(shelf, numbers, &mut table);
-}
-
 // The records of the rows that stand, from the oldest: a row that was loaded has its own, which goes to the front with it, a younger one the count of clauses.
 fn write_records(sizes: &mut [u16], newest: u64, before: usize, clauses: u16)
     requires { (suc paper.constraints + paper.constraints ≤ length sizes.old) × (before ≤ paper.constraints) }
@@ -168,31 +146,4 @@ pub fn unload_with_records<'a>(
     let before = table.sizes[0] as usize;
     write_records(table.sizes, shelf.links[tables::CODES], before, clauses);
     unload_rows(shelf, numbers, table);
-}
-
-// .. of a state in arrays.
-// stays (proof): likewise
-pub fn unload_clauses<'a>(
-    shelf: &'a Shelf,
-    numbers: &'a [u16; tables::BY_NUMBER],
-    cells: &mut [i16; tables::CONSTRAINT_CELLS],
-    sizes: &mut [u16; tables::LEARNED_CLAUSE_SIZES],
-    clauses: u16,
-)
-    requires { get_or sizes.old 0 0 ≤ paper.constraints }
-    ensures { Constraints cells.new sizes.new
-        × ((D : Prefix) (es : List Constraint)
-        → Numbers D numbers.now
-        → numbers_are_ok paper [] D ≡ true
-        → rows shelf.now ≡ map (codes D) es
-        → ((e : Constraint) → Mem e es → (l : Literal) → Mem l e → 1 ≤ place D l)
-        → rows_of paper.numbers cells.new sizes.new ≡ es)
-        × Recorded sizes.old (newest shelf.now) clauses sizes.new }
-{
-    let mut table = LentTable {
-        cells,
-        sizes,
-        width: tables::NUMBERS,
-    };
-    unload_with_records(shelf, numbers, &mut table, clauses);
 }

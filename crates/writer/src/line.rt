@@ -27,8 +27,8 @@ impl Output<'_> {
         requires room { Room self.old (items_from numbers.now 1 row.now) }
         ensures { Appended self.old (items_from numbers.now 1 row.now) self.new }
     {
-        for (i, v) in row.iter().enumerate() {
-            self.put_item(numbers[i + 1], *v);
+        for (number, v) in numbers[1..].iter().zip(row) {
+            self.put_item(*number, *v);
         }
     }
 

@@ -1,13 +1,14 @@
--- `closest::set_flags` meets its contract. The places passed and the flags that the rest of the line sets are its length.
-use Rattle.std.proofs.Common.{arith}
-use Rattle.closest.proofs.Bytes.{set_more, set_stop, set_end}
+-- `closest::set_flags` meets its contract. The flags before the first that is open are the line.
+use Rattle.std.proofs.Common.{rules, ◌≡◌, ◌∙◌, arith, sym, length, List, ℕ}
+use Rattle.std.proofs.lemmas.Iterator.{IsFirst-from_position, index_from_first, YieldsList-from_slice}
+use borrow.Author.Tests.{tests}
+use Rattle.closest.specs.Table.{line_in}
+use Rattle.closest.proofs.Bytes.{none_set, one_open, one_set, line_within}
 use Rattle.closest.proofs.set_flags.Goals as goal
 
-pub returns-then-b-eq0 : goal.returns-then-b-eq0
-returns-then-b-eq0 c = (set_stop c.args.row.now c.loop-i.i c.loop-i-test.true c.if-b-eq0.true c.loop-i.invariant, omega arith)
-
-pub loop-i-preserved : goal.loop-i-preserved
-loop-i-preserved c = set_more c.args.row.now c.loop-i.i c.loop-i-test.true c.if-b-eq0.false c.loop-i.invariant
-
 pub returns : goal.returns
-returns c = (omega (arith, set_end c.args.row.now c.loop-i.i c.loop-i-test.false c.loop-i.invariant), omega arith)
+returns c =
+    let first = IsFirst-from_position _ _ _ (λ b. b ≡ 0) (λ b. b ≡ 0 → ⊥) c.position.ensures.ran (YieldsList-from_slice c.args.row.now cc) (λ x q e. search (rules, tests)) (λ x q e. search (rules, tests)) in
+    let is = index_from_first (λ (l : List ℕ). length (line_in l)) (λ b. b ≡ 0) (λ b. b ≡ 0 → ⊥) none_set one_open one_set c.args.row.now c.position.result first in
+    let e : c.unwrap_or.result ≡ length (line_in c.args.row.now) = c.unwrap_or.ensures ∙ sym is in
+    (e, omega (arith, e, line_within c.args.row.now))

@@ -1,10 +1,13 @@
--- `closest::show` meets its contract. The bytes passed are shown, and the others are as they were.
-use Rattle.std.proofs.Common.{refl, rules, arith}
-use Rattle.closest.proofs.Bytes.{shown_none, shown_more}
+-- `closest::show` meets its contract. The values passed are as they are shown, and the others as they were.
+use Rattle.std.proofs.Common.{◌∙◌}
+use Rattle.closest.proofs.Bytes.{shown, shown_all, changed_none, changed_more, changed_all}
 use Rattle.closest.proofs.show.Goals as goal
 
-pub loop-i-init : goal.loop-i-init
-loop-i-init c = (refl, shown_none c.args.from.now c.args.to.now)
+pub loop-value-init : goal.loop-value-init
+loop-value-init c = changed_none shown c.args.values.now
 
-pub loop-i-preserved : goal.loop-i-preserved
-loop-i-preserved c = (search rules, shown_more c.args.from.now c.args.to.now _ c.loop-i.i _ c.loop-i-test.true (omega arith) c.shown.ensures c.loop-i.invariant.1)
+pub loop-value-preserved : goal.loop-value-preserved
+loop-value-preserved c = changed_more shown c.args.values.now c.loop-value.value-index c.shown.result c.loop-value.values c.loop-value-test.true c.loop-value.invariant c.shown.ensures
+
+pub returns : goal.returns
+returns c = changed_all shown c.args.values.now c.loop-value.value-index c.loop-value.values c.loop-value-test.false c.loop-value.invariant ∙ shown_all c.args.values.now

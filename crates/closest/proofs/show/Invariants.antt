@@ -1,7 +1,6 @@
--- `closest::show` meets its contract. The bytes passed are shown, and the others are as they were.
-use Rattle.std.proofs.Common.{◌≡◌, ◌++◌, length, drop}
-use Rattle.closest.proofs.Bytes.{shown_up_to}
+-- `closest::show` meets its contract. The values passed are as they are shown, and the others as they were.
+use Rattle.closest.proofs.Bytes.{Changed, shown}
 use Rattle.closest.proofs.show.Given as goal
 
-abbrev pub invariant-loop-i : goal.invariant-loop-i
-invariant-loop-i l = (length l.to ≡ length l.initial.to) × (l.to ≡ shown_up_to l.from l.i ++ drop l.i l.initial.to)
+abbrev pub invariant-loop-value : goal.invariant-loop-value
+invariant-loop-value l = Changed shown l.initial.values l.value-index l.values

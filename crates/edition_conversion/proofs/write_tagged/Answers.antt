@@ -11,8 +11,8 @@ unfolding to_tagged
 returns-in_err-read_editions c = let p = err_from_is_err_and c.from_residual.result c.from_residual.ensures.1 in rw (p.1, p.2)
     (judged_refused (only 1) c.args.text.now c.in_err-read_editions.field-0.0 c.in_err-read_editions.ensures (fitted (length c.args.table.now) (tagged_text c.args.text.now)) c.args.table.now)
 
-pub write-requires : goal.write-requires
-write-requires c = judged_short (only 1) c.args.text.now c.in_ok-read_editions.field-0 c.in_ok-read_editions.ensures
+pub invariant_of-read : goal.invariant_of-read
+invariant_of-read c = record { short = judged_short (only 1) c.args.text.now c.in_ok-read_editions.field-0 c.in_ok-read_editions.ensures }
 
 pub returns : goal.returns
 unfolding to_tagged

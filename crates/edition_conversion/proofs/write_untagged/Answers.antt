@@ -19,15 +19,12 @@ unfolding to_untagged
 returns-in_err-read_editions c = let p = err_from_is_err_and c.from_residual.result c.from_residual.ensures.1 in rw (p.1, p.2)
     (judged_refused (only 2) c.args.text.now c.in_err-read_editions.field-0.0 c.in_err-read_editions.ensures (judged c.args.text.now c.args.table.now) c.args.table.now)
 
-pub lost_line-requires : goal.lost_line-requires
-lost_line-requires c = judged_short (only 2) c.args.text.now c.in_ok-read_editions.field-0 c.in_ok-read_editions.ensures
+pub invariant_of-read : goal.invariant_of-read
+invariant_of-read c = record { short = judged_short (only 2) c.args.text.now c.in_ok-read_editions.field-0 c.in_ok-read_editions.ensures }
 
 pub returns-in-Some : goal.returns-in-Some
 unfolding to_untagged
 returns-in-Some c = rw c.at.ensures (judged_opened (only 2) c.args.text.now c.in_ok-read_editions.field-0 c.in_ok-read_editions.ensures (judged c.args.text.now c.args.table.now) _ c.args.table.now (lost_refused (fitting c.args.text.now c.args.table.now) c.args.table.now c.in-Some.ensures))
-
-pub write-requires : goal.write-requires
-write-requires c = judged_short (only 2) c.args.text.now c.in_ok-read_editions.field-0 c.in_ok-read_editions.ensures
 
 pub returns : goal.returns
 unfolding to_untagged

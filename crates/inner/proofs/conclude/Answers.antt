@@ -7,11 +7,11 @@ pub returns-in-Some-clause-concluded : goal.returns-in-Some-clause-concluded
 returns-in-Some-clause-concluded c = let l = c.args.learned.now in
     let area = c.args.trail.now.cube in
     λ D R s st k shown entered.
-    let given = last_given shown.statused shown.long c.requires.0 c.true_at.ensures.1 in
+    let given = last_given shown.statused shown.long c.requires c.true_at.ensures.1 in
     record {
       read =
           conflict_no D R s st c.args.matrix.now.rows l.clauses.cells l.cubes.cells area
-          (c.conflict.ensures.found_coded D R s st k c.args.trail.now.marks area shown.statused given shown.matrix shown.formed entered shown.stored.clauses)
+          (c.conflict.ensures D R s st k c.args.trail.now.marks area shown.statused given shown.matrix shown.formed entered shown.stored.clauses)
           c.in-Some.is;
       known = tt;
     }
@@ -20,12 +20,12 @@ pub returns-in-None-clause-concluded : goal.returns-in-None-clause-concluded
 returns-in-None-clause-concluded c = let l = c.args.learned.now in
     let area = c.solution.new.trail.cube in
     λ D R s st k shown entered.
-    let given = last_given shown.statused shown.long c.requires.0 c.true_at.ensures.1 in
+    let given = last_given shown.statused shown.long c.requires c.true_at.ensures.1 in
     let found = c.solution.ensures.leaf_coded D R s st k c.args.matrix.now.rows l.clauses.cells shown.quantified shown.statused shown.formed given shown.stored.cubes shown.matrix.by_code entered in
     record {
       read =
           conflict_none D R s st c.args.matrix.now.rows l.clauses.cells l.cubes.cells area
-          (c.conflict.ensures.found_coded D R s st k c.args.trail.now.marks area shown.statused given shown.matrix shown.formed entered shown.stored.clauses)
+          (c.conflict.ensures D R s st k c.args.trail.now.marks area shown.statused given shown.matrix shown.formed entered shown.stored.clauses)
           c.in-None.is c.solution.result found.1;
       known = open_known c.solution.result shown.long found.0;
     }

@@ -1,17 +1,11 @@
 -- `inner::stored_cube` meets its contract. Step 4: Yes with the cube that the lookup found.
-use Rattle.inner.proofs.Conclusions.{stored_yes, stored_open, found_bounded}
+use Rattle.inner.proofs.Conclusions.{stored_yes, stored_open}
 use Rattle.inner.proofs.stored_cube.Goals as goal
 
 pub returns-in-Some : goal.returns-in-Some
-returns-in-Some c = record {
-  leaf_bounded = found_bounded c.in-Some.is c.lookup.ensures.found_bounded;
-  leaf_coded = λ D s es cls cs area shown given rows.
-      stored_yes D s es cls cs c.args.cubes.now.cells area (c.lookup.ensures.found_coded D s c.args.g.at es cls area shown given c.args.g.inside.inner rows) c.in-Some.is;
-}
+returns-in-Some c = λ D s es cls cs area shown given rows.
+    stored_yes D s es cls cs c.args.cubes.now.cells area (c.lookup.ensures D s c.args.g.at es cls area shown given c.args.g.inside.inner rows) c.in-Some.is
 
 pub returns-in-None : goal.returns-in-None
-returns-in-None c = record {
-  leaf_bounded = tt;
-  leaf_coded = λ D s es cls cs area shown given rows.
-      stored_open D s es cls cs c.args.cubes.now.cells area (c.lookup.ensures.found_coded D s c.args.g.at es cls area shown given c.args.g.inside.inner rows) c.in-None.is;
-}
+returns-in-None c = λ D s es cls cs area shown given rows.
+    stored_open D s es cls cs c.args.cubes.now.cells area (c.lookup.ensures D s c.args.g.at es cls area shown given c.args.g.inside.inner rows) c.in-None.is

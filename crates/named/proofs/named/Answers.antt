@@ -16,7 +16,7 @@ loop-l-preserved c =
     elim c.if-is_of.branch [
       | then-is_of w ↦ rw w.n-is
           (naming_more c.loop-l.invariant c.loop-l-test.true (back (sfits_of (search rules))) c.is_of.ensures w.if-is_of.true
-          (w.out-is ∙ w.put_literal.ensures ∙ ap (set c.loop-l.out c.loop-l.n) (narrow_back _ w.number_in.ensures)))
+          (w.out-is ∙ w.put.ensures ∙ ap (set c.loop-l.out c.loop-l.n) (narrow_back _ w.number_in.ensures)))
       | else-is_of w ↦ rw (w.n-is, w.out-is) (naming_past c.loop-l.invariant c.loop-l-test.true (back (sfits_of (search rules))) c.is_of.ensures w.if-is_of.false)
     ]
 

@@ -1,22 +1,25 @@
 -- The visitors meet their contracts: `visit`, `branch` and `side`, by the laws of Visiting, Counts, Keeping, Setting, Returns and SidesReturns.
 use native.Mathlib.Omega.{arith}
-use mathlib.Core.Path.{◌∙◌, sym, ap, subst, refl}
-use mathlib.Core.Bool.{true≢false}
-use Prim.Native.Nat.{◌*◌, zero-le}
+use mathlib.Core.Path.{◌≡◌, ◌∙◌, sym, ap, subst, refl}
+use mathlib.Core.Bool.{false, true≢false}
+use Prim.Native.Nat.{◌*◌}
 use mathlib.Core.List.{List}
 use Prim.Native.Nat.{ℕ}
 use Rattle.qbf.specs.Formula.{paper}
-use Rattle.search_entry.specs.Entry.{Bounded}
-use Rattle.search_entry.specs.declared.Bounds.{Bounds}
 use Rattle.node.specs.declared.Verdict.TheVariants.{No}
-use Rattle.search.specs.Search.{AsideKept, is_open}
+use Rattle.inner.specs.declared.Leaf.{Leaf}
+use Rattle.search_entry.specs.declared.Search.{Search}
+use Rattle.search.specs.Search.{AsideKept, is_open, concluded_of}
+use Rattle.search.specs.Visitors.{Leaves}
 use Rattle.search.proofs.Counts.{counts_up, counts_sides, counts_settled, counts_concluded, counts_as, result_as}
-use Rattle.search.proofs.Keeping.{statuses_back, rows_same, kept_up, kept_both, kept_open}
-use Rattle.search.proofs.Setting.{aside_less, aside_then, aside_up, aside_row, line_at}
+use Rattle.search.proofs.Keeping.{statuses_back, rows_same, kept_up, kept_both}
+use Rattle.search.proofs.Setting.{aside_less, aside_then, aside_up, aside_row}
 use Rattle.search.proofs.Returns.{up_result}
 use Rattle.search.proofs.SidesReturns.{sides_result}
-use Rattle.search.proofs.Visiting.{node_shown, concluded_result, open_result, open_is, followed_as, next_result, end_result, side_result}
+use Rattle.search.proofs.Visiting.{node_shown, concluded_result, open_result, open_is, next_result, end_result, side_result}
+use Rattle.search.proofs.Opening.{Arrives, open_left, open_followed}
 use Rattle.node.proofs.NextPlace.{more_places}
+use Rattle.search.proofs.+branch_exists_forall_free_side_sides_visit.Goals.{visit-then-at_start, visit-else-at_start}
 use Rattle.search.proofs.+branch_exists_forall_free_side_sides_visit.Goals as goal
 
 -- nothing was put aside
@@ -27,14 +30,14 @@ pub branch-returns-then-kind-gt-FORALL : goal.branch-returns-then-kind-gt-FORALL
 branch-returns-then-kind-gt-FORALL t c = record {
   left = (
     record {
-      counts = counts_settled c.args.p c.settled.result No c.placed.result c.settled.ensures (subst Bounded (sym c.placed.ensures) (record { short = zero-le; inside = zero-le }));
+      counts = counts_settled c.args.p c.settled.result No _ c.settled.ensures;
       kept = record { statuses_restored = refl; size = refl; rows = rows_same _ _ _ _ };
     },
     same_aside _ _,
   );
   followed = record {
     result = λ D s ls R g st task opened.
-        end_result c.args.p task c.settled.result c.next_kind-kind.result c.next_kind-kind.ensures c.requires.made c.placed.result (ap (λ (b : Bounds). b.len) c.placed.ensures) _
+        end_result c.args.p task c.settled.result c.next_kind-kind.result c.next_kind-kind.ensures c.requires.made _ refl _
         (λ e. omega (arith, e, c.if-kind-gt-FORALL.true)) (λ e. omega (arith, e, c.if-kind-gt-FORALL.true)) (λ e. omega (arith, e, c.if-kind-gt-FORALL.true)) c.settled.ensures;
   };
 }
@@ -54,7 +57,7 @@ sides-returns-then-up_or_aside t c = let more = more_places _ c.args.p.at c.args
         (record {
           result = λ D s ls R g st κ task opened inside is code.
               result_as (sym c.with_lines.ensures)
-              (up_result κ c.args.kind code c.args.p c.to_off.result c.to_off.ensures c.side-off.result c.side-off.ensures.side_visited c.up_or_aside.result c.up_or_aside.ensures.up D s ls R g st task opened inside is c.if-up_or_aside.true);
+              (up_result κ c.args.kind code c.args.p c.to_off.result c.to_off.ensures c.side-off.result c.side-off.ensures.side_visited c.up_or_aside.result (rw c.entry_of-row.ensures.0 at c.up_or_aside.ensures.up) D s ls R g st task opened inside is c.if-up_or_aside.true);
         });
   };
 }
@@ -81,13 +84,13 @@ sides-returns t c = let more = more_places _ c.args.p.at c.args.kind c.requires.
             (record {
               result = λ D s ls R g st κ task opened inside is code.
                   result_as (sym c.with_lines-2.ensures)
-                  (sides_result c.args.kind c.args.p c.to_off.result c.to_off.ensures c.side-off.result c.side-off.ensures.side_visited c.up_or_aside.result c.up_or_aside.ensures.up c.side-off.ensures.left.0.kept
-                  c.lined-one.result c.lined-one.ensures c.line_if-lines.result line.1 line.2 (λ s b ls task e. c.line_if-lines.ensures.covers s b ls (line_at refl refl task) e)
+                  (sides_result c.args.kind c.args.p c.to_off.result c.to_off.ensures c.side-off.result c.side-off.ensures.side_visited c.up_or_aside.result (rw c.entry_of-row.ensures.0 at c.up_or_aside.ensures.up) c.side-off.ensures.left.0.kept
+                  c.lined-one.result c.lined-one.ensures c.line_if-lines.result line.1 line.2 c.line_if-lines.ensures.covers
                   c.to_on.result c.to_on.ensures c.side-on.result c.side-on.ensures.side_visited _
-                  (aside_row (c.args.p.at * paper.numbers) c.side-off.result.len (omega (arith, c.side-off.ensures.left.0.counts.bounded.short)) on_aside ∙ c.up_or_aside.ensures.put.1 c.if-up_or_aside.false)
-                  c.finish-both.result c.finish-both.ensures.joined c.if-up_or_aside.false c.finish-both.ensures.finished.0.budget
+                  (aside_row (c.args.p.at * paper.numbers) c.side-off.result.len (omega (arith, c.side-off.result.inside.short)) on_aside ∙ (rw c.entry_of-row.ensures.1 at c.up_or_aside.ensures.put.1) c.if-up_or_aside.false ∙ c.entry_of-row.ensures.0)
+                  c.finish-both.result (rw (c.put_by-put.ensures.0, c.put_by-put.ensures.1, c.put_by-put.ensures.2, c.put_by-put.ensures.3) at c.finish-both.ensures.joined) c.if-up_or_aside.false c.finish-both.ensures.finished.0.budget
                   c.side-on.ensures.left.0.kept.statuses_restored c.lined-two.result c.lined-two.ensures c.settle_lines-after.result c.settle_lines-after.ensures.table_len_unchanged.1 c.settle_lines-after.ensures.table_len_unchanged.2
-                  (λ s ls task. c.settle_lines-after.ensures.settled_to s ls (line_at refl refl task))
+                  c.settle_lines-after.ensures.settled_to
                   D s ls R g st κ task opened inside is code);
             });
       };
@@ -116,37 +119,57 @@ side-returns t c = record {
 }
 
 pub visit-returns-then-is_open : goal.visit-returns-then-is_open
-visit-returns-then-is_open t c = let opened = open_is c.take_steps-leaf.result (sym c.is_open.ensures ∙ c.if-is_open.true) in record {
-  left = (
-    record {
-      counts = counts_as (sym c.with_lines.ensures) c.branch-below.ensures.left.0.counts;
-      kept = kept_open c.take_steps-leaf.ensures.rows c.branch-below.ensures.left.0.kept;
-    },
-    c.branch-below.ensures.left.1,
-  );
-  reached = record {
-    followed = λ e. followed_as (sym c.with_lines.ensures) (c.take_steps-leaf.ensures.skipped e).1 (c.take_steps-leaf.ensures.skipped e).2 c.branch-below.ensures.followed;
-    visited = λ e. record {
-      result = λ D s ls R g st k task entered.
-          result_as (sym c.with_lines.ensures)
-          (open_result c.args.p task (omega (arith, c.if-spent.false)) c.branch-below.result (c.take_steps-leaf.ensures.taken e D R s st k (node_shown c.args.p task) entered) opened refl c.branch-below.ensures.followed);
-    };
-  };
-}
+visit-returns-then-is_open t c = let opened = sym c.is_open.ensures ∙ c.if-is_open.true in
+    let p = c.args.p in
+    let x = c.args.search.now in
+    let z = c.branch-below.new.search in
+    elim c.if-at_start.branch [
+      | visit-then-at_start w ↦ record {
+        left = open_left x x.trail w.search-is z _ _ (sym c.with_lines.ensures) (rows_same _ _ _ _) c.branch-below.ensures.left;
+        reached = record {
+          followed = λ e. open_followed {p = p} x x.trail w.search-is z _ _ (sym c.with_lines.ensures) c.args.matrix.now c.branch-below.ensures.followed;
+          visited = λ e. absurd (true≢false (sym w.if-at_start.true ∙ e));
+        };
+      }
+      | visit-else-at_start w ↦
+          let y = w.conclude-leaf.new.trail in record {
+            left = open_left x y w.search-is z _ _ (sym c.with_lines.ensures) w.conclude-leaf.ensures.rows_kept c.branch-below.ensures.left;
+            reached = record {
+              followed = λ e. absurd (true≢false (sym e ∙ w.if-at_start.false));
+              visited = λ e. record {
+                result = λ D s ls R g st k task entered.
+                    open_result p task (omega (arith, c.if-spent.false)) c.with_lines.result (w.conclude-leaf.ensures.concluded D R s st k (node_shown p task) entered)
+                    (open_is w.conclude-leaf.result (ap is_open (sym w.leaf-is) ∙ opened)) refl
+                    (open_followed {p = p} x y w.search-is z _ _ (sym c.with_lines.ensures) c.args.matrix.now c.branch-below.ensures.followed);
+              };
+            };
+          }
+    ]
 
 pub visit-returns : goal.visit-returns
-visit-returns t c = let decided = sym c.is_open.ensures ∙ c.if-is_open.false in record {
-  left = (
-    record {
-      counts = counts_concluded c.args.p c.take_steps-leaf.result decided c.take_steps-leaf.ensures.bounded c.concluded.result c.concluded.ensures;
-      kept = record { statuses_restored = refl; size = refl; rows = c.take_steps-leaf.ensures.rows };
-    },
-    same_aside _ _,
-  );
-  reached = record {
-    followed = λ e. absurd (true≢false (sym (ap is_open (c.take_steps-leaf.ensures.skipped e).0) ∙ decided));
-    visited = λ e. record {
-      result = λ D s ls R g st k task entered. concluded_result c.args.p task (omega (arith, c.if-spent.false)) (c.take_steps-leaf.ensures.taken e D R s st k (node_shown c.args.p task) entered) decided c.concluded.result c.concluded.ensures;
-    };
-  };
-}
+visit-returns t c = let decided = sym c.is_open.ensures ∙ c.if-is_open.false in
+    let p = c.args.p in
+    let x = c.args.search.now in
+    elim c.if-at_start.branch [
+      | visit-then-at_start w ↦ absurd (true≢false (sym (ap is_open w.leaf-is) ∙ decided))
+      | visit-else-at_start w ↦
+          let closed : is_open w.conclude-leaf.result ≡ false = ap is_open (sym w.leaf-is) ∙ decided in
+          let answer : c.concluded.result ≡ concluded_of w.conclude-leaf.result p = c.concluded.ensures ∙ ap (λ (l : Leaf). concluded_of l p) w.leaf-is in
+          let back = sym w.search-is in record {
+            left =
+                subst (λ (y : Search). Leaves p.at p c.concluded.result x c.args.table.now y c.args.table.now) back (
+                  record {
+                    counts = counts_concluded p w.conclude-leaf.result closed c.concluded.result answer;
+                    kept = record { statuses_restored = refl; size = refl; rows = w.conclude-leaf.ensures.rows_kept };
+                  },
+                  same_aside _ _,
+                );
+            reached = record {
+              followed = λ e. absurd (true≢false (sym e ∙ w.if-at_start.false));
+              visited = λ e. subst (λ (y : Search). Arrives p c.concluded.result c.args.matrix.now x c.args.table.now y c.args.table.now) back (record {
+                result = λ D s ls R g st k task entered.
+                    concluded_result p task (omega (arith, c.if-spent.false)) (w.conclude-leaf.ensures.concluded D R s st k (node_shown p task) entered) closed c.concluded.result answer;
+              });
+            };
+          }
+    ]

@@ -7,6 +7,6 @@ use Rattle.withdrawal.proofs.keep.Given as goal
 abbrev pub invariant-loop-i : goal.invariant-loop-i
 invariant-loop-i l =
     (l.i ≤ l.count)
-    × Keeping l.bars.cells.now l.bars.sizes.now l.remain l.i l.left.cells.now l.left.sizes.now
+    × Keeping l.bars.rows.cells.now l.bars.rows.sizes.now l.remain l.i l.left.cells.now l.left.sizes.now
     × (l.left.cells.ghost_name ≡ l.initial.left.cells.ghost_name)
     × (l.left.sizes.ghost_name ≡ l.initial.left.sizes.ghost_name)

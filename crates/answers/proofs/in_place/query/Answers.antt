@@ -16,17 +16,17 @@ use Rattle.answers.proofs.Asking.{served_as_lem, read_ready, asked_by, halted_by
 use Rattle.answers.proofs.in_place.query.Goals as goal
 
 pub returns-in_default-clause-serves : goal.returns-in_default-clause-serves
-returns-in_default-clause-serves c = served_as_lem _ (query c.args.ceiling _ _) c.refused.ensures (malformed _ (query c.args.ceiling _ _) (ap valid (sym c.lent.ensures) ∙ refused_invalid _ c.check.result c.check.ensures c.in_default.not-Ok))
+returns-in_default-clause-serves c = served_as_lem _ (query c.args.asked.ceiling _ _) c.refused.ensures (malformed _ (query c.args.asked.ceiling _ _) (ap valid (sym c.lent.ensures) ∙ refused_invalid _ c.check.result c.check.ensures c.in_default.not-Ok))
 
 pub returns-in_default-read-clause-serves : goal.returns-in_default-read-clause-serves
 returns-in_default-read-clause-serves c = let checked = subst (λ (x : State). Checked x true c.in-Ok.prefix.places c.in-Ok.prefix.kinds) c.lent.ensures c.in-Ok.ensures in
     let v = sym checked.said in
     let frees = c.free_count-free.ensures _ (valid_numbers _ v) (valid_quantified _ v) in
-    served_as_lem _ (query c.args.ceiling _ _) c.refused-in_default-read.ensures
-    (refused_query _ v frees (read_refused c.read.result (c.read.ensures _ _ (read_ready _ v frees (checked.placed v))) c.in_default-read.not-Ok) c.args.ceiling refl)
+    served_as_lem _ (query c.args.asked.ceiling _ _) c.refused-in_default-read.ensures
+    (refused_query _ v frees (read_refused c.read.result (c.read.ensures _ _ (read_ready _ v frees (checked.placed v))) c.in_default-read.not-Ok) c.args.asked.ceiling refl)
 
-pub invariant_of-asked : goal.invariant_of-asked
-invariant_of-asked c = let checked = subst (λ (x : State). Checked x true c.in-Ok.prefix.places c.in-Ok.prefix.kinds) c.lent.ensures c.in-Ok.ensures in
+pub invariant_of-completing : goal.invariant_of-completing
+invariant_of-completing c = let checked = subst (λ (x : State). Checked x true c.in-Ok.prefix.places c.in-Ok.prefix.kinds) c.lent.ensures c.in-Ok.ensures in
     let v = sym checked.said in
     let frees = c.free_count-free.ensures _ (valid_numbers _ v) (valid_quantified _ v) in
     record { ready = open_ready _ v checked.sized _ (free_small _ v _ frees) }
@@ -37,7 +37,7 @@ returns-then-not-full-clause-serves c = let checked = subst (λ (x : State). Che
     let frees = c.free_count-free.ensures _ (valid_numbers _ v) (valid_quantified _ v) in
     let read = c.in-Ok-read.ensures _ _ (read_ready _ v frees (checked.placed v)) in
     let partly = c.if-not-full.true in
-    open_by _ v frees read refl partly c.args.ceiling (c.query.ensures.ruled _ _ (open_shown _ v frees read refl partly (checked.placed v) (checked.kinded v)))
+    open_by _ v frees read refl partly c.args.asked.ceiling (c.query.ensures.ruled _ _ (open_shown _ v frees read refl partly (checked.placed v) (checked.kinded v)))
 
 pub invariant_of-task : goal.invariant_of-task
 invariant_of-task c = let checked = subst (λ (x : State). Checked x true c.in-Ok.prefix.places c.in-Ok.prefix.kinds) c.lent.ensures c.in-Ok.ensures in
@@ -55,8 +55,8 @@ returns-then-found-eq0-clause-serves c = let checked = subst (λ (x : State). Ch
     let v = sym checked.said in
     let frees = c.free_count-free.ensures _ (valid_numbers _ v) (valid_quantified _ v) in
     served_back _ _ c.run-found.ensures.held
-    (served_as_lem _ (query c.args.ceiling _ _) c.stopped.ensures
-    (halted_by _ v frees (c.in-Ok-read.ensures _ _ (read_ready _ v frees (checked.placed v))) c.args.ceiling c.run-found.result _ _ (checked.placed v) (checked.kinded v)
+    (served_as_lem _ (query c.args.asked.ceiling _ _) c.stopped.ensures
+    (halted_by _ v frees (c.in-Ok-read.ensures _ _ (read_ready _ v frees (checked.placed v))) c.args.asked.ceiling c.run-found.result _ _ (checked.placed v) (checked.kinded v)
     refl c.if-not-full.false (c.run-found.ensures.ran v) refl c.budget_of.ensures.0 c.if-found-eq0.true))
 
 pub returns-clause-serves : goal.returns-clause-serves
@@ -64,5 +64,5 @@ returns-clause-serves c = let checked = subst (λ (x : State). Checked x true c.
     let v = sym checked.said in
     let frees = c.free_count-free.ensures _ (valid_numbers _ v) (valid_quantified _ v) in
     served_back _ _ c.run-found.ensures.held
-    (asked_by _ v frees (c.in-Ok-read.ensures _ _ (read_ready _ v frees (checked.placed v))) c.args.ceiling c.run-found.result _ _ (checked.placed v) (checked.kinded v)
+    (asked_by _ v frees (c.in-Ok-read.ensures _ _ (read_ready _ v frees (checked.placed v))) c.args.asked.ceiling c.run-found.result _ _ (checked.placed v) (checked.kinded v)
     refl c.if-not-full.false (c.run-found.ensures.ran v) refl c.budget_of.ensures.0 c.visits_of.result c.visits_of.ensures c.if-found-eq0.false c.of.ensures)

@@ -5,5 +5,5 @@ use Rattle.answers.proofs.run.below.Goals as goal
 
 pub returns-clause-below : goal.returns-clause-below
 returns-clause-below c =
-    below_shown _ _ (get_or c.args.lent.clause_sizes.now 0 0) c.words_of.result _ _ _ _ _ _ _ _ _ _ _ c.args.task.at c.args.task.free c.args.task.budget c.start.result _ _ _ _ _ _ c.requires.2 c.words_of.ensures
+    below_shown _ _ (get_or c.args.lent.clause_sizes.now 0 0) c.words_of-words.result _ _ _ _ _ _ _ _ _ _ _ c.args.task.at c.args.task.free c.args.task.budget c.start.result _ _ _ _ _ _ c.requires.2 c.words_of-words.ensures
     c.statuses_of-search.ensures c.start_rows.ensures c.start.ensures.followed

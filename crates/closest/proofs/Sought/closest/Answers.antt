@@ -1,15 +1,13 @@
 -- `closest::Sought::closest` meets its contract. The given values are written, and over them the line's.
 use Prim.Native.Nat.{ℕ}
-use native.Mathlib.Omega.{arith}
-use mathlib.Core.Path.{refl, sym, ap, ◌∙◌}
+use mathlib.Core.Path.{sym, ap, ap₂, ◌∙◌}
 use mathlib.Core.List.{List, map, ◌++◌}
 use Rattle.qbf.specs.Card.{byte_of}
 use mathlib.Core.Option.{Option}
 use lib.ListN.{length, drop}
-use lib.Seq.{take_all, length-take-le}
 use Rattle.qbf.specs.Closest.{Found, nearest}
 use Rattle.closest.specs.Table.{values_in, line_in, answer_of, reading_after}
-use Rattle.closest.proofs.Bytes.{nearest_written, shown_up_to}
+use Rattle.closest.proofs.Bytes.{nearest_written}
 use Rattle.closest.proofs.Search.{no_line, all_lines_lem}
 use Rattle.closest.proofs.Sought.closest.Goals as goal
 
@@ -27,8 +25,8 @@ returns-clause-reading_after c =
     let f = length s.given.now in
     let row = c.row-row.result.now in
     let e = all_lines_lem f s.lines s.table.now (values_in s.given.now) c.best-best.result.line c.best-best.result.number c.best-best.ensures in
-    nearest_written row s.given.now c.args.reading.now _ _ f c.set_flags-set.result refl c.requires c.set_flags-set.ensures.0
-    (c.show.ensures ∙ ap (λ (l : List ℕ). map byte_of (values_in l) ++ drop f c.args.reading.now) (sym (take_all f s.given.now (omega arith))))
-    (c.show-2.ensures ∙ ap (λ (n : ℕ). shown_up_to row c.set_flags-set.result ++ drop n c.show.new.to) (length-take-le c.set_flags-set.result row c.set_flags-set.ensures.1))
+    c.show.ensures
+    ∙ ap (λ (l : List ℕ). map byte_of (values_in l)) (ap₂ (λ (x y : List ℕ). x ++ drop c.set_flags-set.result y) c.copy_from_slice-2.ensures.after c.copy_from_slice.ensures.after)
+    ∙ ap (map byte_of) (nearest_written row s.given.now c.set_flags-set.result c.set_flags-set.ensures.0)
     ∙ ap (λ (r : List ℕ). map byte_of (nearest (line_in r) (values_in s.given.now))) c.row-row.ensures.0
     ∙ sym (ap (λ (o : Option Found). reading_after o c.args.reading.now) e)

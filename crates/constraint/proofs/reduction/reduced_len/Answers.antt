@@ -1,24 +1,14 @@
--- `constraint::reduction::reduced_len` meets its contract. The loop keeps what the reduction comes to.
-use Rattle.std.proofs.Common.{◌≡◌, ◌+◌, ◌-◌, ◌∙◌, sym, arith, pos}
-use borrow.Author.Rules.{rules, sfits_of}
-use Rattle.literal.proofs.Signed.{back}
-use Rattle.constraint.proofs.Reducing.{reduce_less, reduce_stop}
+-- `constraint::reduction::reduced_len` meets its contract.
+use Rattle.std.proofs.Common.{rules, pos}
+use borrow.Author.Tests.{tests}
+use Rattle.literal.proofs.Reducing.{reduced}
 use Rattle.constraint.proofs.reduction.reduced_len.Goals as goal
 
-pub returns-then-not-is_dropped : goal.returns-then-not-is_dropped
-returns-then-not-is_dropped c =
-    let z : c.loop-i.i - 1 + 1 ≡ c.loop-i.i = omega arith in (
-      omega arith,
-      λ D s.
-          rw z
-          (reduce_stop D c.args.cube c.args.lits.now c.loop-i.i (pos 0) (omega arith) (omega arith) (back (sfits_of (search rules))) (c.is_dropped.ensures D s) c.if-not-is_dropped.true
-          ∙ c.loop-i.invariant.1 D s),
-    )
-
-pub loop-i-preserved : goal.loop-i-preserved
-loop-i-preserved c = (
-  omega arith,
+pub returns : goal.returns
+returns c = (
+  c.kept_len.ensures.within,
   λ D s.
-      sym (reduce_less D c.args.cube c.args.lits.now c.loop-i.i (pos 0) (omega arith) (omega arith) (back (sfits_of (search rules))) (c.is_dropped.ensures D s) c.if-not-is_dropped.false)
-      ∙ c.loop-i.invariant.1 D s,
+      reduced D c.args.cube c.args.lits.now c.kept_len.result (pos 0) c.kept_len.ensures.within
+      (λ i q h. let z = c.kept_len.ensures.dropped i (pos 0) q h in search (rules, tests))
+      (λ h. let z = c.kept_len.ensures.kept (pos 0) h in search (rules, tests)),
 )

@@ -14,4 +14,4 @@ pub returns-in_err-form : goal.returns-in_err-form
 returns-in_err-form c = rw c.from_residual.ensures (words_form c.cut.ensures None c.read_form.new.out (sym c.same_word.ensures ∙ c.if-same_word.false) (sym c.same_word-2.ensures ∙ c.if-same_word-2.false) (form_unread _ c.in_err-form.ensures))
 
 pub returns : goal.returns
-returns c = words_form c.cut.ensures (Some c.form_line.result) _ (sym c.same_word.ensures ∙ c.if-same_word.false) (sym c.same_word-2.ensures ∙ c.if-same_word-2.false) (rw c.form_line.ensures (form_read _ c.in_ok-form.form _ c.in_ok-form.ensures))
+returns c = words_form c.cut.ensures (Some c.from.result) _ (sym c.same_word.ensures ∙ c.if-same_word.false) (sym c.same_word-2.ensures ∙ c.if-same_word-2.false) (rw c.from.ensures (form_read _ c.in_ok-form.form _ c.in_ok-form.ensures))

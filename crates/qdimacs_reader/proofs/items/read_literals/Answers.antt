@@ -19,7 +19,7 @@ returns-in_err-x c = rw c.from_residual-in_err-x.ensures (gather_bad c.loop-next
 
 pub loop-next-preserved : goal.loop-next-preserved
 loop-next-preserved c = gather_more c.loop-next.invariant c.in-Some.ensures _ c.in_ok-x.ensures
-    (c.put_literal.ensures ∙ ap (set c.loop-next.out c.loop-next.n) (back16 (search rules)))
+    (c.put.ensures ∙ ap (set c.loop-next.out c.loop-next.n) (back16 (search rules)))
 
 pub returns : goal.returns
 returns c = gather_last c.loop-next.invariant c.in_default.ensures (c.then_some.ensures ∙ ap (λ (t : Bool). then_some t c.loop-next.n) c.is_zero.ensures)

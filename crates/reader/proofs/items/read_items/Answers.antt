@@ -13,7 +13,7 @@ pub returns-in_err-item : goal.returns-in_err-item
 returns-in_err-item c = rw c.from_residual.ensures (read_bad c.loop-left.invariant c.in-Some.is c.in_err-item.ensures)
 
 pub loop-left-preserved : goal.loop-left-preserved
-loop-left-preserved c = let stored = c.put_literal.ensures ∙ ap (set c.loop-left.out c.loop-left.n) (back16 (search rules)) in
+loop-left-preserved c = let stored = c.put.ensures ∙ ap (set c.loop-left.out c.loop-left.n) (back16 (search rules)) in
     read_more c.loop-left.invariant c.in-Some.is _ c.in_ok-item.ensures.0 c.in_ok-item.ensures.1 stored
 
 pub returns : goal.returns

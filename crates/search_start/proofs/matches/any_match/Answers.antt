@@ -1,17 +1,17 @@
 -- `search_start::matches::any_match` meets its contract: a row matches, or each was tried.
-use Rattle.std.proofs.Common.{◌∙◌, sym, ap, arith}
+use Rattle.std.proofs.Common.{rules, ◌≡◌, true, false, [], Bool, List, ℤ}
+use Rattle.std.proofs.lemmas.Iterator.{cases_from_any}
+use Rattle.std.proofs.lemmas.Iterator.Consumers.{YieldsList-from_first}
+use borrow.Author.Tests.{tests}
+use Rattle.literal.proofs.Chains.{any_is}
+use Rattle.tables.specs.Views.{rows_of}
 use Rattle.search_start.specs.Match.{matching}
-use Rattle.lent_rows.proofs.Flat.{rows_some, rows_none}
+use Rattle.lent_rows.specs.Left.{left}
 use Rattle.search_start.proofs.matches.any_match.Goals as goal
-
-pub returns-then-is_match : goal.returns-then-is_match
-returns-then-is_match c = λ D s p v h.
-    sym
-    (rows_some (matching D c.args.cube s) c.args.learned.width c.args.learned.cells.now c.args.learned.sizes.now c.loop-k.k (omega (arith, c.loop-k-test.true, c.count-k-end.ensures))
-    (ap (matching D c.args.cube s) (sym c.row.ensures) ∙ sym (c.is_match.ensures D s p v h) ∙ c.if-is_match.true))
 
 pub returns : goal.returns
 returns c = λ D s p v h.
-    sym
-    (rows_none (matching D c.args.cube s) c.args.learned.width c.args.learned.cells.now c.args.learned.sizes.now
-    (λ j l. c.loop-k.invariant D s p v h j (omega (arith, l, c.loop-k-test.false, c.count-k-end.ensures))))
+    let test : List ℤ → Bool = matching D c.args.cube s in
+    let rows = rows_of c.args.learned.width c.args.learned.cells.now c.args.learned.sizes.now in
+    any_is test [] rows c.any.result
+    (cases_from_any c.any.new.self _ _ (λ l. test l ≡ true) (λ l. test l ≡ false) c.any.ensures.ran (YieldsList-from_first (λ x. x.now) left rows c.rows.ensures) (λ x q e. search (rules, tests)) (λ x q e. search (rules, tests)))

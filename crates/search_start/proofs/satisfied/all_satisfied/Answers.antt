@@ -1,17 +1,17 @@
 -- `search_start::satisfied::all_satisfied` meets its contract: a row is not satisfied, or each was tried.
-use Rattle.std.proofs.Common.{◌∙◌, sym, ap, arith}
+use Rattle.std.proofs.Common.{rules, ◌≡◌, true, false, [], Bool, List, ℤ}
+use Rattle.std.proofs.lemmas.Iterator.{cases_from_all}
+use Rattle.std.proofs.lemmas.Iterator.Consumers.{YieldsList-from_first}
+use borrow.Author.Tests.{tests}
 use Rattle.qbf.specs.Formula.{satisfied}
-use Rattle.lent_rows.proofs.Flat.{rows_fail, rows_all}
+use Rattle.literal.proofs.Chains.{all_is}
+use Rattle.tables.specs.Views.{rows_of}
+use Rattle.lent_rows.specs.Left.{left}
 use Rattle.search_start.proofs.satisfied.all_satisfied.Goals as goal
-
-pub returns-then-not-is_satisfied : goal.returns-then-not-is_satisfied
-returns-then-not-is_satisfied c = λ D s v.
-    sym
-    (rows_fail (satisfied D s) c.args.clauses.width c.args.clauses.cells.now c.args.clauses.sizes.now c.loop-k.k (omega (arith, c.loop-k-test.true, c.count-k-end.ensures))
-    (ap (satisfied D s) (sym c.row.ensures) ∙ sym (c.is_satisfied.ensures D s v) ∙ c.if-not-is_satisfied.true))
 
 pub returns : goal.returns
 returns c = λ D s v.
-    sym
-    (rows_all (satisfied D s) c.args.clauses.width c.args.clauses.cells.now c.args.clauses.sizes.now
-    (λ j l. c.loop-k.invariant D s v j (omega (arith, l, c.loop-k-test.false, c.count-k-end.ensures))))
+    let test : List ℤ → Bool = satisfied D s in
+    let rows = rows_of c.args.clauses.width c.args.clauses.cells.now c.args.clauses.sizes.now in
+    all_is test [] rows c.all.result
+    (cases_from_all c.all.new.self _ _ (λ l. test l ≡ true) (λ l. test l ≡ false) c.all.ensures.ran (YieldsList-from_first (λ x. x.now) left rows c.rows.ensures) (λ x q e. search (rules, tests)) (λ x q e. search (rules, tests)))

@@ -6,8 +6,6 @@ use Rattle.serve.proofs.call.told_apart.Goals as goal
 
 pub returns : goal.returns
 returns c = record {
-  few_on = search rules;
-  few_off = search rules;
-  on = λ ls z. standing c.args.naming.n c.args.naming.lits.now c.args.naming.wide ls z c.kept-k.result c.kept-k.ensures true c.named.result c.named.new.out (search rules) c.named.ensures c.kept-ons.result c.kept-ons.ensures;
-  off = λ ls z. standing c.args.naming.n c.args.naming.lits.now c.args.naming.wide ls z c.kept-k.result c.kept-k.ensures false c.named-2.result c.named-2.new.out (search rules) c.named-2.ensures c.kept-offs.result c.kept-offs.ensures;
+  on = λ ls z. standing c.args.n c.args.spelled.lits.now c.args.spelled.wide ls z c.kept-k.result c.kept-k.ensures true c.named.result c.named.new.out (search rules) c.named.ensures c.kept-ons.result c.kept-ons.ensures;
+  off = λ ls z. standing c.args.n c.args.spelled.lits.now c.args.spelled.wide ls z c.kept-k.result c.kept-k.ensures false c.named-2.result c.named-2.new.out (search rules) c.named-2.ensures c.kept-offs.result c.kept-offs.ensures;
 }

@@ -2,7 +2,7 @@
 -- ends in the code.
 use native.Mathlib.Omega.{arith}
 use mathlib.Core.Path.{refl, sym, ap, ◌∙◌}
-use Rattle.std.specs.Prelude.{Bool, cond}
+use Rattle.std.specs.Prelude.{Bool, cond, Some}
 use Rattle.tables.specs.Codes.{all_are}
 use Rattle.shelf.proofs.Finding.{find_start, find_more, find_less, find_end}
 use Rattle.shelf.proofs.LentShelf.find.Goals as goal
@@ -17,8 +17,8 @@ loop-number-smaller c = find_less c.args.statuses.now c.args.code c.args.want c.
 pub loop-number-preserved : goal.loop-number-preserved
 loop-number-preserved c = find_more c.args.statuses.now c.args.code c.args.want c.args.self.agree c.loop-number.invariant (omega arith) c.slot_of-slot.result c.all_are-hit.result _ _ c.slot_of-slot.ensures.0 c.slot_of-slot.ensures.1 (c.all_are-hit.ensures ∙ ap (all_are c.args.statuses.now c.args.want) c.row_in-row.ensures.0) refl
     (elim c.if-hit.branch [
-      | then-hit w ↦ w.found-is ∙ ap (λ (b : Bool). cond b c.slot_of-slot.result c.loop-number.found) (sym w.if-hit.true)
-      | else-hit w ↦ w.found-is ∙ ap (λ (b : Bool). cond b c.slot_of-slot.result c.loop-number.found) (sym w.if-hit.false)
+      | then-hit w ↦ w.found-is ∙ ap (λ (b : Bool). cond b (Some c.slot_of-slot.result) c.loop-number.found) (sym w.if-hit.true)
+      | else-hit w ↦ w.found-is ∙ ap (λ (b : Bool). cond b (Some c.slot_of-slot.result) c.loop-number.found) (sym w.if-hit.false)
     ])
 
 pub returns : goal.returns

@@ -3,8 +3,8 @@ use Rattle.state_parts.proofs.initial.initial.Goals as goal
 
 pub returns : goal.returns
 returns c = initial_written c.args.numbers c.args.clauses c.args.cells.now
-    c.least-n.ensures
-    c.least-m.ensures
+    c.min-n.ensures
+    c.min-m.ensures
     c.put.ensures
     c.put-2.ensures
     c.put-3.ensures

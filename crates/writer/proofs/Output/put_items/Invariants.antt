@@ -1,9 +1,11 @@
 -- `put_items` writes one item after the other.
-use Prim.Native.Nat.{suc}
-use lib.ListN.{drop}
+use Rattle.std.proofs.Common.{length, ◌≤◌}
 use Rattle.writer.specs.Rows.{items_from}
 use Rattle.writer.proofs.Appending.{Left}
 use Rattle.writer.proofs.Output.put_items.Given as goal
 
-abbrev pub invariant-loop-i : goal.invariant-loop-i
-invariant-loop-i l = Left l.initial.self (items_from l.numbers 1 l.row) (items_from l.numbers (suc l.i) (drop l.i l.row)) l.self
+-- what is left are the items of the numbers and the values that are left
+abbrev pub invariant-loop-number : goal.invariant-loop-number
+invariant-loop-number l =
+    (length l.number-iterator.b.rest.now ≤ length l.number-iterator.a.rest.now)
+    × Left l.initial.self (items_from l.numbers 1 l.row) (items_from l.number-iterator.a.rest.now 0 l.number-iterator.b.rest.now) l.self

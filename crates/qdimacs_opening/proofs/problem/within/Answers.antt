@@ -1,0 +1,15 @@
+-- `within`: the place of the first number that is above the count, or the length.
+use Rattle.std.proofs.Common.{rules, ◌≡◌, ◌∙◌, sym, map, true, false, List}
+use Rattle.std.proofs.lemmas.Iterator.{IsFirst-from_position, index_from_first, YieldsList-from_slice}
+use borrow.Author.Tests.{tests}
+use lib.IntN.{ℤ}
+use Rattle.qbf.specs.Formula.{number_of}
+use Rattle.qdimacs_opening.specs.Stands.{above, counted}
+use Rattle.qdimacs_opening.proofs.Counting.{counted_none, counted_above, counted_within}
+use Rattle.qdimacs_opening.proofs.problem.within.Goals as goal
+
+pub returns : goal.returns
+returns c =
+    let v = c.args.variables in
+    let first = IsFirst-from_position _ _ _ (λ (x : ℤ). above v (number_of x) ≡ true) (λ (x : ℤ). above v (number_of x) ≡ false) c.position.ensures.ran (YieldsList-from_slice c.args.lits.now cc) (λ x q e. search (rules, tests)) (λ x q e. search (rules, tests)) in
+    c.unwrap_or.ensures ∙ sym (index_from_first (λ (l : List ℤ). counted v (map number_of l)) (λ (x : ℤ). above v (number_of x) ≡ true) (λ (x : ℤ). above v (number_of x) ≡ false) (counted_none v) (counted_above v) (counted_within v) c.args.lits.now c.position.result first)
