@@ -3,7 +3,7 @@
 //     former BEFORE.so AFTER.so BOOK..      BOOK as `bench --books FOLDER` writes them
 //
 // Each .so has the exported calls. Its name says how a query is called: `before..` without a ceiling (before wish 8), `ceiling..` with one and the flags that are on
-// (before wish 5), any other with the flags that are off too. The shortest of several runs of each side by turns, in time of the thread; verdicts and visits have to be
+// (before wish 5), `both..` with the flags that are off too (before wish 8's workspace), any other with a workspace. The shortest of several runs of each side by turns, in time of the thread; verdicts and visits have to be
 // equal. For a tool that counts instructions: one .so and one book, once.
 #define _GNU_SOURCE
 #include "book.h"
@@ -31,8 +31,10 @@ typedef struct reply (*plain_call)(void *, void *, void *, void *, void *, void 
 typedef struct reply (*ceiling_call)(void *, void *, void *, void *, void *, void *, void *, void *, void *, int16_t *, size_t, uint32_t);
 typedef struct reply (*both_call)(void *, void *, void *, void *, void *, void *, void *, void *, void *, int16_t *, size_t, int16_t *, size_t, uint32_t);
 
+typedef struct reply (*work_call)(void *, void *, void *, void *, void *, void *, void *, void *, void *, void *, int16_t *, size_t, int16_t *, size_t, uint32_t);
+
 struct side {
-    enum { BEFORE, CEILING, BOTH } form;
+    enum { BEFORE, CEILING, BOTH, WORK } form;
     void *call;
 };
 
@@ -44,6 +46,10 @@ static struct reply ask(struct side s, struct state *x, struct book *b, int k)
         return ((plain_call)s.call)(x->numbers, x->levels, x->kinds, x->rules, x->sizes, x->bars, x->bar_sizes, x->passes, x->pass_sizes, on, n);
     if (s.form == CEILING)
         return ((ceiling_call)s.call)(x->numbers, x->levels, x->kinds, x->rules, x->sizes, x->bars, x->bar_sizes, x->passes, x->pass_sizes, on, n, 4294967295u);
+    if (s.form == WORK) {
+        static uint64_t work[5005912 / 8]; // of struct bullacetop_workspace
+        return ((work_call)s.call)(x->numbers, x->levels, x->kinds, x->rules, x->sizes, x->bars, x->bar_sizes, x->passes, x->pass_sizes, work, on, n, off, m, 4294967295u);
+    }
     return ((both_call)s.call)(x->numbers, x->levels, x->kinds, x->rules, x->sizes, x->bars, x->bar_sizes, x->passes, x->pass_sizes, on, n, off, m, 4294967295u);
 }
 
@@ -87,7 +93,7 @@ static struct side load(const char *path)
         exit(1);
     }
     const char *name = strrchr(path, '/') ? strrchr(path, '/') + 1 : path;
-    struct side s = {starts(name, "before") ? BEFORE : starts(name, "ceiling") ? CEILING : BOTH, dlsym(library, "bullacetop_query_in_place")};
+    struct side s = {starts(name, "before") ? BEFORE : starts(name, "ceiling") ? CEILING : starts(name, "both") ? BOTH : WORK, dlsym(library, "bullacetop_query_in_place")};
     return s;
 }
 

@@ -22,6 +22,8 @@ struct found {
 };
 
 // ---- the library
+static struct bullacetop_workspace work;
+
 static void fill(struct bullacetop_state *x, const struct book *b)
 {
     memset(x, 0, sizeof *x);
@@ -43,7 +45,7 @@ static void library_card(const struct book *b, struct found *f)
 {
     static struct bullacetop_state x;
     fill(&x, b);
-    f->lines = bullacetop_card_at(&x, f->table, TABLE, BULLACETOP_HIGHEST_CEILING).lines;
+    f->lines = bullacetop_card_at(&x, &work, f->table, TABLE, BULLACETOP_HIGHEST_CEILING).lines;
 }
 
 static void library_queries(const struct book *b, struct found *f)
@@ -51,7 +53,7 @@ static void library_queries(const struct book *b, struct found *f)
     static struct bullacetop_state x;
     fill(&x, b);
     for (int i = 0; i < b->readings; i++)
-        f->verdict[i] = bullacetop_query_at(&x, b->on[i], b->on_length[i], b->off[i], b->off_length[i], BULLACETOP_HIGHEST_CEILING).verdict == BULLACETOP_SWAP;
+        f->verdict[i] = bullacetop_query_at(&x, &work, b->on[i], b->on_length[i], b->off[i], b->off_length[i], BULLACETOP_HIGHEST_CEILING).verdict == BULLACETOP_SWAP;
 }
 
 // ---- lines from what is known of every reading, in the order of the library: off before on

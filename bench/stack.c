@@ -15,6 +15,7 @@
 static struct bullacetop_state book;
 /* What a call works on. */
 static struct bullacetop_state lent;
+static struct bullacetop_workspace work;
 static struct bullacetop_reply reply;
 static struct bullacetop_opened opened;
 static struct bullacetop_written printed;
@@ -43,17 +44,17 @@ static void forget(void)
 
 static void query(void)
 {
-    reply = bullacetop_query_at(&lent, NULL, 0, BULLACETOP_HIGHEST_CEILING);
+    reply = bullacetop_query_at(&lent, &work, NULL, 0, NULL, 0, BULLACETOP_HIGHEST_CEILING);
 }
 
 static void card(void)
 {
-    reply = bullacetop_card_at(&lent, table, sizeof table, BULLACETOP_HIGHEST_CEILING);
+    reply = bullacetop_card_at(&lent, &work, table, sizeof table, BULLACETOP_HIGHEST_CEILING);
 }
 
 static void print(void)
 {
-    printed = bullacetop_print((const uint8_t *)text, strlen(text), page, sizeof page);
+    printed = bullacetop_print((const uint8_t *)text, strlen(text), &work, page, sizeof page);
 }
 
 static void open(void)
@@ -71,7 +72,7 @@ static void line(void)
     static const uint8_t bytes[] = "(card)";
     static uint8_t cards[BULLACETOP_CARD_TABLE];
 
-    turn = bullacetop_line(book, bytes, sizeof bytes - 1, 1, bullacetop_no_card(), cards, page, sizeof page);
+    turn = bullacetop_line(book, bytes, sizeof bytes - 1, 1, bullacetop_no_card(), cards, &work, page, sizeof page);
 }
 
 static const struct {

@@ -5,15 +5,15 @@
  *
  * A state belongs to the caller, who lends it to a call; what the call changes is written where it stands. Only a line of a session takes a
  * state and answers with the next one. The library has no memory of its own: it allocates nothing, keeps no pointer after a call returns and
- * has no global data, so calls on different states may run at once.
+ * has no global data, so calls on different states may run at once, those that search each with a workspace of its own.
  *
  * Whatever bytes a state has, no call faults or runs without end: each call checks its state in full and refuses a malformed one with 22.
  * Nothing else needs to be checked before a call but the pointers: a list or a table of n items has to be readable (the card table
  * writable) for n items. Where n is 0 nothing is read or written, and the pointer may be NULL. Lent lists are not written. A table must
- * not overlap another argument.
+ * not overlap another argument. A call that searches is lent a workspace too (struct bullacetop_workspace).
  *
  * Stack: have 128 KiB for a call, and 512 KiB for a text or a line. The deepest ones, on 40 variables, were seen to take less
- * (docs/BENCHMARKS.md), with the tables of a search in it and, for a text or a line, states of 19 KiB.
+ * (docs/BENCHMARKS.md), with states of 19 KiB in it for a text or a line. A workspace is in none of these figures: the caller lends it.
  */
 #ifndef BULLACETOP_H
 #define BULLACETOP_H
@@ -71,6 +71,7 @@ extern "C" {
 #define BULLACETOP_CLAUSE_COUNT 30
 #define BULLACETOP_TEXT_TABLE_TOO_SHORT 31
 #define BULLACETOP_NO_RULE 32
+#define BULLACETOP_TOO_MANY_FLAGS 33
 #define BULLACETOP_STOPPED 34
 #define BULLACETOP_NO_LINE 35
 #define BULLACETOP_NO_PAGE 36
@@ -113,6 +114,40 @@ struct bullacetop_state {
     /* Learned passes likewise. */
     int16_t passes[BULLACETOP_ENTRIES * BULLACETOP_NUMBERS];
     uint16_t pass_sizes[BULLACETOP_ENTRIES + 1];
+};
+
+/*
+ * What a search derives from a book, for books under limits as high as BULLACETOP_HIGHEST_NUMBERS and BULLACETOP_HIGHEST_RULES: some five million bytes, too
+ * many for most stacks. The caller lends it to each call that searches. Its content is free before a call, and means nothing after: one workspace
+ * serves any number of books, one call at a time, and need not be cleared.
+ */
+#define BULLACETOP_HIGHEST_NUMBERS 1000
+#define BULLACETOP_HIGHEST_RULES 4000
+/* The codes of literals, two for each place; the words of a set of rules. */
+#define BULLACETOP_CODES ((BULLACETOP_HIGHEST_NUMBERS + 1) * 2)
+#define BULLACETOP_ROW_WORDS ((BULLACETOP_HIGHEST_RULES / 256 + 1) * 4)
+
+struct bullacetop_workspace {
+    struct {
+        uint16_t rows[BULLACETOP_HIGHEST_RULES * (BULLACETOP_LITERALS + 1)];
+        uint64_t sets[BULLACETOP_CODES * 2 * BULLACETOP_ROW_WORDS];
+        uint8_t quantifiers[BULLACETOP_CODES];
+    } rules;
+    uint16_t bar_cells[BULLACETOP_ENTRIES * (BULLACETOP_HIGHEST_NUMBERS + 1)];
+    uint64_t bar_links[BULLACETOP_CODES + 1 + BULLACETOP_ENTRIES];
+    uint16_t pass_cells[BULLACETOP_ENTRIES * (BULLACETOP_HIGHEST_NUMBERS + 1)];
+    uint64_t pass_links[BULLACETOP_CODES + 1 + BULLACETOP_ENTRIES];
+    struct {
+        uint64_t satisfied[(BULLACETOP_HIGHEST_NUMBERS + 1) * BULLACETOP_ROW_WORDS];
+        uint8_t marks[BULLACETOP_HIGHEST_NUMBERS + 1];
+        uint16_t made[BULLACETOP_HIGHEST_NUMBERS * 2];
+        uint16_t joined[BULLACETOP_HIGHEST_NUMBERS * 2];
+    } trail;
+    uint8_t statuses[BULLACETOP_CODES];
+    uint16_t aside[BULLACETOP_HIGHEST_NUMBERS * BULLACETOP_HIGHEST_NUMBERS];
+    uint16_t places[BULLACETOP_HIGHEST_NUMBERS + 1];
+    uint16_t kinds[BULLACETOP_HIGHEST_NUMBERS + 1];
+    uint8_t values[BULLACETOP_HIGHEST_NUMBERS + 1];
 };
 
 /*
@@ -227,6 +262,7 @@ struct bullacetop_reply bullacetop_query_in_place(
     uint16_t bar_sizes[BULLACETOP_BAR_SIZES],
     int16_t passes[BULLACETOP_ENTRIES * BULLACETOP_NUMBERS],
     uint16_t pass_sizes[BULLACETOP_ENTRIES + 1],
+    struct bullacetop_workspace *work,
     const int16_t *on,
     size_t n,
     const int16_t *off,
@@ -243,6 +279,7 @@ struct bullacetop_reply bullacetop_card_in_place(
     uint16_t bar_sizes[BULLACETOP_BAR_SIZES],
     int16_t passes[BULLACETOP_ENTRIES * BULLACETOP_NUMBERS],
     uint16_t pass_sizes[BULLACETOP_ENTRIES + 1],
+    struct bullacetop_workspace *work,
     uint8_t *table,
     size_t n,
     uint32_t ceiling);
@@ -257,6 +294,7 @@ struct bullacetop_reply bullacetop_keep_card_in_place(
     uint16_t bar_sizes[BULLACETOP_BAR_SIZES],
     int16_t passes[BULLACETOP_ENTRIES * BULLACETOP_NUMBERS],
     uint16_t pass_sizes[BULLACETOP_ENTRIES + 1],
+    struct bullacetop_workspace *work,
     uint8_t *table,
     size_t n,
     uint32_t ceiling);
@@ -282,6 +320,7 @@ struct bullacetop_closest bullacetop_closest_in_place(
     uint16_t bar_sizes[BULLACETOP_BAR_SIZES],
     int16_t passes[BULLACETOP_ENTRIES * BULLACETOP_NUMBERS],
     uint16_t pass_sizes[BULLACETOP_ENTRIES + 1],
+    struct bullacetop_workspace *work,
     const int16_t *on,
     size_t n,
     const int16_t *off,
@@ -316,26 +355,36 @@ static inline struct bullacetop_reply bullacetop_forget_at(struct bullacetop_sta
 }
 
 static inline struct bullacetop_reply bullacetop_query_at(
-    struct bullacetop_state *x, const int16_t *on, size_t n, const int16_t *off, size_t m, uint32_t ceiling)
+    struct bullacetop_state *x,
+    struct bullacetop_workspace *work,
+    const int16_t *on,
+    size_t n,
+    const int16_t *off,
+    size_t m,
+    uint32_t ceiling)
 {
     return bullacetop_query_in_place(
-        x->numbers, x->levels, x->kinds, x->rules, x->rule_sizes, x->bars, x->bar_sizes, x->passes, x->pass_sizes, on, n, off, m, ceiling);
+        x->numbers, x->levels, x->kinds, x->rules, x->rule_sizes, x->bars, x->bar_sizes, x->passes, x->pass_sizes, work, on, n, off, m,
+        ceiling);
 }
 
-static inline struct bullacetop_reply bullacetop_card_at(struct bullacetop_state *x, uint8_t *table, size_t n, uint32_t ceiling)
+static inline struct bullacetop_reply bullacetop_card_at(
+    struct bullacetop_state *x, struct bullacetop_workspace *work, uint8_t *table, size_t n, uint32_t ceiling)
 {
     return bullacetop_card_in_place(
-        x->numbers, x->levels, x->kinds, x->rules, x->rule_sizes, x->bars, x->bar_sizes, x->passes, x->pass_sizes, table, n, ceiling);
+        x->numbers, x->levels, x->kinds, x->rules, x->rule_sizes, x->bars, x->bar_sizes, x->passes, x->pass_sizes, work, table, n, ceiling);
 }
 
-static inline struct bullacetop_reply bullacetop_keep_card_at(struct bullacetop_state *x, uint8_t *table, size_t n, uint32_t ceiling)
+static inline struct bullacetop_reply bullacetop_keep_card_at(
+    struct bullacetop_state *x, struct bullacetop_workspace *work, uint8_t *table, size_t n, uint32_t ceiling)
 {
     return bullacetop_keep_card_in_place(
-        x->numbers, x->levels, x->kinds, x->rules, x->rule_sizes, x->bars, x->bar_sizes, x->passes, x->pass_sizes, table, n, ceiling);
+        x->numbers, x->levels, x->kinds, x->rules, x->rule_sizes, x->bars, x->bar_sizes, x->passes, x->pass_sizes, work, table, n, ceiling);
 }
 
 static inline struct bullacetop_closest bullacetop_closest_at(
     struct bullacetop_state *x,
+    struct bullacetop_workspace *work,
     const int16_t *on,
     size_t n,
     const int16_t *off,
@@ -346,8 +395,8 @@ static inline struct bullacetop_closest bullacetop_closest_at(
     uint32_t ceiling)
 {
     return bullacetop_closest_in_place(
-        x->numbers, x->levels, x->kinds, x->rules, x->rule_sizes, x->bars, x->bar_sizes, x->passes, x->pass_sizes, on, n, off, m, table, size,
-        reading, ceiling);
+        x->numbers, x->levels, x->kinds, x->rules, x->rule_sizes, x->bars, x->bar_sizes, x->passes, x->pass_sizes, work, on, n, off, m, table,
+        size, reading, ceiling);
 }
 
 /*
@@ -423,7 +472,7 @@ struct bullacetop_turn {
 size_t bullacetop_room(void);
 
 /* What the program `card` prints for a text of n bytes. */
-struct bullacetop_written bullacetop_print(const uint8_t *text, size_t n, uint8_t *out, size_t m);
+struct bullacetop_written bullacetop_print(const uint8_t *text, size_t n, struct bullacetop_workspace *work, uint8_t *out, size_t m);
 
 /*
  * One line of a session, of n bytes without its newline: `(rule 1 (no 2))`, `(one 1 2)`, `(withdraw)`, `(query 1 (no 2))`, `(card)`, `(card 64)` for a table of 64
@@ -438,6 +487,7 @@ struct bullacetop_turn bullacetop_line(
     uint64_t number,
     struct bullacetop_shown shown,
     uint8_t cards[BULLACETOP_CARD_TABLE],
+    struct bullacetop_workspace *work,
     uint8_t *out,
     size_t m);
 
@@ -483,8 +533,127 @@ struct bullacetop_converted bullacetop_tag(const uint8_t *text, size_t n, uint8_
  */
 struct bullacetop_converted bullacetop_untag(const uint8_t *text, size_t n, uint8_t *table, size_t m);
 
+/*
+ * Books under limits of their own, of up to BULLACETOP_HIGHEST_NUMBERS variables and BULLACETOP_HIGHEST_RULES rules: link
+ * target/staticlib/libbook_calls.a too, which `tools/build book_calls` makes.
+ *
+ * A state is two tables, cells and literals, which the caller lends with their lengths. Its limits, the highest number of a variable and the most
+ * rules, stand in the first two cells, so that a state carries them with it. With N and M for the limits, and E for BULLACETOP_ENTRIES, the parts
+ * follow one another:
+ *
+ *   cells      how many        what
+ *              2               N, M
+ *              N + 1           the count of variables, then the number of each place's variable
+ *              N + 1           from its cell 1 on the level of each place
+ *              N + 1           from its cell 0 on the quantifier of each level
+ *              M + 1           the count of rules, then the length of each
+ *              E + 1 + E       the count of learned bars, the length of each, then the record of each
+ *              E + 1           the count of learned passes, then the length of each
+ *   literals   M * 16          rules, 16 cells each
+ *              E * N           learned bars, N cells each
+ *              E * N           learned passes likewise
+ *
+ * bullacetop_book_cells and bullacetop_book_literals say how many these are. Longer tables are as good: what lies behind the last part is neither
+ * read nor written. What the parts hold is as in struct bullacetop_state. A state whose limits are higher than the highest, or whose tables are
+ * shorter than its limits ask, is malformed: 22.
+ *
+ * The calls answer what those on nine tables answer, with the limits of the state for 40 and 255: 3 is a number that is not 1 to N, and 20 more than
+ * M rules. A book has at most BULLACETOP_FLAGS flags, a rule at most 16 literals, whatever its limits; a text that declares one flag more is refused
+ * with BULLACETOP_TOO_MANY_FLAGS. An entry that is learned has at most N literals.
+ *
+ * What a call may write: rule and one, the rules with their count and lengths, and the count of the passes; withdraw, the count of the rules, and
+ * the bars with their count, lengths and records; forget, the counts of bars and passes; a search, bars and passes with their counts, lengths and
+ * records. The tables have to be writable for their whole lengths (those of a written book, and the literals of a forget, only readable), and belong
+ * to the call alone until it returns. After a refusal other than 21, 34 and 35 they are as they were, byte for byte.
+ *
+ * Stack: have 512 KiB for a call that searches, 400 bytes of it for each variable, and 32 KiB for any other.
+ */
+
+/* The cells and the literals of a state under limits, which are lowered to the highest. */
+size_t bullacetop_book_cells(size_t numbers, size_t rules);
+size_t bullacetop_book_literals(size_t numbers, size_t rules);
+
+/* The bytes that the text of any book under the limits of the first two cells may have: a table of so many is never too short (31). At most 682,023. */
+size_t bullacetop_book_room(const uint16_t *cells, size_t cell_count);
+
+/*
+ * Opens a text of n bytes, of edition 1 or 2, under limits, which are lowered to the highest. Opened: refusal and line are 0, and the two tables are
+ * the state, with nothing learned. Refused: the number, and the line from 1 (0 for 9 and 22), and what is left in the tables is malformed: every
+ * call on it is 22. Refusals: 22 where a table is shorter than the limits ask, whatever the text is; 9; then line by line 1, 2, of a flags line for
+ * each number 3, 4, 33, and as the calls; 39 after 20. What stands in the tables before has no meaning.
+ */
+struct bullacetop_book_opened {
+    uint16_t refusal;
+    size_t line;
+};
+
+struct bullacetop_book_opened bullacetop_book_open(
+    const uint8_t *text, size_t n, size_t numbers, size_t rules, uint16_t *cells, size_t cell_count, int16_t *literals, size_t literal_count);
+
+struct bullacetop_reply bullacetop_book_rule(
+    uint16_t *cells, size_t cell_count, int16_t *literals, size_t literal_count, const int16_t *list, size_t n);
+
+struct bullacetop_reply bullacetop_book_one(
+    uint16_t *cells, size_t cell_count, int16_t *literals, size_t literal_count, const int16_t *list, size_t n);
+
+struct bullacetop_reply bullacetop_book_withdraw(uint16_t *cells, size_t cell_count, int16_t *literals, size_t literal_count);
+
+struct bullacetop_reply bullacetop_book_forget(uint16_t *cells, size_t cell_count, const int16_t *literals, size_t literal_count);
+
+struct bullacetop_reply bullacetop_book_query(
+    uint16_t *cells,
+    size_t cell_count,
+    int16_t *literals,
+    size_t literal_count,
+    struct bullacetop_workspace *work,
+    const int16_t *on,
+    size_t n,
+    const int16_t *off,
+    size_t m,
+    uint32_t ceiling);
+
+struct bullacetop_reply bullacetop_book_card(
+    uint16_t *cells,
+    size_t cell_count,
+    int16_t *literals,
+    size_t literal_count,
+    struct bullacetop_workspace *work,
+    uint8_t *table,
+    size_t n,
+    uint32_t ceiling);
+
+struct bullacetop_reply bullacetop_book_keep_card(
+    uint16_t *cells,
+    size_t cell_count,
+    int16_t *literals,
+    size_t literal_count,
+    struct bullacetop_workspace *work,
+    uint8_t *table,
+    size_t n,
+    uint32_t ceiling);
+
+struct bullacetop_closest bullacetop_book_closest(
+    uint16_t *cells,
+    size_t cell_count,
+    int16_t *literals,
+    size_t literal_count,
+    struct bullacetop_workspace *work,
+    const int16_t *on,
+    size_t n,
+    const int16_t *off,
+    size_t m,
+    uint8_t *table,
+    size_t size,
+    uint8_t reading[BULLACETOP_FLAGS],
+    uint32_t ceiling);
+
+/* Writes the book as text, as bullacetop_write_in_place does. Refusals 22, and 31 where the text is longer than n bytes. */
+struct bullacetop_written bullacetop_book_write(
+    const uint16_t *cells, size_t cell_count, const int16_t *literals, size_t literal_count, uint8_t *table, size_t n);
+
 /* The arrays follow one another without a gap. */
 typedef char bullacetop_state_has_no_gap[sizeof(struct bullacetop_state) == 19546 ? 1 : -1];
+typedef char bullacetop_workspace_is_as_here[sizeof(struct bullacetop_workspace) == 5005912 ? 1 : -1];
 
 #ifdef __cplusplus
 }

@@ -46,6 +46,7 @@ MEANINGS = {
     30: "a QDIMACS text has not as many clauses as its header says",
     31: "a text or a page is longer than its table",
     32: "a withdrawal where no rule stands",
+    33: "more than 40 flags",
     34: "the search needs more visits than its ceiling",
     35: "a closest reading's card has no line",
     36: "a page that the card does not have",
@@ -127,6 +128,40 @@ class _State(ctypes.Structure):
         return [getattr(self, name) for name, _ in self._fields_]
 
 
+_NUMBERS, _RULES = 1000, 4000
+_CODES, _ROW_WORDS = (_NUMBERS + 1) * 2, (_RULES // 256 + 1) * 4
+
+
+class _Matrix(ctypes.Structure):
+    _fields_ = [("rows", c_uint16 * (_RULES * 17)), ("sets", c_uint64 * (_CODES * 2 * _ROW_WORDS)), ("quantifiers", c_uint8 * _CODES)]
+
+
+class _Trail(ctypes.Structure):
+    _fields_ = [
+        ("satisfied", c_uint64 * ((_NUMBERS + 1) * _ROW_WORDS)),
+        ("marks", c_uint8 * (_NUMBERS + 1)),
+        ("made", c_uint16 * (_NUMBERS * 2)),
+        ("joined", c_uint16 * (_NUMBERS * 2)),
+    ]
+
+
+class _Workspace(ctypes.Structure):
+    """For searches: its content is free before a call, and means nothing after."""
+    _fields_ = [
+        ("rules", _Matrix),
+        ("bar_cells", c_uint16 * (64 * (_NUMBERS + 1))),
+        ("bar_links", c_uint64 * (_CODES + 1 + 64)),
+        ("pass_cells", c_uint16 * (64 * (_NUMBERS + 1))),
+        ("pass_links", c_uint64 * (_CODES + 1 + 64)),
+        ("trail", _Trail),
+        ("statuses", c_uint8 * _CODES),
+        ("aside", c_uint16 * (_NUMBERS * _NUMBERS)),
+        ("places", c_uint16 * (_NUMBERS + 1)),
+        ("kinds", c_uint16 * (_NUMBERS + 1)),
+        ("values", c_uint8 * (_NUMBERS + 1)),
+    ]
+
+
 class _Reply(ctypes.Structure):
     _fields_ = [("refusal", c_uint16), ("verdict", c_uint16), ("lines", c_size_t), ("visits", c_uint64)]
 
@@ -159,22 +194,23 @@ _LIST = [POINTER(c_int16), c_size_t]
 _TEXT = [c_char_p, c_size_t]
 _TABLE = [POINTER(c_char), c_size_t]
 _TABLES = [POINTER(table._type_) for _, table in _State._fields_]
+_WORK = [POINTER(_Workspace)]
 
 _FUNCTIONS = {
     "rule_in_place": (_Reply, _TABLES + _LIST),
     "one_in_place": (_Reply, _TABLES + _LIST),
     "withdraw_in_place": (_Reply, _TABLES),
     "forget_in_place": (_Reply, _TABLES),
-    "query_in_place": (_Reply, _TABLES + _LIST + _LIST + [c_uint32]),
-    "card_in_place": (_Reply, _TABLES + _TABLE + [c_uint32]),
-    "keep_card_in_place": (_Reply, _TABLES + _TABLE + [c_uint32]),
-    "closest_in_place": (_Nearest, _TABLES + _LIST + _LIST + _TABLE + [POINTER(c_uint8), c_uint32]),
+    "query_in_place": (_Reply, _TABLES + _WORK + _LIST + _LIST + [c_uint32]),
+    "card_in_place": (_Reply, _TABLES + _WORK + _TABLE + [c_uint32]),
+    "keep_card_in_place": (_Reply, _TABLES + _WORK + _TABLE + [c_uint32]),
+    "closest_in_place": (_Nearest, _TABLES + _WORK + _LIST + _LIST + _TABLE + [POINTER(c_uint8), c_uint32]),
     "write_in_place": (_Written, _TABLES + _TABLE),
     "page": (c_uint16, _TEXT + [c_size_t, c_size_t, c_size_t] + _TABLE),
     "no_card": (_Shown, []),
     "room": (c_size_t, []),
-    "print": (_Written, _TEXT + _TABLE),
-    "line": (_Turn, [_State] + _TEXT + [c_uint64, _Shown, POINTER(c_char)] + _TABLE),
+    "print": (_Written, _TEXT + _WORK + _TABLE),
+    "line": (_Turn, [_State] + _TEXT + [c_uint64, _Shown, POINTER(c_char)] + _WORK + _TABLE),
     "open": (_Opened, _TEXT),
     "open_qdimacs": (_Opened, _TEXT),
     "tag": (_Converted, _TEXT + _TABLE),
@@ -269,6 +305,7 @@ class Book:
 
     def _keep(self, state):
         self._state, self._lock = _State.from_buffer_copy(state), threading.Lock()
+        self._work = _Workspace()
 
     def copy(self):
         """Another book with the same rules and the same learned."""
@@ -315,7 +352,7 @@ class Book:
 
     def query(self, on=(), off=(), ceiling=HIGHEST_CEILING):
         """What the rules say where these flags are on, those off, and the others open. Refusals 8, 34."""
-        told = self._in_place("query", *_list(on), *_list(off), _ceiling(ceiling))
+        told = self._in_place("query", self._work, *_list(on), *_list(off), _ceiling(ceiling))
         return Answer(_VERDICTS[told.verdict], told.visits)
 
     def card(self, ceiling=HIGHEST_CEILING, size=_CARD_TABLE):
@@ -328,14 +365,14 @@ class Book:
 
     def _card(self, name, ceiling, size):
         table, size = _table(size)
-        told = self._in_place(name, table, size, _ceiling(ceiling))
+        told = self._in_place(name, self._work, table, size, _ceiling(ceiling))
         return Card(table, told.lines, self.flags, told.visits)
 
     def closest(self, on=(), off=(), ceiling=HIGHEST_CEILING, size=_CARD_TABLE):
         """The reading on the card that differs from the given one in the fewest flags; each flag is on or off. Refusals 8, 34, 21, 35."""
         table, size = _table(size)
         reading = (c_uint8 * _FLAGS)()
-        told = self._in_place("closest", *_list(on), *_list(off), table, size, reading, _ceiling(ceiling))
+        told = self._in_place("closest", self._work, *_list(on), *_list(off), table, size, reading, _ceiling(ceiling))
         card = Card(table, told.lines, self.flags, told.visits)
         return Closest(_literals(self.flags, bytes(reading)), told.differs, card)
 
@@ -361,7 +398,7 @@ class Session:
         with self._lock:
             self._lines += 1
             book = self._book
-            turn = _call("line", book._state, *_text(line), self._lines, self._shown, self._cards, *self._out)
+            turn = _call("line", book._state, *_text(line), self._lines, self._shown, self._cards, book._work, *self._out)
             book._state, self._shown = _State.from_buffer_copy(turn.state), _Shown.from_buffer_copy(turn.shown)
             return _string(self._out[0], turn.length)
 
@@ -389,7 +426,7 @@ def page(table, lines, flags, number):
 def print_card(text):
     """What the program `card` prints for a text; a refused text prints its refusal."""
     out, size = _table(_call("room"))
-    return _string(out, _call("print", *_text(text), out, size).length)
+    return _string(out, _call("print", *_text(text), _Workspace(), out, size).length)
 
 
 def tag(text):

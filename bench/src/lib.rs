@@ -5,6 +5,10 @@
 pub mod books;
 mod checked;
 mod indexed;
+pub mod large;
+pub mod large_books;
+mod large_check;
+pub mod large_measure;
 pub mod measure;
 pub mod plot;
 pub mod report;

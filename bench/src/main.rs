@@ -1,9 +1,11 @@
 //! `bench`: measures and writes docs/BENCHMARKS.md and docs/benchmarks.svg. `bench --card NAME`
 //! makes one card of an example by the library alone, `bench --card NAME scan` or `index` by a design
 //! in Rust alone, for a tool that counts instructions. `bench --calls` measures calls by themselves and
-//! writes nothing. `bench --books FOLDER` writes the books, each with its list of queries, for other programs.
+//! writes nothing; `bench --large` measures books of up to 1,000 variables, in Rust so far. `bench --books FOLDER` writes the books, each with its list of queries, for other programs.
 
 use bench::books::{self, formula, Book, Order, Plan};
+use bench::large_books;
+use bench::large_measure;
 use bench::measure::{call_times, measure, readings, Task, Times};
 use bench::plot::{svg, Panel, Series};
 use bench::report::{self, HEADS};
@@ -29,8 +31,14 @@ fn main() -> io::Result<()> {
             print!("{}", calls()?);
             Ok(())
         }
+        [flag] if flag == "--large" => {
+            large_measure::table(&large_books::all());
+            Ok(())
+        }
         [flag, folder] if flag == "--books" => write_books(Path::new(folder)),
-        _ => Err(io::Error::other("bench [--calls | --card NAME [scan|index] | --books FOLDER]")),
+        _ => Err(io::Error::other(
+            "bench [--calls | --large | --card NAME [scan|index] | --books FOLDER]",
+        )),
     }
 }
 

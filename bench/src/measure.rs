@@ -190,7 +190,7 @@ fn plain_visits(formula: &Formula, task: Task, readings: &[Reading]) -> Option<u
 }
 
 /// The time that this thread has run: others on the machine do not count.
-fn cpu_time() -> Duration {
+pub(crate) fn cpu_time() -> Duration {
     #[repr(C)]
     struct Timespec {
         seconds: i64,

@@ -25,7 +25,7 @@ pub fn row(book: &Book, times: &Times) -> String {
     row
 }
 
-fn milliseconds(time: Duration) -> String {
+pub(crate) fn milliseconds(time: Duration) -> String {
     let milliseconds = time.as_secs_f64() * 1e3;
     match milliseconds {
         0.0..10.0 => format!("{milliseconds:.3} ms"),

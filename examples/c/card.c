@@ -11,6 +11,9 @@
 
 #include "bullacetop.h"
 
+/* What the calls search in. Too large for a stack; one serves any number of books. */
+static struct bullacetop_workspace work;
+
 /* One variable more. Every call checks its state, so a mistake here is refused with 22 and nothing worse. */
 static void declare(struct bullacetop_state *x, uint16_t number, uint16_t kind)
 {
@@ -63,7 +66,7 @@ static void forget(struct bullacetop_state *x)
 static void query(struct bullacetop_state *x, const int16_t *on, size_t n, const int16_t *off, size_t m)
 {
     static const char *const verdicts[] = {"", "keep", "swap", "unsettled"};
-    struct bullacetop_reply a = bullacetop_query_at(x, on, n, off, m, BULLACETOP_HIGHEST_CEILING);
+    struct bullacetop_reply a = bullacetop_query_at(x, &work, on, n, off, m, BULLACETOP_HIGHEST_CEILING);
 
     if (a.refusal)
         printf("query refused with %u\n", (unsigned)a.refusal);
@@ -74,7 +77,7 @@ static void query(struct bullacetop_state *x, const int16_t *on, size_t n, const
 static void card(struct bullacetop_state *x, uint8_t *table, size_t length, size_t flags)
 {
     static const char *const words[] = {"open", "off", "on"};
-    struct bullacetop_reply a = bullacetop_card_at(x, table, length, BULLACETOP_HIGHEST_CEILING);
+    struct bullacetop_reply a = bullacetop_card_at(x, &work, table, length, BULLACETOP_HIGHEST_CEILING);
 
     if (a.refusal) {
         printf("card refused with %u, visits %" PRIu64 "\n", (unsigned)a.refusal, a.visits);
@@ -93,7 +96,7 @@ static void card(struct bullacetop_state *x, uint8_t *table, size_t length, size
 static void closest(struct bullacetop_state *x, const int16_t *on, size_t n, const int16_t *off, size_t m, uint8_t *table, size_t length)
 {
     uint8_t reading[BULLACETOP_FLAGS];
-    struct bullacetop_closest a = bullacetop_closest_at(x, on, n, off, m, table, length, reading, BULLACETOP_HIGHEST_CEILING);
+    struct bullacetop_closest a = bullacetop_closest_at(x, &work, on, n, off, m, table, length, reading, BULLACETOP_HIGHEST_CEILING);
 
     if (a.refusal) {
         printf("closest refused with %u, visits %" PRIu64 "\n", (unsigned)a.refusal, a.visits);

@@ -33,6 +33,9 @@ static const char faulty[] =
     "(rule 1 3)\n"
     "(end)\n";
 
+/* What a card is searched in. Too large for a stack; one serves any number of books. */
+static struct bullacetop_workspace work;
+
 static const uint8_t *bytes(const char *text)
 {
     return (const uint8_t *)text;
@@ -48,7 +51,7 @@ static void serve(struct bullacetop_state x, uint64_t lines, uint8_t *cards, uin
     turn.shown = bullacetop_no_card();
     for (size_t i = 0; i < sizeof calls / sizeof *calls; i++) {
         printf("%s\n", calls[i]);
-        turn = bullacetop_line(turn.state, bytes(calls[i]), strlen(calls[i]), lines + 1 + i, turn.shown, cards, out, room);
+        turn = bullacetop_line(turn.state, bytes(calls[i]), strlen(calls[i]), lines + 1 + i, turn.shown, cards, &work, out, room);
         fwrite(out, 1, turn.length, stdout);
     }
 
@@ -77,13 +80,13 @@ int main(void)
     /* A refused text leaves a state that is no book: every call refuses it. */
     opened = bullacetop_open(bytes(faulty), strlen(faulty));
     printf("refused with %u at line %zu\n", (unsigned)opened.refusal, opened.line);
-    turn = bullacetop_line(opened.state, bytes(calls[0]), strlen(calls[0]), 5, bullacetop_no_card(), cards, out, room);
+    turn = bullacetop_line(opened.state, bytes(calls[0]), strlen(calls[0]), 5, bullacetop_no_card(), cards, &work, out, room);
     fwrite(out, 1, turn.length, stdout);
 
     /* What the program `card` prints, and a table that is one byte too short. */
-    card = bullacetop_print(bytes(book), strlen(book), out, room);
+    card = bullacetop_print(bytes(book), strlen(book), &work, out, room);
     fwrite(out, 1, card.length, stdout);
-    card = bullacetop_print(bytes(book), strlen(book), out, room - 1);
+    card = bullacetop_print(bytes(book), strlen(book), &work, out, room - 1);
     printf("refused with %u, length %zu, first byte %u\n", (unsigned)card.refusal, card.length, (unsigned)out[0]);
     free(cards);
     free(out);

@@ -39,10 +39,17 @@ pub const TEXT_ROOM: usize = 34_928;
 /// ```compile_fail
 /// let state = bullacetop::ffi::open(b"");
 /// ```
-#[derive(Clone)]
 pub struct Book {
     // On the heap: it has 19 KiB.
     state: Box<ffi::State>,
+    // For its searches; nothing in it is kept from one call to the next.
+    work: Box<ffi::Workspace>,
+}
+
+impl Clone for Book {
+    fn clone(&self) -> Book {
+        Book { state: self.state.clone(), work: ffi::Workspace::new() }
+    }
 }
 
 /// What a query says of a board.
@@ -104,11 +111,11 @@ impl Book {
 
     fn of(opened: ffi::Opened) -> Result<Book, Refused> {
         Refused::unless_none(opened.refusal, opened.line, 0)?;
-        Ok(Book { state: Box::new(opened.state) })
+        Ok(Book { state: Box::new(opened.state), work: ffi::Workspace::new() })
     }
 
-    pub(crate) fn state_mut(&mut self) -> &mut ffi::State {
-        &mut self.state
+    pub(crate) fn parts_mut(&mut self) -> (&mut ffi::State, &mut ffi::Workspace) {
+        (&mut self.state, &mut self.work)
     }
 
     /// The numbers of the flags in place order.
@@ -155,7 +162,7 @@ impl Book {
 
     /// What the rules say where these flags are on, those off, and the others open. Refusals 8, 34.
     pub fn query(&mut self, on: &[i16], off: &[i16], ceiling: u32) -> Result<Answer, Refused> {
-        let reply = ffi::query(&mut self.state, on, off, ceiling);
+        let reply = ffi::query(&mut self.state, &mut self.work, on, off, ceiling);
         Refused::unless_none(reply.refusal, 0, reply.visits)?;
         let verdict = match reply.verdict {
             1 => Verdict::Keep,
@@ -179,7 +186,7 @@ impl Book {
     /// # }
     /// ```
     pub fn card<'t>(&mut self, table: &'t mut [u8], ceiling: u32) -> Result<Card<'t>, Refused> {
-        let reply = ffi::card(&mut self.state, table, ceiling);
+        let reply = ffi::card(&mut self.state, &mut self.work, table, ceiling);
         self.listed(reply, table)
     }
 
@@ -189,7 +196,7 @@ impl Book {
         table: &'t mut [u8],
         ceiling: u32,
     ) -> Result<Card<'t>, Refused> {
-        let reply = ffi::keep_card(&mut self.state, table, ceiling);
+        let reply = ffi::keep_card(&mut self.state, &mut self.work, table, ceiling);
         self.listed(reply, table)
     }
 
@@ -227,7 +234,8 @@ impl Book {
         ceiling: u32,
     ) -> Result<Closest<'t>, Refused> {
         let mut reading = [0; ffi::FLAGS];
-        let told = ffi::closest(&mut self.state, on, off, table, &mut reading, ceiling);
+        let (state, work) = self.parts_mut();
+        let told = ffi::closest(state, work, on, off, table, &mut reading, ceiling);
         Refused::unless_none(told.refusal, 0, told.visits)?;
         let flags = self.state.flags().len();
         let card = Card::new(table, told.lines, flags, told.visits);

@@ -34,6 +34,7 @@ pub struct State {
 
 // As at the end of the header; and a length there is a `size_t`, which has 64 bits.
 const _: () = assert!(std::mem::size_of::<State>() == 19_546);
+const _: () = assert!(std::mem::size_of::<Workspace>() == 5_005_912);
 const _: () = assert!(usize::BITS == 64);
 
 impl State {
@@ -47,6 +48,61 @@ impl State {
     /// How many rules stand.
     pub fn rules(&self) -> usize {
         usize::from(self.rule_sizes[0])
+    }
+}
+
+const HIGHEST_NUMBERS: usize = 1_000;
+const HIGHEST_RULES: usize = 4_000;
+/// The codes of literals, two for each place, none included.
+const CODES: usize = (HIGHEST_NUMBERS + 1) * 2;
+/// The words of a set of rules.
+const ROW_WORDS: usize = (HIGHEST_RULES / 256 + 1) * 4;
+
+/// `rules` of `struct bullacetop_workspace`.
+#[repr(C)]
+struct Matrix {
+    rows: [u16; HIGHEST_RULES * (LITERALS + 1)],
+    sets: [u64; CODES * 2 * ROW_WORDS],
+    quantifiers: [u8; CODES],
+}
+
+/// `trail` of `struct bullacetop_workspace`.
+#[repr(C)]
+struct Trail {
+    satisfied: [u64; (HIGHEST_NUMBERS + 1) * ROW_WORDS],
+    marks: [u8; HIGHEST_NUMBERS + 1],
+    made: [u16; HIGHEST_NUMBERS * 2],
+    joined: [u16; HIGHEST_NUMBERS * 2],
+}
+
+/// `struct bullacetop_workspace`. Every bit pattern is a value of it.
+#[repr(C)]
+pub struct Workspace {
+    rules: Matrix,
+    bar_cells: [u16; ENTRIES * (HIGHEST_NUMBERS + 1)],
+    bar_links: [u64; CODES + 1 + ENTRIES],
+    pass_cells: [u16; ENTRIES * (HIGHEST_NUMBERS + 1)],
+    pass_links: [u64; CODES + 1 + ENTRIES],
+    trail: Trail,
+    statuses: [u8; CODES],
+    aside: [u16; HIGHEST_NUMBERS * HIGHEST_NUMBERS],
+    places: [u16; HIGHEST_NUMBERS + 1],
+    kinds: [u16; HIGHEST_NUMBERS + 1],
+    values: [u8; HIGHEST_NUMBERS + 1],
+}
+
+impl Workspace {
+    /// One on the heap, where it is made: it has some five million bytes.
+    pub fn new() -> Box<Workspace> {
+        let layout = std::alloc::Layout::new::<Workspace>();
+        // Zeros are a value of it, and it is not empty.
+        unsafe {
+            let made = std::alloc::alloc_zeroed(layout).cast::<Workspace>();
+            if made.is_null() {
+                std::alloc::handle_alloc_error(layout);
+            }
+            Box::from_raw(made)
+        }
     }
 }
 
@@ -137,11 +193,17 @@ on_tables! {
     fn bullacetop_withdraw_in_place() -> Reply;
     fn bullacetop_forget_in_place() -> Reply;
     fn bullacetop_query_in_place(
+        work: *mut Workspace,
         on: *const i16, on_count: usize, off: *const i16, off_count: usize, ceiling: u32
     ) -> Reply;
-    fn bullacetop_card_in_place(table: *mut u8, length: usize, ceiling: u32) -> Reply;
-    fn bullacetop_keep_card_in_place(table: *mut u8, length: usize, ceiling: u32) -> Reply;
+    fn bullacetop_card_in_place(
+        work: *mut Workspace, table: *mut u8, length: usize, ceiling: u32
+    ) -> Reply;
+    fn bullacetop_keep_card_in_place(
+        work: *mut Workspace, table: *mut u8, length: usize, ceiling: u32
+    ) -> Reply;
     fn bullacetop_closest_in_place(
+        work: *mut Workspace,
         on: *const i16, on_count: usize, off: *const i16, off_count: usize,
         table: *mut u8, length: usize, reading: *mut u8, ceiling: u32
     ) -> Nearest;
@@ -172,7 +234,13 @@ extern "C" {
     ) -> u16;
     fn bullacetop_no_card() -> Shown;
     fn bullacetop_room() -> usize;
-    fn bullacetop_print(text: *const u8, count: usize, out: *mut u8, room: usize) -> Written;
+    fn bullacetop_print(
+        text: *const u8,
+        count: usize,
+        work: *mut Workspace,
+        out: *mut u8,
+        room: usize,
+    ) -> Written;
     fn bullacetop_line(
         state: State,
         line: *const u8,
@@ -180,6 +248,7 @@ extern "C" {
         number: u64,
         shown: Shown,
         cards: *mut u8,
+        work: *mut Workspace,
         out: *mut u8,
         room: usize,
     ) -> Turn;
@@ -227,20 +296,28 @@ pub fn forget(state: &mut State) -> Reply {
     lend!(bullacetop_forget_in_place, state)
 }
 
-pub fn query(state: &mut State, on: &[i16], off: &[i16], ceiling: u32) -> Reply {
-    lend!(bullacetop_query_in_place, state, on.as_ptr(), on.len(), off.as_ptr(), off.len(), ceiling)
+pub fn query(
+    state: &mut State,
+    work: &mut Workspace,
+    on: &[i16],
+    off: &[i16],
+    ceiling: u32,
+) -> Reply {
+    let (first, second) = (on.as_ptr(), off.as_ptr());
+    lend!(bullacetop_query_in_place, state, work, first, on.len(), second, off.len(), ceiling)
 }
 
-pub fn card(state: &mut State, table: &mut [u8], ceiling: u32) -> Reply {
-    lend!(bullacetop_card_in_place, state, table.as_mut_ptr(), table.len(), ceiling)
+pub fn card(state: &mut State, work: &mut Workspace, table: &mut [u8], ceiling: u32) -> Reply {
+    lend!(bullacetop_card_in_place, state, work, table.as_mut_ptr(), table.len(), ceiling)
 }
 
-pub fn keep_card(state: &mut State, table: &mut [u8], ceiling: u32) -> Reply {
-    lend!(bullacetop_keep_card_in_place, state, table.as_mut_ptr(), table.len(), ceiling)
+pub fn keep_card(state: &mut State, work: &mut Workspace, table: &mut [u8], ceiling: u32) -> Reply {
+    lend!(bullacetop_keep_card_in_place, state, work, table.as_mut_ptr(), table.len(), ceiling)
 }
 
 pub fn closest(
     state: &mut State,
+    work: &mut Workspace,
     on: &[i16],
     off: &[i16],
     table: &mut [u8],
@@ -250,6 +327,7 @@ pub fn closest(
     lend!(
         bullacetop_closest_in_place,
         state,
+        work,
         on.as_ptr(),
         on.len(),
         off.as_ptr(),
@@ -294,8 +372,8 @@ pub fn room() -> usize {
     unsafe { bullacetop_room() }
 }
 
-pub fn print(text: &[u8], out: &mut [u8]) -> Written {
-    unsafe { bullacetop_print(text.as_ptr(), text.len(), out.as_mut_ptr(), out.len()) }
+pub fn print(text: &[u8], work: &mut Workspace, out: &mut [u8]) -> Written {
+    unsafe { bullacetop_print(text.as_ptr(), text.len(), work, out.as_mut_ptr(), out.len()) }
 }
 
 pub fn open(text: &[u8]) -> Opened {
@@ -325,12 +403,14 @@ pub fn line(
     number: u64,
     shown: &mut Shown,
     cards: &mut [u8; CARD_TABLE],
+    work: &mut Workspace,
     out: &mut [u8],
 ) -> Written {
     let (text, count) = (line.as_ptr(), line.len());
     let (cards, room, out) = (cards.as_mut_ptr(), out.len(), out.as_mut_ptr());
+    let given = state.clone();
     let turn =
-        unsafe { bullacetop_line(state.clone(), text, count, number, *shown, cards, out, room) };
+        unsafe { bullacetop_line(given, text, count, number, *shown, cards, work, out, room) };
     (*state, *shown) = (turn.state, turn.shown);
     Written { refusal: turn.refusal, length: turn.length }
 }

@@ -59,6 +59,7 @@ refusals! {
     ClauseCount = 30: "a QDIMACS text has not as many clauses as its header says",
     TextTableTooShort = 31: "a text or a page is longer than its table",
     NoRule = 32: "a withdrawal where no rule stands",
+    TooManyFlags = 33: "more than 40 flags",
     Stopped = 34: "the search needs more visits than its ceiling",
     NoLine = 35: "a closest reading's card has no line",
     NoPage = 36: "a page that the card does not have",

@@ -46,9 +46,9 @@ impl Session {
     pub fn line(&mut self, line: &[u8]) -> &[u8] {
         self.lines = self.lines.saturating_add(1);
         let (shown, cards) = (&mut self.shown, &mut self.cards);
-        let state = self.book.state_mut();
+        let (state, work) = self.book.parts_mut();
         // The table has the room that every answer needs, so that none is refused.
-        let told = ffi::line(state, line, self.lines, shown, cards, &mut self.answer);
+        let told = ffi::line(state, line, self.lines, shown, cards, work, &mut self.answer);
         first(&self.answer, told.length)
     }
 

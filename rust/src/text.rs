@@ -15,7 +15,7 @@ pub fn room() -> usize {
 /// What the program `card` prints for a text, in a lent table of at least [`room`] bytes. A refused text
 /// prints its refusal; the only refusal here is 31, of the table.
 pub fn print<'t>(text: &[u8], table: &'t mut [u8]) -> Result<&'t [u8], Refused> {
-    let told = ffi::print(text, table);
+    let told = ffi::print(text, &mut ffi::Workspace::new(), table);
     Refused::unless_none(told.refusal, 0, 0)?;
     Ok(first(table, told.length))
 }

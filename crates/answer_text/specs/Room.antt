@@ -5,9 +5,9 @@ use Rattle.layout.specs.Words.{Bytes}
 use Rattle.layout.specs.Program.{table_bytes}
 
 -- No answer is longer. All lines of a card together have no more places than its table has bytes, and there are no more lines than
--- that; a line has at most 8 bytes for each of its places and 7 more, what is no line at most 50.
+-- that; a line has at most 10 bytes for each of its places, ` (no 1000)`, and 7 more, what is no line at most 50. A book's text is shorter (`longest_book`).
 abbrev pub answer_bytes : ℕ
-answer_bytes = 15 * table_bytes + 50
+answer_bytes = 17 * table_bytes + 50
 
 -- No refusal with its line is longer: two numbers of 64 bits have at most 20 digits each.
 abbrev pub refusal_bytes : ℕ

@@ -20,7 +20,14 @@ card_in s t = cond (eqb s.refusal 0) (some (record { table = take s.size t; line
 abbrev pub no_card : Shown
 no_card = record { refusal = 36; size = 0; lines = 0; free = 0 }
 
--- what the answer of a card in a table of m bytes tells of it
+-- what the answer of a card in a table of m bytes tells of it, where f variables are free
+pub record CardToldBy (f : ℕ) (p : Result ℕ Refusal) (m : ℕ) (r : Shown) : Type 0 where
+  pub refusal : r.refusal ≡ number (card_said p 0 []).refusal
+  pub size : r.size ≡ m
+  pub lines : r.lines ≡ (card_said p 0 []).lines
+  pub free : r.free ≡ f
+
+-- .. on a state by value
 pub record CardTold (x : State) (p : Result ℕ Refusal) (m : ℕ) (r : Shown) : Type 0 where
   pub refusal : r.refusal ≡ number (card_said p 0 []).refusal
   pub size : r.size ≡ m

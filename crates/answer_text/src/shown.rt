@@ -1,6 +1,6 @@
 // The card answered last, from which pages are printed. Its lines stand in a table that outlives the call.
 ghost use Rattle.std.specs.Prelude.{◌≡◌, cond, eqb};
-ghost use Rattle.answer_text.specs.Shown.{no_card, CardTold};
+ghost use Rattle.answer_text.specs.Shown.{no_card, CardToldBy, CardTold};
 
 use refusal::{Refusal, number_if};
 use state::State;
@@ -46,15 +46,21 @@ pub fn after_rule(shown: Shown, refusal: u16) -> Shown
     shown
 }
 
-// The card of a call with a table of that many bytes.
-pub fn card_of(x: State, lines: Result<usize, Refusal>, size: usize) -> Shown
-    ensures { CardTold x lines size result }
+// The card of a call with a table of that many bytes, on a book with so many free variables.
+pub fn card_told(free: usize, lines: Result<usize, Refusal>, size: usize) -> Shown
+    ensures { CardToldBy free lines size result }
 {
-    let free = x.free_count();
     Shown {
         refusal: number_if(lines.err()),
         size: size,
         lines: lines.unwrap_or(0),
         free: free,
     }
+}
+
+// .. on a state by value.
+pub fn card_of(x: State, lines: Result<usize, Refusal>, size: usize) -> Shown
+    ensures { CardTold x lines size result }
+{
+    card_told(x.free_count(), lines, size)
 }

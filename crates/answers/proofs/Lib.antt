@@ -1,5 +1,3 @@
 pub mod Lending
-pub mod Records
-pub mod Running
-pub mod Asking
-pub mod Opening
+pub mod Keeping
+pub mod Frees

@@ -1,3 +1,2 @@
-pub mod Run
-pub mod OpenRun
 pub mod Lent
+pub mod Back

@@ -6,18 +6,19 @@ ghost use Rattle.replies.specs.Replies.{ruling_said, card_said};
 ghost use Rattle.answers.specs.Lent.{searching_state, SearchingHeld};
 
 use crate::asked::Asked;
+use crate::back::write_back;
+use crate::checked::checked;
 use crate::lent::Searching;
-use crate::open;
-use crate::run::run;
-use crate::task::Task;
-use cover::CardLines;
-use reading::Flags;
+use asking::card::Made;
+use asking::query::Told;
 use refusal::Refusal;
-use replies::{Listed, Ruled, budget_of, total_lines, visits_of};
+use replies::{Listed, Ruled};
+use search_entry::workspace::Workspace;
+use searching::run::Scratch;
 
 // "From now on a query gives the flags that are on and those that are off, and the rest are open. The result is swap if every completion is a swap, keep
 // if none is, otherwise unsettled." "Full readings behave as before".
-pub fn query(lent: &mut Searching<'_>, asked: Asked<'_>) -> Ruled
+pub fn query(lent: &mut Searching<'_>, work: &mut Workspace, asked: Asked<'_>) -> Ruled
     ensures held { SearchingHeld lent.old lent.new }
     ensures serves { Serves
         (searching_state lent.old)
@@ -28,50 +29,31 @@ pub fn query(lent: &mut Searching<'_>, asked: Asked<'_>) -> Ruled
     let Ok(prefix) = lent.lent().check() else {
         return Ruled::refused(Refusal::Malformed);
     };
-    let numbers = lent.numbers;
-    let free = lent.free_count();
     let mut values = [tables::OPEN; tables::BY_NUMBER];
-    let flags = Flags {
-        numbers,
-        places: &prefix.places,
-        free,
-    };
-    let Ok(full) = reading::read(flags, &mut values, asked.on, asked.off) else {
-        return Ruled::refused(Refusal::NotFree);
-    };
-    if !full {
-        let completing = open_run::asked::Asked {
-            numbers,
-            clauses: lent.clauses,
-            clause_sizes: lent.clause_sizes,
-            places: &prefix.places,
-            kinds: &prefix.kinds,
-            values: &values,
-            free,
-        };
-        return open::query(completing, asked.ceiling);
+    let Told { ruled, learned } = asking::query::query(
+        checked(lent, &prefix),
+        asked,
+        &mut values,
+        Scratch::of(work),
+    );
+    match learned {
+        Some(learned) => {
+            write_back(lent, &learned);
+            ruled
+        }
+        None => ruled,
     }
-    let at = free; // each free variable has its value at the start node
-    let mut no_table = [0u8; 1];
-    let task = Task {
-        places: &prefix.places,
-        kinds: &prefix.kinds,
-        values: &values,
-        at,
-        free,
-        yes: true, // there are no lines
-        budget: budget_of(asked.ceiling),
-    };
-    let found = run(lent, task, &mut no_table);
-    if found.budget == 0 {
-        return Ruled::stopped(asked.ceiling);
-    }
-    Ruled::of(found.verdict, visits_of(asked.ceiling, found.budget))
 }
 
 // "Card writes to a lent byte table and returns lines and visits." "Make the keep card in the same way, with topmost No nodes": the lines are Yes
 // nodes, or No nodes.
-pub fn card_of(lent: &mut Searching<'_>, table: &mut [u8], yes: bool, ceiling: u32) -> Listed
+pub fn card_of(
+    lent: &mut Searching<'_>,
+    work: &mut Workspace,
+    table: &mut [u8],
+    yes: bool,
+    ceiling: u32,
+) -> Listed
     ensures held { SearchingHeld lent.old lent.new }
     ensures serves { Serves
         (searching_state lent.old)
@@ -79,32 +61,24 @@ pub fn card_of(lent: &mut Searching<'_>, table: &mut [u8], yes: bool, ceiling: u
         (card_said result.lines result.visits table.new)
         (searching_state lent.new) }
 {
-    cover::clear(table);
     let Ok(prefix) = lent.lent().check() else {
+        cover::clear(table);
         return Listed::refused(Refusal::Malformed, 0);
     };
-    let free = lent.free_count();
-    let values = [tables::OPEN; tables::BY_NUMBER];
-    let task = Task {
-        places: &prefix.places,
-        kinds: &prefix.kinds,
-        values: &values,
-        at: 0,
-        free,
+    let mut values = [tables::OPEN; tables::BY_NUMBER];
+    let Made { listed, learned } = asking::card::card_of(
+        checked(lent, &prefix),
+        table,
         yes,
-        budget: budget_of(ceiling),
-    };
-    let found = run(lent, task, table);
-    if found.budget == 0 {
-        cover::clear(table);
-        return Listed::stopped(ceiling);
+        ceiling,
+        &mut values,
+        Scratch::of(work),
+    );
+    match learned {
+        Some(learned) => {
+            write_back(lent, &learned);
+            listed
+        }
+        None => listed,
     }
-    let verdict = found.verdict;
-    let lines = total_lines(verdict, found.lines, yes);
-    let visits = visits_of(ceiling, found.budget);
-    if cover::fits(table.len(), CardLines { count: lines, free }) {
-        return Listed::of(lines, visits);
-    }
-    cover::clear(table);
-    Listed::too_many_lines(visits)
 }

@@ -1,11 +1,12 @@
 // The tables of a state as its caller lends them to a search, which writes what it learns.
 ghost use Rattle.std.specs.Prelude.{◌≡◌};
 ghost use Rattle.state.specs.Derived.{FreeCounted};
-ghost use Rattle.state.specs.Lent.{lent_state};
+ghost use Rattle.state.specs.Lent.{lent_state, parts_state};
 ghost use Rattle.answers.specs.Lent.{searching_state};
 
 use state::Lent;
 use state::kinds::free_count;
+use state::parts::{Parts, Rows};
 use state::prefix::Variables;
 
 #[derive(Drop)]
@@ -35,6 +36,43 @@ impl<'a> Searching<'a> {
             levels,
             kinds,
         })
+    }
+
+    // Each table is a part, whole.
+    pub fn parts(&self) -> Parts<'_>
+        ensures { parts_state result ≡ searching_state self.now }
+    {
+        let Lent {
+            numbers,
+            levels,
+            kinds,
+            clauses,
+            clause_sizes,
+            learned_clauses,
+            learned_clause_sizes,
+            learned_cubes,
+            learned_cube_sizes,
+        } = self.lent();
+        let variables = Variables {
+            numbers,
+            levels,
+            kinds,
+        };
+        Parts {
+            variables,
+            clauses: Rows {
+                flat: clauses,
+                sizes: clause_sizes,
+            },
+            learned_clauses: Rows {
+                flat: learned_clauses,
+                sizes: learned_clause_sizes,
+            },
+            learned_cubes: Rows {
+                flat: learned_cubes,
+                sizes: learned_cube_sizes,
+            },
+        }
     }
 
     // stays (no plainer): as in `rules::lent`: a struct is of `&` or of `&mut`, and these four calls differ in the tables that they may write

@@ -2,9 +2,8 @@
 #![tactic(auto)]
 
 pub mod asked; // what a query or a closest reading asks
+pub mod back; // what is learned, written back
+pub mod checked; // the state as it was checked
 pub mod in_place; // the calls
 pub mod lent; // the tables of a state, of which a search writes some
 pub mod on_state; // the calls on a state by reference
-mod open; // the plain search for a query with open flags
-mod run; // the search on lent tables
-mod task; // what it is asked

@@ -8,6 +8,7 @@ use refusal::Refusal;
 use replies::Ruling;
 use rules::in_place;
 use rules::lent::{Adding, Emptying};
+use search_entry::workspace::Workspace;
 use state::State;
 
 mod print;
@@ -99,7 +100,7 @@ fn visits(n: u64) {
     text(b"\n");
 }
 
-fn query<'a>(x: State, on: &'a [i16], off: &'a [i16]) -> State {
+fn query<'a>(x: State, work: &mut Workspace, on: &'a [i16], off: &'a [i16]) -> State {
     text(b"query: ");
     let mut next = x;
     let asked = Asked {
@@ -107,7 +108,7 @@ fn query<'a>(x: State, on: &'a [i16], off: &'a [i16]) -> State {
         off,
         ceiling: tables::HIGHEST_CEILING,
     };
-    let r = answers::on_state::query(&mut next, asked);
+    let r = answers::on_state::query(&mut next, work, asked);
     match r.ruling {
         Ok(Ruling::Swap) => text(b"swap"),
         Ok(Ruling::Keep) => text(b"keep"),
@@ -126,13 +127,13 @@ fn cells(t: &[u8]) {
 }
 
 // The table is lent with a byte that is none of the card's in each of its N cells.
-fn card<const N: usize>(x: State) -> State
+fn card<const N: usize>(x: State, work: &mut Workspace) -> State
     requires { N ≤ 4 }
 {
     let mut table = [9u8; N];
     text(b"card: ");
     let mut next = x;
-    let r = answers::on_state::card_of(&mut next, &mut table, true, tables::HIGHEST_CEILING);
+    let r = answers::on_state::card_of(&mut next, work, &mut table, true, tables::HIGHEST_CEILING);
     match r.lines {
         Ok(lines) => {
             text(b"lines ");
@@ -183,36 +184,39 @@ fn d_clauses(x: State) -> State {
     clause(clause(x, &[1, 2]), &[-1, -2])
 }
 
-fn bench() {
+fn bench(work: &mut Workspace) {
     title(b"A");
-    card::<4>(book_a(1, 2));
+    card::<4>(book_a(1, 2), work);
     title(b"A with (flags 2 1)");
-    card::<4>(book_a(2, 1));
+    card::<4>(book_a(2, 1), work);
     title(b"A, query 1 on; again");
-    let a = query(book_a(1, 2), &[1], &[2]);
-    query(a, &[1], &[2]);
+    let a = query(book_a(1, 2), work, &[1], &[2]);
+    query(a, work, &[1], &[2]);
     title(b"A, query 2 on");
-    query(book_a(1, 2), &[2], &[1]);
+    query(book_a(1, 2), work, &[2], &[1]);
     title(b"B, card twice, then no flag on");
-    let b = card::<0>(card::<0>(book_b()));
-    query(b, &[0; 0], &[1]);
+    let b = card::<0>(card::<0>(book_b(), work), work);
+    query(b, work, &[0; 0], &[1]);
     title(b"C");
-    card::<4>(book_c());
+    card::<4>(book_c(), work);
     title(b"flags 1 2, no rule");
     let x = with(state::empty(), 1, 0, tables::FREE);
-    card::<2>(with(x, 2, 0, tables::FREE));
+    card::<2>(with(x, 2, 0, tables::FREE), work);
     title(b"forall 1, rule 1");
-    card::<0>(clause(with(state::empty(), 1, 1, tables::FORALL), &[1]));
+    card::<0>(
+        clause(with(state::empty(), 1, 1, tables::FORALL), &[1]),
+        work,
+    );
 }
 
-fn bench_d() {
+fn bench_d(work: &mut Workspace) {
     title(b"D, then rule 2 added");
     let x = with(state::empty(), 1, 1, tables::FORALL);
-    let d = card::<0>(d_clauses(with(x, 2, 2, tables::EXISTS)));
-    card::<0>(rule(d, &[2]));
+    let d = card::<0>(d_clauses(with(x, 2, 2, tables::EXISTS)), work);
+    card::<0>(rule(d, &[2]), work);
     title(b"exists 1, forall 2, D's rules");
     let y = with(state::empty(), 1, 1, tables::EXISTS);
-    card::<0>(d_clauses(with(y, 2, 2, tables::FORALL)));
+    card::<0>(d_clauses(with(y, 2, 2, tables::FORALL)), work);
 }
 
 fn forty() -> State {
@@ -251,34 +255,40 @@ fn limits() {
     rule(rule(almost_full(), &[1]), &[1]);
 }
 
-fn others() {
+fn others(work: &mut Workspace) {
     title(b"A's card in 4 bytes, forgotten, in 3, in 4 again");
-    let a = forget(card::<4>(book_a(1, 2)));
-    card::<4>(card::<3>(a));
+    let a = forget(card::<4>(book_a(1, 2), work));
+    card::<4>(card::<3>(a, work), work);
     title(b"queries that are refused");
-    let x = query(query(book_a(1, 2), &[3], &[1]), &[1, 1], &[2]);
-    let y = query(query(x, &[-1], &[2]), &[-32768], &[0; 0]);
-    query(query(y, &[1], &[1]), &[0; 0], &[2, 2]);
+    let x = query(query(book_a(1, 2), work, &[3], &[1]), work, &[1, 1], &[2]);
+    let y = query(query(x, work, &[-1], &[2]), work, &[-32768], &[0; 0]);
+    query(query(y, work, &[1], &[1]), work, &[0; 0], &[2, 2]);
     title(b"a malformed state");
     let m = with(with(state::empty(), 1, 0, tables::FREE), 1, 0, tables::FREE);
-    forget(card::<3>(query(rule(m, &[1]), &[1], &[0; 0])));
+    forget(card::<3>(query(rule(m, &[1]), work, &[1], &[0; 0]), work));
 }
 
 // Wish 5's figures: flags the logger did not record, on book A; an open query between two full ones.
-fn open_flags() {
+fn open_flags(work: &mut Workspace) {
     title(b"A, flag 1 or 2 recorded alone, or none");
-    let a = query(query(book_a(1, 2), &[2], &[0; 0]), &[0; 0], &[2]);
-    let b = query(query(a, &[0; 0], &[0; 0]), &[1], &[0; 0]);
-    query(b, &[0; 0], &[1]);
+    let a = query(
+        query(book_a(1, 2), work, &[2], &[0; 0]),
+        work,
+        &[0; 0],
+        &[2],
+    );
+    let b = query(query(a, work, &[0; 0], &[0; 0]), work, &[1], &[0; 0]);
+    query(b, work, &[0; 0], &[1]);
     title(b"A, query 1 on; 2 off alone; 1 on again");
-    let c = query(query(book_a(1, 2), &[1], &[2]), &[0; 0], &[2]);
-    query(c, &[1], &[2]);
+    let c = query(query(book_a(1, 2), work, &[1], &[2]), work, &[0; 0], &[2]);
+    query(c, work, &[1], &[2]);
 }
 
 fn main() {
-    bench();
-    bench_d();
+    let mut work = Workspace::ZEROS;
+    bench(&mut work);
+    bench_d(&mut work);
     limits();
-    others();
-    open_flags();
+    others(&mut work);
+    open_flags(&mut work);
 }

@@ -1,24 +1,32 @@
 -- The answer of a call: refused, or the text with zeros behind it.
 use Prim.Native.Nat.{ℕ, zero, suc, ◌-◌, ◌≤◌, ◌<◌}
-use mathlib.Core.Path.{◌≡◌, refl, sym, ap, ◌∙◌}
+use mathlib.Core.Path.{◌≡◌, refl, sym, ap, subst, ◌∙◌}
 use mathlib.Core.Bool.{Bool, true, false, cond}
-use mathlib.Core.List.{[], ◌++◌, append-nil}
+use mathlib.Core.List.{List, [], ◌++◌, append-nil}
 use mathlib.Core.Option.{Option, none, some}
 use native.Mathlib.Omega.{arith}
 use borrow.Author.Tests.{le-leb, lt-leb}
-use lib.ListN.{length, take, drop, replicate, length-take, length-drop, drop_of_length-le}
+use lib.ListN.{length, get_or, take, drop, replicate, length-take, length-drop, drop_of_length-le}
+use lib.IntN.{ℤ}
+use Rattle.std.specs.Prelude.{Result, Ok, Err}
+use Rattle.refusal.specs.declared.Refusal.{Refusal}
+use Rattle.qbf.specs.Formula.{Limits, paper, Prefix, Clause}
 use Rattle.qbf.specs.Card.{zero_table}
-use Rattle.qbf.specs.Calls.{State as Read}
+use Rattle.qbf.specs.Calls.{State as Read, well_formed}
 use Rattle.state.specs.declared.State.{State}
-use Rattle.state.specs.Reading.{formula_in, read_state, well_formed_read, valid}
+use Rattle.state.specs.Reading.{own, prefix_in, formula_in, formula_under, state_in, state_under, read_state, well_formed_read, valid}
 use Rattle.state.specs.Derived.{Sized}
 use Rattle.state.proofs.Valid.{valid_facts, valid_tables}
+use Rattle.state_parts.specs.declared.limits.Layout.{Layout}
+use Rattle.state_parts.specs.Layout.{limits_in, CheckedIn}
+use Rattle.state_parts.specs.Parts.{limits_of, parts_under, state_at, read_at, valid_at}
+use Rattle.state_parts.proofs.Accepted.{valid_read, valid_state}
 use Rattle.layout.specs.Words.{Bytes}
 use Rattle.booktext.specs.Books.{written, write_refused, written_to, write_guarded, write_call, book_text, written_text}
 use Rattle.booktext_laws.proofs.Writing.{written_as}
 use Rattle.writer.specs.Wrote.{Wrote}
-use Rattle.book_writer.specs.Tables.{Standing}
-use Rattle.book_writer.specs.Writes.{answered, told, written_of, Writes}
+use Rattle.book_writer.specs.Tables.{formula_of, Standing}
+use Rattle.book_writer.specs.Writes.{answered, told, written_of, WritesRead, Writes, WritesAt}
 use Rattle.book_writer.proofs.Rows.{table_standing}
 
 -- the answer, by the numbers that it was made of
@@ -59,29 +67,69 @@ written_told {d₀} {t} {d} {r} w h {zeros} e =
     behind : zeros ++ drop (length d - r) (drop r d) ≡ replicate (length d₀ - length t) 0
     behind = ap (λ (x : Bytes). zeros ++ x) nothing ∙ append-nil zeros ∙ e ∙ ap zero_table count
 
--- ---- a state
-module _ (x : State) (size : ℕ) where
-  refused_of : (o : Option Read) → well_formed_read o ≡ false → written_of size o ≡ write_refused 22 (zero_table size)
-  unfolding write_call
-  refused_of none e = refl
-  refused_of (some y) e = ap (λ (q : Bool). write_guarded q size y.formula) e
+-- ---- what was read
+-- "22 the state is malformed"
+pub malformed_is : (o : Option Read) (size : ℕ) → well_formed_read o ≡ false → written_of size o ≡ write_refused 22 (zero_table size)
+unfolding write_call
+malformed_is none size e = refl
+malformed_is (some y) size e = ap (λ (q : Bool). write_guarded q size y.formula) e
 
-  -- "22 the state is malformed"
-  pub malformed_is : valid x ≡ false → written_of size (read_state x) ≡ write_refused 22 (zero_table size)
-  unfolding valid
-  malformed_is v = refused_of (read_state x) v
-
-  pub valid_is : valid x ≡ true → written_of size (read_state x) ≡ written_to size (book_text (formula_in x))
+module _ (o : Option Read) (size : ℕ) where
+  pub formed_is : (y : Read) → o ≡ some y → well_formed y ≡ true → written_of size o ≡ written_to size (book_text y.formula)
   unfolding write_call
-  valid_is v = ap (written_of size) (valid_facts x v).read ∙ ap (λ (q : Bool). write_guarded q size (formula_in x)) (valid_facts x v).formed
+  formed_is y i e = ap (written_of size) i ∙ ap (λ (q : Bool). write_guarded q size y.formula) e
 
   module _ {refusal count : ℕ} {table : Bytes} where
-    pub malformed_writes : valid x ≡ false → answered refusal count table ≡ told (write_refused 22 (zero_table size)) → Writes x size refusal count table
-    malformed_writes v e = record { said = e ∙ ap told (sym (malformed_is v)) }
+    pub malformed_writes : well_formed_read o ≡ false → answered refusal count table ≡ told (write_refused 22 (zero_table size)) → WritesRead o size refusal count table
+    malformed_writes v e = record { said = e ∙ ap told (sym (malformed_is o size v)) }
 
-    pub valid_writes : valid x ≡ true → answered refusal count table ≡ told (written_to size (written_text (formula_in x))) → Writes x size refusal count table
-    valid_writes v e = record { said = e ∙ ap (λ (t : Bytes). told (written_to size t)) (sym (written_as (formula_in x))) ∙ ap told (sym (valid_is v)) }
+    pub formed_writes : (y : Read) → o ≡ some y → well_formed y ≡ true → answered refusal count table ≡ told (written_to size (written_text y.formula)) → WritesRead o size refusal count table
+    formed_writes y i v e = record { said = e ∙ ap (λ (t : Bytes). told (written_to size t)) (sym (written_as y.formula)) ∙ ap told (sym (formed_is y i v)) }
+
+-- a text says nothing of the limits
+pub same_text : (L M : Limits) (D : Prefix) (R : List Clause) → written_text (record { limits = L; prefix = D; clauses = R }) ≡ written_text (record { limits = M; prefix = D; clauses = R })
+unfolding written_text
+same_text L M D R = refl
+
+-- ---- a state by value
+module _ (x : State) (size : ℕ) {refusal count : ℕ} {table : Bytes} where
+  pub invalid_writes : valid x ≡ false → answered refusal count table ≡ told (write_refused 22 (zero_table size)) → Writes x size refusal count table
+  unfolding valid
+  invalid_writes v e = malformed_writes (read_state x) size v e
+
+  pub valid_writes : valid x ≡ true → answered refusal count table ≡ told (written_to size (written_text (formula_in x))) → Writes x size refusal count table
+  valid_writes v e = formed_writes (read_state x) size (state_in x) (valid_facts x v).read (valid_facts x v).formed e
 
 -- the rows of a valid state's clauses
 pub valid_standing : (x : State) → valid x ≡ true → Sized x → Standing x.clauses x.clause_sizes
 valid_standing x v s = table_standing (valid_tables x v s).clauses
+
+-- ---- a state in two tables
+-- one that was not checked
+pub unchecked : (cells : List ℕ) (literals : List ℤ) (r : Result Layout Refusal) (places kinds : List ℕ) → CheckedIn cells literals r places kinds → ((l : Layout) → r ≡ Ok l → ⊥) → valid_at cells literals ≡ false
+unchecked cells literals (Ok l) places kinds k h = absurd (h l refl)
+unchecked cells literals (Err e) places kinds k h = sym k.1.said
+
+module _ (cells : List ℕ) (literals : List ℤ) (size : ℕ) {refusal count : ℕ} {table : Bytes} where
+  pub invalid_writes_at : valid_at cells literals ≡ false → answered refusal count table ≡ told (write_refused 22 (zero_table size)) → WritesAt cells literals size refusal count table
+  unfolding valid_at
+  invalid_writes_at v e = malformed_writes (read_at cells literals) size v e
+
+  pub valid_writes_at : valid_at cells literals ≡ true → answered refusal count table ≡ told (written_to size (written_text (formula_under (limits_of cells) (state_at cells literals)))) → WritesAt cells literals size refusal count table
+  valid_writes_at v e =
+      formed_writes (read_at cells literals) size (state_under (limits_of cells) (state_at cells literals)) (valid_read cells literals v) (valid_state cells literals v).facts.formed e
+
+-- the parts that were laid out by the limits that were read
+module _ (cells : List ℕ) (literals : List ℤ) (l : Layout) (e : l.numbers ≡ get_or cells 0 0) (f : l.clauses ≡ get_or cells 1 0) (x : State) (laid : x ≡ parts_under (limits_in l) cells literals) where
+  parts_are : x ≡ state_at cells literals
+  parts_are = laid ∙ (λ i. parts_under (own (e i) (f i)) cells literals)
+
+  pub parts_standing : valid_at cells literals ≡ true → Standing x.clauses x.clause_sizes
+  parts_standing v = subst (λ (z : State). Standing z.clauses z.clause_sizes) (sym parts_are) (table_standing (valid_state cells literals v).clauses)
+
+  pub parts_write : valid_at cells literals ≡ true → {size refusal count : ℕ} {table : Bytes}
+      → answered refusal count table ≡ told (written_to size (written_text (formula_of x.numbers x.levels x.kinds x.clauses x.clause_sizes))) → WritesAt cells literals size refusal count table
+  parts_write v {size} {refusal} {count} {table} w =
+      valid_writes_at cells literals size v
+      (w ∙ ap (λ (z : State). told (written_to size (written_text (formula_of z.numbers z.levels z.kinds z.clauses z.clause_sizes)))) parts_are
+      ∙ ap (λ (t : Bytes). told (written_to size t)) (same_text paper (limits_of cells) (prefix_in (state_at cells literals)) (formula_under (limits_of cells) (state_at cells literals)).clauses))

@@ -4,3 +4,4 @@ pub mod Rows
 pub mod Digits
 pub mod Answers
 pub mod Books
+pub mod Rooms

@@ -1,14 +1,13 @@
 -- The variables by their tables, one place after the other.
 use Prim.Native.Nat.{ℕ, zero, suc, ◌+◌, ◌-◌, ◌<◌, ◌≤◌, min}
-use mathlib.Core.Path.{◌≡◌, refl, sym, ap, ap₂, ◌∙◌}
+use mathlib.Core.Path.{◌≡◌, refl, ap, ap₂}
 use mathlib.Core.Bool.{Bool, true, false, cond}
 use mathlib.Core.List.{List, [], ◌++◌}
 use native.Mathlib.Omega.{arith}
 use native.Mathlib.Numerals.{add-one}
-use borrow.Author.Tests.{ne_eqb}
 use lib.ListN.{length, get_or, length-append}
-use lib.Dec.{eqb, ltb, leb-suc-suc, leb-zero}
-use Rattle.qbf.specs.Formula.{Quantifier, is_free, is_exists, is_forall, same_quantifier, Prefix}
+use lib.Dec.{eqb}
+use Rattle.qbf.specs.Formula.{Quantifier, same_quantifier, Prefix}
 use Rattle.state.specs.Reading.{listing, quantifier_of, variable_at, prefix_of}
 use Rattle.state.specs.Derived.{code_for}
 use Rattle.state.proofs.Listing.{listing_next, listing_end}

@@ -18,25 +18,25 @@ use state::prefix::Variables;
 // `)`, the end of a line, `(` and the word `flags`, or one of six letters.
 const FLAGS_HEADING: usize = 8;
 
-const GROUP_HEADING: usize = 9;
+pub const GROUP_HEADING: usize = 9;
 
 // A space before a number; ` (no ` and `)` around it.
-const ON: usize = 1;
+pub const ON: usize = 1;
 
-const OFF: usize = 6;
+pub const OFF: usize = 6;
 
 // `)` and the end of a line.
-const LINE_END: usize = 2;
+pub const LINE_END: usize = 2;
 
 // `(rule` and the end of its line.
-const RULE: usize = 7;
+pub const RULE: usize = 7;
 
 // `(book 1)`, the end of its line and `(flags`; then, at the end, `(end)` and the end of its line.
-const FIRST: usize = 15;
+pub const FIRST: usize = 15;
 
-const LAST: usize = 6;
+pub const LAST: usize = 6;
 
-fn digits(n: u16) -> usize
+pub fn digits(n: u16) -> usize
     ensures { Counted (decimal n) most_digits result }
 {
     if n < 10 {

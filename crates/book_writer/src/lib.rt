@@ -12,8 +12,10 @@ ghost use Rattle.book_writer.specs.Tables.{formula_of};
 ghost use Rattle.book_writer.specs.Made.{WrittenAs};
 ghost use Rattle.book_writer.specs.Writes.{answered, told, Writes};
 
+pub mod at; // a state in two lent tables
 pub mod clauses; // the clauses of a formula, in a table that is lent
 mod lengths; // how many bytes a text has
+pub mod longest; // how many it may have
 mod rules; // the lines of the rules
 mod variables; // the lines of the variables
 

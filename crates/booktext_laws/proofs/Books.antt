@@ -23,7 +23,7 @@ use Rattle.booktext.specs.Texts.{read_text, read_forms}
 use Rattle.booktext.specs.Books.{blocks_from, blocks, rule_forms, book_forms, book_text}
 use Rattle.booktext_laws.proofs.Lines.{Short, Legible}
 use Rattle.booktext_laws.proofs.Texts.{AllLegible, legible_append, forms_read, form_read, text_fits}
-use Rattle.booktext_laws.proofs.Declared.{declare_none, declared_range, rule_none}
+use Rattle.booktext_laws.proofs.Declared.{Roomy, declare_none, formed_roomy, declared_range, rule_none}
 
 abbrev formula : Limits → Prefix → List Clause → Formula
 formula L D R = record { limits = L; prefix = D; clauses = R }
@@ -81,11 +81,11 @@ block_read n exists L D ns fs q = form_read n 2 (formula L D []) (block exists n
 block_read n forall L D ns fs q = form_read n 2 (formula L D []) (block forall ns) fs q refl
 
 -- The groups are read as the prefix W that they were written from: what follows them is read with all of it, whatever its lines' numbers.
-module _ (L : Limits) (W : Prefix) (ok : numbers_are_ok L [] W ≡ true) (fs : List Form) (o : Opened) (k : (m : ℕ) → read_forms m 2 (formula L W []) fs ≡ o) where
+module _ (L : Limits) (W : Prefix) (ok : numbers_are_ok L [] W ≡ true) (room : (κ : Quantifier) → Roomy κ W) (fs : List Form) (o : Opened) (k : (m : ℕ) → read_forms m 2 (formula L W []) fs ≡ o) where
   blocks_read : (κ : Quantifier) (D : Prefix) (ns : List ℕ) (E : Prefix) → D ++ (map (variable κ) ns ++ E) ≡ W → Follows κ (quantifiers E)
       → (n : ℕ) → read_forms n (stage_of κ) (formula L D []) (blocks_from κ ns E ++ fs) ≡ o
   blocks_read κ D ns [] e g n =
-      block_read n κ L D ns fs (declare_none L κ D ns [] (rw e ok))
+      block_read n κ L D ns fs (declare_none L κ D ns [] (rw e ok) (λ D' m E' q. room κ D' m E' (q ∙ e)))
       ∙ ap (λ (l : Prefix). read_forms (suc n) 2 (formula L l []) fs) (ap (λ (l : Prefix). D ++ l) (sym (append-nil (map (variable κ) ns))) ∙ e)
       ∙ k (suc n)
   blocks_read κ D ns (d ∷ E) e g n =
@@ -111,7 +111,7 @@ module _ (L : Limits) (W : Prefix) (ok : numbers_are_ok L [] W ≡ true) (fs : L
               ∙ ap (λ (x : Quantifier). onward ++ (variable x d.number ∷ E)) q_is
       by false q same other =
           let f = follows_other κ d.quantifier (quantifiers E) q g in
-          block_read n κ L D ns (blocks_from d.quantifier (d.number ∷ []) E ++ fs) (declare_none L κ D ns (d ∷ E) (rw e ok))
+          block_read n κ L D ns (blocks_from d.quantifier (d.number ∷ []) E ++ fs) (declare_none L κ D ns (d ∷ E) (rw e ok) (λ D' m E' q. room κ D' m E' (q ∙ e)))
           ∙ ap (λ (s : ℕ). read_forms (suc n) s (formula L (D ++ onward) []) (blocks_from d.quantifier (d.number ∷ []) E ++ fs)) (sym (stage_other d.quantifier f.0))
           ∙ other (append_assoc D onward (d ∷ E) ∙ e) f.1
 
@@ -191,7 +191,8 @@ module _ (b : Formula) (ok : formula_is_ok b ≡ true) (short : ShortNumbers b.l
   unfolding book_forms
   book_forms_lem =
       form_read 1 0 (empty_formula b.limits) (book 1) (blocks b.prefix ++ (rule_forms b.clauses ++ (end ∷ []))) refl refl
-      ∙ blocks_read b.limits b.prefix (numbers_ok b ready) (rule_forms b.clauses ++ (end ∷ [])) (opened b)
+      ∙ blocks_read b.limits b.prefix (numbers_ok b ready)
+      (λ κ. formed_roomy κ b.prefix (and_right (numbers_are_ok b.limits [] b.prefix) (free_first (quantifiers b.prefix)) ready.prefix_ok) ready.free_ok) (rule_forms b.clauses ++ (end ∷ [])) (opened b)
       (λ m. rules_read b.limits b.prefix (numbers_ok b ready) [] b.clauses (each_clause b ready) (clause_count_lem b ready) 2 (inl refl) m)
       free [] [] b.prefix refl (and_right (numbers_are_ok b.limits [] b.prefix) (free_first (quantifiers b.prefix)) ready.prefix_ok) 2
 

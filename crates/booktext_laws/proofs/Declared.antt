@@ -1,23 +1,26 @@
 -- Declarations and rules of a well-formed formula have no fault when they are read again.
-use Prim.Native.Nat.{ℕ, zero, suc, ◌<◌, ◌≤◌}
+use Prim.Native.Nat.{ℕ, zero, suc, ◌<◌, ◌≤◌, zero-le, suc-le-suc}
 use mathlib.Core.Path.{◌≡◌, refl, sym, ap, ◌∙◌, subst}
 use mathlib.Core.Logic.{inl, inr}
-use mathlib.Core.Bool.{true, false, ◌&&◌}
+use mathlib.Core.Bool.{Bool, true, false, ◌&&◌, false≢true}
 use mathlib.Core.List.{List, [], ◌∷◌, ◌++◌, map, append_assoc, map-append, append-nil}
 use mathlib.Core.Option.{none}
 use native.Mathlib.Omega.{arith}
 use borrow.Author.Tests.{eq-eqb, ne_eqb, le-ltb, leb-true, lt-leb}
-use lib.ListN.{length}
+use lib.ListN.{length, length-append}
 use lib.Dec.{eqb, leb, ltb}
-use Rattle.qbf.specs.Formula.{Limits, Quantifier, Prefix, Literal, number_of, Clause, Formula, any, place_of, place}
+use Rattle.qbf.specs.Formula.{Limits, most_free, Quantifier, free, exists, forall, is_free, Prefix, quantifiers, Literal, number_of, Clause, Formula, any, place_of, place}
 use Rattle.qbf.specs.Learning.{insert, union}
 use Rattle.qbf.specs.Card.{Mem}
-use Rattle.qbf.specs.Calls.{literal_fault, rule_fault, clause_of, clause_ok, in_order, numbers_are_ok}
+use Rattle.qbf.specs.Truth.{free_count, free_variables}
+use Rattle.qbf.specs.Calls.{given, ◌or_else◌, no_free, free_first, free_is_ok, literal_fault, rule_fault, clause_of, clause_ok, in_order, numbers_are_ok}
 use Rattle.theory.proofs.Basics.{and_left, and_right, or_false, →any_false}
+use Rattle.theory.proofs.Widths.{prefix_width}
+use Rattle.theory.proofs.Starting.{free_fit}
 use Rattle.theory.proofs.Game.{Rising}
 use Rattle.theory.proofs.WellFormed.{rising→}
 use Rattle.theory.proofs.Prefixes.{numbers, Distinct, fine, number_at, place_undeclared, number_range}
-use Rattle.layout.specs.Opening.{variable, declare_fault}
+use Rattle.layout.specs.Opening.{variable, crowded, declare_fault}
 
 -- ---- declarations
 apart : (xs : List ℕ) (y : ℕ) (ys : List ℕ) → Distinct (xs ++ (y ∷ ys)) → Mem y xs → ⊥
@@ -33,12 +36,18 @@ mem_middle : (xs : List ℕ) (y : ℕ) (ys : List ℕ) → Mem y (xs ++ (y ∷ y
 mem_middle [] y ys = inl refl
 mem_middle (x ∷ xs) y ys = inr (mem_middle xs y ys)
 
+-- wherever a prefix has a variable there was room for it
+abbrev pub Roomy : Quantifier → Prefix → Type 0
+Roomy κ W = (D : Prefix) (n : ℕ) (E : Prefix) → D ++ (variable κ n ∷ E) ≡ W → crowded κ D ≡ false
+
 -- the numbers of a well-formed prefix are declared without a fault
-pub declare_none : (L : Limits) (κ : Quantifier) (D : Prefix) (ns : List ℕ) (E : Prefix) → numbers_are_ok L [] (D ++ (map (variable κ) ns ++ E)) ≡ true → declare_fault L κ D ns ≡ none
-declare_none L κ D [] E h = refl
-declare_none L κ D (n ∷ ns) E h =
+pub declare_none : (L : Limits) (κ : Quantifier) (D : Prefix) (ns : List ℕ) (E : Prefix) → numbers_are_ok L [] (D ++ (map (variable κ) ns ++ E)) ≡ true → Roomy κ (D ++ (map (variable κ) ns ++ E)) → declare_fault L κ D ns ≡ none
+declare_none L κ D [] E h room = refl
+declare_none L κ D (n ∷ ns) E h room =
     rw (or_false (eqb n 0) (ltb L.numbers n) (ne_eqb n 0 (λ e. omega (arith, e, r.0))) (le-ltb L.numbers n r.1), eq-eqb (place_of D n) 0 fresh)
-    (declare_none L κ (D ++ (variable κ n ∷ [])) ns E (rw (append_assoc D (variable κ n ∷ []) (map (variable κ) ns ++ E)) h))
+    (ap (λ (c : Bool). given c 33 or_else declare_fault L κ (D ++ (variable κ n ∷ [])) ns) (room D n (map (variable κ) ns ++ E) refl)
+    ∙ declare_none L κ (D ++ (variable κ n ∷ [])) ns E (rw (append_assoc D (variable κ n ∷ []) (map (variable κ) ns ++ E)) h)
+    (λ D' m E' e. room D' m E' (e ∙ append_assoc D (variable κ n ∷ []) (map (variable κ) ns ++ E))))
   where
     rest : Prefix
     rest = map (variable κ) ns ++ E
@@ -51,6 +60,65 @@ declare_none L κ D (n ∷ ns) E h =
 
     fresh : place_of D n ≡ 0
     fresh = place_undeclared D n (apart (numbers D) n (numbers rest) (subst Distinct spread (fine L [] (D ++ (variable κ n ∷ rest)) h).distinct))
+
+-- ---- room for flags
+none_after : (ks rest : List Quantifier) → no_free (ks ++ (free ∷ rest)) ≡ true → ⊥
+none_after [] rest h = false≢true h
+none_after (free ∷ ks) rest h = false≢true h
+none_after (exists ∷ ks) rest h = none_after ks rest h
+none_after (forall ∷ ks) rest h = none_after ks rest h
+
+fewer_before : (ks : List Quantifier) (κ : Quantifier) (rest : List Quantifier) → is_free κ ≡ true → free_first (ks ++ (κ ∷ rest)) ≡ true → free_count ks < free_count (ks ++ (κ ∷ rest))
+fewer_before [] free rest f h = suc-le-suc zero-le
+fewer_before [] exists rest f h = absurd (false≢true f)
+fewer_before [] forall rest f h = absurd (false≢true f)
+fewer_before (free ∷ ks) κ rest f h = suc-le-suc (fewer_before ks κ rest f h)
+fewer_before (exists ∷ ks) free rest f h = absurd (none_after ks rest h)
+fewer_before (exists ∷ ks) exists rest f h = absurd (false≢true f)
+fewer_before (exists ∷ ks) forall rest f h = absurd (false≢true f)
+fewer_before (forall ∷ ks) free rest f h = absurd (none_after ks rest h)
+fewer_before (forall ∷ ks) exists rest f h = absurd (false≢true f)
+fewer_before (forall ∷ ks) forall rest f h = absurd (false≢true f)
+
+-- in a well-formed prefix
+pub formed_roomy : (κ : Quantifier) (W : Prefix) → free_first (quantifiers W) ≡ true → free_is_ok W ≡ true → Roomy κ W
+formed_roomy κ W h few D n E e = by (is_free κ) refl
+  where
+    spread : quantifiers W ≡ quantifiers D ++ (κ ∷ quantifiers E)
+    spread = ap quantifiers (sym e) ∙ map-append (λ d. d.quantifier) D (variable κ n ∷ E)
+
+    by : (t : Bool) → is_free κ ≡ t → crowded κ D ≡ false
+    by true f =
+        ap (λ (b : Bool). b && leb most_free (free_variables D)) f
+        ∙ lt-leb most_free (free_variables D)
+        (omega (
+          arith,
+          fewer_before (quantifiers D) κ (quantifiers E) f (subst (λ (ks : List Quantifier). free_first ks ≡ true) spread h),
+          ap free_count spread,
+          leb-true (free_variables W) most_free few,
+        ))
+    by false f = ap (λ (b : Bool). b && leb most_free (free_variables D)) f
+
+-- and under limits of no more numbers than there may be flags
+pub few_roomy : (L : Limits) → L.numbers ≤ most_free → (κ : Quantifier) (W : Prefix) → numbers_are_ok L [] W ≡ true → Roomy κ W
+few_roomy L low κ W h D n E e = by (is_free κ) refl
+  where
+    fit : length (quantifiers W) ≤ L.numbers
+    fit = prefix_width L W h
+
+    by : (t : Bool) → is_free κ ≡ t → crowded κ D ≡ false
+    by true f =
+        ap (λ (b : Bool). b && leb most_free (free_variables D)) f
+        ∙ lt-leb most_free (free_variables D)
+        (omega (
+          arith,
+          low,
+          fit,
+          free_fit (quantifiers D),
+          length-append (quantifiers D) (κ ∷ quantifiers E),
+          ap length (ap quantifiers (sym e) ∙ map-append (λ d. d.quantifier) D (variable κ n ∷ E)),
+        ))
+    by false f = ap (λ (b : Bool). b && leb most_free (free_variables D)) f
 
 -- ---- rules
 -- a declared number is in range

@@ -7,7 +7,7 @@ use mathlib.Core.List.{List, [], ◌∷◌, ◌++◌, map}
 use lib.ListN.{length, take, drop, length-map}
 use lib.Seq.{length-take-le}
 use lib.Dec.{eqb}
-use Rattle.qbf.specs.Formula.{paper, Prefix}
+use Rattle.qbf.specs.Formula.{paper, highest, Prefix}
 use Rattle.qbf.specs.Learning.{Polarity, Constraint, push, mentions, resolvent, last_place}
 use Rattle.qbf.specs.Calls.{in_order}
 use Rattle.tables.specs.Codes.{code_of, codes, last_code}
@@ -48,14 +48,14 @@ module _ (D : Prefix) (at : ℕ) (v : Polarity) (e f : Constraint) (ordered : in
   -- it does: the resolvent, the first m codes of an area, is stored, and its row goes up
   module _ (h : b ≡ true) (es : List Constraint) (up : List ℕ) (m : ℕ) (within : m ≤ length up) (made : take m up ≡ codes D (resolvent D (suc at) v e f)) (fits : Fits D (resolvent D (suc at) v e f)) where
     -- it has room
-    made_short : m ≤ paper.numbers
+    made_short : m ≤ highest.numbers
     made_short = omega (arith, ap length made, length-map (resolvent D (suc at) v e f) (code_of D), length-take-le m up within, fits.0)
 
     made_low : last_code (take m up) < code_count
     made_low = subst (λ (cs : List ℕ). last_code cs < code_count) (sym made) fits.1
 
     pub joined_named : (r : Bounds) (cls cells area : List ℕ) {old new : List (List ℕ)} {n n' : ℕ} → old ≡ map (codes D) es
-        → (m ≤ paper.numbers → last_code (take m up) < code_count → Stored r (take m up) cells × (new ≡ push paper.constraints (take m up) old) × (n' ≡ suc n))
+        → (m ≤ highest.numbers → last_code (take m up) < code_count → Stored r (take m up) cells × (new ≡ push paper.constraints (take m up) old) × (n' ≡ suc n))
         → JoinedSides D (suc at) v e f es (entry_at r cls cells area) new n n'
     joined_named r cls cells area {old = old} k s =
         let g = s made_short made_low in

@@ -60,9 +60,9 @@ OnwardIn v kind at aside on quantifiers clauses area cs cl qs ql r cs' cl' qs' q
 -- .. of the tables as the code has them: what is learned was x, and is y
 abbrev pub Onward : Verdict → ℕ → ℕ → List ℕ → Answer → Answer → Matrix → List ℕ → Learned → Learned → Type 0
 Onward v kind at aside on r m area x y =
-    OnwardIn v kind at aside on m.quantifiers m.rows area x.clauses.cells x.clauses.links x.cubes.cells x.cubes.links
-    r y.clauses.cells y.clauses.links y.cubes.cells y.cubes.links
+    OnwardIn v kind at aside on m.quantifiers m.rows area x.clauses.cells.now x.clauses.links.now x.cubes.cells.now x.cubes.links.now
+    r y.clauses.cells.now y.clauses.links.now y.cubes.cells.now y.cubes.links.now
 
 -- the answer counts as the on side's does, and at most one row more stands on each shelf
 abbrev pub Counted : Answer → Answer → Learned → Learned → Type 0
-Counted on r x y = Finished on r × Grown x.clauses.links x.cubes.links y.clauses.links y.cubes.links
+Counted on r x y = Finished on r × Grown x.clauses.links.now x.cubes.links.now y.clauses.links.now y.cubes.links.now

@@ -32,12 +32,14 @@ fn with_bounds(on: Answer, b: Bounds) -> Answer
 }
 
 // stays (no plainer): `Room Shelf` is used up, a number by each row that is stored: a shelf that kept it could not be written to
-// "the on side's entry goes up if it lacks v, else the two are joined"; the resolvent goes up as its row. The shelf is that of the on side's polarity.
+// "the on side's entry goes up if it lacks v, else the two are joined"; the resolvent is made in an area of its own, and goes up as its row. The shelf is
+// that of the on side's polarity.
 pub fn join<'a>(
     off: Aside<'a>,
     on: Answer,
     matrix: &'a Matrix,
-    area: &'a [u16; tables::AREA],
+    area: &'a [u16; tables::CODES_AREA],
+    made: &mut [u16; tables::CODES_AREA],
     learned: &mut Shelf,
 ) -> Answer
     requires { Room learned.old }
@@ -46,7 +48,7 @@ pub fn join<'a>(
         × ((D : Prefix) (e f : Constraint) (es : List Constraint)
         → Quantified D matrix.now.quantifiers
         → off.entry.codes.now ≡ codes D e
-        → entry_at (bounds_of on) matrix.now.rows learned.old.cells area.now ≡ codes D f
+        → entry_at (bounds_of on) matrix.now.rows learned.old.cells.now area.now ≡ codes D f
         → in_order D 0 e ≡ true
         → in_order D 0 f ≡ true
         → last_place D e ≤ suc off.entry.at
@@ -60,18 +62,19 @@ pub fn join<'a>(
         e
         f
         es
-        (entry_at (bounds_of result) matrix.now.rows learned.new.cells area.now)
+        (entry_at (bounds_of result) matrix.now.rows learned.new.cells.now area.now)
         (rows learned.new)
         (newest learned.old)
         (newest learned.new)) }
 {
-    let row = entry(&matrix.rows, &learned.cells, area, bounds_of(on));
+    let cells = &*learned.cells;
+    let row = entry(&matrix.rows, cells, area, bounds_of(on));
     let ends = ends_next(row, off.at);
     let lacks = !ends;
     if lacks {
         return on;
     }
     let cube = is_of(on.verdict, true);
-    let joined = resolve(off.codes, row, off.at, &matrix.quantifiers, cube);
-    with_bounds(on, store(learned, &joined.cells[..joined.len]))
+    let len = resolve(made, off.codes, row, off.at, &matrix.quantifiers, cube);
+    with_bounds(on, store(learned, &made[..len]))
 }

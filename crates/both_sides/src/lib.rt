@@ -2,7 +2,7 @@
 #![tactic(auto)]
 
 ghost use Rattle.std.specs.Prelude.{◌≡◌, ◌*◌, ◌≤◌, ◌<◌, length, take, drop};
-ghost use Rattle.qbf.specs.Formula.{paper};
+ghost use Rattle.qbf.specs.Formula.{highest};
 ghost use Rattle.search_entry.specs.Tables.{Numbered};
 ghost use Rattle.both_sides.specs.Step.{Onward, Counted};
 
@@ -19,7 +19,7 @@ pub struct Aside<'a> {
     pub kind: u16,
     pub at: usize,
     pub codes: &'a [u16],
-    pub ghost short: { length codes.now ≤ paper.numbers },
+    pub ghost short: { length codes.now ≤ highest.numbers },
 }
 
 // What the node of that off side put aside: its row among those of the nodes.
@@ -27,9 +27,9 @@ pub fn put_by<'a>(aside: &'a [u16; ASIDE], off: OffSide) -> Aside<'a>
     ensures { (result.verdict ≡ off.answer.verdict)
         × (result.kind ≡ off.kind)
         × (result.at ≡ off.at)
-        × (result.codes.now ≡ take off.answer.len (drop (off.at * paper.numbers) aside.now)) }
+        × (result.codes.now ≡ take off.answer.len (drop (off.at * highest.numbers) aside.now)) }
 {
-    let from = off.at * tables::NUMBERS;
+    let from = off.at * tables::HIGHEST_NUMBERS;
     Aside {
         verdict: off.answer.verdict,
         kind: off.kind,
@@ -39,12 +39,13 @@ pub fn put_by<'a>(aside: &'a [u16; ASIDE], off: OffSide) -> Aside<'a>
 }
 
 // stays (no plainer): `Numbered learned` is used up, a number by each row that is stored: shelves that kept it could not be written to
-// Both sides done, where the off side did not go up: the on side's result, the resolvent of both, which is stored, or Mixed.
+// Both sides done, where the off side did not go up: the on side's result, the resolvent of both, which is made in that area and stored, or Mixed.
 pub fn finish<'a>(
     off: Aside<'a>,
     on: Answer,
     matrix: &'a Matrix,
-    area: &'a [u16; tables::AREA],
+    area: &'a [u16; tables::CODES_AREA],
+    made: &mut [u16; tables::CODES_AREA],
     learned: &mut Learned,
 ) -> Answer
     requires { Numbered learned.old }
@@ -64,7 +65,7 @@ pub fn finish<'a>(
     match both::step_of(off.verdict, on.verdict, off.kind) {
         both::Step::Mixed => both::mixed(on),
         both::Step::On => on,
-        both::Step::Clauses => join::join(off, on, matrix, area, &mut learned.clauses),
-        both::Step::Cubes => join::join(off, on, matrix, area, &mut learned.cubes),
+        both::Step::Clauses => join::join(off, on, matrix, area, made, &mut learned.clauses),
+        both::Step::Cubes => join::join(off, on, matrix, area, made, &mut learned.cubes),
     }
 }

@@ -18,6 +18,7 @@ use answers::lent::Searching;
 use book_writer::Written;
 use reply_numbers::{Closest, Reply, of_change};
 use rules::lent::{Adding, Emptying, Withdrawing};
+use search_entry::workspace::Workspace;
 use state::Lent;
 
 // stays (C): one function for each export; this and `bullacetop_one_in_place` differ in the call of their two lines
@@ -54,7 +55,11 @@ pub fn bullacetop_forget_in_place(tables: &mut Emptying<'_>) -> Reply
     of_change(emptied)
 }
 
-pub fn bullacetop_query_in_place(lent: &mut Searching<'_>, asked: Asked<'_>) -> Reply
+pub fn bullacetop_query_in_place(
+    lent: &mut Searching<'_>,
+    work: &mut Workspace,
+    asked: Asked<'_>,
+) -> Reply
     ensures held { SearchingHeld lent.old lent.new }
     ensures serves { Serves
         (searching_state lent.old)
@@ -62,12 +67,17 @@ pub fn bullacetop_query_in_place(lent: &mut Searching<'_>, asked: Asked<'_>) -> 
         (reply_said result [])
         (searching_state lent.new) }
 {
-    let ruled = answers::in_place::query(lent, asked);
+    let ruled = answers::in_place::query(lent, work, asked);
     Reply::from(ruled)
 }
 
 // stays (C): one function for each export; this and `bullacetop_keep_card_in_place` differ in a constant
-pub fn bullacetop_card_in_place(lent: &mut Searching<'_>, table: &mut [u8], ceiling: u32) -> Reply
+pub fn bullacetop_card_in_place(
+    lent: &mut Searching<'_>,
+    work: &mut Workspace,
+    table: &mut [u8],
+    ceiling: u32,
+) -> Reply
     ensures held { SearchingHeld lent.old lent.new }
     ensures serves { Serves
         (searching_state lent.old)
@@ -75,13 +85,14 @@ pub fn bullacetop_card_in_place(lent: &mut Searching<'_>, table: &mut [u8], ceil
         (reply_said result table.new)
         (searching_state lent.new) }
 {
-    let shown = card_of(lent, table, true, ceiling);
+    let shown = card_of(lent, work, table, true, ceiling);
     Reply::from(shown)
 }
 
 // stays (C): one function for each export, as `bullacetop_card_in_place`
 pub fn bullacetop_keep_card_in_place(
     lent: &mut Searching<'_>,
+    work: &mut Workspace,
     table: &mut [u8],
     ceiling: u32,
 ) -> Reply
@@ -92,13 +103,14 @@ pub fn bullacetop_keep_card_in_place(
         (reply_said result table.new)
         (searching_state lent.new) }
 {
-    let shown = card_of(lent, table, false, ceiling);
+    let shown = card_of(lent, work, table, false, ceiling);
     Reply::from(shown)
 }
 
 // The reading on the card that differs from a given one in the fewest flags. Its bytes stand first in the lent reading, and zeros behind them.
 pub fn bullacetop_closest_in_place(
     lent: &mut Searching<'_>,
+    work: &mut Workspace,
     asked: Asked<'_>,
     table: &mut [u8],
     reading: &mut [u8; tables::MOST_FREE],
@@ -118,7 +130,7 @@ pub fn bullacetop_closest_in_place(
         (fault_of result.refusal)
         (take (free_variables (prefix_in (searching_state lent.old))) reading.new)) }
 {
-    let found = closest_call::closest(lent, asked, table, reading);
+    let found = closest_call::closest(lent, work, asked, table, reading);
     let reply = Closest::from(found);
     reply
 }

@@ -18,6 +18,7 @@ use edition_conversion::Converted;
 use edition_opening::{Editions, open_editions};
 use opening::Opened;
 use reader::call::TABLE;
+use search_entry::workspace::Workspace;
 use session_line::Spoken;
 
 pub fn bullacetop_room() -> usize
@@ -27,10 +28,10 @@ pub fn bullacetop_room() -> usize
 }
 
 // What the program `card` prints for a text.
-pub fn bullacetop_print(text: &[u8], out: &mut [u8]) -> Written
+pub fn bullacetop_print(text: &[u8], work: &mut Workspace, out: &mut [u8]) -> Written
     ensures { PrintsCard text.now out.old result out.new }
 {
-    serve::book::print_card(text, out)
+    serve::book::print_card(text, work, out)
 }
 
 // A text opened: its state; or the refusal, its line, and a state on which every call is refused with 22.
@@ -71,14 +72,17 @@ pub fn bullacetop_no_card() -> Shown
 }
 
 // One line of a session, without its byte 10, and its number in the input. The lines of the card answered last stand in the lent table of cards.
+// stays (no plainer): `work` is lent beside the card's table, since one workspace serves any number of books; a struct of the two would be made at each call, and no clause could say what
+// it ends as
 pub fn bullacetop_line(
     held: Held,
     line: &[u8],
     number: u64,
     cards: &mut [u8; TABLE],
+    work: &mut Workspace,
     out: &mut [u8],
 ) -> Spoken
     ensures { ServesLine held.state line.now number held.shown cards.old out.old result cards.new out.new }
 {
-    session_line::serve_line(held, line, number, cards, out)
+    session_line::serve_line(held, line, number, cards, work, out)
 }

@@ -14,6 +14,7 @@ use answers::lent::Searching;
 use book_writer::Written;
 use reply_numbers::{Closest, Reply};
 use rules::lent::{Adding, Emptying, Withdrawing};
+use search_entry::workspace::Workspace;
 use state::Lent;
 
 // stays (C): the tables of a state, one after another, are what the header declares
@@ -234,6 +235,7 @@ pub extern "C" fn bullacetop_query_in_place<'a>(
     learned_clause_sizes: &mut [u16; tables::LEARNED_CLAUSE_SIZES],
     learned_cubes: &mut [i16; tables::CONSTRAINT_CELLS],
     learned_cube_sizes: &mut [u16; tables::CONSTRAINT_SIZES],
+    work: &mut Workspace,
     on: &'a [i16],
     off: &'a [i16],
     ceiling: u32,
@@ -274,7 +276,7 @@ pub extern "C" fn bullacetop_query_in_place<'a>(
         learned_cube_sizes,
     };
     let asked = Asked { on, off, ceiling };
-    bullacetop::in_place::bullacetop_query_in_place(&mut lent, asked)
+    bullacetop::in_place::bullacetop_query_in_place(&mut lent, work, asked)
 }
 
 // stays (C): the tables of a state, one after another, are what the header declares
@@ -289,6 +291,7 @@ pub extern "C" fn bullacetop_card_in_place<'a>(
     learned_clause_sizes: &mut [u16; tables::LEARNED_CLAUSE_SIZES],
     learned_cubes: &mut [i16; tables::CONSTRAINT_CELLS],
     learned_cube_sizes: &mut [u16; tables::CONSTRAINT_SIZES],
+    work: &mut Workspace,
     table: &mut [u8],
     ceiling: u32,
 ) -> Reply
@@ -327,7 +330,7 @@ pub extern "C" fn bullacetop_card_in_place<'a>(
         learned_cubes,
         learned_cube_sizes,
     };
-    bullacetop::in_place::bullacetop_card_in_place(&mut lent, table, ceiling)
+    bullacetop::in_place::bullacetop_card_in_place(&mut lent, work, table, ceiling)
 }
 
 // stays (C): the tables of a state, one after another, are what the header declares
@@ -342,6 +345,7 @@ pub extern "C" fn bullacetop_keep_card_in_place<'a>(
     learned_clause_sizes: &mut [u16; tables::LEARNED_CLAUSE_SIZES],
     learned_cubes: &mut [i16; tables::CONSTRAINT_CELLS],
     learned_cube_sizes: &mut [u16; tables::CONSTRAINT_SIZES],
+    work: &mut Workspace,
     table: &mut [u8],
     ceiling: u32,
 ) -> Reply
@@ -380,7 +384,7 @@ pub extern "C" fn bullacetop_keep_card_in_place<'a>(
         learned_cubes,
         learned_cube_sizes,
     };
-    bullacetop::in_place::bullacetop_keep_card_in_place(&mut lent, table, ceiling)
+    bullacetop::in_place::bullacetop_keep_card_in_place(&mut lent, work, table, ceiling)
 }
 
 // The reading on the card that differs from a given one in the fewest flags. Its bytes stand first in the lent reading, and zeros behind them.
@@ -396,6 +400,7 @@ pub extern "C" fn bullacetop_closest_in_place<'a>(
     learned_clause_sizes: &mut [u16; tables::LEARNED_CLAUSE_SIZES],
     learned_cubes: &mut [i16; tables::CONSTRAINT_CELLS],
     learned_cube_sizes: &mut [u16; tables::CONSTRAINT_SIZES],
+    work: &mut Workspace,
     on: &'a [i16],
     off: &'a [i16],
     table: &mut [u8],
@@ -446,7 +451,7 @@ pub extern "C" fn bullacetop_closest_in_place<'a>(
         learned_cube_sizes,
     };
     let asked = Asked { on, off, ceiling };
-    bullacetop::in_place::bullacetop_closest_in_place(&mut lent, asked, table, reading)
+    bullacetop::in_place::bullacetop_closest_in_place(&mut lent, work, asked, table, reading)
 }
 
 // The book's text. Nothing of the state is written.

@@ -17,6 +17,7 @@ use book_writer::Written;
 use edition_conversion::Converted;
 use opening::Opened;
 use reader::call::TABLE;
+use search_entry::workspace::Workspace;
 use session_line::Spoken;
 use state::State;
 
@@ -29,10 +30,10 @@ pub extern "C" fn bullacetop_room() -> usize
 
 // What the program `card` prints for a text.
 #[unsafe(no_mangle)]
-pub extern "C" fn bullacetop_print(text: &[u8], out: &mut [u8]) -> Written
+pub extern "C" fn bullacetop_print(text: &[u8], work: &mut Workspace, out: &mut [u8]) -> Written
     ensures { PrintsCard text.now out.old result out.new }
 {
-    bullacetop::text::bullacetop_print(text, out)
+    bullacetop::text::bullacetop_print(text, work, out)
 }
 
 // A text opened: its state; or the refusal, its line, and a state on which every call is refused with 22.
@@ -84,10 +85,11 @@ pub extern "C" fn bullacetop_line(
     number: u64,
     shown: Shown,
     cards: &mut [u8; TABLE],
+    work: &mut Workspace,
     out: &mut [u8],
 ) -> Spoken
     ensures { ServesLine x line.now number shown cards.old out.old result cards.new out.new }
 {
     let held = Held { state: x, shown };
-    bullacetop::text::bullacetop_line(held, line, number, cards, out)
+    bullacetop::text::bullacetop_line(held, line, number, cards, work, out)
 }

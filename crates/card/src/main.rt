@@ -1,20 +1,45 @@
 // The program `card`: a book on standard input, its card on standard output.
 #![tactic(auto)]
 
+use answer_text::ANSWER;
+use program::{CELLS, LITERALS};
+use search_entry::workspace::Workspace;
+use state::parts::Limits;
 use std::io;
+use text_cards::printing::print_card;
 
-fn print_card(
+// stays (proof): where the tables are made and lent in one function the check runs out of stack over their zeros
+fn print_text(
     rt: &impl Print,
     text: &[u8],
-    answer: &mut [u8; answer_text::ANSWER],
+    limits: Limits,
+    cells: &mut [u16; CELLS],
+    literals: &mut [i16; LITERALS],
+    work: &mut Workspace,
+    answer: &mut [u8; ANSWER],
 ) -> io::Result<()> {
-    let written = serve::book::print_card(text, answer);
-    rt.write_all(&answer[..written.length])
+    let written = print_card(text, limits, cells, literals, work, answer);
+    rt.write_all(answer.get(..written.length).unwrap_or(&[]))
 }
 
+// The tables stand before the arguments are read: behind the early return the compiler would build the workspace a second time, and the stack hold both.
 fn main(rt: HostRuntime) -> io::Result<()> {
     let mut room = [0u8; program::ROOM];
-    let mut answer = [0u8; answer_text::ANSWER];
+    let mut answer = [0u8; ANSWER];
+    let mut cells = [0u16; CELLS];
+    let mut literals = [0i16; LITERALS];
+    let mut work = Workspace::ZEROS;
+    let Some(limits) = arguments::limits(&rt, b"card")? else {
+        return Ok(());
+    };
     let text = program::read(&rt, &mut room);
-    print_card(&rt, text, &mut answer)
+    print_text(
+        &rt,
+        text,
+        limits,
+        &mut cells,
+        &mut literals,
+        &mut work,
+        &mut answer,
+    )
 }

@@ -1,3 +1,4 @@
+pub mod Ready
 pub mod Given
 pub mod Telling
 pub mod Serving

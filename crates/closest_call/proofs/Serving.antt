@@ -27,7 +27,7 @@ use Rattle.state.specs.Reading.{read_state, valid, prefix_in, formula_in, store_
 use Rattle.state.proofs.Valid.{valid_facts, valid_numbers}
 use Rattle.reading.specs.Reading.{QueryRead}
 use Rattle.reading.specs.Placed.{Placed}
-use Rattle.answers.proofs.Running.{formed}
+use Rattle.closest_call.proofs.Ready.{prefix_formed}
 use Rattle.serving.specs.Serves.{Said, said, said_with, said_reply, said_of, out_of, next_of, Serves}
 use Rattle.serving.proofs.Calls.{Passes, malformed, moved_on, unchanged}
 use Rattle.replies.specs.Replies.{card_said}
@@ -283,5 +283,5 @@ module _ (x : State) (v : valid x ≡ true) {on off : List Literal} {ok full : B
   pub given_lent : ok ≡ true → full ≡ true → (free end : ℕ) (start after : List ℕ) → free ≡ free_variables (prefix_in x) → end ≡ free + 1 → end ≤ length after → Placed values x.numbers free start after
       → take (end - 1) (drop 1 after) ≡ map byte_of (start_node on (prefix_in x))
   given_lent fine whole free end start after frees ends wide placed =
-      given_part paper (prefix_in x) (formed x v).prefix_ok x.numbers values (valid_numbers x v) (start_node on (prefix_in x)) (read.shown fine whole) (start_length on (prefix_in x)) free end start after frees ends
+      given_part paper (prefix_in x) (prefix_formed x v) x.numbers values (valid_numbers x v) (start_node on (prefix_in x)) (read.shown fine whole) (start_length on (prefix_in x)) free end start after frees ends
       (omega (arith, ends, wide)) placed

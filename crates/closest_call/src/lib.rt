@@ -22,6 +22,7 @@ use closest::Sought;
 use reading::Flags;
 use reading::placed::by_place;
 use refusal::Refusal;
+use search_entry::workspace::Workspace;
 
 // The answer: in how many variables the reading differs from the given one.
 #[derive(Clone, Copy)]
@@ -32,7 +33,7 @@ pub struct Nearest {
 }
 
 impl Nearest {
-    fn refused(refusal: Refusal, visits: u64) -> Nearest
+    pub fn refused(refusal: Refusal, visits: u64) -> Nearest
         ensures { (tb bytes : List ℕ) → nearest_said result.told result.lines result.visits tb bytes ≡ said (some (number_of refusal)) 0 0 visits tb }
     {
         Nearest {
@@ -54,7 +55,7 @@ impl Nearest {
 }
 
 // No reading: every byte is zero.
-fn clear_reading(reading: &mut [u8; tables::MOST_FREE])
+pub fn clear_reading(reading: &mut [u8; tables::MOST_FREE])
     ensures { reading.new ≡ zero_table most_free }
 {
     cover::clear(reading);
@@ -62,7 +63,7 @@ fn clear_reading(reading: &mut [u8; tables::MOST_FREE])
 
 // From the lines of the card, which the table holds. The reading is written over the first of the lent bytes.
 // stays (no plainer): `Sought` has the table with its lines, to be read; here the table is also cleared, where the card has no line
-fn on_lines<'a>(
+pub fn on_lines<'a>(
     table: &mut [u8],
     lines: usize,
     visits: u64,
@@ -104,6 +105,7 @@ fn on_lines<'a>(
 // on 2 for each free variable in place order, and all others are zero.
 pub fn closest(
     lent: &mut Searching<'_>,
+    work: &mut Workspace,
     asked: Asked<'_>,
     table: &mut [u8],
     reading: &mut [u8; tables::MOST_FREE],
@@ -146,7 +148,7 @@ pub fn closest(
         cover::clear(table);
         return Nearest::refused(Refusal::NotFree, 0);
     }
-    let listed = card_of(lent, table, true, asked.ceiling);
+    let listed = card_of(lent, work, table, true, asked.ceiling);
     let mut given = [tables::OPEN; tables::BY_NUMBER];
     by_place(&mut given, &values, numbers, free);
     match listed.lines {

@@ -15,7 +15,7 @@ use borrow.Author.Tests.{ltb-true}
 use mir.Syntax.{w16}
 use mir.Val.{SFits, to_z, of_z}
 use mir.Facts.{to_z-of_z}
-use Rattle.qbf.specs.Formula.{paper, Prefix, Literal, number_of, place, positive}
+use Rattle.qbf.specs.Formula.{highest, Prefix, Literal, number_of, place, positive}
 use Rattle.qbf.specs.Calls.{numbers_are_ok}
 use Rattle.theory.proofs.WellFormed.{inside}
 use Rattle.theory.proofs.Prefixes.{number_at, number_range}
@@ -44,7 +44,7 @@ module _ (D : Prefix) {l : Literal} {p : ℕ} (f : SFits w16 l) (is : p ≡ plac
   here = is ∙ ap (place D) (back f)
 
   -- a place past the numbers is none
-  pub code_none : paper.numbers < p → length D ≤ paper.numbers → 0 ≡ code_of D l
+  pub code_none : highest.numbers < p → length D ≤ highest.numbers → 0 ≡ code_of D l
   code_none h k = absurd (omega (arith, h, k, here, place_within D l))
 
   -- a negative literal
@@ -78,12 +78,12 @@ codes_all D cells lits i coded e = ap (λ (m : ℕ). take m cells) e ∙ coded �
 
 -- ---- the literal of a code
 -- small numbers and their negations by their bits
-module _ (n : ℕ) (small : n ≤ paper.numbers) where
+module _ (n : ℕ) (small : n ≤ highest.numbers) where
   -- a small number is read back
   pub on_back : to_z w16 n ≡ pos n
   on_back = to_z-of_z {w = w16} {z = pos n} (record { sfits = omega arith })
 
-  off_fits : (k : ℕ) → k ≤ paper.numbers → SFits w16 (neg_ℤ (pos k))
+  off_fits : (k : ℕ) → k ≤ highest.numbers → SFits w16 (neg_ℤ (pos k))
   off_fits zero h = record { sfits = omega arith }
   off_fits (suc k) h = record { sfits = omega arith }
 
@@ -108,18 +108,18 @@ signed_off (pos n) h = absurd (omega (arith, h))
 signed_off (negsuc n) h = refl
 
 -- n is what the table by place has for the place p of the code
-module _ (D : Prefix) (l : Literal) (ns : List ℕ) (shown : Numbers D ns) (ok : numbers_are_ok paper [] D ≡ true) {code : ℕ} (coded : code_of D l ≡ code) (some : 1 ≤ place D l)
+module _ (D : Prefix) (l : Literal) (ns : List ℕ) (shown : Numbers D ns) (ok : numbers_are_ok highest [] D ≡ true) {code : ℕ} (coded : code_of D l ≡ code) (some : 1 ≤ place D l)
     {p n : ℕ} (half : p ≡ code / 2) (read : n ≡ get_or ns p 0) where
   -- the place is the literal's
   is_place : p ≡ place D l
   is_place = half ∙ ap (λ (c : ℕ). c / 2) (sym coded) ∙ half_code (place D l) (positive l)
 
   -- the table has the literal's number there
-  by_place : (q : ℕ) → place D l ≡ q → 1 ≤ q → (get_or ns q 0 ≡ number_of l) × (number_of l ≤ paper.numbers)
+  by_place : (q : ℕ) → place D l ≡ q → 1 ≤ q → (get_or ns q 0 ≡ number_of l) × (number_of l ≤ highest.numbers)
   by_place zero e h = absurd (omega (arith, h))
   by_place (suc i) e h =
       let at = number_at D (number_of l) i e in
-      (shown.at i at.0 ∙ at.1, subst (λ (m : ℕ). m ≤ paper.numbers) at.1 (number_range paper D ok i at.0).1)
+      (shown.at i at.0 ∙ at.1, subst (λ (m : ℕ). m ≤ highest.numbers) at.1 (number_range highest D ok i at.0).1)
 
   -- so n is the literal's number
   is_number : n ≡ number_of l
@@ -130,13 +130,13 @@ module _ (D : Prefix) (l : Literal) (ns : List ℕ) (shown : Numbers D ns) (ok :
   is_sign = ap (λ (c : ℕ). c % 2) (sym coded) ∙ odd_code (place D l) (positive l)
 
   -- no variable has a number past the limit
-  pub literal_none : paper.numbers < n → {r : Literal} → r ≡ l
+  pub literal_none : highest.numbers < n → {r : Literal} → r ≡ l
   literal_none h = absurd (omega (arith, h, is_number, (by_place (place D l) refl some).1))
 
   -- an even code is of a negative literal
-  pub literal_off : n ≤ paper.numbers → code % 2 ≡ 0 → to_z w16 (of_z w16 (pos 0 -ℤ to_z w16 n)) ≡ l
+  pub literal_off : n ≤ highest.numbers → code % 2 ≡ 0 → to_z w16 (of_z w16 (pos 0 -ℤ to_z w16 n)) ≡ l
   literal_off h e = off_back n h ∙ ap (λ (m : ℕ). neg_ℤ (pos m)) is_number ∙ signed_off l (sym is_sign ∙ e)
 
   -- an odd one of a positive literal
-  pub literal_on : n ≤ paper.numbers → (code % 2 ≡ 0 → ⊥) → to_z w16 n ≡ l
+  pub literal_on : n ≤ highest.numbers → (code % 2 ≡ 0 → ⊥) → to_z w16 n ≡ l
   literal_on h e = on_back n h ∙ ap pos is_number ∙ signed_on l (λ z. e (is_sign ∙ z))

@@ -9,7 +9,7 @@ use mathlib.Core.List.{List, []}
 use mathlib.Core.Option.{some}
 use lib.ListN.{length, get_or, set, take, replicate, get_or-replicate, length-replicate, get_or-eq_default}
 use lib.Seq.{take-suc, length-take-le, take-length}
-use Rattle.qbf.specs.Formula.{paper, Quantifier, free, exists, forall, Prefix, Node, value_at, quantifier_at}
+use Rattle.qbf.specs.Formula.{highest, Quantifier, free, exists, forall, Prefix, Node, value_at, quantifier_at}
 use Rattle.qbf.specs.Card.{byte_of}
 use Rattle.qbf.specs.Calls.{numbers_are_ok}
 use Rattle.theory.proofs.Basics.{value_some, le_or_lt}
@@ -42,12 +42,12 @@ value_byte true = refl
 value_byte false = refl
 
 -- the value of the place after p, by its number
-pub value_by_number : (D : Prefix) (s : Node) (ns vs : List ℕ) → Numbers D ns → Values D s vs → numbers_are_ok paper [] D ≡ true
+pub value_by_number : (D : Prefix) (s : Node) (ns vs : List ℕ) → Numbers D ns → Values D s vs → numbers_are_ok highest [] D ≡ true
     → (p : ℕ) → p < length s → length s ≤ length D → get_or vs (get_or ns (p + 1) 0) 0 ≡ byte_of (get_or s p false)
 value_by_number D s ns vs numbered valued ok p h k =
     ap (λ (n : ℕ). get_or vs n 0) (ap (λ (q : ℕ). get_or ns q 0) (add-one p) ∙ numbered.at p (omega arith))
     ∙ valued.at (get_or (numbers D) p 0)
-    ∙ ap (λ (q : ℕ). value_code (value_at s q)) (place_of_number paper D ok p (omega arith))
+    ∙ ap (λ (q : ℕ). value_code (value_at s q)) (place_of_number highest D ok p (omega arith))
     ∙ ap value_code (value_some s p h)
     ∙ value_byte (get_or s p false)
 
@@ -65,7 +65,7 @@ statuses_all s t p shown e = subst (λ (u : Node). Statuses u t) (ap (λ (m : �
 -- the quantifiers of the first p places, and none after them
 pub record Filled (D : Prefix) (p : ℕ) (t : List ℕ) : Type 0 where
   pub low : (q : ℕ) (b : Bool) → q ≤ p → get_or t (code_at q b) 0 ≡ quantifier_code (quantifier_at D q)
-  pub high : (q : ℕ) (b : Bool) → p < q → q ≤ paper.numbers → get_or t (code_at q b) 0 ≡ 3
+  pub high : (q : ℕ) (b : Bool) → p < q → q ≤ highest.numbers → get_or t (code_at q b) 0 ≡ 3
 
 -- of no place: only the place of no variable counts as free
 pub filled_none : (D : Prefix) → Filled D 0 (set (set (replicate code_count 3) (code_at 0 false) 0) (code_at 0 true) 0)
@@ -74,22 +74,22 @@ filled_none D = record {
   high = λ q b h k. stored_other 0 0 0 (replicate code_count 3) q b (λ e. omega (arith, e, h)) ∙ get_or-replicate code_count (code_at q b) 3 0 (in_table q b k);
 }
   where
-    in_table : (q : ℕ) (b : Bool) → q ≤ paper.numbers → code_at q b < code_count
+    in_table : (q : ℕ) (b : Bool) → q ≤ highest.numbers → code_at q b < code_count
     in_table q true k = omega (arith, k)
     in_table q false k = omega (arith, k)
 
     zero_at : (q : ℕ) (b : Bool) → q ≤ 0 → get_or (set (set (replicate code_count 3) (code_at 0 false) 0) (code_at 0 true) 0) (code_at q b) 0 ≡ quantifier_code (quantifier_at D q)
-    zero_at zero true h = refl
-    zero_at zero false h = refl
+    zero_at zero true h = stored_positive 0 0 0 (replicate code_count 3) (in_table 0 true (omega arith))
+    zero_at zero false h = stored_negative 0 0 0 (replicate code_count 3) (in_table 0 true (omega arith))
     zero_at (suc q) b h = absurd (omega (arith, h))
 
 -- the quantifier of the place after p, by its number
-pub kind_by_number : (D : Prefix) (ns ks : List ℕ) → Numbers D ns → Kinds D ks → numbers_are_ok paper [] D ≡ true
+pub kind_by_number : (D : Prefix) (ns ks : List ℕ) → Numbers D ns → Kinds D ks → numbers_are_ok highest [] D ≡ true
     → (p : ℕ) → p < length D → get_or ks (get_or ns (p + 1) 0) 0 ≡ quantifier_code (quantifier_at D (p + 1))
 kind_by_number D ns ks numbered shown ok p h =
     ap (λ (n : ℕ). get_or ks n 0) (ap (λ (q : ℕ). get_or ns q 0) (add-one p) ∙ numbered.at p h)
     ∙ shown.at (get_or (numbers D) p 0)
-    ∙ ap (λ (q : ℕ). quantifier_code (quantifier_at D q)) (place_of_number paper D ok p h ∙ sym (add-one p))
+    ∙ ap (λ (q : ℕ). quantifier_code (quantifier_at D q)) (place_of_number highest D ok p h ∙ sym (add-one p))
 
 -- a quantifier's code
 kind_small : (κ : Quantifier) → quantifier_code κ ≤ 2
@@ -98,7 +98,7 @@ kind_small exists = omega arith
 kind_small forall = omega arith
 
 -- the place after p gets its quantifier r, which is what stands by its number if that is one
-pub filled_more : (D : Prefix) (ns ks : List ℕ) → Numbers D ns → Kinds D ks → numbers_are_ok paper [] D ≡ true
+pub filled_more : (D : Prefix) (ns ks : List ℕ) → Numbers D ns → Kinds D ks → numbers_are_ok highest [] D ≡ true
     → (p : ℕ) (t : List ℕ) → Filled D p t → p < length D → code_at (p + 1) true < length t
     → {r : ℕ} → (get_or ks (get_or ns (p + 1) 0) 0 ≤ 2 → r ≡ get_or ks (get_or ns (p + 1) 0) 0)
     → Filled D (p + 1) (set (set t (code_at (p + 1) false) r) (code_at (p + 1) true) r)

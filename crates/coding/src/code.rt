@@ -1,6 +1,6 @@
 // A literal's code, twice its place and one more where it is positive; and a code's literal.
 ghost use Rattle.std.specs.Prelude.{◌≡◌, Bool, true, not, [], ℕ, ◌/◌, ◌≤◌, ◌<◌, length, get_or, take};
-ghost use Rattle.qbf.specs.Formula.{paper, Prefix, Literal, place};
+ghost use Rattle.qbf.specs.Formula.{highest, Prefix, Literal, place};
 ghost use Rattle.qbf.specs.Calls.{numbers_are_ok};
 ghost use Rattle.tables.specs.Views.{Places, Numbers};
 ghost use Rattle.tables.specs.Codes.{code_at, code_of, codes, last_code};
@@ -40,10 +40,10 @@ pub fn cell<'a>(table: &'a [u8; tables::CODES], code: u16) -> u8
 // The code of a literal. A place past the numbers is no variable's; it gets the code 0.
 pub fn code_of<'a>(places: &'a [u16], lit: i16) -> u16
     ensures { (result < code_count)
-        × ((D : Prefix) → Places D places.now → length D ≤ paper.numbers → result ≡ code_of D lit) }
+        × ((D : Prefix) → Places D places.now → length D ≤ highest.numbers → result ≡ code_of D lit) }
 {
     let place = literal_place(places, lit);
-    if tables::NUMBERS < place {
+    if tables::HIGHEST_NUMBERS < place {
         return 0;
     }
     if lit < 0 {
@@ -59,7 +59,7 @@ pub fn encode(cells: &mut [u16], lits: &[i16], places: &[u16])
         × ((n : ℕ) → n ≤ length lits.now → last_code (take n cells.new) < code_count)
         × ((D : Prefix)
         → Places D places.now
-        → length D ≤ paper.numbers
+        → length D ≤ highest.numbers
         → take (length lits.now) cells.new ≡ codes D lits.now) }
 {
     // stays (proof): with `cells.iter_mut().zip(lits)` the goal `returns` stays open: of a loop over a zip a proof knows what its iterator gave, and not what
@@ -74,14 +74,14 @@ pub fn encode(cells: &mut [u16], lits: &[i16], places: &[u16])
 pub fn literal_of<'a>(numbers: &'a [u16], code: u16) -> i16
     ensures { (D : Prefix) (l : Literal)
         → Numbers D numbers.now
-        → numbers_are_ok paper [] D ≡ true
+        → numbers_are_ok highest [] D ≡ true
         → code_of D l ≡ code
         → 1 ≤ place D l
         → result ≡ l }
 {
     let place = place_of(code);
     let number = cell_at(numbers, place);
-    if (tables::NUMBERS as u16) < number {
+    if (tables::HIGHEST_NUMBERS as u16) < number {
         return 0;
     }
     if code % 2 == 0 {

@@ -1,6 +1,6 @@
 // The status of every code at a node: a place that gets a value changes two cells.
 ghost use Rattle.std.specs.Prelude.{◌≡◌, true, false, [], ◌≤◌, length, get_or, set};
-ghost use Rattle.qbf.specs.Formula.{paper, Prefix, Node};
+ghost use Rattle.qbf.specs.Formula.{highest, Prefix, Node};
 ghost use Rattle.qbf.specs.Calls.{numbers_are_ok};
 ghost use Rattle.tables.specs.Views.{Numbers, Values};
 ghost use Rattle.tables.specs.Codes.{code_at, Statuses, given};
@@ -15,10 +15,10 @@ pub struct Was {
 }
 
 // The variable of a place is given a value.
-// stays (no plainer): `usize ≤ paper.numbers` is asked of a place alone, whose two codes are indices here: `literal::Place` is of any limit and keeps no fact; a struct of one number that
+// stays (no plainer): `usize ≤ highest.numbers` is asked of a place alone, whose two codes are indices here: `literal::Place` is of any limit and keeps no fact; a struct of one number that
 // did would be made at each call and opened at the index
 pub fn give(statuses: &mut [u8; tables::CODES], place: usize, value: u8) -> Was
-    requires { place ≤ paper.numbers }
+    requires { place ≤ highest.numbers }
     ensures { (statuses.new ≡ given place value statuses.old)
         × (result.negative ≡ get_or statuses.old (code_at place false) 0)
         × (result.positive ≡ get_or statuses.old (code_at place true) 0) }
@@ -36,7 +36,7 @@ pub fn give(statuses: &mut [u8; tables::CODES], place: usize, value: u8) -> Was
 
 // .. which is taken back.
 pub fn restore(statuses: &mut [u8; tables::CODES], place: usize, was: Was)
-    requires { place ≤ paper.numbers }
+    requires { place ≤ highest.numbers }
     ensures { statuses.new
         ≡ set (set statuses.old (code_at place false) was.negative) (code_at place true) was.positive }
 {
@@ -52,24 +52,28 @@ fn value_at<'a>(numbers: &'a [u16], values: &'a [u8], place: usize) -> u8
     byte_at(values, number)
 }
 
-// The statuses at the node whose values by number are given: the first `at` places have them.
-// stays (no plainer): `usize ≤ paper.numbers` is of one number that says how far a table is read; a type for it would be taken off at that table
-pub fn statuses_of<'a>(numbers: &'a [u16], values: &'a [u8], at: usize) -> [u8; tables::CODES]
-    requires { at ≤ paper.numbers }
+// The statuses at the node whose values by number are given: the first `at` places have them. The table's content before is free.
+// stays (no plainer): `usize ≤ highest.numbers` is of one number that says how far a table is read; a type for it would be taken off at that table
+pub fn statuses_of<'a>(
+    numbers: &'a [u16],
+    values: &'a [u8],
+    at: usize,
+    statuses: &mut [u8; tables::CODES],
+)
+    requires { at ≤ highest.numbers }
     ensures { (D : Prefix) (s : Node)
         → Numbers D numbers.now
         → Values D s values.now
-        → numbers_are_ok paper [] D ≡ true
+        → numbers_are_ok highest [] D ≡ true
         → length s ≡ at
         → length s ≤ length D
-        → Statuses s result }
+        → Statuses s statuses.new }
 {
-    let mut statuses = [tables::OPEN; tables::CODES];
+    *statuses = [tables::OPEN; tables::CODES];
     // stays (no plainer): a chain is `numbers.iter().enumerate().skip(1).take(at)`, three steps and a pair for a range and an accessor by place
     for i in 0..at {
         let place = i + 1;
         let value = value_at(numbers, values, place);
-        give(&mut statuses, place, value);
+        give(statuses, place, value);
     }
-    statuses
 }

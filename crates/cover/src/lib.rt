@@ -4,7 +4,7 @@
 #![tactic(auto)]
 
 ghost use Rattle.std.specs.Prelude.{◌≡◌, Bool, List, [], ◌∷◌, ◌++◌, suc, ◌+◌, ◌*◌, ◌≤◌, ◌<◌, length, drop, leb};
-ghost use Rattle.qbf.specs.Formula.{Node, ◌▹◌, paper};
+ghost use Rattle.qbf.specs.Formula.{Node, ◌▹◌, highest};
 ghost use Rattle.qbf.specs.Card.{byte_of, zero_table};
 ghost use Rattle.tables.specs.Codes.{Statuses};
 ghost use Rattle.cover.specs.Cover.{Covers, first_bytes};
@@ -38,7 +38,7 @@ pub fn fits(size: usize, lines: CardLines) -> bool
 // next. The later places are open, and the free row has zeros there.
 fn write_line(row: &mut [u8], statuses: &[u8; tables::CODES], k: usize, value: u8)
     requires k_in_bounds { k < length row.old }
-    requires k_lt_numbers { k < paper.numbers }
+    requires k_lt_numbers { k < highest.numbers }
     ensures { row.new ≡ first_bytes statuses.now k ++ (value ∷ drop (suc k) row.old) }
 {
     // stays (proof): over `row[..k].iter_mut().zip(statuses[3..].iter().step_by(2))` the goal `returns` stops at the first k bytes: of a loop over a zip a proof
@@ -57,7 +57,7 @@ pub fn push_line(
     k: usize,
     value: u8,
 )
-    requires free_le_numbers { lines.free ≤ paper.numbers }
+    requires free_le_numbers { lines.free ≤ highest.numbers }
     requires k_lt_free { k < lines.free }
     ensures table_len_unchanged { length table.new ≡ length table.old }
     ensures covers { (s : Node) (b : Bool) (ls : List Node)

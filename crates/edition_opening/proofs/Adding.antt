@@ -76,7 +76,6 @@ module _ (z : EditionBook) (lits : List ℤ) where
           record {
             read = next_read ∙ ap (λ (b : Formula). some (fresh b)) (sym formula_after);
             reached = record {
-              few = omega arith;
               facts = subst FormulaFacts (ap (λ (o : Option ℕ). with_one o (formula_in x) lits) fine ∙ sym formula_after) (one_formed (formula_in x) z.book.stands.reached.facts lits);
               no_variables = λ h. absurd (omega (arith, h));
               no_clauses = λ h. absurd (omega (arith, h));

@@ -12,7 +12,7 @@ use Rattle.qbf.specs.One.{one_count}
 use Rattle.qbf.specs.Calls.{given, literal_fault}
 use Rattle.layout.specs.Words.{Bytes, newline, split}
 use Rattle.layout.specs.Forms.{book, block, clause, end}
-use Rattle.layout.specs.Opening.{allowed, stage_after, variable, declare_fault, Opened, refused, opened, at_end, empty_formula, text_bytes}
+use Rattle.layout.specs.Opening.{allowed, stage_after, variable, crowded, declare_fault, Opened, refused, opened, at_end, empty_formula, text_bytes}
 use Rattle.serving.proofs.Numbered.{Numbered}
 use Rattle.opening.specs.declared.Opened.{Opened as Answer}
 use Rattle.opening.specs.Opened.{OpenedAs}
@@ -25,7 +25,7 @@ declare_numbered : (L : Limits) (κ : Quantifier) (D : Prefix) (ns : List ℕ) �
 declare_numbered L κ D [] = tt
 declare_numbered L κ D (n ∷ ns) =
     numbered_given (eqb n 0 || ltb L.numbers n) 2 _
-    (numbered_given (not (eqb (place_of D n) 0)) 3 _ (declare_numbered L κ (D ++ (variable κ n ∷ [])) ns))
+    (numbered_given (not (eqb (place_of D n) 0)) 3 _ (numbered_given (crowded κ D) 32 _ (declare_numbered L κ (D ++ (variable κ n ∷ [])) ns)))
 
 literals_numbered : (L : Limits) (D : Prefix) (seen : List ℕ) (ls : List Literal) → Numbered (literal_fault L D seen ls)
 literals_numbered L D seen [] = tt

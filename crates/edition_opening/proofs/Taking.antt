@@ -91,7 +91,7 @@ far a e h = by (accepted a e) refl
     by false q = refl
 
 -- an edition is taken or not as it is narrowed
-same_taken : (a : Accepted) (e : ℕ) → accepted a (narrow e) ≡ accepted a e
+pub same_taken : (a : Accepted) (e : ℕ) → accepted a (narrow e) ≡ accepted a e
 same_taken a e = by (accepted a (narrow e)) refl
   where
     by : (t : Bool) → accepted a (narrow e) ≡ t → accepted a (narrow e) ≡ accepted a e

@@ -16,7 +16,7 @@ use refusal::Refusal;
 use state::State;
 
 mod book;
-mod rule;
+pub mod rule;
 
 // The editions that a reader takes.
 #[derive(Clone, Copy)]
@@ -38,7 +38,8 @@ impl Editions {
         }
     }
 
-    fn edition(self, number: usize) -> Result<Edition, Refusal>
+    // .. by its number
+    pub fn edition(self, number: usize) -> Result<Edition, Refusal>
         ensures { EditionRead (accepted self) number result }
     {
         let edition = match number {

@@ -1,7 +1,6 @@
 // A rule of either edition. "In edition 2 every rule form has a tag in front of its literals", in edition 1 none.
 ghost use Rattle.std.specs.Prelude.{◌≡◌, leb, length};
 ghost use Rattle.std.proofs.Math.Option.{some};
-ghost use Rattle.qbf.specs.Formula.{paper};
 ghost use Rattle.qbf.specs.Calls.{given, ◌or_else◌};
 ghost use Rattle.state.specs.Reading.{formula_in};
 ghost use Rattle.refusal.specs.Refusal as refusal_numbers;
@@ -25,17 +24,17 @@ fn rules_in(x: State) -> usize
     cell_at(&x.clause_sizes, 0) as usize
 }
 
-fn out_of_range(tag: u32) -> bool
+pub fn out_of_range(tag: u32) -> bool
     ensures { result ≡ out_of_range tag }
 {
     tag == 0 || LAST_TAG < tag
 }
 
-// "a tag out of range is 39, after 20 and before 7": its refusal where so many rules stand.
-fn tag_fault(rules: usize) -> Refusal
-    ensures { some (refusal_numbers.number_of result) ≡ (given (leb paper.clauses rules) 20 or_else some 39) }
+// "a tag out of range is 39, after 20 and before 7": its refusal where so many rules stand, and at most so many may.
+pub fn tag_fault(rules: usize, most: usize) -> Refusal
+    ensures { some (refusal_numbers.number_of result) ≡ (given (leb most rules) 20 or_else some 39) }
 {
-    if tables::CLAUSES <= rules {
+    if most <= rules {
         return Refusal::RulesFull;
     }
     Refusal::TagRange
@@ -59,7 +58,7 @@ impl EditionBook {
         }
         self.book.stage.place(Stage::Rule)?;
         if out_of_range(tag) {
-            return Err(tag_fault(rules_in(self.book.state)));
+            return Err(tag_fault(rules_in(self.book.state), tables::CLAUSES));
         }
         self.keep(self.book.take_rule(lits))
     }

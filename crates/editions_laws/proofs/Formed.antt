@@ -8,14 +8,14 @@ use native.Mathlib.Omega.{arith}
 use lib.ListN.{length}
 use lib.Dec.{eqb, leb, ltb}
 use Rattle.qbf.specs.Formula.{Limits, Formula}
-use Rattle.qbf.specs.Calls.{given, rule_fault, with_one, ◌or_else◌, formula_is_ok, well_formed}
+use Rattle.qbf.specs.Calls.{given, rule_fault, with_one, ◌or_else◌, limits_are_ok, formula_is_ok, well_formed}
 use Rattle.qbf.specs.Runs.{fresh}
 use Rattle.theory.proofs.AcceptedRule.{given_none}
 use Rattle.theory.proofs.OneAdded.{one_formed}
 use Rattle.theory.proofs.WellFormed.{FormulaFacts, facts_formula}
 use Rattle.layout.specs.Words.{Bytes, newline, split}
 use Rattle.layout.specs.Forms.{Form, book, block, clause, end}
-use Rattle.layout.specs.Opening.{allowed, stage_after, Opened, opened, at_end, empty_formula, opening_ok}
+use Rattle.layout.specs.Opening.{allowed, stage_after, Opened, opened, at_end, empty_formula}
 use Rattle.layout.specs.Opening as own
 use Rattle.layout_laws.proofs.Opened.{Reached, line_reached, reached_none, fresh_formed}
 use Rattle.editions.specs.Lines.{Line, says, tagged, one, line_of}
@@ -46,7 +46,7 @@ line_formed a e stage b f i z = by f z
         let w = order (tagged k ls) z in
         let t = given_none (leb b.limits.clauses (length b.clauses)) 20 (given (eqb k 0 || ltb 65535 k) 39 or_else rule_fault b ls) w.1 in
         as_form (clause ls) w.0 (given_none (eqb k 0 || ltb 65535 k) 39 (rule_fault b ls) t.1).1
-    by (one ls) z = record { few = i.few; facts = subst (λ (o : Option ℕ). FormulaFacts (with_one o b ls)) (order (one ls) z).1 (one_formed b i.facts ls); no_variables = λ h. absurd (omega arith); no_clauses = λ h. absurd (omega arith) }
+    by (one ls) z = record { facts = subst (λ (o : Option ℕ). FormulaFacts (with_one o b ls)) (order (one ls) z).1 (one_formed b i.facts ls); no_variables = λ h. absurd (omega arith); no_clauses = λ h. absurd (omega arith) }
 
 -- ---- the text
 at_end_lem : (n : ℕ) (b : Formula) (ls : List Bytes) (c : Formula) → at_end n b ls ≡ opened c → b ≡ c
@@ -79,7 +79,7 @@ lines_formed a n e stage b (l ∷ m ∷ ls) c i z = by (line_of l) z (λ x s y. 
         let r = last f (is_end f) (line_formed a e stage b f i w.0) w.1 ih in
         (r.0, r.1 ∙ (line_grows b f).1)
 
-module _ (a : Editions) (L : Limits) (room : opening_ok L ≡ true) (s : Bytes) (b : Formula) (e : open_editions a L s ≡ opened b) where
+module _ (a : Editions) (L : Limits) (room : limits_are_ok L ≡ true) (s : Bytes) (b : Formula) (e : open_editions a L s ≡ opened b) where
   facts : FormulaFacts b × (b.limits ≡ L)
   facts = lines_formed a 1 0 0 (empty_formula L) (split newline s) b (reached_none L room) (fits_text a L s b e).1
 

@@ -6,7 +6,7 @@ use native.Mathlib.Omega.{arith}
 use lib.IntN.{ℤ, pos, negsuc, neg_ℤ, ◌-ℤ◌, +ℤ_idl}
 use mir.Syntax.{w16}
 use mir.Val.{SFits, to_z, of_z}
-use Rattle.qbf.specs.Formula.{number_of, paper}
+use Rattle.qbf.specs.Formula.{number_of, highest}
 use Rattle.qbf.specs.One.{both_negated}
 use Rattle.literal.proofs.Signed.{back}
 
@@ -28,18 +28,18 @@ module _ {z : ℤ} (f : SFits w16 z) where
     negation_fits = subst (SFits w16) (sym is) fits
 
 -- ---- a pair, both negated: the bits of what `negation` answers
-negated_back : {l : ℤ} → SFits w16 l → {a : ℤ} → (number_of (to_z w16 (of_z w16 l)) ≤ paper.numbers → a ≡ neg_ℤ (to_z w16 (of_z w16 l))) → number_of l ≤ paper.numbers → to_z w16 (of_z w16 a) ≡ neg_ℤ l
+negated_back : {l : ℤ} → SFits w16 l → {a : ℤ} → (number_of (to_z w16 (of_z w16 l)) ≤ highest.numbers → a ≡ neg_ℤ (to_z w16 (of_z w16 l))) → number_of l ≤ highest.numbers → to_z w16 (of_z w16 a) ≡ neg_ℤ l
 negated_back {l} f {a} e h = ap (λ (y : ℤ). to_z w16 (of_z w16 y)) is ∙ back (small l h)
   where
     is : a ≡ neg_ℤ l
-    is = e (subst (λ (y : ℤ). number_of y ≤ paper.numbers) (sym (back f)) h) ∙ ap neg_ℤ (back f)
+    is = e (subst (λ (y : ℤ). number_of y ≤ highest.numbers) (sym (back f)) h) ∙ ap neg_ℤ (back f)
 
-    small : (z : ℤ) → number_of z ≤ paper.numbers → SFits w16 (neg_ℤ z)
+    small : (z : ℤ) → number_of z ≤ highest.numbers → SFits w16 (neg_ℤ z)
     small (pos zero) h = record { sfits = omega arith }
     small (pos (suc n)) h = record { sfits = omega (arith, h) }
     small (negsuc n) h = record { sfits = omega (arith, h) }
 
-pub pair_is : {l m : ℤ} → SFits w16 l → SFits w16 m → {a b : ℤ} → (number_of (to_z w16 (of_z w16 l)) ≤ paper.numbers → a ≡ neg_ℤ (to_z w16 (of_z w16 l)))
-    → (number_of (to_z w16 (of_z w16 m)) ≤ paper.numbers → b ≡ neg_ℤ (to_z w16 (of_z w16 m))) → number_of l ≤ paper.numbers → number_of m ≤ paper.numbers
+pub pair_is : {l m : ℤ} → SFits w16 l → SFits w16 m → {a b : ℤ} → (number_of (to_z w16 (of_z w16 l)) ≤ highest.numbers → a ≡ neg_ℤ (to_z w16 (of_z w16 l)))
+    → (number_of (to_z w16 (of_z w16 m)) ≤ highest.numbers → b ≡ neg_ℤ (to_z w16 (of_z w16 m))) → number_of l ≤ highest.numbers → number_of m ≤ highest.numbers
     → to_z w16 (of_z w16 a) ∷ to_z w16 (of_z w16 b) ∷ [] ≡ both_negated l m
 pair_is f g e d h k = λ i. negated_back f e h i ∷ negated_back g d k i ∷ []

@@ -3,12 +3,12 @@
 #![tactic(auto)]
 
 ghost use Rattle.std.specs.Prelude.{◌≡◌, ◌+◌, ◌≤◌, neg_ℤ, length, get_or};
-ghost use Rattle.qbf.specs.Formula.{paper, number_of};
+ghost use Rattle.qbf.specs.Formula.{paper, highest, number_of};
 ghost use Rattle.qbf.specs.One.{pairs_with, pairs, one_forms, one_count};
-ghost use Rattle.rule_rows.specs.Accepted.{Named};
-ghost use Rattle.rule_rows.specs.Lent.{AddedTo, AcceptedTo};
+ghost use Rattle.tables.specs.Views.{Table};
+ghost use Rattle.rule_rows.specs.Accepted.{Named, Added};
+ghost use Rattle.rule_rows.specs.Lent.{AddedTo};
 
-use rule_rows::cells::clear;
 use rule_rows::standing::{Clauses, Rule};
 
 // The one literal whose negation is not a signed 16-bit number.
@@ -16,7 +16,7 @@ const LEAST: i16 = -32768;
 
 // The negation of a variable's literal.
 fn negation(lit: i16) -> i16
-    ensures { number_of lit ≤ paper.numbers → result ≡ neg_ℤ lit }
+    ensures { number_of lit ≤ highest.numbers → result ≡ neg_ℤ lit }
 {
     if lit == LEAST {
         return lit;
@@ -26,9 +26,9 @@ fn negation(lit: i16) -> i16
 
 // The pairs of a literal and each later one.
 // stays (no plainer): `Named` is of the literals behind one of them, another slice at each turn: a type of them would be made anew, with a proof, at each
-fn add_pairs_with(rows: &mut Clauses<'_>, lit: i16, rest: &[i16], places: &[u16; tables::BY_NUMBER])
-    requires { (get_or rows.old.sizes.now 0 0 + length (pairs_with lit rest.now) ≤ paper.clauses)
-        × (number_of lit ≤ paper.numbers)
+fn add_pairs_with(rows: &mut Clauses<'_>, lit: i16, rest: &[i16], places: &[u16])
+    requires { (get_or rows.old.sizes.now 0 0 + length (pairs_with lit rest.now) ≤ rows.old.most)
+        × (number_of lit ≤ highest.numbers)
         × Named rest.now }
     ensures { AddedTo rows.old (pairs_with lit rest.now) places.now rows.new }
 {
@@ -39,8 +39,8 @@ fn add_pairs_with(rows: &mut Clauses<'_>, lit: i16, rest: &[i16], places: &[u16;
     }
 }
 
-fn add_pairs(rows: &mut Clauses<'_>, lits: &[i16], places: &[u16; tables::BY_NUMBER])
-    requires { (get_or rows.old.sizes.now 0 0 + length (pairs lits.now) ≤ paper.clauses)
+fn add_pairs(rows: &mut Clauses<'_>, lits: &[i16], places: &[u16])
+    requires { (get_or rows.old.sizes.now 0 0 + length (pairs lits.now) ≤ rows.old.most)
         × Named lits.now }
     ensures { AddedTo rows.old (pairs lits.now) places.now rows.new }
 {
@@ -50,26 +50,35 @@ fn add_pairs(rows: &mut Clauses<'_>, lits: &[i16], places: &[u16; tables::BY_NUM
     }
 }
 
-// "All of its rules are added"; "all passes go and bars remain"
-// stays (no plainer): of the cubes' sizes only the count is set, and the table that they measure is not lent
-pub fn accept_one(
-    rows: &mut Clauses<'_>,
-    cube_sizes: &mut [u16; tables::CONSTRAINT_SIZES],
-    rule: Rule<'_>,
-    places: &[u16; tables::BY_NUMBER],
-)
-    requires { (get_or rows.old.sizes.now 0 0 + one_count (length rule.lits.now) ≤ paper.clauses)
+// "the rule of all its literals, then one rule for each pair"
+// stays (no plainer): `Named Rule.lits` is asked of a form alone; a struct of a form's literals would be a rule's with this one fact more, made of it at each of the three
+fn add_form(rows: &mut Clauses<'_>, rule: Rule<'_>, places: &[u16])
+    requires { (get_or rows.old.sizes.now 0 0 + one_count (length rule.lits.now) ≤ rows.old.most)
         × Named rule.lits.now }
-    ensures { AcceptedTo
-        rows.old
-        (one_forms rule.entry.lits.now)
-        places.now
-        cube_sizes.old
-        rows.new
-        cube_sizes.new }
+    ensures { AddedTo rows.old (one_forms rule.entry.lits.now) places.now rows.new }
 {
     let lits = rule.lits;
     rows.add(rule, places);
     add_pairs(rows, lits, places);
-    clear(cube_sizes);
+}
+
+// "All of its rules are added", to the tables as they are lent.
+// stays (no plainer): as `rule_rows::clauses::add_rule`
+// stays (no plainer): `usize ≤ highest.clauses` is of a state's limit, which `Layout` keeps; the rows alone are lent here, and know no layout
+pub fn add_one(most: usize, cells: &mut [i16], sizes: &mut [u16], rule: Rule<'_>, places: &[u16])
+    requires { (most ≤ highest.clauses)
+        × Table paper.literals most cells.old sizes.old
+        × (get_or sizes.old 0 0 + one_count (length rule.lits.now) ≤ most)
+        × Named rule.lits.now }
+    ensures { Added
+        most
+        cells.old
+        sizes.old
+        (one_forms rule.entry.lits.now)
+        places.now
+        cells.new
+        sizes.new }
+{
+    let mut rows = Clauses { most, cells, sizes };
+    add_form(&mut rows, rule, places);
 }

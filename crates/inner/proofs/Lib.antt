@@ -3,3 +3,4 @@ pub mod LastLiteral
 pub mod Lookups
 pub mod Stepping
 pub mod Conclusions
+pub mod Frees

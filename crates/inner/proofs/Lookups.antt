@@ -2,13 +2,13 @@
 use Prim.Native.Nat.{ℕ, zero, suc, ◌+◌, ◌*◌, ◌%◌, ◌≤◌}
 use native.Mathlib.Omega.{arith}
 use native.Mathlib.Numerals.{add-one}
-use mathlib.Core.Path.{◌≡◌, refl, sym, ap, subst, ◌∙◌}
+use mathlib.Core.Path.{◌≡◌, refl, sym, ap, ◌∙◌}
 use mathlib.Core.Bool.{Bool, true, false, not, beq, true≢false}
 use mathlib.Core.List.{List, [], ◌∷◌, map}
 use mathlib.Core.Option.{Option, none, some}
 use lib.Dec.{eqb}
 use lib.ListN.{length, take, drop}
-use Rattle.qbf.specs.Formula.{paper, Prefix, Node, value_at}
+use Rattle.qbf.specs.Formula.{highest, Prefix, Node, value_at}
 use Rattle.qbf.specs.Learning.{Constraint, eligible_match}
 use Rattle.tables.specs.Codes.{code_at, codes, wanted, Statuses}
 use Rattle.tables.specs.Shelves.{length_at, row_at, first_match}
@@ -63,10 +63,10 @@ take_again (suc n) [] = refl
 take_again (suc n) (x ∷ xs) = ap {B = List ℕ} (λ ys. x ∷ ys) (take_again n xs)
 
 -- the row of a slot
-pub row_part : (cells : List ℕ) (slot : ℕ) (row : List ℕ) → row ≡ row_at paper.numbers cells slot
-    → take (length row) (drop (slot * suc paper.numbers + 1) cells) ≡ row
+pub row_part : (cells : List ℕ) (slot : ℕ) (row : List ℕ) → row ≡ row_at highest.numbers cells slot
+    → take (length row) (drop (slot * suc highest.numbers + 1) cells) ≡ row
 row_part cells slot row is =
-    ap (λ (x : List ℕ). take (length x) (drop (slot * suc paper.numbers + 1) cells)) is
-    ∙ ap (λ (j : ℕ). take (length (row_at paper.numbers cells slot)) (drop j cells)) (add-one (slot * suc paper.numbers))
-    ∙ take_again (length_at paper.numbers cells slot) (drop (suc (slot * suc paper.numbers)) cells)
+    ap (λ (x : List ℕ). take (length x) (drop (slot * suc highest.numbers + 1) cells)) is
+    ∙ ap (λ (j : ℕ). take (length (row_at highest.numbers cells slot)) (drop j cells)) (add-one (slot * suc highest.numbers))
+    ∙ take_again (length_at highest.numbers cells slot) (drop (suc (slot * suc highest.numbers)) cells)
     ∙ sym is

@@ -11,17 +11,14 @@ use mathlib.Core.Option.{none, some}
 use lib.ListN.{length, get_or, set, take, drop}
 use lib.Seq.{get_or-set_other}
 use lib.Dec.{eqb}
-use Rattle.qbf.specs.Formula.{paper, Clause, Formula, Node, Prefix, all, quantifiers, satisfied, value_at}
+use Rattle.qbf.specs.Formula.{highest, Clause, Formula, Node, Prefix, all, satisfied, value_at}
 use Rattle.qbf.specs.Learning.{Store, lowest_dead, implicant, reduce, reduced_found}
 use Rattle.qbf.specs.Card.{Mem}
-use Rattle.qbf.specs.Calls.{free_first, numbers_are_ok}
 use Rattle.theory.proofs.Game.{Rising}
-use Rattle.theory.proofs.Basics.{and_left}
 use Rattle.theory.proofs.WellFormed.{FormulaFacts, clauses_rising}
-use Rattle.theory.proofs.Widths.{free_fits}
 use Rattle.bitset.specs.Rows.{Unites, least_below, outside, some_below, width}
 use Rattle.tables.specs.Codes.{code_at, codes, sign, Statuses}
-use Rattle.tables.specs.Formed.{Formed}
+use Rattle.inner.specs.Formed.{Formed}
 use Rattle.tables.specs.Shelves.{code_count}
 use Rattle.tables.specs.Matrices.{MatrixShown, clause_row, dying_at, left_at, row_words}
 use Rattle.tables.specs.Sets.{ClauseSets, Descended, MarkedSteps, RowsKept, dying_row, marked_from, satisfying_row}
@@ -31,15 +28,15 @@ use Rattle.clause_sets.proofs.Unions.{unites_step}
 use Rattle.inner.specs.Inner.{Entered, Inside, LastGiven}
 use Rattle.inner.proofs.LastLiteral.{last_value}
 
--- the formula is well formed: with numbers to 40, no more variables can be free
+-- the formula is well formed under the highest limits
 abbrev pub formula_of : Prefix → List Clause → Formula
-formula_of D R = record { limits = paper; prefix = D; clauses = R }
+formula_of D R = record { limits = highest; prefix = D; clauses = R }
 
 pub facts : {D : Prefix} {R : List Clause} {st : Store} → Formed D R st → FormulaFacts (formula_of D R)
-facts {D} h = record {
+facts h = record {
   limits_ok = refl;
   prefix_ok = h.prefix_ok;
-  free_ok = free_fits paper (omega arith) D (and_left (numbers_are_ok paper [] D) (free_first (quantifiers D)) h.prefix_ok);
+  free_ok = h.free_ok;
   clauses_ok = h.clauses_ok;
 }
 
@@ -60,9 +57,9 @@ module _ {at code wc : ℕ} (h : Inside at code wc) where
   twice : code * 2 + 2 ≤ code_count * 2
   twice = omega (arith, h.small)
 
-  pub rows_room : at * wc + wc ≤ suc paper.numbers * row_words
+  pub rows_room : at * wc + wc ≤ suc highest.numbers * row_words
   rows_room =
-      let m : suc at * wc ≤ suc paper.numbers * row_words = mul-le-mul {n₁ = suc at} {m₁ = wc} {n₂ = suc paper.numbers} {m₂ = row_words} (omega (arith, h.within)) h.words.few in
+      let m : suc at * wc ≤ suc highest.numbers * row_words = mul-le-mul {n₁ = suc at} {m₁ = wc} {n₂ = suc highest.numbers} {m₂ = row_words} (omega (arith, h.within)) h.words.few in
       omega (arith, m, suc-mul at wc)
 
 -- ---- the clause that dies, and its row

@@ -1,12 +1,12 @@
 -- What steps 1 to 4 say at an inner node, with the constraint as codes in the tables, by its bounds.
 use Rattle.std.specs.Prelude.{ℕ, suc, ◌-◌, ◌*◌, ◌≤◌, ◌<◌, ◌≡◌, Bool, true, false, List, length, take, eqb}
 use Rattle.std.proofs.Math.Option.{Option, none, some}
-use Rattle.qbf.specs.Formula.{paper, Prefix, Clause, Node, value_at}
+use Rattle.qbf.specs.Formula.{highest, Prefix, Clause, Node, value_at}
 use Rattle.qbf.specs.Truth.{Outcome, decided}
 use Rattle.qbf.specs.Learning.{Constraint, Store, leaf, first_dead}
 use Rattle.bitset.specs.Rows.{outside}
 use Rattle.tables.specs.Codes.{code_at, codes, Statuses, Quantified}
-use Rattle.tables.specs.Formed.{Formed}
+use Rattle.inner.specs.Formed.{Formed}
 use Rattle.tables.specs.Shelves.{code_count, StoreShown}
 use Rattle.tables.specs.Matrices.{MatrixShown, RowLength}
 use Rattle.tables.specs.Sets.{Descended, dying_row}
@@ -39,7 +39,7 @@ pub record LastGiven (s : Node) (at code : ℕ) : Type 0 where
 -- what the rows of clauses are read by: the place and the code of the value given last, and the words of a row
 pub record Inside (at code wc : ℕ) : Type 0 where
   pub inner : 1 ≤ at
-  pub within : at ≤ paper.numbers
+  pub within : at ≤ highest.numbers
   pub small : code < code_count
   pub words : RowLength wc
 

@@ -1,2 +1,3 @@
+pub mod Formed
 pub mod Steps
 pub mod Inner

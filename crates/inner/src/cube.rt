@@ -1,24 +1,24 @@
 // Step 3, second half: "The pass has from each rule its true literal of smallest place, reduced": the true literals of the marked places, in place order.
 ghost use Rattle.std.specs.Prelude.{◌≡◌, true, cond, List, [], ◌∷◌, ◌++◌, ◌+◌, ◌≤◌, ◌<◌, eqb, length, take};
-ghost use Rattle.qbf.specs.Formula.{paper, Prefix, Clause, Node, all, satisfied};
+ghost use Rattle.qbf.specs.Formula.{highest, Prefix, Clause, Node, all, satisfied};
 ghost use Rattle.qbf.specs.Learning.{Store, implicant, reduce};
 ghost use Rattle.tables.specs.Codes.{codes, Statuses, Quantified};
-ghost use Rattle.tables.specs.Formed.{Formed};
+ghost use Rattle.inner.specs.Formed.{Formed};
 ghost use Rattle.tables.specs.Sets.{MarkedSteps, marked_from};
 
 use crate::found::true_at;
 use coding::list::reduced_len;
 
-// stays (no plainer): `usize ≤ paper.numbers` is asked of a place alone: `Given` and `Depth` keep more than that, a code or a row's words, and `literal::Place` is of any limit and keeps
+// stays (no plainer): `usize ≤ highest.numbers` is asked of a place alone: `Given` and `Depth` keep more than that, a code or a row's words, and `literal::Place` is of any limit and keeps
 // no fact; a struct of one number that did would be made at each call and opened at the index
 // The true literals of the marked places among the first `at`, in place order.
 fn marked_codes<'a>(
-    marks: &'a [u8; tables::BY_NUMBER],
+    marks: &'a [u8; tables::HIGHEST_BY_NUMBER],
     statuses: &'a [u8; tables::CODES],
     at: usize,
-    up: &mut [u16; tables::AREA],
+    up: &mut [u16; tables::CODES_AREA],
 ) -> usize
-    requires { at ≤ paper.numbers }
+    requires { at ≤ highest.numbers }
     ensures { (result ≤ at)
         × ((s : Node)
         → Statuses s statuses.now
@@ -36,14 +36,14 @@ fn marked_codes<'a>(
 
 // The cube of a node that satisfies every clause, in the first cells of the area.
 pub fn cube<'a>(
-    marks: &'a [u8; tables::BY_NUMBER],
+    marks: &'a [u8; tables::HIGHEST_BY_NUMBER],
     statuses: &'a [u8; tables::CODES],
     quantifiers: &'a [u8; tables::CODES],
     at: usize,
-    up: &mut [u16; tables::AREA],
+    up: &mut [u16; tables::CODES_AREA],
 ) -> usize
-    requires { at ≤ paper.numbers }
-    ensures { (result ≤ paper.numbers)
+    requires { at ≤ highest.numbers }
+    ensures { (result ≤ highest.numbers)
         × ((D : Prefix) (R : List Clause) (s : Node) (st : Store)
         → Statuses s statuses.now
         → Quantified D quantifiers.now

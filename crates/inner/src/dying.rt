@@ -2,10 +2,10 @@
 // reduction, in the literal of the node's last place that is false there, and was not satisfied above: the first such clause is looked for.
 ghost use Rattle.std.specs.Prelude.{◌≡◌, false, List, ℕ, suc, ◌-◌, ◌*◌, ◌≤◌, ◌<◌, length};
 ghost use Rattle.std.proofs.Math.Option.{some};
-ghost use Rattle.qbf.specs.Formula.{paper, Prefix, Clause, Node};
+ghost use Rattle.qbf.specs.Formula.{paper, highest, Prefix, Clause, Node};
 ghost use Rattle.qbf.specs.Learning.{Constraint, Store, lowest_dead, reduced_found};
 ghost use Rattle.tables.specs.Codes.{codes};
-ghost use Rattle.tables.specs.Formed.{Formed};
+ghost use Rattle.inner.specs.Formed.{Formed};
 ghost use Rattle.tables.specs.Matrices.{MatrixShown, left_at, dying_at};
 ghost use Rattle.tables.specs.Sets.{dying_row};
 ghost use Rattle.bitset.specs.Rows.{width, some_below, row};
@@ -17,7 +17,7 @@ use search_entry::{Bounds, Matrix, Source};
 
 // How many codes universal reduction leaves of clause k.
 fn left_at<'a>(rows: &'a [u16; tables::CLAUSE_ROWS], k: usize) -> u16
-    requires { k < paper.clauses }
+    requires { k < highest.clauses }
     ensures { result ≡ left_at rows.now k }
 {
     rows[k * tables::CLAUSE_ROW]
@@ -26,12 +26,12 @@ fn left_at<'a>(rows: &'a [u16; tables::CLAUSE_ROWS], k: usize) -> u16
 // Clause k under universal reduction: its row, behind its length. Rows that are no clause's are free, and nothing is read there.
 fn clause_at<'a>(rows: &'a [u16; tables::CLAUSE_ROWS], k: usize) -> Option<Bounds>
     ensures { (D : Prefix) (e : Constraint) (learned area : List ℕ)
-        → k < paper.clauses
+        → k < highest.clauses
         → left_at rows.now k ≤ paper.literals
         → dying_at rows.now k ≡ codes D e
         → FoundCoded D result rows.now learned area (some e) }
 {
-    if k < tables::CLAUSES {
+    if k < tables::HIGHEST_CLAUSES {
         let size = left_at(rows, k) as usize;
         if size <= tables::LITERALS {
             return Some(Bounds {

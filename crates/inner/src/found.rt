@@ -3,7 +3,7 @@
 ghost use Rattle.std.specs.Prelude.{◌≡◌, Bool, List, map, ℕ, ◌≤◌, ◌<◌, length, eqb};
 ghost use Rattle.std.specs.Bool.{beq};
 ghost use Rattle.std.proofs.Math.Option.{some};
-ghost use Rattle.qbf.specs.Formula.{paper, Prefix, Node, value_at};
+ghost use Rattle.qbf.specs.Formula.{highest, Prefix, Node, value_at};
 ghost use Rattle.qbf.specs.Learning.{Constraint, eligible_match};
 ghost use Rattle.tables.specs.Codes.{code_at, codes, Statuses};
 ghost use Rattle.tables.specs.Shelves.{code_count};
@@ -16,10 +16,10 @@ use search_entry::{Bounds, Source};
 use shelf::Shelf;
 
 // The code of the true literal of a place that has a value.
-// stays (no plainer): `usize ≤ paper.numbers` is asked of a place alone: `Given` and `Depth` keep more than that, a code or a row's words, and `literal::Place` is of any limit and keeps
+// stays (no plainer): `usize ≤ highest.numbers` is asked of a place alone: `Given` and `Depth` keep more than that, a code or a row's words, and `literal::Place` is of any limit and keeps
 // no fact; a struct of one number that did would be made at each call and opened at the index
 pub fn true_at<'a>(statuses: &'a [u8; tables::CODES], place: usize) -> u16
-    requires { place ≤ paper.numbers }
+    requires { place ≤ highest.numbers }
     ensures { (result < code_count)
         × ((s : Node) (b : Bool) → Statuses s statuses.now → value_at s place ≡ some b → result ≡ code_at place b) }
 {
@@ -57,7 +57,7 @@ pub fn lookup<'a>(
         → LastGiven s at code
         → 1 ≤ at
         → rows shelf.now ≡ map (codes D) es
-        → FoundCoded D result clauses shelf.now.cells area (eligible_match D eqb cube s es) }
+        → FoundCoded D result clauses shelf.now.cells.now area (eligible_match D eqb cube s es) }
 {
     // stays (no plainer): with `map` the goal `invariant_of-result` stays open until the closure has `requires { slot < paper.constraints }`, which the arm has of `find`; then it is as long
     match shelf.find(last_in(code, cube), statuses, wanted(cube)) {
@@ -65,7 +65,7 @@ pub fn lookup<'a>(
             let row = shelf.row_in(slot);
             Some(Bounds {
                 source: Source::Learned,
-                start: slot * (tables::NUMBERS + 1) + 1,
+                start: slot * (tables::HIGHEST_NUMBERS + 1) + 1,
                 len: row.len(),
             })
         }

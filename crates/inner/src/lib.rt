@@ -10,7 +10,7 @@ pub mod cube; // the cube of the true literals of the marked places
 ghost use Rattle.std.specs.Prelude.{◌≡◌, true, false, List, map, ℕ, suc, ◌≤◌, ◌<◌, length, eqb};
 ghost use Rattle.qbf.specs.Formula.{paper, Prefix, Clause, Node, all, satisfied};
 ghost use Rattle.qbf.specs.Learning.{Constraint, Store, lowest_dead, reduced_found, eligible_match};
-ghost use Rattle.tables.specs.Formed.{Formed};
+ghost use Rattle.inner.specs.Formed.{Formed};
 ghost use Rattle.tables.specs.Codes.{codes, Statuses, Quantified};
 ghost use Rattle.tables.specs.Matrices.{MatrixShown};
 ghost use Rattle.tables.specs.Sets.{ClauseSets, Descended, RowsKept};
@@ -63,7 +63,7 @@ fn conflict<'a>(
         D
         result
         matrix.now.rows
-        learned.now.cells
+        learned.now.cells.now
         area
         (first_of (reduced_found D false (lowest_dead D s R)) (eligible_match D eqb false s st.clauses)) }
 {
@@ -81,7 +81,7 @@ fn stored_cube<'a>(statuses: &'a [u8; tables::CODES], cubes: &'a Shelf, g: Given
         → Statuses s statuses.now
         → LastGiven s g.at g.code
         → rows cubes.now ≡ map (codes D) qs
-        → LeafCoded D result clauses learned cubes.now.cells area (matched D eqb s qs) }
+        → LeafCoded D result clauses learned cubes.now.cells.now area (matched D eqb s qs) }
 {
     match lookup(cubes, statuses, g.code, true) {
         Some(b) => Leaf::Yes(b),
@@ -107,7 +107,7 @@ fn solution<'a>(
         → ClauseSets D R g.words matrix.now.sets
         → Entered D s R g.words trail.old.sat trail.old.marks k
         → Descended D s R g.words trail.new.sat trail.new.marks g.at
-        × LeafCoded D result clauses learned cubes.now.cells trail.new.cube (satisfied_or D R s (matched D eqb s st.cubes)) }
+        × LeafCoded D result clauses learned cubes.now.cells.now trail.new.cube (satisfied_or D R s (matched D eqb s st.cubes)) }
 {
     if step_down(&matrix.sets, trail, g) {
         let n = cube(
@@ -148,10 +148,10 @@ pub fn conclude<'a>(
         matrix.now.sets
         matrix.now.quantifiers
         statuses.now
-        learned.now.clauses.cells
-        learned.now.clauses.links
-        learned.now.cubes.cells
-        learned.now.cubes.links
+        learned.now.clauses.cells.now
+        learned.now.clauses.links.now
+        learned.now.cubes.cells.now
+        learned.now.cubes.links.now
         → Entered D s R here.words trail.old.sat trail.old.marks k
         → Concluded
         D
@@ -161,8 +161,8 @@ pub fn conclude<'a>(
         result
         here.words
         matrix.now.rows
-        learned.now.clauses.cells
-        learned.now.cubes.cells
+        learned.now.clauses.cells.now
+        learned.now.cubes.cells.now
         trail.new.cube
         trail.new.sat
         trail.new.marks }

@@ -2,7 +2,7 @@
 // is marked where there is one more.
 ghost use Rattle.std.specs.Prelude.{◌≡◌, List, ℕ, suc, ◌-◌, ◌*◌, ◌≤◌, ◌<◌, length, set};
 ghost use Rattle.bitset.specs.Rows.{Unites, row};
-ghost use Rattle.qbf.specs.Formula.{paper, Prefix, Clause, Node, all, satisfied};
+ghost use Rattle.qbf.specs.Formula.{highest, Prefix, Clause, Node, all, satisfied};
 ghost use Rattle.tables.specs.Codes.{sign};
 ghost use Rattle.tables.specs.Sets.{ClauseSets, Descended, RowsKept, satisfying_row};
 ghost use Rattle.inner.specs.Inner.{LastGiven, Entered};
@@ -12,11 +12,11 @@ use bitset::rows::{United, unite};
 use search_entry::Trail;
 
 // The mark of a place.
-// stays (no plainer): `usize ≤ paper.numbers` is asked of a place alone: `Given` and `Depth` keep more than that, a code or a row's words, and `literal::Place` is of any limit and keeps
+// stays (no plainer): `usize ≤ highest.numbers` is asked of a place alone: `Given` and `Depth` keep more than that, a code or a row's words, and `literal::Place` is of any limit and keeps
 // no fact; a struct of one number that did would be made at each call and opened at the index
-pub fn mark(marks: &mut [u8; tables::BY_NUMBER], at: usize, fresh: bool)
-    requires { at ≤ paper.numbers }
-    ensures { (marks.new ≡ set marks.old at (sign fresh)) × (length marks.old ≡ suc paper.numbers) }
+pub fn mark(marks: &mut [u8; tables::HIGHEST_BY_NUMBER], at: usize, fresh: bool)
+    requires { at ≤ highest.numbers }
+    ensures { (marks.new ≡ set marks.old at (sign fresh)) × (length marks.old ≡ suc highest.numbers) }
 {
     marks[at] = fresh as u8;
 }

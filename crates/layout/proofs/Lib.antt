@@ -4,3 +4,4 @@ pub mod Pages
 pub mod Ceilings
 pub mod Queries
 pub mod Closest
+pub mod OwnLimits

@@ -2,12 +2,13 @@
 -- "Refusals from the state" and "Text and program".
 use Rattle.std.specs.Prelude.{ℕ, suc, Bool, cond, not, ◌&&◌, ◌||◌, List, [], ◌∷◌, ◌++◌, map, length, leb, ltb, eqb}
 use Rattle.std.proofs.Math.Option.{Option, none, some}
-use Rattle.qbf.specs.Formula.{Limits, most_free, Quantifier, free, exists, forall, Variable, Prefix, Formula, place_of}
+use Rattle.qbf.specs.Formula.{Limits, most_free, Quantifier, free, exists, forall, is_free, Variable, Prefix, Formula, place_of}
+use Rattle.qbf.specs.Truth.{free_variables}
 use Rattle.qbf.specs.Calls.{given, rule_fault, with_rule, limits_are_ok, ◌or_else◌}
 use Rattle.layout.specs.Words.{Bytes, newline, split}
 use Rattle.layout.specs.Forms.{Form, book, block, clause, end, form_of}
 
--- the limits under which a text is opened: as a state's, and so few numbers that no line can declare more flags than there may be
+-- the limits under which a text in QDIMACS is opened: as a state's, and so few numbers that no text can have more flags than there may be
 abbrev pub opening_ok : Limits → Bool
 opening_ok L = limits_are_ok L && leb L.numbers most_free
 
@@ -37,12 +38,18 @@ stage_after r = cond (ltb r 2) (suc r) r
 abbrev pub variable : Quantifier → ℕ → Variable
 variable κ n = record { number = n; quantifier = κ }
 
--- "3 number not 1 to 40", "4 declared twice": from the left, the first fault among the numbers that a block declares
+-- "flags stay at most 40": there are as many as there may be, and one more is to be declared
+abbrev pub crowded : Quantifier → Prefix → Bool
+crowded κ D = is_free κ && leb most_free (free_variables D)
+
+-- "3 number not 1 to 40" or to the own limit, "4 declared twice", "Declaring a 41st flag is 33, checked after 4": from the left, the first fault among the
+-- numbers that a block declares
 abbrev pub declare_fault : Limits → Quantifier → Prefix → List ℕ → Option ℕ
 declare_fault L κ D [] = none
 declare_fault L κ D (n ∷ ns) =
     given (eqb n 0 || ltb L.numbers n) 3
     or_else given (not (eqb (place_of D n) 0)) 4
+    or_else given (crowded κ D) 33
     or_else declare_fault L κ (D ++ (variable κ n ∷ [])) ns
 
 abbrev pub with_block : Quantifier → Formula → List ℕ → Formula

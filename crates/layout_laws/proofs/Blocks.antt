@@ -1,19 +1,22 @@
 -- Blocks: a block without a fault keeps a prefix well formed, and its first numbers decide its fault.
-use Prim.Native.Nat.{ℕ, zero, suc, ◌+◌, ◌≤◌, ◌<◌}
+use Prim.Native.Nat.{ℕ, zero, suc, ◌+◌, ◌≤◌, ◌<◌, zero-le, suc-le-suc}
+use native.Mathlib.Nat.{le_refl}
 use mathlib.Core.Path.{◌≡◌, refl, sym, ap, ◌∙◌, subst}
 use mathlib.Core.Bool.{Bool, true, false, cond, not, ◌&&◌, ◌||◌, false≢true}
 use mathlib.Core.List.{List, [], ◌∷◌, ◌++◌, map, append_assoc, append-nil}
 use mathlib.Core.Option.{Option, none}
 use native.Mathlib.Omega.{arith}
-use borrow.Author.Tests.{eqb-true, eqb-false, ltb-false, le-leb}
+use borrow.Author.Tests.{eqb-true, eqb-false, ltb-false, le-leb, lt-leb, leb-false}
 use lib.ListN.{length, take, length-append, length-map}
 use lib.Dec.{eqb, leb, ltb}
-use Rattle.qbf.specs.Formula.{Limits, Quantifier, free, exists, forall, is_free, Variable, Prefix, quantifiers, any, all, place_from, place_of}
-use Rattle.qbf.specs.Calls.{given, no_free, free_first, numbers_are_ok, prefix_is_ok, ◌or_else◌}
+use Rattle.qbf.specs.Formula.{Limits, most_free, Quantifier, free, exists, forall, is_free, Variable, Prefix, quantifiers, any, all, place_from, place_of}
+use Rattle.qbf.specs.Truth.{free_count, free_variables}
+use Rattle.qbf.specs.Calls.{given, no_free, free_first, free_is_ok, numbers_are_ok, prefix_is_ok, ◌or_else◌}
 use Rattle.theory.proofs.Basics.{and_left, and_right, and_both, or_false_left, or_false_right, not_false}
 use Rattle.theory.proofs.AcceptedRule.{given_none}
 use Rattle.theory.proofs.Widths.{prefix_width}
-use Rattle.layout.specs.Opening.{variable, declare_fault}
+use Rattle.theory.proofs.Starting.{free_fit}
+use Rattle.layout.specs.Opening.{variable, crowded, declare_fault}
 
 -- ---- one more declared number
 -- a number that is not declared from place p on, and not among those before, may be declared
@@ -86,7 +89,7 @@ in_range L D n p q = record { low = low; high = ltb-false L.numbers n (or_false_
 
 pub declarable : (L : Limits) (κ : Quantifier) (D : Prefix) (n : ℕ) (ns : List ℕ) → declare_fault L κ D (n ∷ ns) ≡ none
     → Declarable L D n × (declare_fault L κ (D ++ (variable κ n ∷ [])) ns ≡ none)
-declarable L κ D n ns e = (in_range L D n three.0 four.0, four.1)
+declarable L κ D n ns e = (in_range L D n three.0 four.0, (given_none (crowded κ D) 33 rest four.1).1)
   where
     out : Bool
     out = eqb n 0 || ltb L.numbers n
@@ -94,11 +97,24 @@ declarable L κ D n ns e = (in_range L D n three.0 four.0, four.1)
     rest : Option ℕ
     rest = declare_fault L κ (D ++ (variable κ n ∷ [])) ns
 
-    three : (out ≡ false) × ((given (not (eqb (place_of D n) 0)) 4 or_else rest) ≡ none)
-    three = given_none out 3 (given (not (eqb (place_of D n) 0)) 4 or_else rest) e
+    three : (out ≡ false) × ((given (not (eqb (place_of D n) 0)) 4 or_else given (crowded κ D) 33 or_else rest) ≡ none)
+    three = given_none out 3 (given (not (eqb (place_of D n) 0)) 4 or_else given (crowded κ D) 33 or_else rest) e
 
-    four : (not (eqb (place_of D n) 0) ≡ false) × (rest ≡ none)
-    four = given_none (not (eqb (place_of D n) 0)) 4 rest three.1
+    four : (not (eqb (place_of D n) 0) ≡ false) × ((given (crowded κ D) 33 or_else rest) ≡ none)
+    four = given_none (not (eqb (place_of D n) 0)) 4 (given (crowded κ D) 33 or_else rest) three.1
+
+-- .. and there was room for it
+pub uncrowded : (L : Limits) (κ : Quantifier) (D : Prefix) (n : ℕ) (ns : List ℕ) → declare_fault L κ D (n ∷ ns) ≡ none → crowded κ D ≡ false
+uncrowded L κ D n ns e = (given_none (crowded κ D) 33 rest four).0
+  where
+    out : Bool
+    out = eqb n 0 || ltb L.numbers n
+
+    rest : Option ℕ
+    rest = declare_fault L κ (D ++ (variable κ n ∷ [])) ns
+
+    four : (given (crowded κ D) 33 or_else rest) ≡ none
+    four = (given_none (not (eqb (place_of D n) 0)) 4 (given (crowded κ D) 33 or_else rest) (given_none out 3 (given (not (eqb (place_of D n) 0)) 4 or_else given (crowded κ D) 33 or_else rest) e).1).1
 
 pub prefix_more : (L : Limits) (κ : Quantifier) (D : Prefix) (n : ℕ) → prefix_is_ok L D ≡ true → Before κ (quantifiers D) → Declarable L D n
     → (prefix_is_ok L (D ++ (variable κ n ∷ [])) ≡ true) × Before κ (quantifiers (D ++ (variable κ n ∷ [])))
@@ -125,8 +141,45 @@ block_prefix L κ D (n ∷ ns) h g e =
     subst (λ (E : Prefix). prefix_is_ok L E ≡ true) (append_assoc D (variable κ n ∷ []) (map (variable κ) ns))
     (block_prefix L κ (D ++ (variable κ n ∷ [])) ns m.0 m.1 d.1)
 
+-- ---- free variables
+free_snoc : (ks : List Quantifier) (κ : Quantifier) → free_count (ks ++ (κ ∷ [])) ≤ suc (free_count ks)
+free_snoc [] free = le_refl 1
+free_snoc [] exists = zero-le
+free_snoc [] forall = zero-le
+free_snoc (free ∷ ks) κ = suc-le-suc (free_snoc ks κ)
+free_snoc (exists ∷ ks) κ = zero-le
+free_snoc (forall ∷ ks) κ = zero-le
+
+bound_snoc : (ks : List Quantifier) (κ : Quantifier) → is_free κ ≡ false → free_count (ks ++ (κ ∷ [])) ≡ free_count ks
+bound_snoc [] free e = absurd (false≢true (sym e))
+bound_snoc [] exists e = refl
+bound_snoc [] forall e = refl
+bound_snoc (free ∷ ks) κ e = ap suc (bound_snoc ks κ e)
+bound_snoc (exists ∷ ks) κ e = refl
+bound_snoc (forall ∷ ks) κ e = refl
+
+-- one more where there is room for it
+pub free_more : (κ : Quantifier) (D : Prefix) (n : ℕ) → crowded κ D ≡ false → free_is_ok D ≡ true → free_is_ok (D ++ (variable κ n ∷ [])) ≡ true
+free_more κ D n e h = by (is_free κ) refl
+  where
+    said : free_variables (D ++ (variable κ n ∷ [])) ≡ free_count (quantifiers D ++ (κ ∷ []))
+    said = ap free_count (quantifiers_append D (variable κ n))
+
+    by : (t : Bool) → is_free κ ≡ t → free_is_ok (D ++ (variable κ n ∷ [])) ≡ true
+    by true f =
+        let few : free_variables D < most_free = leb-false most_free (free_variables D) (sym (ap (λ (b : Bool). b && leb most_free (free_variables D)) f) ∙ e) in
+        le-leb (free_variables (D ++ (variable κ n ∷ []))) most_free (omega (arith, said, free_snoc (quantifiers D) κ, few))
+    by false f = ap (λ (k : ℕ). leb k most_free) (said ∙ bound_snoc (quantifiers D) κ f) ∙ h
+
+-- a block without a fault leaves no more free variables than there may be
+pub block_free : (L : Limits) (κ : Quantifier) (D : Prefix) (ns : List ℕ) → free_is_ok D ≡ true → declare_fault L κ D ns ≡ none → free_is_ok (D ++ map (variable κ) ns) ≡ true
+block_free L κ D [] h e = rw append-nil h
+block_free L κ D (n ∷ ns) h e =
+    subst (λ (E : Prefix). free_is_ok E ≡ true) (append_assoc D (variable κ n ∷ []) (map (variable κ) ns))
+    (block_free L κ (D ++ (variable κ n ∷ [])) ns (free_more κ D n (uncrowded L κ D n ns e) h) (declarable L κ D n ns e).1)
+
 -- ---- the first numbers decide
-number_declared : (L : Limits) (κ : Quantifier) (D : Prefix) (n : ℕ) → numbers_are_ok L [] D ≡ true → Declarable L D n → numbers_are_ok L [] (D ++ (variable κ n ∷ [])) ≡ true
+pub number_declared : (L : Limits) (κ : Quantifier) (D : Prefix) (n : ℕ) → numbers_are_ok L [] D ≡ true → Declarable L D n → numbers_are_ok L [] (D ++ (variable κ n ∷ [])) ≡ true
 unfolding place_of
 number_declared L κ D n h d = numbers_more L 0 [] D n κ d.low d.high refl d.fresh h
 
@@ -135,6 +188,25 @@ block_numbers L κ D [] h e = rw append-nil h
 block_numbers L κ D (n ∷ ns) h e =
     let d = declarable L κ D n ns e in
     subst (λ (E : Prefix). numbers_are_ok L [] E ≡ true) (append_assoc D (variable κ n ∷ []) (map (variable κ) ns)) (block_numbers L κ (D ++ (variable κ n ∷ [])) ns (number_declared L κ D n h d.0) d.1)
+
+-- Under limits of no more numbers than there may be flags a number that may be declared finds room: 33 never comes.
+pub none_crowded : (L : Limits) → L.numbers ≤ most_free → (κ : Quantifier) (D : Prefix) (n : ℕ) → numbers_are_ok L [] D ≡ true → Declarable L D n → crowded κ D ≡ false
+none_crowded L h κ D n e d =
+    ap (λ (b : Bool). is_free κ && b)
+    (lt-leb most_free (free_variables D)
+    (omega (
+      arith,
+      h,
+      prefix_width L (D ++ (variable κ n ∷ [])) (number_declared L κ D n e d),
+      ap length (quantifiers_append D (variable κ n)),
+      length-append (quantifiers D) (κ ∷ []),
+      free_fit (quantifiers D),
+    )))
+    ∙ never (is_free κ)
+  where
+    never : (b : Bool) → (b && false) ≡ false
+    never true = refl
+    never false = refl
 
 -- a block without a fault has room
 pub block_width : (L : Limits) (κ : Quantifier) (D : Prefix) (ns : List ℕ) → numbers_are_ok L [] D ≡ true → declare_fault L κ D ns ≡ none → length D + length ns ≤ L.numbers
@@ -152,13 +224,20 @@ first_numbers L κ (suc k) D (n ∷ ns) long h =
     D' : Prefix
     D' = D ++ (variable κ n ∷ [])
 
+    with_room : (z : Bool) (o o' : Option ℕ) → o ≡ o' → (given z 33 or_else o) ≡ (given z 33 or_else o')
+    with_room true o o' e = refl
+    with_room false o o' e = e
+
     by : (x : Bool) → (eqb n 0 || ltb L.numbers n) ≡ x → (y : Bool) → not (eqb (place_of D n) 0) ≡ y
         → (Declarable L D n → declare_fault L κ D' (take k ns) ≡ declare_fault L κ D' ns)
-        → (given x 3 or_else given y 4 or_else declare_fault L κ D' (take k ns)) ≡ (given x 3 or_else given y 4 or_else declare_fault L κ D' ns)
+        → (given x 3 or_else given y 4 or_else given (crowded κ D) 33 or_else declare_fault L κ D' (take k ns)) ≡ (given x 3 or_else given y 4 or_else given (crowded κ D) 33 or_else declare_fault L κ D' ns)
     by true p y q ih = refl
     by false p true q ih = refl
-    by false p false q ih = ih (in_range L D n p q)
+    by false p false q ih = with_room (crowded κ D) (declare_fault L κ D' (take k ns)) (declare_fault L κ D' ns) (ih (in_range L D n p q))
 
 -- Of a block's numbers the first ones decide, one more than there may be: among so many one is declared twice or out of range.
+pub first_decide_of : (L : Limits) (κ : Quantifier) (k : ℕ) (D : Prefix) (ns : List ℕ) → L.numbers < k → numbers_are_ok L [] D ≡ true → declare_fault L κ D (take k ns) ≡ declare_fault L κ D ns
+first_decide_of L κ k D ns long h = first_numbers L κ k D ns (omega (arith, long)) h
+
 pub first_decide : (L : Limits) (κ : Quantifier) (D : Prefix) (ns : List ℕ) → numbers_are_ok L [] D ≡ true → declare_fault L κ D (take (suc L.numbers) ns) ≡ declare_fault L κ D ns
 first_decide L κ D ns h = first_numbers L κ (suc L.numbers) D ns (omega arith) h

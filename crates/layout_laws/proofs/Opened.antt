@@ -8,23 +8,21 @@ use native.Mathlib.Omega.{arith}
 use borrow.Author.Tests.{eqb-true, ltb-false, leb-true, le-leb}
 use lib.ListN.{length}
 use lib.Dec.{eqb, leb, ltb}
-use Rattle.qbf.specs.Formula.{Limits, most_free, Quantifier, free, exists, forall, Prefix, quantifiers, Clause, Formula}
+use Rattle.qbf.specs.Formula.{Limits, Quantifier, free, exists, forall, Prefix, quantifiers, Clause, Formula}
 use Rattle.qbf.specs.Learning.{empty_store}
-use Rattle.qbf.specs.Calls.{limits_are_ok, numbers_are_ok, free_first, clauses_are_ok, formula_is_ok, store_is_ok, records_are_ok, well_formed}
+use Rattle.qbf.specs.Calls.{limits_are_ok, clauses_are_ok, formula_is_ok, store_is_ok, records_are_ok, well_formed}
 use Rattle.qbf.specs.Runs.{fresh}
-use Rattle.theory.proofs.Basics.{and_left, and_right, and_both, not_false}
+use Rattle.theory.proofs.Basics.{and_both, not_false}
 use Rattle.theory.proofs.WellFormed.{FormulaFacts, facts_formula}
-use Rattle.theory.proofs.Widths.{free_fits}
 use Rattle.theory.proofs.AcceptedRule.{given_none, rule_formula}
 use Rattle.layout.specs.Words.{Bytes, split, newline}
 use Rattle.layout.specs.Forms.{Form, book, block, clause, end, form_of}
-use Rattle.layout.specs.Opening.{rank, allowed, stage_after, variable, declare_fault, with_block, form_fault, line_fault, with_form, Opened, refused, opened, refused_or, read_line, at_end, is_end, read_lines, empty_formula, open_text, text_bytes, opening_ok}
-use Rattle.layout_laws.proofs.Blocks.{Before, block_prefix}
+use Rattle.layout.specs.Opening.{rank, allowed, stage_after, variable, declare_fault, with_block, form_fault, line_fault, with_form, Opened, refused, opened, refused_or, read_line, at_end, is_end, read_lines, empty_formula, open_text, text_bytes}
+use Rattle.layout_laws.proofs.Blocks.{Before, block_prefix, block_free}
 
 -- ---- lines
 -- what is known at a stage: before the flags' line no variable, before the first rule no clause
 pub record Reached (stage : ℕ) (b : Formula) : Type 0 where
-  pub few : b.limits.numbers ≤ most_free
   pub facts : FormulaFacts b
   pub no_variables : stage ≤ 1 → b.prefix ≡ []
   pub no_clauses : stage ≤ 2 → b.clauses ≡ []
@@ -32,16 +30,14 @@ pub record Reached (stage : ℕ) (b : Formula) : Type 0 where
 none_ok : (L : Limits) (D : Prefix) (R : List Clause) → R ≡ [] → clauses_are_ok L D R ≡ true
 none_ok L D R e = subst (λ (R : List Clause). clauses_are_ok L D R ≡ true) (sym e) (and_both (leb 0 L.clauses) true (le-leb 0 L.clauses zero-le) refl)
 
-block_facts : (b : Formula) (κ : Quantifier) (ns : List ℕ) → b.limits.numbers ≤ most_free → FormulaFacts b → b.clauses ≡ [] → Before κ (quantifiers b.prefix) → declare_fault b.limits κ b.prefix ns ≡ none
+block_facts : (b : Formula) (κ : Quantifier) (ns : List ℕ) → FormulaFacts b → b.clauses ≡ [] → Before κ (quantifiers b.prefix) → declare_fault b.limits κ b.prefix ns ≡ none
     → FormulaFacts (with_block κ b ns)
-block_facts b κ ns few h r g e =
-    let D = b.prefix ++ map (variable κ) ns in
-    let formed = block_prefix b.limits κ b.prefix ns h.prefix_ok g e in
+block_facts b κ ns h r g e =
     record {
       limits_ok = h.limits_ok;
-      free_ok = free_fits b.limits few D (and_left (numbers_are_ok b.limits [] D) (free_first (quantifiers D)) formed);
-      prefix_ok = formed;
-      clauses_ok = none_ok b.limits D b.clauses r;
+      free_ok = block_free b.limits κ b.prefix ns h.free_ok e;
+      prefix_ok = block_prefix b.limits κ b.prefix ns h.prefix_ok g e;
+      clauses_ok = none_ok b.limits (b.prefix ++ map (variable κ) ns) b.clauses r;
     }
 
 pub allowed_is : (stage r : ℕ) → allowed stage r ≡ true → (stage ≤ r) × (r < 2 → stage ≡ r)
@@ -54,21 +50,20 @@ allowed_is stage r e = by (ltb stage 2) refl e
 form_reached : (stage : ℕ) (b : Formula) (f : Form) → Reached stage b → (stage ≤ rank f) × (rank f < 2 → stage ≡ rank f) → form_fault b f ≡ none → Reached (stage_after (rank f)) (with_form b f)
 unfolding Before
 form_reached stage b (book e) i a q =
-    record { few = i.few; facts = i.facts; no_variables = λ h. i.no_variables (omega (arith, a.0)); no_clauses = λ h. i.no_clauses (omega (arith, a.0)) }
+    record { facts = i.facts; no_variables = λ h. i.no_variables (omega (arith, a.0)); no_clauses = λ h. i.no_clauses (omega (arith, a.0)) }
 form_reached stage b (block free ns) i a q =
     record {
-      few = i.few;
-      facts = block_facts b free ns i.few i.facts (i.no_clauses (omega (arith, a.0))) (rw (i.no_variables a.0)) q;
+      facts = block_facts b free ns i.facts (i.no_clauses (omega (arith, a.0))) (rw (i.no_variables a.0)) q;
       no_variables = λ h. absurd (omega arith);
       no_clauses = λ h. i.no_clauses (omega (arith, a.0));
     }
 form_reached stage b (block exists ns) i a q =
-    record { few = i.few; facts = block_facts b exists ns i.few i.facts (i.no_clauses a.0) tt q; no_variables = λ h. absurd (omega arith); no_clauses = λ h. i.no_clauses a.0 }
+    record { facts = block_facts b exists ns i.facts (i.no_clauses a.0) tt q; no_variables = λ h. absurd (omega arith); no_clauses = λ h. i.no_clauses a.0 }
 form_reached stage b (block forall ns) i a q =
-    record { few = i.few; facts = block_facts b forall ns i.few i.facts (i.no_clauses a.0) tt q; no_variables = λ h. absurd (omega arith); no_clauses = λ h. i.no_clauses a.0 }
+    record { facts = block_facts b forall ns i.facts (i.no_clauses a.0) tt q; no_variables = λ h. absurd (omega arith); no_clauses = λ h. i.no_clauses a.0 }
 form_reached stage b (clause ls) i a q =
-    record { few = i.few; facts = rule_formula b ls i.facts none q; no_variables = λ h. absurd (omega arith); no_clauses = λ h. absurd (omega arith) }
-form_reached stage b end i a q = record { few = i.few; facts = i.facts; no_variables = λ h. absurd (omega arith); no_clauses = λ h. absurd (omega arith) }
+    record { facts = rule_formula b ls i.facts none q; no_variables = λ h. absurd (omega arith); no_clauses = λ h. absurd (omega arith) }
+form_reached stage b end i a q = record { facts = i.facts; no_variables = λ h. absurd (omega arith); no_clauses = λ h. absurd (omega arith) }
 
 pub line_reached : (stage : ℕ) (b : Formula) (f : Form) → Reached stage b → line_fault stage b f ≡ none → Reached (stage_after (rank f)) (with_form b f)
 line_reached stage b f i e =
@@ -76,11 +71,10 @@ line_reached stage b f i e =
     form_reached stage b f i (allowed_is stage (rank f) (not_false (allowed stage (rank f)) q.0)) q.1
 
 -- before the first line
-pub reached_none : (L : Limits) → opening_ok L ≡ true → Reached 0 (empty_formula L)
+pub reached_none : (L : Limits) → limits_are_ok L ≡ true → Reached 0 (empty_formula L)
 reached_none L room =
     record {
-      few = leb-true L.numbers most_free (and_right (limits_are_ok L) (leb L.numbers most_free) room);
-      facts = record { limits_ok = and_left (limits_are_ok L) (leb L.numbers most_free) room; free_ok = refl; prefix_ok = refl; clauses_ok = none_ok L [] [] refl };
+      facts = record { limits_ok = room; free_ok = refl; prefix_ok = refl; clauses_ok = none_ok L [] [] refl };
       no_variables = λ h. refl;
       no_clauses = λ h. refl;
     }
@@ -135,7 +129,7 @@ lines_facts n stage b (l ∷ m ∷ ls) b' i e = by (form_of l) e (λ s x. lines_
     by none z ih = absurd (never_opened 1 n b' z)
     by (some f) z ih = go f (line_fault stage b f) refl z ih
 
-module _ (L : Limits) (room : opening_ok L ≡ true) (s : Bytes) (b : Formula) (e : open_text L s ≡ opened b) where
+module _ (L : Limits) (room : limits_are_ok L ≡ true) (s : Bytes) (b : Formula) (e : open_text L s ≡ opened b) where
   facts : FormulaFacts b × (b.limits ≡ L)
   unfolding open_text
   facts = by (ltb text_bytes (length s)) e

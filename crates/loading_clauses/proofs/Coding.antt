@@ -11,7 +11,7 @@ use borrow.Rule.Slice.PartMut.{mid_of, put_mid, take_put, same_len_mid, mid_len}
 use lib.IntN.{ℤ}
 use lib.ListN.{length, get_or, take, drop, set, length-set, length-take}
 use lib.Seq.{get_or-set_same, get_or-take, drop-set-lt, length-take-le, take-set-le, take-take}
-use Rattle.qbf.specs.Formula.{paper, Prefix}
+use Rattle.qbf.specs.Formula.{paper, highest, Prefix}
 use Rattle.qbf.specs.Learning.{Constraint, reduce}
 use Rattle.tables.specs.Views.{Places, row}
 use Rattle.lent_rows.specs.Held.{Held}
@@ -34,7 +34,7 @@ module _ (lits : List ℤ) (places quantifiers t : List ℕ) (at left : ℕ) whe
   final_codes = drop-set-lt (suc at) t at left (omega arith)
 
   length_written : at + 1 + length lits ≤ length t → left ≤ length lits → Low (take (length lits) (drop (suc at) t))
-      → ((D : Prefix) → Places D places → length D ≤ paper.numbers → take (length lits) (drop (suc at) t) ≡ codes D lits)
+      → ((D : Prefix) → Places D places → length D ≤ highest.numbers → take (length lits) (drop (suc at) t) ≡ codes D lits)
       → ((D : Prefix) (e : Constraint) → Quantified D quantifiers → take (length lits) (drop (suc at) t) ≡ codes D e
       → take left (drop (suc at) t) ≡ codes D (reduce D false e))
       → Coded lits places quantifiers at final
@@ -78,7 +78,7 @@ module _ (lits : List ℤ) (places quantifiers xs ys : List ℕ) (at left : ℕ)
       ∙ take-take at (at + 1) xs (omega arith)
 
   pub row_written : left ≤ length lits → ((n : ℕ) → n ≤ length lits → last_code (take n ys) < code_count)
-      → ((D : Prefix) → Places D places → length D ≤ paper.numbers → take (length lits) ys ≡ codes D lits)
+      → ((D : Prefix) → Places D places → length D ≤ highest.numbers → take (length lits) ys ≡ codes D lits)
       → (m : ℕ) → length lits ≡ m
       → ((D : Prefix) (e : Constraint) → Quantified D quantifiers → take m (drop (at + 1) t) ≡ codes D e
       → take left (take m (drop (at + 1) t)) ≡ codes D (reduce D false e))
@@ -129,7 +129,7 @@ coded_kept {lits} {places} {quantifiers} {cells} {at} c m cells' within e = reco
     part n h = part_kept (suc at) n m cells cells' (omega arith) e
 
 -- a clause has no more literals than its size says
-pub row_short : {w : ℕ} {f : List ℤ} {l : List ℕ} → Held w paper.clauses f l → w ≤ paper.literals → (k : ℕ) → k < get_or l 0 0 → length (row w f l k) ≤ paper.literals
+pub row_short : {w : ℕ} {f : List ℤ} {l : List ℕ} → Held w highest.clauses f l → w ≤ paper.literals → (k : ℕ) → k < get_or l 0 0 → length (row w f l k) ≤ paper.literals
 row_short {w} {f} {l} T narrow k low = omega (arith, narrow, T.short k low, length-take (get_or l (suc k) 0) (drop (k * w) f))
 
 -- the first k clauses are in their rows
@@ -137,7 +137,7 @@ abbrev pub CodedBelow : ℕ → List ℤ → List ℕ → List ℕ → List ℕ 
 CodedBelow w f l places quantifiers k cells = (j : ℕ) → j < k → Coded (row w f l j) places quantifiers (j * clause_row) cells
 
 -- clause k too
-pub coded_more : {w : ℕ} {f : List ℤ} {l : List ℕ} (places quantifiers : List ℕ) (k : ℕ) (cells cells' : List ℕ) → Held w paper.clauses f l → w ≤ paper.literals → k < get_or l 0 0
+pub coded_more : {w : ℕ} {f : List ℤ} {l : List ℕ} (places quantifiers : List ℕ) (k : ℕ) (cells cells' : List ℕ) → Held w highest.clauses f l → w ≤ paper.literals → k < get_or l 0 0
     → CodedBelow w f l places quantifiers k cells
     → take (k * clause_row) cells' ≡ take (k * clause_row) cells
     → Coded (row w f l k) places quantifiers (k * clause_row) cells'

@@ -9,7 +9,7 @@ use mathlib.Core.List.{List, []}
 use lib.IntN.{ℤ}
 use lib.ListN.{length, get_or}
 use Rattle.bitset.specs.Rows.{width}
-use Rattle.qbf.specs.Formula.{paper, Prefix, Clause}
+use Rattle.qbf.specs.Formula.{paper, highest, Prefix, Clause}
 use Rattle.qbf.specs.Learning.{reduce}
 use Rattle.tables.specs.Views.{Places, row, rows, rows_of}
 use Rattle.lent_rows.specs.Held.{Held}
@@ -23,21 +23,21 @@ use Rattle.loading_clauses.proofs.Coding.{CodedBelow, coded_more, row_short}
 use Rattle.loading_clauses.proofs.Filling.{sets_next}
 
 -- the words of a row of n clauses are not more than the longest row has
-words_few : (n : ℕ) → n ≤ paper.clauses → words_of n ≤ row_words
+words_few : (n : ℕ) → n ≤ highest.clauses → words_of n ≤ row_words
 words_few n h = omega arith
 
-pub row_length : {n words : ℕ} → words ≡ words_of n → n ≤ paper.clauses → RowLength words
+pub row_length : {n words : ℕ} → words ≡ words_of n → n ≤ highest.clauses → RowLength words
 row_length {n} is h = record { few = omega (arith, is, words_few n h) }
 
 -- the rows of the codes below c lie within the sets
-pub codes_within : (c n words : ℕ) → words ≡ words_of n → n ≤ paper.clauses → c ≤ code_count → c * 2 * words ≤ code_count * 2 * row_words
+pub codes_within : (c n words : ℕ) → words ≡ words_of n → n ≤ highest.clauses → c ≤ code_count → c * 2 * words ≤ code_count * 2 * row_words
 codes_within c n words is few low =
     omega (arith, mul-le-mul_right {m = c * 2} {n = code_count * 2} words (omega arith), mul-le-mul_left {m = words} {n = row_words} (code_count * 2) (omega (arith, is, words_few n few)))
 
 -- the first k clauses are in their rows and in the sets, which had none at the start
 pub record FilledBelow (w : ℕ) (f : List ℤ) (l places quantifiers : List ℕ) (wc k : ℕ) (start cells sets : List ℕ) : Type 0 where
   pub coded : CodedBelow w f l places quantifiers k cells
-  pub shown : (D : Prefix) → Places D places → Quantified D quantifiers → length D ≤ paper.numbers → ClauseSets D [] wc start
+  pub shown : (D : Prefix) → Places D places → Quantified D quantifiers → length D ≤ highest.numbers → ClauseSets D [] wc start
       → ClauseSets D (rows w f l k) wc sets
 
 module _ {w : ℕ} {f : List ℤ} {l places quantifiers : List ℕ} {wc : ℕ} {start cells : List ℕ} where
@@ -48,7 +48,7 @@ module _ {w : ℕ} {f : List ℤ} {l places quantifiers : List ℕ} {wc : ℕ} {
   }
 
   -- clause k too
-  pub filled_more : {k : ℕ} {sets cells' sets' : List ℕ} → FilledBelow w f l places quantifiers wc k start cells sets → Held w paper.clauses f l → w ≤ paper.literals → k < get_or l 0 0 → k < wc * width
+  pub filled_more : {k : ℕ} {sets cells' sets' : List ℕ} → FilledBelow w f l places quantifiers wc k start cells sets → Held w highest.clauses f l → w ≤ paper.literals → k < get_or l 0 0 → k < wc * width
       → Filled (row w f l k) places quantifiers wc k cells sets cells' sets'
       → FilledBelow w f l places quantifiers wc (k + 1) start cells' sets'
   filled_more {k} {sets} {cells'} {sets'} b T narrow low small new = record {
@@ -61,8 +61,8 @@ module _ {w : ℕ} {f : List ℤ} {l places quantifiers : List ℕ} {wc : ℕ} {
   }
 
   -- all clauses
-  pub matrix_shown : {k : ℕ} {sets : List ℕ} → FilledBelow w f l places quantifiers wc k start cells sets → Held w paper.clauses f l → w ≤ paper.literals → k ≡ get_or l 0 0
-      → (D : Prefix) → Places D places → Quantified D quantifiers → length D ≤ paper.numbers → ClauseSets D [] wc start
+  pub matrix_shown : {k : ℕ} {sets : List ℕ} → FilledBelow w f l places quantifiers wc k start cells sets → Held w highest.clauses f l → w ≤ paper.literals → k ≡ get_or l 0 0
+      → (D : Prefix) → Places D places → Quantified D quantifiers → length D ≤ highest.numbers → ClauseSets D [] wc start
       → MatrixShown D (rows_of w f l) wc cells sets
   matrix_shown {k} {sets} b T narrow e D p q few g = record {
     few = omega (arith, long, T.few);

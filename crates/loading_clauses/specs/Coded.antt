@@ -1,7 +1,7 @@
 -- The clauses of a formula as the rows and the sets of a search.
 use Rattle.std.specs.Prelude.{ℕ, suc, ◌*◌, ◌≤◌, ◌<◌, ◌≡◌, Bool, false, not, ◌&&◌, ◌||◌, List, eqb, ℤ, length, get_or, take, drop}
 use Rattle.bitset.specs.Rows.{width, member}
-use Rattle.qbf.specs.Formula.{paper, Prefix, any}
+use Rattle.qbf.specs.Formula.{highest, Prefix, any}
 use Rattle.qbf.specs.Learning.{reduce}
 use Rattle.tables.specs.Views.{Places}
 use Rattle.tables.specs.Codes.{code_at, codes, Quantified}
@@ -17,8 +17,8 @@ Low row = (i : ℕ) → i < length row → get_or row i 0 < code_count
 pub record Coded (lits : List ℤ) (places quantifiers : List ℕ) (at : ℕ) (cells : List ℕ) : Type 0 where
   pub less : get_or cells at 0 ≤ length lits
   pub low : Low (take (length lits) (drop (suc at) cells))
-  pub whole : (D : Prefix) → Places D places → length D ≤ paper.numbers → take (length lits) (drop (suc at) cells) ≡ codes D lits
-  pub reduced : (D : Prefix) → Places D places → Quantified D quantifiers → length D ≤ paper.numbers
+  pub whole : (D : Prefix) → Places D places → length D ≤ highest.numbers → take (length lits) (drop (suc at) cells) ≡ codes D lits
+  pub reduced : (D : Prefix) → Places D places → Quantified D quantifiers → length D ≤ highest.numbers
       → take (get_or cells at 0) (drop (suc at) cells) ≡ codes D (reduce D false lits)
 
 -- d is the code of the opposite literal

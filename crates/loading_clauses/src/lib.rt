@@ -2,7 +2,7 @@
 #![tactic(auto)]
 
 ghost use Rattle.std.specs.Prelude.{◌≡◌, [], ◌+◌, ◌*◌, ◌≤◌, ◌<◌, length, get_or, take};
-ghost use Rattle.qbf.specs.Formula.{paper, Prefix};
+ghost use Rattle.qbf.specs.Formula.{paper, highest, Prefix};
 ghost use Rattle.tables.specs.Views.{Places, rows_of};
 ghost use Rattle.tables.specs.Codes.{Quantified};
 ghost use Rattle.tables.specs.Sets.{ClauseSets};
@@ -69,8 +69,8 @@ fn add_clause<'a>(sets: &mut [u64], words: usize, row: &'a [u16], left: usize, k
 // Clause k: its row, and its number in the sets.
 fn load_clause<'a>(lits: &'a [i16], places: &'a [u16], matrix: &mut Matrix, words: usize, k: usize)
     requires { (length lits.now ≤ paper.literals)
-        × (k < paper.clauses)
-        × (length matrix.old.rows ≡ paper.clauses * clause_row)
+        × (k < highest.clauses)
+        × (length matrix.old.rows ≡ highest.clauses * clause_row)
         × SetsFor words k matrix.old.sets }
     ensures { (matrix.new.quantifiers ≡ matrix.old.quantifiers)
         × Filled
@@ -94,15 +94,15 @@ fn load_clause<'a>(lits: &'a [i16], places: &'a [u16], matrix: &mut Matrix, word
 
 // The clauses one after the other.
 fn add_clauses<'a>(clauses: LentRows<'a>, places: &'a [u16], matrix: &mut Matrix, words: usize)
-    requires { Held clauses.width paper.clauses clauses.cells.now clauses.sizes.now
+    requires { Held clauses.width highest.clauses clauses.cells.now clauses.sizes.now
         × (clauses.width ≤ paper.literals)
-        × (length matrix.old.rows ≡ paper.clauses * clause_row)
+        × (length matrix.old.rows ≡ highest.clauses * clause_row)
         × SetsFor words (get_or clauses.sizes.now 0 0) matrix.old.sets }
     ensures { (matrix.new.quantifiers ≡ matrix.old.quantifiers)
         × ((D : Prefix)
         → Places D places.now
         → Quantified D matrix.old.quantifiers
-        → length D ≤ paper.numbers
+        → length D ≤ highest.numbers
         → ClauseSets D [] words matrix.old.sets
         → MatrixShown
         D
@@ -120,11 +120,11 @@ fn add_clauses<'a>(clauses: LentRows<'a>, places: &'a [u16], matrix: &mut Matrix
 
 // The rows and the sets of the clauses, under places up to `last`, where the quantifiers are there. Their content before is free: of the sets the rows of
 // the places' codes are cleared first.
-// stays (no plainer): `usize ≤ paper.numbers` is of one number that says how far a table is read; a type for it would be taken off at that table
+// stays (no plainer): `usize ≤ highest.numbers` is of one number that says how far a table is read; a type for it would be taken off at that table
 pub fn load_clauses<'a>(clauses: LentRows<'a>, places: &'a [u16], last: usize, matrix: &mut Matrix)
-    requires { Held clauses.width paper.clauses clauses.cells.now clauses.sizes.now
+    requires { Held clauses.width highest.clauses clauses.cells.now clauses.sizes.now
         × (clauses.width ≤ paper.literals)
-        × (last ≤ paper.numbers) }
+        × (last ≤ highest.numbers) }
     ensures { (matrix.new.quantifiers ≡ matrix.old.quantifiers)
         × ((D : Prefix)
         → Places D places.now

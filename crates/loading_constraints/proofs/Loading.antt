@@ -2,18 +2,17 @@
 use Prim.Native.Nat.{ℕ, suc, ◌+◌, ◌-◌, ◌≤◌, ◌<◌}
 use native.Mathlib.Omega.{arith}
 use native.Mathlib.Numerals.{add-one}
-use mathlib.Core.Path.{◌≡◌, sym, ap, subst, ◌∙◌}
+use mathlib.Core.Path.{◌≡◌, sym, ap, ◌∙◌}
 use mathlib.Core.List.{List, [], ◌∷◌, ◌++◌, map, map-append}
 use lib.IntN.{ℤ}
-use lib.ListN.{length, take, drop, length-map}
-use Rattle.qbf.specs.Formula.{paper, Prefix}
+use lib.ListN.{length, drop, length-map}
+use Rattle.qbf.specs.Formula.{paper, highest, Prefix}
 use Rattle.qbf.specs.Learning.{push}
 use Rattle.tables.specs.Views.{Places, row, rows}
 use Rattle.tables.specs.Codes.{codes}
 use Rattle.tables.specs.Shelves.{Entries, entries_of, newest_of, base_of, shelf_rows, ring_rows}
 use Rattle.tables.proofs.Laws.{rows_length, rows_suc, rows_zero}
 use Rattle.shelf.proofs.Ring.{ring_zero}
-use Rattle.lent_rows.proofs.Rows.{part_long}
 
 -- a row put behind others that leave room
 push_room : {A : Type 0} (n : ℕ) (e : A) (es : List A) → length es < n → push n e es ≡ es ++ (e ∷ [])
@@ -26,15 +25,6 @@ push_map f n e es {r} p h =
     ∙ push_room n (f e) (map f es) (omega (arith, length-map es f))
     ∙ sym (map-append f es (e ∷ []))
 
--- the codes of a part, which the code cuts as m elements
-pub coded : (a n m : ℕ) (ys : List ℕ) (f : List ℤ) (D : Prefix) → m ≡ n → a + n ≤ length f
-    → take (length (take m (drop a f))) ys ≡ codes D (take m (drop a f)) → take n ys ≡ codes D (take n (drop a f))
-coded a n m ys f D e h g =
-    let x : take (length (take n (drop a f))) ys ≡ codes D (take n (drop a f)) =
-    subst (λ (j : ℕ). take (length (take j (drop a f))) ys ≡ codes D (take j (drop a f))) e g
-    in
-    ap (λ (j : ℕ). take j ys) (sym (part_long a n f h)) ∙ x
-
 -- a shelf with no newest row is empty
 pub none_stand : (stride slots : ℕ) (cells links : List ℕ) → newest_of links ≡ 0 → shelf_rows stride slots cells links ≡ []
 none_stand stride slots cells links h =
@@ -45,21 +35,21 @@ none_stand stride slots cells links h =
 pub record Loaded (w : ℕ) (f : List ℤ) (l places : List ℕ) (k : ℕ) (cells links : List ℕ) : Type 0 where
   pub shelf : Entries cells links
   pub newest : newest_of links ≡ k
-  pub is : (D : Prefix) → Places D places → length D ≤ paper.numbers → entries_of cells links ≡ map (codes D) (rows w f l k)
+  pub is : (D : Prefix) → Places D places → length D ≤ highest.numbers → entries_of cells links ≡ map (codes D) (rows w f l k)
 
 -- no row yet, and an empty shelf
 pub load_none : (w : ℕ) (f : List ℤ) (l places cells links : List ℕ) → Entries cells links → newest_of links ≡ 0 → Loaded w f l places 0 cells links
 load_none w f l places cells links s e = record {
   shelf = s;
   newest = e;
-  is = λ D p h. none_stand paper.numbers paper.constraints cells links e ∙ sym (ap (map (codes D)) (rows_zero w f l));
+  is = λ D p h. none_stand highest.numbers paper.constraints cells links e ∙ sym (ap (map (codes D)) (rows_zero w f l));
 }
 
 -- row k too
 pub load_more : {w : ℕ} {f : List ℤ} {l places : List ℕ} {k : ℕ} {cells links : List ℕ} → Loaded w f l places k cells links
     → k < paper.constraints
     → (cells' links' : List ℕ) → Entries cells' links' → newest_of links' ≡ suc k
-    → ((D : Prefix) → Places D places → length D ≤ paper.numbers
+    → ((D : Prefix) → Places D places → length D ≤ highest.numbers
     → entries_of cells' links' ≡ push paper.constraints (codes D (row w f l k)) (entries_of cells links))
     → Loaded w f l places (k + 1) cells' links'
 load_more {w} {f} {l} {places} {k} {cells} {links} inv low cells' links' s e h = record {

@@ -12,7 +12,7 @@ use lib.ListN.{length, get_or, set, take}
 use lib.Seq.{length-take-le, take-take}
 use borrow.Author.Tests.{eq-eqb, le-leb, lt-leb, lt-ltb, le-ltb, ne_eqb}
 use Rattle.bitset.specs.Rows.{Cleared, Inserted, Unites, member, width}
-use Rattle.qbf.specs.Formula.{paper, Clause, Node, Prefix, value_at}
+use Rattle.qbf.specs.Formula.{highest, Clause, Node, Prefix, value_at}
 use Rattle.theory.proofs.Basics.{le_or_lt, value_some}
 use Rattle.theory.proofs.Implicants.{value_take}
 use Rattle.tables.specs.Codes.{code_at, sign, Statuses}
@@ -78,7 +78,7 @@ row_end {count} {wc} {i} r long h = record { long = r.long ∙ long; row = λ j 
     by false = refl
 
 -- ---- a place more
-pub inside : {p code wc : ℕ} → 1 ≤ p → p ≤ paper.numbers → code < code_count → RowLength wc → Inside p code wc
+pub inside : {p code wc : ℕ} → 1 ≤ p → p ≤ highest.numbers → code < code_count → RowLength wc → Inside p code wc
 inside inner within small words = record { inner = inner; within = within; small = small; words = words }
 
 module _ {D : Prefix} {R : List Clause} {wc : ℕ} {sat marks : List ℕ} where

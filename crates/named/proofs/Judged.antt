@@ -7,22 +7,23 @@ use mathlib.Core.List.{List, [], ◌∷◌, ◌++◌, map, map-append}
 use mathlib.Core.Option.{Option, none, some}
 use native.Mathlib.Omega.{arith}
 use native.Mathlib.Decide.{dec_lt}
-use borrow.Author.Tests.{le-leb}
+use borrow.Author.Tests.{le-leb, ltb-false}
 use lib.Dec.{eqb, leb, ltb}
 use lib.IntN.{pos, negsuc}
 use lib.ListN.{length, take, drop, length-map, length-take, length-append, take-append-drop}
 use lib.Seq.{take_all}
-use Rattle.qbf.specs.Formula.{Limits, paper, exists, Prefix, Literal, Formula, number_of, positive, any, place_of, place}
+use Rattle.qbf.specs.Formula.{Limits, paper, highest, exists, Prefix, quantifiers, Literal, Formula, number_of, positive, any, place_of, place}
 use Rattle.qbf.specs.Truth.{free_variables}
 use Rattle.qbf.specs.Calls.{given, query_fault, numbers_are_ok, ◌or_else◌}
-use Rattle.theory.proofs.Basics.{and_both, or_false_left, or_false_right, false_eqb}
-use Rattle.theory.proofs.Prefixes.{place_of_zero, place_beyond}
+use Rattle.theory.proofs.Basics.{and_both, or_false_left, or_false_right, eqb_true, false_eqb}
+use Rattle.theory.proofs.Prefixes.{number_at, place_of_zero, place_beyond}
+use Rattle.theory.proofs.Starting.{free_fit}
 use Rattle.theory.proofs.Widths.{prefix_width}
 use Rattle.layout.specs.Opening.{variable}
 use Rattle.theory.proofs.AcceptedRule.{some_none, given_none}
 use Rattle.layout.specs.Session.{named}
 use Rattle.reader.specs.Items.{narrow, narrowed}
-use Rattle.reader.proofs.Judged.{narrowed_same, narrowed_out}
+use Rattle.reader.proofs.Judged.{narrowed_same_under, narrowed_out_under}
 
 -- ---- the flags that some literals name: those that are on, then those that are off
 abbrev pub flags : List Literal → List Literal
@@ -61,11 +62,11 @@ narrowed_named v (pos n ∷ ls) = by (beq v true) (narrowed_named v ls)
     by false e = e
 narrowed_named v (negsuc n ∷ ls) = by (beq v false) (narrowed_named v ls)
   where
-    same : narrow (suc n) ≡ suc (min n paper.numbers)
+    same : narrow (suc n) ≡ suc (min n highest.numbers)
     same = omega arith
 
     by : (t : Bool) → map narrowed (named v ls) ≡ named v (map narrowed ls)
-        → map narrowed (cond t (pos (suc n) ∷ named v ls) (named v ls)) ≡ cond t (pos (suc (min n paper.numbers)) ∷ named v (map narrowed ls)) (named v (map narrowed ls))
+        → map narrowed (cond t (pos (suc n) ∷ named v ls) (named v ls)) ≡ cond t (pos (suc (min n highest.numbers)) ∷ named v (map narrowed ls)) (named v (map narrowed ls))
     by true e = (λ i. pos (same i) ∷ e i)
     by false e = e
 
@@ -192,31 +193,86 @@ module _ (b : Formula) where
     query_width ls e =
         omega (arith, prefix_width L (map (λ l. variable exists (number_of l)) ls) (could_be [] ls e), length-map (map (λ l. variable exists (number_of l)) ls) (λ d. d.quantifier), length-map ls (λ l. variable exists (number_of l)))
 
-    -- Of the literals that name a query's flags the first ones decide, one more than there are numbers: among so many a number stands twice or is not
+    -- numbers stand at places of their own
+    places_apart : (n m : ℕ) → (place_of D n ≡ 0 → ⊥) → place_of D n ≡ place_of D m → n ≡ m
+    places_apart n m h e = by (place_of D n) refl
+      where
+        by : (i : ℕ) → place_of D n ≡ i → n ≡ m
+        by zero q = absurd (h q)
+        by (suc i) q = sym (number_at D n i q).1 ∙ (number_at D m i (sym e ∙ q)).1
+
+    place_new : (n : ℕ) → (place_of D n ≡ 0 → ⊥) → (seen : List ℕ) → any (eqb n) seen ≡ false → any (eqb (place_of D n)) (map (place_of D) seen) ≡ false
+    place_new n h [] e = refl
+    place_new n h (m ∷ seen) e = by (eqb (place_of D n) (place_of D m)) refl (place_new n h seen (or_false_right (eqb n m) (any (eqb n) seen) e))
+      where
+        by : (t : Bool) → eqb (place_of D n) (place_of D m) ≡ t → any (eqb (place_of D n)) (map (place_of D) seen) ≡ false → (t || any (eqb (place_of D n)) (map (place_of D) seen)) ≡ false
+        by true q ih = absurd (false_eqb n m (or_false_left (eqb n m) (any (eqb n) seen) e) (places_apart n m h (eqb_true (place_of D n) (place_of D m) q)))
+        by false q ih = ih
+
+    -- the places of a query without a fault are distinct, and no higher than the flags are many
+    abbrev as_many : Limits
+    as_many = record { numbers = free_variables D; clauses = L.clauses; literals = L.literals; constraints = L.constraints }
+
+    places_be : (seen : List ℕ) (ls : List Literal) → query_fault b seen ls ≡ none → numbers_are_ok as_many (map (place_of D) seen) (map (λ l. variable exists (place D l)) ls) ≡ true
+    places_be seen [] e = refl
+    places_be seen (l ∷ ls) e =
+        and_both (leb 1 p && leb p (free_variables D) && not (any (eqb p) (map (place_of D) seen))) (numbers_are_ok as_many (p ∷ map (place_of D) seen) (map (λ l. variable exists (place D l)) ls))
+        (and_both (leb 1 p && leb p (free_variables D)) (not (any (eqb p) (map (place_of D) seen))) (and_both (leb 1 p) (leb p (free_variables D)) (le-leb 1 p (positive_place p placed)) (le-leb p (free_variables D) low))
+        (ap not (place_new (number_of l) placed seen (or_false_right first (any (eqb (number_of l)) seen) w.0))))
+        (places_be (number_of l ∷ seen) ls w.1)
+      where
+        p : ℕ
+        p = place D l
+
+        first : Bool
+        first = not (positive l) || eqb (place D l) 0 || ltb (free_variables D) (place D l)
+
+        w : (barred seen l ≡ false) × (query_fault b (number_of l ∷ seen) ls ≡ none)
+        w = given_none (barred seen l) 8 (query_fault b (number_of l ∷ seen) ls) e
+
+        three : first ≡ false
+        three = or_false_left first (any (eqb (number_of l)) seen) w.0
+
+        placed : p ≡ 0 → ⊥
+        placed = false_eqb p 0 (or_false_right (not (positive l)) (eqb p 0) (or_false_left (not (positive l) || eqb p 0) (ltb (free_variables D) p) three))
+
+        low : p ≤ free_variables D
+        low = ltb-false (free_variables D) p (or_false_right (not (positive l) || eqb p 0) (ltb (free_variables D) p) three)
+
+        positive_place : (i : ℕ) → (i ≡ 0 → ⊥) → 1 ≤ i
+        positive_place zero h = absurd (h refl)
+        positive_place (suc i) h = suc-le-suc zero-le
+
+    -- .. and no more than there are flags
+    pub query_few : (ls : List Literal) → query_fault b [] ls ≡ none → length ls ≤ free_variables D
+    query_few ls e =
+        omega (arith, prefix_width as_many (map (λ l. variable exists (place D l)) ls) (places_be [] ls e), length-map (map (λ l. variable exists (place D l)) ls) (λ d. d.quantifier), length-map ls (λ l. variable exists (place D l)))
+
+    -- Of the literals that name a query's flags the first ones decide, more than there are flags: among so many a number stands twice or is not
     -- free, whatever their signs are.
-    pub first_decide : (ls : List Literal) → query_fault b [] (flags (take (suc L.numbers) ls)) ≡ query_fault b [] (flags ls)
-    first_decide ls = by (query_fault b [] (flags first)) (query_fault b [] (flags ls)) refl refl
+    pub first_decide : (m : ℕ) → free_variables D < m → (ls : List Literal) → query_fault b [] (flags (take m ls)) ≡ query_fault b [] (flags ls)
+    first_decide m more ls = by (query_fault b [] (flags first)) (query_fault b [] (flags ls)) refl refl
       where
         first : List Literal
-        first = take (suc L.numbers) ls
+        first = take m ls
 
         by : (o p : Option ℕ) → query_fault b [] (flags first) ≡ o → query_fault b [] (flags ls) ≡ p → query_fault b [] (flags first) ≡ query_fault b [] (flags ls)
         by none p e h =
             ap (λ (ms : List Literal). query_fault b [] (flags ms))
-            (take_all (suc L.numbers) ls (omega (arith, query_width (flags first) e, flags_length first, length-take (suc L.numbers) ls)))
-        by (some m) (some n) e h = e ∙ ap some (eight [] (flags first) m e ∙ sym (eight [] (flags ls) n h)) ∙ sym h
-        by (some m) none e h = absurd (some_none (sym e ∙ all_fine))
+            (take_all m ls (omega (arith, more, query_few (flags first) e, flags_length first, length-take m ls)))
+        by (some m') (some n) e h = e ∙ ap some (eight [] (flags first) m' e ∙ sym (eight [] (flags ls) n h)) ∙ sym h
+        by (some m') none e h = absurd (some_none (sym e ∙ all_fine))
           where
             all_fine : query_fault b [] (flags first) ≡ none
             all_fine =
-                cut_fine (named true first) (named true (drop (suc L.numbers) ls)) (named false first) (named false (drop (suc L.numbers) ls))
-                (ap (query_fault b []) (sym (flags_cut (suc L.numbers) ls)) ∙ h)
+                cut_fine (named true first) (named true (drop m ls)) (named false first) (named false (drop m ls))
+                (ap (query_fault b []) (sym (flags_cut m ls)) ∙ h)
 
-  -- ---- narrowing
-  module _ (fine : numbers_are_ok paper [] D ≡ true) where
+  -- ---- narrowing, under any limits no higher than the highest
+  module _ (L : Limits) (low : L.numbers ≤ highest.numbers) (fine : numbers_are_ok L [] D ≡ true) where
     -- a number that has no place is refused, whatever follows
-    no_place : (seen : List ℕ) (l : Literal) (o : Option ℕ) → paper.numbers < number_of l → (given (barred seen l) 8 or_else o) ≡ some 8
-    no_place seen l o h = rw (place_beyond paper D fine (number_of l) h) (by (not (positive l)) (any (eqb (number_of l)) seen))
+    no_place : (seen : List ℕ) (l : Literal) (o : Option ℕ) → L.numbers < number_of l → (given (barred seen l) 8 or_else o) ≡ some 8
+    no_place seen l o h = rw (place_beyond L D fine (number_of l) h) (by (not (positive l)) (any (eqb (number_of l)) seen))
       where
         by : (t u : Bool) → (given (t || true || ltb (free_variables D) 0 || u) 8 or_else o) ≡ some 8
         by true u = refl
@@ -224,33 +280,45 @@ module _ (b : Formula) where
 
     pub query_judged : (seen : List ℕ) (ls : List Literal) → query_fault b seen (map narrowed ls) ≡ query_fault b seen ls
     query_judged seen [] = refl
-    query_judged seen (l ∷ ls) = by (dec_lt paper.numbers (number_of l)) (query_judged (number_of l ∷ seen) ls)
+    query_judged seen (l ∷ ls) = by (dec_lt L.numbers (number_of l)) (query_judged (number_of l ∷ seen) ls)
       where
-        by : Dec (paper.numbers < number_of l) → query_fault b (number_of l ∷ seen) (map narrowed ls) ≡ query_fault b (number_of l ∷ seen) ls
+        by : Dec (L.numbers < number_of l) → query_fault b (number_of l ∷ seen) (map narrowed ls) ≡ query_fault b (number_of l ∷ seen) ls
             → query_fault b seen (narrowed l ∷ map narrowed ls) ≡ query_fault b seen (l ∷ ls)
-        by (yes h) ih = no_place seen (narrowed l) _ (narrowed_out l h) ∙ sym (no_place seen l _ h)
+        by (yes h) ih = no_place seen (narrowed l) _ (narrowed_out_under L low l h) ∙ sym (no_place seen l _ h)
         by (no h) ih =
-            ap (λ (x : Literal). query_fault b seen (x ∷ map narrowed ls)) (narrowed_same l (omega (arith, h)))
+            ap (λ (x : Literal). query_fault b seen (x ∷ map narrowed ls)) (narrowed_same_under L low l (omega (arith, h)))
             ∙ ap (λ (o : Option ℕ). given (barred seen l) 8 or_else o) ih
 
     query_same : (seen : List ℕ) (ls : List Literal) → query_fault b seen ls ≡ none → map narrowed ls ≡ ls
     query_same seen [] e = refl
-    query_same seen (l ∷ ls) e = by (dec_lt paper.numbers (number_of l)) (query_same (number_of l ∷ seen) ls (no_fault seen l ls e).1)
+    query_same seen (l ∷ ls) e = by (dec_lt L.numbers (number_of l)) (query_same (number_of l ∷ seen) ls (no_fault seen l ls e).1)
       where
-        by : Dec (paper.numbers < number_of l) → map narrowed ls ≡ ls → narrowed l ∷ map narrowed ls ≡ l ∷ ls
+        by : Dec (L.numbers < number_of l) → map narrowed ls ≡ ls → narrowed l ∷ map narrowed ls ≡ l ∷ ls
         by (yes h) ih = absurd (some_none (sym (no_place seen l _ h) ∙ e))
-        by (no h) ih = (λ i. narrowed_same l (omega (arith, h)) i ∷ ih i)
+        by (no h) ih = (λ i. narrowed_same_under L low l (omega (arith, h)) i ∷ ih i)
 
-    -- ---- both
+    -- ---- both, in a table with more cells than there are flags
+    module _ (m : ℕ) (more : free_variables D < m) where
+      pub flags_judged_under : (ls : List Literal) → query_fault b [] (flags (take m (map narrowed ls))) ≡ query_fault b [] (flags ls)
+      flags_judged_under ls = first_decide L fine m more (map narrowed ls) ∙ ap (query_fault b []) (sym (narrowed_flags ls)) ∙ query_judged [] (flags ls)
+
+      pub flags_same_under : (ls : List Literal) → query_fault b [] (flags ls) ≡ none → (v : Bool) → named v (take m (map narrowed ls)) ≡ named v ls
+      flags_same_under ls e v =
+          ap (named v) (take_all m (map narrowed ls) (omega (arith, more, query_few L fine (flags ls) e, flags_length ls, length-map ls narrowed)))
+          ∙ sym (narrowed_named v ls)
+          ∙ by v
+        where
+          by : (v : Bool) → map narrowed (named v ls) ≡ named v ls
+          by true = query_same [] (named true ls) (left_fine [] (named true ls) (named false ls) e)
+          by false = query_same (after [] (named true ls)) (named false ls) (right_fine [] (named true ls) (named false ls) e)
+
+  -- ---- under the paper's limits
+  module _ (fine : numbers_are_ok paper [] D ≡ true) where
+    few : free_variables D < suc paper.numbers
+    few = omega (arith, prefix_width paper D fine, free_fit (quantifiers D))
+
     pub flags_judged : (ls : List Literal) → query_fault b [] (flags (take (suc paper.numbers) (map narrowed ls))) ≡ query_fault b [] (flags ls)
-    flags_judged ls = first_decide paper fine (map narrowed ls) ∙ ap (query_fault b []) (sym (narrowed_flags ls)) ∙ query_judged [] (flags ls)
+    flags_judged ls = flags_judged_under paper (omega arith) fine (suc paper.numbers) few ls
 
     pub flags_same : (ls : List Literal) → query_fault b [] (flags ls) ≡ none → (v : Bool) → named v (take (suc paper.numbers) (map narrowed ls)) ≡ named v ls
-    flags_same ls e v =
-        ap (named v) (take_all (suc paper.numbers) (map narrowed ls) (omega (arith, query_width paper fine (flags ls) e, flags_length ls, length-map ls narrowed)))
-        ∙ sym (narrowed_named v ls)
-        ∙ by v
-      where
-        by : (v : Bool) → map narrowed (named v ls) ≡ named v ls
-        by true = query_same [] (named true ls) (left_fine [] (named true ls) (named false ls) e)
-        by false = query_same (after [] (named true ls)) (named false ls) (right_fine [] (named true ls) (named false ls) e)
+    flags_same ls e v = flags_same_under paper (omega arith) fine (suc paper.numbers) few ls e v

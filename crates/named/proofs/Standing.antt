@@ -7,7 +7,7 @@ use mathlib.Core.List.{List, [], ◌∷◌, map}
 use lib.IntN.{ℤ, pos, negsuc}
 use lib.ListN.{length, take, length-map, length-take}
 use lib.Seq.{take_all}
-use Rattle.qbf.specs.Formula.{paper, Literal, number_of, positive}
+use Rattle.qbf.specs.Formula.{paper, highest, Literal, number_of, positive}
 use Rattle.layout.specs.Session.{named}
 use Rattle.reader.specs.Items.{narrowed, Kept}
 use Rattle.reader.proofs.Judged.{cut_same}
@@ -21,10 +21,10 @@ narrowed_twice : (k : ℕ) (ls : List Literal) → map narrowed (take k (map nar
 narrowed_twice zero ls = refl
 narrowed_twice (suc k) [] = refl
 narrowed_twice (suc k) (pos n ∷ ls) =
-    let e : min (min n (suc paper.numbers)) (suc paper.numbers) ≡ min n (suc paper.numbers) = omega arith in
+    let e : min (min n (suc highest.numbers)) (suc highest.numbers) ≡ min n (suc highest.numbers) = omega arith in
     (λ i. pos (e i) ∷ narrowed_twice k ls i)
 narrowed_twice (suc k) (negsuc n ∷ ls) =
-    let e : min (min n paper.numbers) paper.numbers ≡ min n paper.numbers = omega arith in
+    let e : min (min n highest.numbers) highest.numbers ≡ min n highest.numbers = omega arith in
     (λ i. negsuc (e i) ∷ narrowed_twice k ls i)
 
 named_length : (v : Bool) (ls : List Literal) → length (named v ls) ≤ length ls

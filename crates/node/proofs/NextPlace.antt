@@ -6,7 +6,7 @@ use mathlib.Core.Logic.{◌⊎◌, inl, inr}
 use mathlib.Core.Bool.{false}
 use mathlib.Core.List.{List}
 use lib.ListN.{length}
-use Rattle.qbf.specs.Formula.{paper, Quantifier, free, exists, forall, Prefix, quantifier_at}
+use Rattle.qbf.specs.Formula.{highest, Quantifier, free, exists, forall, Prefix, quantifier_at}
 use Rattle.theory.proofs.Basics.{le_or_lt}
 use Rattle.tables.specs.Views.{quantifier_code}
 use Rattle.tables.specs.Codes.{Quantified}
@@ -34,10 +34,10 @@ code_known exists k e a b c = a e
 code_known forall k e a b c = b e
 
 -- a place is left where the table has a quantifier for it
-pub more_places : (kd : List ℕ) (at k : ℕ) → NextKind kd at k → k < 3 → at < paper.numbers
-more_places kd at k h low = by (le_or_lt paper.numbers at)
+pub more_places : (kd : List ℕ) (at k : ℕ) → NextKind kd at k → k < 3 → at < highest.numbers
+more_places kd at k h low = by (le_or_lt highest.numbers at)
   where
-    by : (paper.numbers ≤ at) ⊎ (at < paper.numbers) → at < paper.numbers
+    by : (highest.numbers ≤ at) ⊎ (at < highest.numbers) → at < highest.numbers
     by (inl le) = absurd (omega (arith, h.none le))
     by (inr lt) = lt
 
@@ -46,12 +46,12 @@ module _ (D : Prefix) (kd : List ℕ) (shown : Quantified D kd) (at k : ℕ) (ne
   pub next_inside : k < 3 → at < length D
   next_inside low = by (le_or_lt (length D) at)
     where
-      lt : at < paper.numbers
+      lt : at < highest.numbers
       lt = more_places kd at k next low
 
       by : (length D ≤ at) ⊎ (at < length D) → at < length D
       by (inl le) = absurd (omega (arith, low, next.more lt, shown.end (suc at) false (omega (arith, le)) (omega (arith, lt))))
       by (inr in_d) = in_d
 
-  pub kind_here : at < length D → length D ≤ paper.numbers → k ≡ quantifier_code (quantifier_at D (suc at))
+  pub kind_here : at < length D → length D ≤ highest.numbers → k ≡ quantifier_code (quantifier_at D (suc at))
   kind_here in_d few = next.more (omega (arith, in_d, few)) ∙ shown.at (suc at) false (omega (arith, in_d))

@@ -1,6 +1,6 @@
 -- What the code's answers say: verdicts and the constraint that goes up, the tables of a node, step 5, and the lines of a card.
 use Rattle.std.specs.Prelude.{ℕ, zero, suc, ◌+◌, ◌-◌, ◌≤◌, ◌<◌, ◌≡◌, Bool, true, false, cond, not, List, [], ◌∷◌, ◌++◌, length, get_or}
-use Rattle.qbf.specs.Formula.{paper, Quantifier, Prefix, Clause, Node, ◌▹◌}
+use Rattle.qbf.specs.Formula.{paper, highest, Quantifier, Prefix, Clause, Node, ◌▹◌}
 use Rattle.qbf.specs.Truth.{Outcome, DecidedNode, decided, mixed, decided_nodes, select}
 use Rattle.qbf.specs.Learning.{Constraint, Store, goes_up, after_both, resolvent, last_place, LearningResult}
 use Rattle.qbf.specs.Calls.{in_order}
@@ -87,8 +87,8 @@ new_lines p (mixed ds) = select p ds
 -- ---- what the small functions of step 5 say
 -- the quantifier of the next place, by the table; 3 where none is left
 pub record NextKind (quantifiers : List ℕ) (at r : ℕ) : Type 0 where
-  pub more : at < paper.numbers → r ≡ get_or quantifiers (code_at (suc at) false) 0
-  pub none : paper.numbers ≤ at → r ≡ 3
+  pub more : at < highest.numbers → r ≡ get_or quantifiers (code_at (suc at) false) 0
+  pub none : highest.numbers ≤ at → r ≡ 3
 
 -- the resolvent of the two sides' constraints, where both are decided
 abbrev pub resolvent_of : Prefix → ℕ → Outcome Constraint → Outcome Constraint → Constraint
@@ -98,7 +98,7 @@ resolvent_of D p (mixed ds) o = []
 
 -- the constraint has room in a slot, and its last code a link
 abbrev pub Fits : Prefix → Constraint → Type 0
-Fits D e = (length e ≤ paper.numbers) × (last_code (codes D e) < code_count)
+Fits D e = (length e ≤ highest.numbers) × (last_code (codes D e) < code_count)
 
 -- both sides done: the counts are the on side's
 pub record Finished (on r : Answer) : Type 0 where

@@ -2,7 +2,7 @@
 #![tactic(auto)]
 
 ghost use Rattle.std.specs.Prelude.{◌≡◌, true, false, suc, ◌+◌, ◌-◌, ◌*◌, ◌≤◌, ◌<◌, length, take, drop};
-ghost use Rattle.qbf.specs.Formula.{paper, Quantifier, Prefix};
+ghost use Rattle.qbf.specs.Formula.{highest, Quantifier, Prefix};
 ghost use Rattle.qbf.specs.Truth.{Outcome};
 ghost use Rattle.qbf.specs.Learning.{Constraint};
 ghost use Rattle.tables.specs.Views.{quantifier_code};
@@ -13,7 +13,7 @@ pub use answer::Answer;
 use coding::list::{wide, write};
 pub use position::{Depth, OffSide, Position};
 use resolution::ends_next;
-use search_entry::{ASIDE, Bounds, Source, entry};
+use search_entry::{ASIDE, Bounds, Learned, Source, entry};
 
 mod answer; // what a visit hands up
 pub mod position; // where a visit stands
@@ -32,7 +32,7 @@ pub enum Verdict {
 pub fn next_kind<'a>(quantifiers: &'a [u8; tables::CODES], at: usize) -> u16
     ensures { NextKind quantifiers.now at result }
 {
-    if at < tables::NUMBERS {
+    if at < tables::HIGHEST_NUMBERS {
         return wide(quantifiers[at * 2 + 2]);
     }
     wide(tables::END)
@@ -54,14 +54,16 @@ pub fn bounds_of(a: Answer) -> Bounds
 pub fn entry_of<'a>(
     a: Answer,
     rows: &'a [u16; tables::CLAUSE_ROWS],
-    clauses: &'a [u16; tables::CONSTRAINT_CODES],
-    cubes: &'a [u16; tables::CONSTRAINT_CODES],
-    area: &'a [u16; tables::AREA],
+    learned: &'a Learned,
+    area: &'a [u16; tables::CODES_AREA],
 ) -> &'a [u16]
-    ensures { (result.now ≡ entry_of a rows.now clauses.now cubes.now area.now) × (length result.now ≡ a.len) }
+    ensures { (result.now
+        ≡ entry_of a rows.now learned.now.clauses.cells.now learned.now.cubes.cells.now area.now)
+        × (length result.now ≡ a.len) }
 {
-    let learned = side::stored(a.verdict, clauses, cubes);
-    entry(rows, learned, area, bounds_of(a))
+    let (clauses, cubes) = (&*learned.clauses.cells, &*learned.cubes.cells);
+    let stored = side::stored(a.verdict, clauses, cubes);
+    entry(rows, stored, area, bounds_of(a))
 }
 
 // Whether the off side's outcome, with the constraint of that row, goes up without a further visit. A stop does.
@@ -80,19 +82,19 @@ pub fn goes_up<'a>(off: Answer, row: &'a [u16], kind: u16, at: usize) -> bool
     side::is_enough(off.verdict, kind) || !ends_next(row, at)
 }
 
-// stays (no plainer): `length [u16] ≤ paper.numbers` is what `sides` of the search has cut the row by; a struct of it would be made there for one call, and taken apart here
+// stays (no plainer): `length [u16] ≤ highest.numbers` is what `sides` of the search has cut the row by; a struct of it would be made there for one call, and taken apart here
 // Puts the off side's constraint aside, so that it survives what is stored while the on side is visited. The rows of the nodes above stay.
 pub fn put_aside<'a>(aside: &mut [u16; ASIDE], at: usize, row: &'a [u16])
-    requires { (at < paper.numbers) × (length row.now ≤ paper.numbers) }
-    ensures { (take (at * paper.numbers) aside.new ≡ take (at * paper.numbers) aside.old)
-        × (take (length row.now) (drop (at * paper.numbers) aside.new) ≡ row.now) }
+    requires { (at < highest.numbers) × (length row.now ≤ highest.numbers) }
+    ensures { (take (at * highest.numbers) aside.new ≡ take (at * highest.numbers) aside.old)
+        × (take (length row.now) (drop (at * highest.numbers) aside.new) ≡ row.now) }
 {
-    write(&mut aside[at * tables::NUMBERS..], row);
+    write(&mut aside[at * tables::HIGHEST_NUMBERS..], row);
 }
 
 // Whether the off side's outcome, with the constraint of that row, goes up; else the row is put aside.
 pub fn up_or_aside<'a>(off: OffSide, row: &'a [u16], aside: &mut [u16; ASIDE]) -> bool
-    requires { length row.now ≤ paper.numbers }
+    requires { length row.now ≤ highest.numbers }
     ensures up { ((D : Prefix) (κ : Quantifier) (o : Outcome Constraint)
         → quantifier_code κ ≡ off.kind
         → Reads D off.answer.verdict row.now o
@@ -101,8 +103,8 @@ pub fn up_or_aside<'a>(off: OffSide, row: &'a [u16], aside: &mut [u16; ASIDE]) -
         → result ≡ goes_up_of D κ (suc off.at) o)
         × (off.answer.verdict ≡ Verdict.Mixed → off.answer.budget ≡ 0 → result ≡ true) }
     ensures size { length aside.new ≡ length aside.old }
-    ensures put { (take (off.at * paper.numbers) aside.new ≡ take (off.at * paper.numbers) aside.old)
-        × (result ≡ false → take (length row.now) (drop (off.at * paper.numbers) aside.new) ≡ row.now) }
+    ensures put { (take (off.at * highest.numbers) aside.new ≡ take (off.at * highest.numbers) aside.old)
+        × (result ≡ false → take (length row.now) (drop (off.at * highest.numbers) aside.new) ≡ row.now) }
 {
     if goes_up(off.answer, row, off.kind, off.at) {
         return true;

@@ -1,6 +1,6 @@
 // Where a visit stands at a node, and what of that the steps at it read; and where a node stands that has visited its off side.
 ghost use Rattle.std.specs.Prelude.{◌≤◌, ◌<◌};
-ghost use Rattle.qbf.specs.Formula.{paper};
+ghost use Rattle.qbf.specs.Formula.{highest};
 ghost use Rattle.tables.specs.Matrices.{RowLength};
 
 use crate::Answer;
@@ -16,7 +16,7 @@ pub struct Position {
     pub lines: usize,
     pub words: usize,
     pub yes: bool,
-    pub ghost few: { free ≤ paper.numbers },
+    pub ghost few: { free ≤ highest.numbers },
     pub ghost long: { RowLength words },
 }
 
@@ -25,7 +25,7 @@ pub struct Position {
 pub struct Depth {
     pub at: usize,
     pub words: usize,
-    pub ghost within: { at ≤ paper.numbers },
+    pub ghost within: { at ≤ highest.numbers },
     pub ghost long: { RowLength words },
 }
 
@@ -35,5 +35,5 @@ pub struct OffSide {
     pub at: usize,
     pub kind: u16,
     pub answer: Answer,
-    pub ghost next: { at < paper.numbers },
+    pub ghost next: { at < highest.numbers },
 }

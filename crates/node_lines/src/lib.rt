@@ -2,7 +2,7 @@
 #![tactic(auto)]
 
 ghost use Rattle.std.specs.Prelude.{◌≡◌, Bool, true, false, cond, List, [], ◌∷◌, ◌++◌, ◌+◌, ◌^◌, ◌≤◌, ◌<◌, length};
-ghost use Rattle.qbf.specs.Formula.{paper, Node, ◌▹◌};
+ghost use Rattle.qbf.specs.Formula.{highest, Node, ◌▹◌};
 ghost use Rattle.qbf.specs.Card.{byte_of};
 ghost use Rattle.cover.specs.Cover.{Covers};
 ghost use Rattle.node.specs.Node.{LineTask, lined_of, settled_lines, SettledTo};
@@ -19,7 +19,7 @@ pub struct NodeLines {
     pub at: usize,
     pub free: usize,
     pub count: usize,
-    pub ghost few: { free ≤ paper.numbers },
+    pub ghost few: { free ≤ highest.numbers },
 }
 
 // Whether a side of that verdict is a line by itself, the lines being Yes nodes or No nodes: below the free variables there are none.

@@ -8,7 +8,7 @@ use mathlib.Core.List.{List, [], ◌∷◌}
 use lib.ListN.{length, get_or, replicate}
 use lib.IntN.{ℤ}
 use lib.Dec.{leb}
-use Rattle.qbf.specs.Formula.{paper, Quantifier, free, exists, forall, Prefix, quantifiers, any, all, dead, satisfied, place_of, value_at}
+use Rattle.qbf.specs.Formula.{paper, highest, Quantifier, free, exists, forall, Prefix, quantifiers, any, all, dead, satisfied, place_of, value_at}
 use Rattle.qbf.specs.Truth.{free_count}
 use Rattle.qbf.specs.Calls.{numbers_are_ok, free_first}
 use Rattle.qbf.specs.Open.{Reading}
@@ -68,12 +68,12 @@ frees_of (forall ∷ ks) i h = absurd (not-suc-le-zero h)
 module _ {numbers : List ℕ} {clauses : List ℤ} {sizes places kinds values : List ℕ} {count : ℕ} where
   -- ---- the tables that are derived
   module _ {qs rows sets recorded : List ℕ} (cells last n : ℕ)
-      (coded : (D : Prefix) → Numbers D numbers → Kinds D kinds → numbers_are_ok paper [] D ≡ true → Quantified D qs)
+      (coded : (D : Prefix) → Numbers D numbers → Kinds D kinds → numbers_are_ok highest [] D ≡ true → Quantified D qs)
       (loaded : (D : Prefix) → Places D places → Quantified D qs → length D ≤ last → MatrixShown D (clauses_of clauses sizes) (words_of (get_or sizes 0 0)) rows sets)
       (all_places : last ≡ get_or numbers 0 0) (put : Placed values numbers count (replicate cells 0) recorded) (all_clauses : n ≡ get_or sizes 0 0) where
     task : (D : Prefix) (os : Reading) → Shown D os numbers clauses sizes places kinds values count → Task D (clauses_of clauses sizes) os (words_of n) sets qs recorded
     task D os shown =
-        let q = coded D shown.numbered shown.kinded (and_left (numbers_are_ok paper [] D) (free_first (quantifiers D)) shown.formed.prefix_ok) in
+        let q = coded D shown.numbered shown.kinded (and_left (numbers_are_ok highest [] D) (free_first (quantifiers D)) shown.formed.prefix_ok) in
         let m = loaded D shown.placed q (omega (arith, all_places, shown.numbered.count)) in
         record {
           formed = shown.formed;
@@ -81,7 +81,7 @@ module _ {numbers : List ℕ} {clauses : List ℤ} {sizes places kinds values : 
           by_code = subst (λ (k : ℕ). ClauseSets D (clauses_of clauses sizes) (words_of k) sets) (sym all_clauses) m.by_code;
           reads = record {
             at = λ p h.
-                placed_reading paper D shown.formed.prefix_ok numbers shown.numbered os (shown.long ∙ shown.counted) values shown.recorded (replicate cells 0) recorded (zeros cells)
+                placed_reading highest D shown.formed.prefix_ok numbers shown.numbered os (shown.long ∙ shown.counted) values shown.recorded (replicate cells 0) recorded (zeros cells)
                 (subst (λ (k : ℕ). Placed values numbers k (replicate cells 0) recorded) shown.counted put) p;
           };
           frees = λ i h. frees_of (quantifiers D) i (omega (arith, h, shown.long, shown.counted));

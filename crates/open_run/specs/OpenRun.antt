@@ -1,11 +1,13 @@
 -- What the plain search for a reading gives on the tables of a formula.
 use Rattle.std.specs.Prelude.{ℕ, ◌≤◌, ◌≡◌, Bool, true, false, List, [], length, get_or, ℤ}
-use Rattle.qbf.specs.Formula.{paper, Prefix, Clause, quantifiers, any, all, dead, satisfied}
+use Rattle.qbf.specs.Formula.{paper, highest, most_free, Prefix, Clause, quantifiers, any, all, dead, satisfied}
 use Rattle.qbf.specs.Truth.{free_variables}
 use Rattle.qbf.specs.Learning.{empty_store}
 use Rattle.qbf.specs.Open.{Reading, open_search}
 use Rattle.tables.specs.Views.{Numbers, Places, Kinds, Recorded}
-use Rattle.tables.specs.Formed.{Clauses, clauses_of, Formed}
+use Rattle.tables.specs.Formed.{clauses_of}
+use Rattle.inner.specs.Formed.{Formed}
+use Rattle.lent_rows.specs.Held.{Held}
 use Rattle.tables.specs.Matrices.{words_of}
 use Rattle.search_start.specs.declared.Start.{Start}
 use Rattle.search_start.specs.declared.Start.TheVariants.{No, Yes, Open}
@@ -14,9 +16,9 @@ use Rattle.open_search.specs.declared.verdicts.Finding.{Finding}
 
 -- what is asked of the tables, which those of a valid state are
 pub record Ready (numbers : List ℕ) (clauses : List ℤ) (sizes : List ℕ) (free : ℕ) : Type 0 where
-  pub few : get_or numbers 0 0 ≤ paper.numbers
-  pub frees : free ≤ paper.numbers
-  pub clauses_in : Clauses clauses sizes
+  pub few : get_or numbers 0 0 ≤ highest.numbers
+  pub frees : free ≤ most_free
+  pub clauses_in : Held paper.literals highest.clauses clauses sizes
 
 -- ---- the empty node, by its tests
 abbrev pub Tested : Start → Bool → Bool → Type 0

@@ -3,7 +3,7 @@
 #![tactic(auto)]
 
 ghost use Rattle.std.specs.Prelude.{◌≤◌};
-ghost use Rattle.qbf.specs.Formula.{paper};
+ghost use Rattle.qbf.specs.Formula.{highest};
 ghost use Rattle.open_run.specs.OpenRun.{AtEmpty, Below};
 ghost use Rattle.open_run.specs.Asked.{searched_as, walked_as};
 
@@ -13,13 +13,14 @@ use asked::Asked;
 use coding::quantifiers::quantifiers_of;
 use dead_clauses::any_dead;
 use lent_rows::LentRows;
+use literal::cell_at;
 use loading_clauses::{load_clauses, words_of};
 use loading_start::first_row;
 use node::Verdict;
 use open_search::start;
 use open_search::verdicts::{Finding, counted, found};
 use reading::placed::by_place;
-use search_entry::Matrix;
+use search_entry::{Matrix, Trail};
 use search_start::Start;
 use search_start::satisfied::all_satisfied;
 
@@ -33,7 +34,7 @@ fn at_empty(asked: Asked<'_>) -> Start
         kinds,
         ..
     } = asked;
-    let open = [tables::OPEN; tables::BY_NUMBER];
+    let open = [tables::OPEN; 1]; // a number past a table is open
     let rows = LentRows {
         cells: clauses,
         sizes: clause_sizes,
@@ -50,24 +51,25 @@ fn at_empty(asked: Asked<'_>) -> Start
 
 // The search below the empty node, over derived tables of `count` clauses.
 // stays (no plainer): `count` counts the clauses, and measures no table here
+// stays (no plainer): `usize ≤ highest.clauses` is of the count of the rows that are lent, by which it is called once
 fn below<'a>(
     matrix: &'a Matrix,
     count: usize,
-    recorded: &'a [u8; tables::BY_NUMBER],
+    recorded: &'a [u8; tables::HIGHEST_BY_NUMBER],
+    trail: &mut Trail,
     budget: u64,
 ) -> Finding
-    requires { count ≤ paper.clauses }
+    requires { count ≤ highest.clauses }
     ensures { (result.budget ≤ budget)
         × Below matrix.now.sets count matrix.now.quantifiers recorded.now budget result }
 {
     let words = words_of(count);
-    let mut sat = [0u64; tables::SATISFIED];
-    first_row(&mut sat, words, count);
-    start(matrix, recorded, &mut sat, words, budget)
+    first_row(&mut trail.sat, words, count);
+    start(matrix, recorded, &mut trail.sat, words, budget)
 }
 
 // .. over the tables of the formula.
-fn searched(asked: Asked<'_>, budget: u64) -> Finding
+fn searched(asked: Asked<'_>, matrix: &mut Matrix, trail: &mut Trail, budget: u64) -> Finding
     ensures { (result.budget ≤ budget)
         × searched_as asked.entry budget result }
 {
@@ -80,24 +82,26 @@ fn searched(asked: Asked<'_>, budget: u64) -> Finding
         values,
         free,
     } = asked;
-    let mut matrix = Matrix {
-        rows: [0u16; tables::CLAUSE_ROWS],
-        sets: [0u64; tables::CLAUSE_SETS],
-        quantifiers: quantifiers_of(numbers, kinds),
-    };
+    quantifiers_of(numbers, kinds, &mut matrix.quantifiers);
     let rows = LentRows {
         cells: clauses,
         sizes: clause_sizes,
         width: tables::LITERALS,
     };
-    load_clauses(rows, places, numbers[0] as usize, &mut matrix);
-    let mut recorded = [tables::OPEN; tables::BY_NUMBER];
+    load_clauses(rows, places, cell_at(numbers, 0) as usize, matrix);
+    let mut recorded = [tables::OPEN; tables::HIGHEST_BY_NUMBER];
     by_place(&mut recorded, values, numbers, free);
-    below(&matrix, clause_sizes[0] as usize, &recorded, budget)
+    below(
+        matrix,
+        cell_at(clause_sizes, 0) as usize,
+        &recorded,
+        trail,
+        budget,
+    )
 }
 
-// The whole search: the empty node's own visit is made where the budget allows it.
-pub fn walk(asked: Asked<'_>, budget: u64) -> Finding
+// The whole search: the empty node's own visit is made where the budget allows it. The content of the lent tables is free.
+pub fn walk(asked: Asked<'_>, matrix: &mut Matrix, trail: &mut Trail, budget: u64) -> Finding
     ensures { (result.budget ≤ budget)
         × walked_as asked.entry budget result }
 {
@@ -109,6 +113,6 @@ pub fn walk(asked: Asked<'_>, budget: u64) -> Finding
     match empty {
         Start::No => found(Verdict::No, counted(budget)),
         Start::Yes => found(Verdict::Yes, counted(budget)),
-        Start::Open => searched(asked, budget),
+        Start::Open => searched(asked, matrix, trail, budget),
     }
 }

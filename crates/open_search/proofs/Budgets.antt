@@ -8,10 +8,9 @@ use Rattle.qbf.specs.Formula.{Quantifier, free, exists, forall, Node, ◌▹◌}
 use Rattle.qbf.specs.Truth.{Outcome, decided, mixed}
 use Rattle.qbf.specs.Plain.{PlainResult, stops, by_sides, both, plain_branch}
 use Rattle.theory.proofs.Basics.{le_or_lt}
-use Rattle.tables.specs.Views.{quantifier_code}
 use Rattle.node.specs.Step.{alone}
 use Rattle.node.specs.declared.Verdict.{Verdict}
-use Rattle.open_search.specs.Verdicts.{verdict_of, agreed, joined_of}
+use Rattle.open_search.specs.Verdicts.{verdict_of, joined_of}
 use Rattle.open_search.specs.Searching.{Found}
 use Rattle.open_search.specs.declared.verdicts.Finding.{Finding}
 use Rattle.open_search.proofs.Plain.{decided_at, branch_up, branch_both, branch_off}

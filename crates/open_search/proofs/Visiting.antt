@@ -9,7 +9,7 @@ use mathlib.Core.List.{List, ◌∷◌}
 use mathlib.Core.Option.{Option, none, some}
 use lib.Dec.{eqb}
 use lib.ListN.{length, get_or, drop, length-map, drop_of_length-le}
-use Rattle.qbf.specs.Formula.{paper, Quantifier, free, Prefix, Clause, Node, ◌▹◌, quantifiers, quantifier_at, any, all, dead, satisfied}
+use Rattle.qbf.specs.Formula.{highest, Quantifier, free, Prefix, Clause, Node, ◌▹◌, quantifiers, quantifier_at, any, all, dead, satisfied}
 use Rattle.qbf.specs.Plain.{plain_branch}
 use Rattle.qbf.specs.Open.{Reading, enter, open_search}
 use Rattle.theory.proofs.Basics.{le_or_lt}
@@ -21,6 +21,7 @@ use Rattle.node.specs.Node.{NextKind}
 use Rattle.node.specs.declared.Verdict.{Verdict}
 use Rattle.node.specs.declared.Verdict.TheVariants.{Yes, No}
 use Rattle.node.proofs.NextPlace.{one_code, code_small, code_known, next_inside, kind_here}
+use Rattle.inner.proofs.Frees.{free_place}
 use Rattle.inner.proofs.Stepping.{facts}
 use Rattle.open_search.specs.Searching.{Left, Task, Opened, Found, Visited, Branched, Entered, search_at}
 use Rattle.open_search.specs.declared.verdicts.Finding.{Finding}
@@ -41,8 +42,8 @@ module _ (D : Prefix) (R : List Clause) (os : Reading) (k : ℕ) (t : Node) (n :
 -- ---- an open node
 module _ {D : Prefix} {R : List Clause} {os : Reading} {wc : ℕ} {sets kd rec : List ℕ} (task : Task D R os wc sets kd rec) {s : Node} {sat : List ℕ} {k : ℕ} (opened : Opened D s R wc sat k) where
   -- a prefix has no more variables than there are numbers
-  short : length D ≤ paper.numbers
-  short = omega (arith, prefix_width paper D (numbers_ok _ (facts task.formed)), length-map D (λ d. d.quantifier))
+  short : length D ≤ highest.numbers
+  short = omega (arith, prefix_width highest D (numbers_ok _ (facts task.formed)), length-map D (λ d. d.quantifier))
 
   -- ---- what follows at an open node
   pub step_at_lem : (κ : Quantifier) → k < length D → quantifier_at D (suc k) ≡ κ → search_at D R os k s ≡ step_of κ (get_or os k none) (search_at D R os (k + 1)) s
@@ -65,13 +66,16 @@ module _ {D : Prefix} {R : List Clause} {os : Reading} {wc : ℕ} {sets kd rec :
     at_kind in_d = kind_here D kd task.quantified k kind next in_d short
 
     -- the kind of the next place says which branch is taken
+    pub next_is : (κ : Quantifier) → kind ≡ quantifier_code κ → k < length D → quantifier_at D (suc k) ≡ κ
+    next_is κ e in_d = one_code (quantifier_at D (suc k)) κ (sym (at_kind in_d) ∙ e)
+
     pub next_in : (κ : Quantifier) → kind ≡ quantifier_code κ → k < length D
     next_in κ e = next_inside D kd task.quantified k kind next (subst (λ (n : ℕ). n < 3) (sym e) (code_small κ))
 
     pub kind_found : (κ : Quantifier) (n : ℕ) (r : Finding) → kind ≡ quantifier_code κ → Found (step_of κ (get_or os k none) (search_at D R os (k + 1)) s) n r → Found (search_at D R os k s) n r
     kind_found κ n r e h =
         let in_d : k < length D = next_in κ e in
-        found_as (step_at_lem κ in_d (one_code (quantifier_at D (suc k)) κ (sym (at_kind in_d) ∙ e))) h
+        found_as (step_at_lem κ in_d (next_is κ e in_d)) h
 
     -- no place is left
     pub end_found : (n : ℕ) (r : Finding) → (kind ≡ 1 → ⊥) → (kind ≡ 2 → ⊥) → (kind ≡ 0 → ⊥) → Found (decided_at false) n r → Found (search_at D R os k s) n r
@@ -85,13 +89,22 @@ module _ {D : Prefix} {R : List Clause} {os : Reading} {wc : ℕ} {sets kd rec :
             ∙ open_end D R (drop k os) s opened.alive opened.unsatisfied) h
 
   -- ---- a free variable, by what is recorded of it
-  recorded : (v : ℕ) → k < length D → v ≡ get_or rec (suc k) 0 → v ≡ value_code (get_or os k none)
-  recorded v in_d e = e ∙ task.reads.at (suc k) (omega (arith, in_d, short))
+  recorded : (v : ℕ) → k < length D → quantifier_at D (suc k) ≡ free → v ≡ get_or rec (suc k) 0 → v ≡ value_code (get_or os k none)
+  recorded v in_d is e = e ∙ task.reads.at (suc k) (free_place task.formed k in_d is)
 
-  pub enter_recorded : (n : ℕ) (r : Finding) (v : ℕ) → k < length D → v ≡ get_or rec (suc k) 0 → (v ≡ 0 → ⊥) → Found (search_at D R os (k + 1) (s ▹ eqb v 2)) (n - 1) r
+  pub enter_open : (n : ℕ) (r : Finding) (v : ℕ) → k < length D → quantifier_at D (suc k) ≡ free → v ≡ get_or rec (suc k) 0 → v ≡ 0 → Found (plain_branch free (search_at D R os (k + 1)) s) n r
       → Found (enter (get_or os k none) (search_at D R os (k + 1)) s) n r
-  enter_recorded n r v in_d e given h =
-      found_as (ap (λ (o : Option Bool). enter o (search_at D R os (k + 1)) s) (by (get_or os k none) (recorded v in_d e)))
+  enter_open n r v in_d is e none_given h = found_as (ap (λ (o : Option Bool). enter o (search_at D R os (k + 1)) s) (by (get_or os k none) (recorded v in_d is e))) h
+    where
+      by : (o : Option Bool) → v ≡ value_code o → o ≡ none
+      by none q = refl
+      by (some true) q = absurd (omega (arith, q, none_given))
+      by (some false) q = absurd (omega (arith, q, none_given))
+
+  pub enter_recorded : (n : ℕ) (r : Finding) (v : ℕ) → k < length D → quantifier_at D (suc k) ≡ free → v ≡ get_or rec (suc k) 0 → (v ≡ 0 → ⊥) → Found (search_at D R os (k + 1) (s ▹ eqb v 2)) (n - 1) r
+      → Found (enter (get_or os k none) (search_at D R os (k + 1)) s) n r
+  enter_recorded n r v in_d is e given h =
+      found_as (ap (λ (o : Option Bool). enter o (search_at D R os (k + 1)) s) (by (get_or os k none) (recorded v in_d is e)))
       (found_recorded (search_at D R os (k + 1) (s ▹ eqb v 2)) n r h)
     where
       by : (o : Option Bool) → v ≡ value_code o → o ≡ some (eqb v 2)

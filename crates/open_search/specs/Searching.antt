@@ -2,12 +2,12 @@
 -- plain search for every prefix, clauses, node and reading that the tables show.
 use Rattle.std.specs.Prelude.{ℕ, suc, ◌+◌, ◌-◌, ◌*◌, ◌≤◌, ◌<◌, ◌≡◌, Bool, false, List, ◌∷◌, length, get_or, drop}
 use Rattle.std.proofs.Math.Option.{none}
-use Rattle.qbf.specs.Formula.{paper, Quantifier, free, Prefix, Clause, Node, ◌▹◌, quantifiers, quantifier_at, any, all, dead, satisfied}
+use Rattle.qbf.specs.Formula.{highest, most_free, Quantifier, free, Prefix, Clause, Node, ◌▹◌, quantifiers, quantifier_at, any, all, dead, satisfied}
 use Rattle.qbf.specs.Plain.{PlainResult, plain_branch}
 use Rattle.qbf.specs.Open.{Reading, enter, open_search}
 use Rattle.qbf.specs.Learning.{empty_store}
 use Rattle.bitset.specs.Rows.{width, member}
-use Rattle.tables.specs.Formed.{Formed}
+use Rattle.inner.specs.Formed.{Formed}
 use Rattle.tables.specs.Views.{quantifier_code, value_code}
 use Rattle.tables.specs.Codes.{Quantified}
 use Rattle.tables.specs.Matrices.{RowLength}
@@ -17,7 +17,7 @@ use Rattle.open_search.specs.declared.verdicts.Finding.{Finding}
 
 -- ---- what is asked, and what is left
 pub record Inside (at wc : ℕ) : Type 0 where
-  pub within : at ≤ paper.numbers
+  pub within : at ≤ highest.numbers
   pub words : RowLength wc
 
 -- the rows of the places before k are as they were
@@ -30,9 +30,9 @@ pub record Left (k wc n : ℕ) (r : Finding) (sat sat' : List ℕ) : Type 0 wher
   pub fewer : r.budget ≤ n
 
 -- ---- what the tables show
--- what is recorded of each place: 0 open, 1 off, 2 on
+-- what is recorded of each place that a free variable can have: 0 open, 1 off, 2 on; the cells of the others are free
 pub record ByPlace (os : Reading) (t : List ℕ) : Type 0 where
-  pub at : (p : ℕ) → p ≤ paper.numbers → get_or t p 0 ≡ value_code (get_or (none ∷ os) p none)
+  pub at : (p : ℕ) → p ≤ most_free → get_or t p 0 ≡ value_code (get_or (none ∷ os) p none)
 
 -- the prefix D, the clauses R and the reading os, which is one of free variables
 pub record Task (D : Prefix) (R : List Clause) (os : Reading) (wc : ℕ) (sets quantifiers recorded : List ℕ) : Type 0 where
@@ -79,5 +79,5 @@ pub record Branched (kind at wc budget : ℕ) (r : Finding) (sets quantifiers re
 -- at an open node whose next variable is free: it is recorded, or open
 pub record Entered (at wc budget : ℕ) (r : Finding) (sets quantifiers recorded sat : List ℕ) : Type 0 where
   pub result : (D : Prefix) (R : List Clause) (os : Reading) (s : Node) → Task D R os wc sets quantifiers recorded
-      → Opened D s R wc sat at → at < length D
+      → Opened D s R wc sat at → at < length D → quantifier_at D (suc at) ≡ free
       → Found (enter (get_or os at none) (search_at D R os (at + 1)) s) budget r

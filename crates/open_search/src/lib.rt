@@ -5,7 +5,7 @@
 #![tactic(auto)]
 
 ghost use Rattle.std.specs.Prelude.{suc, ◌+◌, ◌-◌, ◌≤◌, ◌<◌, ◌≡◌, get_or};
-ghost use Rattle.qbf.specs.Formula.{paper, exists, forall};
+ghost use Rattle.qbf.specs.Formula.{highest, exists, forall};
 ghost use Rattle.tables.specs.Views.{quantifier_code};
 ghost use Rattle.tables.specs.Codes.{code_at};
 ghost use Rattle.tables.specs.Matrices.{RowLength};
@@ -35,7 +35,7 @@ impl Place {
     // The same where there is a next place.
     // stays (no plainer): a struct that keeps a fact is made field by field
     fn fork(self) -> Fork
-        requires { self.at < paper.numbers }
+        requires { self.at < highest.numbers }
         ensures { (result.at ≡ self.at) × (result.words ≡ self.words) × (result.budget ≡ self.budget) }
     {
         Fork {
@@ -52,7 +52,7 @@ pub struct Fork {
     pub at: usize,
     pub words: usize,
     pub budget: u64,
-    pub ghost next: { at < paper.numbers },
+    pub ghost next: { at < highest.numbers },
     pub ghost long: { RowLength words },
 }
 
@@ -71,7 +71,7 @@ impl Fork {
     }
 
     // What is recorded of the next place.
-    fn recorded_in<'a>(self, recorded: &'a [u8; tables::BY_NUMBER]) -> u8
+    fn recorded_in<'a>(self, recorded: &'a [u8; tables::HIGHEST_BY_NUMBER]) -> u8
         ensures { result ≡ get_or recorded.now (suc self.at) 0 }
     {
         recorded[self.at + 1]
@@ -79,10 +79,10 @@ impl Fork {
 }
 
 // The code of the literal that a place's value makes true.
-// stays (no plainer): `usize ≤ paper.numbers` is asked of a place alone: `Place` keeps more than that, a row's words, and `literal::Place` is of any limit and keeps no fact; a struct of
+// stays (no plainer): `usize ≤ highest.numbers` is asked of a place alone: `Place` keeps more than that, a row's words, and `literal::Place` is of any limit and keeps no fact; a struct of
 // one number that did would be made at the call and opened here
 fn code_at(place: usize, on: bool) -> u16
-    requires { place ≤ paper.numbers }
+    requires { place ≤ highest.numbers }
     ensures { (result ≡ code_at place on) × (result < code_count) }
 {
     (place * 2 + on as usize) as u16
@@ -91,7 +91,7 @@ fn code_at(place: usize, on: bool) -> u16
 // The search at the empty node: none of the clauses is dead there, and not all are satisfied.
 pub fn start<'a>(
     matrix: &'a Matrix,
-    recorded: &'a [u8; tables::BY_NUMBER],
+    recorded: &'a [u8; tables::HIGHEST_BY_NUMBER],
     sat: &mut [u64; tables::SATISFIED],
     words: usize,
     budget: u64,
@@ -121,7 +121,7 @@ pub fn start<'a>(
 #[cycle(branch_exists_forall_free_sides_visit)]
 fn visit<'a>(
     matrix: &'a Matrix,
-    recorded: &'a [u8; tables::BY_NUMBER],
+    recorded: &'a [u8; tables::HIGHEST_BY_NUMBER],
     sat: &mut [u64; tables::SATISFIED],
     p: Place,
     on: bool,
@@ -162,7 +162,7 @@ fn visit<'a>(
 #[cycle(branch_exists_forall_free_sides_visit)]
 fn branch<'a>(
     matrix: &'a Matrix,
-    recorded: &'a [u8; tables::BY_NUMBER],
+    recorded: &'a [u8; tables::HIGHEST_BY_NUMBER],
     sat: &mut [u64; tables::SATISFIED],
     p: Place,
 ) -> Finding
@@ -196,7 +196,7 @@ fn branch<'a>(
 #[cycle(branch_exists_forall_free_sides_visit)]
 fn exists<'a>(
     matrix: &'a Matrix,
-    recorded: &'a [u8; tables::BY_NUMBER],
+    recorded: &'a [u8; tables::HIGHEST_BY_NUMBER],
     sat: &mut [u64; tables::SATISFIED],
     p: Fork,
 ) -> Finding
@@ -220,7 +220,7 @@ fn exists<'a>(
 #[cycle(branch_exists_forall_free_sides_visit)]
 fn forall<'a>(
     matrix: &'a Matrix,
-    recorded: &'a [u8; tables::BY_NUMBER],
+    recorded: &'a [u8; tables::HIGHEST_BY_NUMBER],
     sat: &mut [u64; tables::SATISFIED],
     p: Fork,
 ) -> Finding
@@ -244,7 +244,7 @@ fn forall<'a>(
 #[cycle(branch_exists_forall_free_sides_visit)]
 fn free<'a>(
     matrix: &'a Matrix,
-    recorded: &'a [u8; tables::BY_NUMBER],
+    recorded: &'a [u8; tables::HIGHEST_BY_NUMBER],
     sat: &mut [u64; tables::SATISFIED],
     p: Fork,
 ) -> Finding
@@ -272,7 +272,7 @@ fn free<'a>(
 #[cycle(branch_exists_forall_free_sides_visit)]
 fn sides<'a>(
     matrix: &'a Matrix,
-    recorded: &'a [u8; tables::BY_NUMBER],
+    recorded: &'a [u8; tables::HIGHEST_BY_NUMBER],
     sat: &mut [u64; tables::SATISFIED],
     p: Fork,
     kind: u16,

@@ -11,7 +11,7 @@ use Rattle.qbf.specs.Formula.{Limits, paper, Quantifier, Prefix, Formula, place_
 use Rattle.qbf.specs.Calls.{given}
 use Rattle.layout.specs.Words.{Bytes, newline, split}
 use Rattle.layout.specs.Forms.{Form, book, block, clause, end, form_of}
-use Rattle.layout.specs.Opening.{rank, allowed, stage_after, variable, declare_fault, form_fault, line_fault, with_form, Opened, refused, opened, refused_or, read_line, at_end, is_end, read_lines, empty_formula, open_text, text_bytes}
+use Rattle.layout.specs.Opening.{rank, allowed, stage_after, variable, crowded, declare_fault, form_fault, line_fault, with_form, Opened, refused, opened, refused_or, read_line, at_end, is_end, read_lines, empty_formula, open_text, text_bytes}
 use Rattle.serving.proofs.Numbered.{Numbered}
 use Rattle.opening.specs.declared.Opened.{Opened as Answer}
 use Rattle.opening.specs.Opened.{OpenedAs}
@@ -21,7 +21,7 @@ declare_numbered : (L : Limits) (κ : Quantifier) (D : Prefix) (ns : List ℕ) �
 declare_numbered L κ D [] = tt
 declare_numbered L κ D (n ∷ ns) =
     numbered_given (eqb n 0 || ltb L.numbers n) 2 _
-    (numbered_given (not (eqb (place_of D n) 0)) 3 _ (declare_numbered L κ (D ++ (variable κ n ∷ [])) ns))
+    (numbered_given (not (eqb (place_of D n) 0)) 3 _ (numbered_given (crowded κ D) 32 _ (declare_numbered L κ (D ++ (variable κ n ∷ [])) ns)))
 
 edition_numbered : (t : Bool) → Numbered (given t 2)
 edition_numbered true = tt

@@ -24,7 +24,7 @@ use Rattle.opening.specs.Opened.{OpenedAs}
 abbrev pub said_malformed : Call → Said
 said_malformed c = said_of (answer (refusal 22 c) 0)
 
-refusal_22 : (c : Call) → refusal_of (refusal 22 c) ≡ some 22
+pub refusal_22 : (c : Call) → refusal_of (refusal 22 c) ≡ some 22
 refusal_22 (rule ls) = refl
 refusal_22 (query n on off) = refl
 refusal_22 (card n size) = refl
@@ -38,7 +38,7 @@ refused_22 : (c : Call) (o : Option Read) → well_formed_read o ≡ false → r
 refused_22 c none e = refusal_22 c
 refused_22 c (some y) e = ap (λ (g : Bool). refusal_of (guarded g y c).out.reply) e ∙ refusal_22 c
 
-not_after : AfterSearch 22 → ⊥
+pub not_after : AfterSearch 22 → ⊥
 not_after (inl e) = omega (arith, e)
 not_after (inr (inl e)) = omega (arith, e)
 not_after (inr (inr e)) = omega (arith, e)

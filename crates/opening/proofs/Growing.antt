@@ -18,8 +18,8 @@ use Rattle.state.proofs.SoundPrefix.{sound_free_first}
 use Rattle.std.specs.Prelude.{Err}
 use Rattle.refusal.specs.declared.Refusal.{Refusal}
 use Rattle.refusal.specs.Refusal.{number_of as refusal_number}
-use Rattle.layout.specs.Opening.{variable, declare_fault}
-use Rattle.layout_laws.proofs.Blocks.{Before, before_more, in_range, prefix_more}
+use Rattle.layout.specs.Opening.{variable, crowded, declare_fault}
+use Rattle.layout_laws.proofs.Blocks.{Before, before_more, in_range, prefix_more, none_crowded}
 use Rattle.opening.specs.Blocks.{Growable, Grown, with_variables}
 
 -- ---- one variable
@@ -38,8 +38,8 @@ module _ {ns ls ks : List ℕ} {kind : ℕ} (g : Growable ns ls ks kind) where
   prefix_ok = and_both (numbers_are_ok paper [] D) (free_first (quantifiers D)) g.sound.numbers_ok (sound_free_first ns ls ks g.sound)
 
   -- the first variable of a block decides, or the rest do
-  first_variable : (n : ℕ) (rest : List ℕ) (x y : Bool) → (eqb n 0 || ltb paper.numbers n) ≡ x → not (eqb (place_of D n) 0) ≡ y
-      → ((given x 3 or_else given y 4) ≡ none → (x ≡ false) × (y ≡ false)) × ((k : ℕ) → (given x 3 or_else given y 4) ≡ some k → (given x 3 or_else given y 4 or_else declare_fault paper κ (D ++ (variable κ n ∷ [])) rest) ≡ some k)
+  first_variable : (n : ℕ) (rest : Option ℕ) (x y : Bool) → (eqb n 0 || ltb paper.numbers n) ≡ x → not (eqb (place_of D n) 0) ≡ y
+      → ((given x 3 or_else given y 4) ≡ none → (x ≡ false) × (y ≡ false)) × ((k : ℕ) → (given x 3 or_else given y 4) ≡ some k → (given x 3 or_else given y 4 or_else rest) ≡ some k)
   first_variable n rest true y p q = (λ e. absurd (let z : ◌≡◌ {A = ℕ} 0 1 = cc in omega arith), λ k e. e)
   first_variable n rest false true p q = (λ e. absurd (let z : ◌≡◌ {A = ℕ} 0 1 = cc in omega arith), λ k e. e)
   first_variable n rest false false p q = (λ e. (refl, refl), λ k e. absurd (let z : ◌≡◌ {A = ℕ} 0 1 = cc in omega arith))
@@ -47,7 +47,7 @@ module _ {ns ls ks : List ℕ} {kind : ℕ} (g : Growable ns ls ks kind) where
   module _ (n : ℕ) {o : Option ℕ} {ns' ls' ks' : List ℕ} (d : Declared ns ls ks n kind o ns' ls' ks') where
     -- refused: the block is
     pub refused_here : (rest : List ℕ) (k : ℕ) → o ≡ some k → declare_fault paper κ D (n ∷ rest) ≡ some k
-    refused_here rest k q = (first_variable n rest (eqb n 0 || ltb paper.numbers n) (not (eqb (place_of D n) 0)) refl refl).1 k (sym d.refusal ∙ q)
+    refused_here rest k q = (first_variable n (given (crowded κ D) 33 or_else declare_fault paper κ (D ++ (variable κ n ∷ [])) rest) (eqb n 0 || ltb paper.numbers n) (not (eqb (place_of D n) 0)) refl refl).1 k (sym d.refusal ∙ q)
 
     -- declared: the rest of the block stands on one variable more
     module _ (e : o ≡ none) where
@@ -58,12 +58,17 @@ module _ {ns ls ks : List ℕ} {kind : ℕ} (g : Growable ns ls ks kind) where
       one_more = d.prefix ∙ ap (λ (o : Option ℕ). with_variable o D κ n) fine
 
       clean : ((eqb n 0 || ltb paper.numbers n) ≡ false) × (not (eqb (place_of D n) 0) ≡ false)
-      clean = (first_variable n [] (eqb n 0 || ltb paper.numbers n) (not (eqb (place_of D n) 0)) refl refl).0 fine
+      clean = (first_variable n none (eqb n 0 || ltb paper.numbers n) (not (eqb (place_of D n) 0)) refl refl).0 fine
+
+      -- so few numbers leave room for each flag
+      room : crowded κ D ≡ false
+      room = none_crowded paper (omega arith) κ D n g.sound.numbers_ok (in_range paper D n clean.0 clean.1)
 
       pub rest_decides : (rest : List ℕ) → declare_fault paper κ D (n ∷ rest) ≡ declare_fault paper κ (prefix_of ns' ls' ks') rest
       rest_decides rest =
-          ap (λ (x : Bool). given x 3 or_else given (not (eqb (place_of D n) 0)) 4 or_else declare_fault paper κ (D ++ (variable κ n ∷ [])) rest) clean.0
-          ∙ ap (λ (y : Bool). given y 4 or_else declare_fault paper κ (D ++ (variable κ n ∷ [])) rest) clean.1
+          ap (λ (x : Bool). given x 3 or_else given (not (eqb (place_of D n) 0)) 4 or_else given (crowded κ D) 33 or_else declare_fault paper κ (D ++ (variable κ n ∷ [])) rest) clean.0
+          ∙ ap (λ (y : Bool). given y 4 or_else given (crowded κ D) 33 or_else declare_fault paper κ (D ++ (variable κ n ∷ [])) rest) clean.1
+          ∙ ap (λ (z : Bool). given z 33 or_else declare_fault paper κ (D ++ (variable κ n ∷ [])) rest) room
           ∙ ap (λ (E : Prefix). declare_fault paper κ E rest) (sym one_more)
 
       pub growable_more : Growable ns' ls' ks' kind

@@ -89,7 +89,7 @@ module _ {stage : ℕ} {x : State} (s : Standing stage x) (no_clauses : (formula
   grown_standing =
       record {
         read = grown_read;
-        reached = record { few = omega arith; facts = formula_facts (formula_in y) (and_left (formula_is_ok (formula_in y)) _ formed); no_variables = λ h. absurd (omega (arith, h)); no_clauses = λ h. absurd (omega (arith, h)) };
+        reached = record { facts = formula_facts (formula_in y) (and_left (formula_is_ok (formula_in y)) _ formed); no_variables = λ h. absurd (omega (arith, h)); no_clauses = λ h. absurd (omega (arith, h)) };
       }
     where
       y : State

@@ -3,7 +3,9 @@
 
 use opening::text::RefusedAt;
 use page::Card;
+use search_entry::workspace::Workspace;
 use std::io;
+use text_cards::making::make_card;
 
 fn print_refusal(
     rt: &impl Print,
@@ -28,29 +30,28 @@ fn print_pages(
     Ok(())
 }
 
-fn print_text(
-    rt: &impl Print,
-    text: &[u8],
-    table: &mut [u8],
-    out: &mut [u8; page::lent::BYTES],
-) -> io::Result<()> {
-    match printer::make_card(text, table) {
-        Ok(made) => {
-            let card = Card {
-                table,
-                lines: made.count,
-                free: made.free,
-            };
-            print_pages(rt, card, out)
-        }
-        Err(refused) => print_refusal(rt, refused, out),
-    }
-}
-
+// The tables stand before the arguments are read, as in `card`.
 fn main(rt: HostRuntime) -> io::Result<()> {
     let mut room = [0u8; program::ROOM];
     let mut table = [tables::OPEN; reader::call::TABLE];
     let mut out = [0u8; page::lent::BYTES];
+    let mut cells = [0u16; program::CELLS];
+    let mut literals = [0i16; program::LITERALS];
+    let mut work = Workspace::ZEROS;
+    let Some(limits) = arguments::limits(&rt, b"pages")? else {
+        return Ok(());
+    };
     let text = program::read(&rt, &mut room);
-    print_text(&rt, text, &mut table, &mut out)
+    let (cells, literals) = (&mut cells, &mut literals);
+    match make_card(text, limits, cells, literals, &mut work, &mut table) {
+        Ok(made) => {
+            let card = Card {
+                table: &table,
+                lines: made.count,
+                free: made.free,
+            };
+            print_pages(&rt, card, &mut out)
+        }
+        Err(refused) => print_refusal(&rt, refused, &mut out),
+    }
 }

@@ -16,15 +16,16 @@ use answer_text::refused::write_refusal;
 use cover::CardLines;
 use edition_opening::{Editions, read_editions};
 use opening::text::{NO_LINE, RefusedAt};
+use search_entry::workspace::Workspace;
 use state::State;
 
 // The card of a state with an empty store; its refusal has no line.
-fn card_of(x: State, table: &mut [u8]) -> Result<CardLines, RefusedAt>
+fn card_of(x: State, work: &mut Workspace, table: &mut [u8]) -> Result<CardLines, RefusedAt>
     ensures { (b : Formula) → read_state x ≡ some (fresh b) → formula_is_ok b ≡ true → CardMade (length table.old) (opened b) result table.new }
 {
     let free = x.free_count();
     let mut next = x;
-    let shown = answers::on_state::card_of(&mut next, table, true, tables::HIGHEST_CEILING);
+    let shown = answers::on_state::card_of(&mut next, work, table, true, tables::HIGHEST_CEILING);
     match shown.lines {
         Ok(lines) => Ok(CardLines { count: lines, free }),
         Err(refusal) => Err(RefusedAt {
@@ -35,11 +36,15 @@ fn card_of(x: State, table: &mut [u8]) -> Result<CardLines, RefusedAt>
 }
 
 // The table is zero where the text or its card is refused.
-pub fn make_card(text: &[u8], table: &mut [u8]) -> Result<CardLines, RefusedAt>
+pub fn make_card(
+    text: &[u8],
+    work: &mut Workspace,
+    table: &mut [u8],
+) -> Result<CardLines, RefusedAt>
     ensures { MakesCard text.now (length table.old) result table.new }
 {
     match read_editions(Editions::Both, text) {
-        Ok(state) => card_of(state, table),
+        Ok(state) => card_of(state, work, table),
         Err(refused) => {
             cover::clear(table);
             Err(refused)

@@ -1,6 +1,12 @@
 // A program that answers one text: standard input, read to its end.
 #![tactic(auto)]
 
+ghost use Rattle.std.specs.Prelude.{◌≤◌, length};
+ghost use Rattle.arguments.specs.Arguments.{longest_name};
+
+pub use lent_texts::{CELLS, LITERALS};
+use state::parts::Limits;
+use std::env::Env;
 use std::io;
 use std::io::{Input, Print};
 
@@ -13,16 +19,21 @@ pub fn read<'a>(rt: &impl Input, room: &'a mut [u8; ROOM]) -> &'a [u8] {
     &room[..held]
 }
 
-// What is printed of the text: what `print` writes into a table of a text's size, where it has so many bytes.
-pub fn print_text<F: FnOnce(&[u8], &mut [u8; reader::text::TEXT]) -> usize>(
-    rt: &(impl Input + Print),
-    print: F,
-) -> io::Result<()>
-    requires { F.IsAlwaysCallable print }
+// What is printed of the text under the limits of the program's arguments: what `print` writes into a table of a text's size, where it has so many bytes.
+// stays (no plainer): `length [u8] ≤ longest_name` is of a word that each program writes once; a type for it would be made there and taken off where it is printed
+pub fn print_text<
+    F: FnOnce(&[u8], Limits, &mut [u16], &mut [i16], &mut [u8; reader::text::TEXT]) -> usize,
+>(rt: &(impl Env + Input + Print), name: &[u8], print: F) -> io::Result<()>
+    requires { F.IsAlwaysCallable print × (length name.now ≤ longest_name) }
 {
     let mut room = [0u8; ROOM];
     let mut out = [0u8; reader::text::TEXT];
+    let mut cells = [0u16; CELLS];
+    let mut literals = [0i16; LITERALS];
+    let Some(limits) = arguments::limits(rt, name)? else {
+        return Ok(());
+    };
     let text = read(rt, &mut room);
-    let length = print(text, &mut out);
+    let length = print(text, limits, &mut cells, &mut literals, &mut out);
     rt.write_all(out.get(..length).unwrap_or(&[]))
 }

@@ -1,7 +1,8 @@
 -- Opening a QDIMACS text, to what our own text would open. Paper 02, wish 1.
-use Rattle.std.specs.Prelude.{ℕ, zero, suc, cond, not, ◌||◌, List, [], ◌∷◌, ◌++◌, map, length, ltb, eqb}
+use Rattle.std.specs.Prelude.{ℕ, zero, suc, Bool, cond, not, ◌||◌, List, [], ◌∷◌, ◌++◌, map, length, ltb, eqb}
 use Rattle.std.proofs.Math.Option.{Option, none, some}
-use Rattle.qbf.specs.Formula.{Limits, Quantifier, free, Prefix, Formula, place_of}
+use Rattle.qbf.specs.Formula.{Limits, most_free, Quantifier, free, Prefix, Formula, place_of}
+use Rattle.qbf.specs.Truth.{free_variables}
 use Rattle.qbf.specs.Calls.{given, rule_fault, with_rule, ◌or_else◌}
 use Rattle.layout.specs.Words.{Bytes, newline, split}
 use Rattle.layout.specs.Opening.{text_bytes, variable, with_block, Opened, refused, opened, refused_or, empty_formula}
@@ -60,9 +61,14 @@ abbrev pub read_line : ℕ → Reading → Option Line → (Reading → Opened) 
 read_line n r none go = refused 1 n
 read_line n r (some f) go = refused_or n (line_fault r f) (go (after r f))
 
--- "A clause count that differs from the header is 30, given at the end of the text, as a missing line is"; so is a missing header
+-- "flags stay at most 40": there are more of them
+abbrev pub crowded : Reading → Bool
+crowded r = ltb most_free (free_variables (whole r).prefix)
+
+-- "A clause count that differs from the header is 30, given at the end of the text, as a missing line is"; so is a missing header. "Declaring a 41st flag is
+-- 33, checked .. (in QDIMACS at the end of the text, before 30)"
 abbrev pub end_fault : Reading → Option ℕ
-end_fault r = given (eqb r.stage 0) 1 or_else given (not (eqb (length r.formula.clauses) r.clauses)) 30
+end_fault r = given (eqb r.stage 0) 1 or_else given (crowded r) 33 or_else given (not (eqb (length r.formula.clauses) r.clauses)) 30
 
 abbrev pub at_end : ℕ → Reading → Opened
 at_end n r = refused_or n (end_fault r) (opened (whole r))

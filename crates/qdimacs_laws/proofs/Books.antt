@@ -7,9 +7,11 @@ use mathlib.Core.Option.{some}
 use native.Mathlib.Omega.{arith}
 use lib.IntN.{pos}
 use lib.ListN.{length}
-use lib.Dec.{eqb, ltb}
-use Rattle.qbf.specs.Formula.{Limits, Prefix, Formula, place_of}
-use Rattle.qbf.specs.Calls.{formula_is_ok, well_formed}
+use lib.Dec.{eqb, leb, ltb}
+use borrow.Author.Tests.{leb-true}
+use Rattle.qbf.specs.Formula.{Limits, most_free, Prefix, Formula, place_of}
+use Rattle.qbf.specs.Calls.{limits_are_ok, formula_is_ok, well_formed}
+use Rattle.theory.proofs.Basics.{and_left, and_right}
 use Rattle.qbf.specs.Runs.{fresh}
 use Rattle.theory.proofs.WellFormed.{FormulaFacts, facts_formula}
 use Rattle.layout.specs.Words.{Bytes, newline, split}
@@ -61,11 +63,11 @@ translated_legible ls h = (omega arith, (flags_short (quantified ls) (count_of l
 
 -- ---- the same result
 -- Where the lines are in the form and in order, and the header's counts hold, the two readers agree, refusals included.
-pub same_result : (L : Limits) (s : Bytes) (ls : List Line) → parsed (split newline s) ≡ some ls → Plain L ls → unnumbered (read_qdimacs L s) ≡ unnumbered (read_text L (forms_text (translated ls)))
+pub same_result : (L : Limits) → L.numbers ≤ most_free → (s : Bytes) (ls : List Line) → parsed (split newline s) ≡ some ls → Plain L ls → unnumbered (read_qdimacs L s) ≡ unnumbered (read_text L (forms_text (translated ls)))
 unfolding read_qdimacs read_text
-same_result L s ls e p =
+same_result L low s ls e p =
     let sp = parsed_spoken (split newline s) ls e in
-    ap unnumbered (parsed_read 1 (start L) (split newline s) ls e) ∙ plain_forms L 1 ls sp p ∙ ap unnumbered (sym (forms_read 1 0 (empty_formula L) (translated ls) (translated_legible ls sp)))
+    ap unnumbered (parsed_read 1 (start L) (split newline s) ls e) ∙ plain_forms L low 1 ls sp p ∙ ap unnumbered (sym (forms_read 1 0 (empty_formula L) (translated ls) (translated_legible ls sp)))
 
 opened_alone : (o : Opened) (b : Formula) → unnumbered o ≡ opened b → o ≡ opened b
 opened_alone (refused k n) b e = absurd (let z : ◌≡◌ {A = ℕ} 0 1 = cc in omega arith)
@@ -79,9 +81,9 @@ pub record Translates (L : Limits) (s : Bytes) (b : Formula) : Type 0 where
   pub plain : Plain L lines
   pub same : read_text L (forms_text (translated lines)) ≡ opened b
 
-pub same_book : (L : Limits) (s : Bytes) (b : Formula) → read_qdimacs L s ≡ opened b → Translates L s b
+pub same_book : (L : Limits) → L.numbers ≤ most_free → (s : Bytes) (b : Formula) → read_qdimacs L s ≡ opened b → Translates L s b
 unfolding read_qdimacs
-same_book L s b e = record { lines = ls; are = w.1; plain = p; same = opened_alone (read_text L (forms_text (translated ls))) b (sym (same_result L s ls w.1 p) ∙ ap unnumbered e) }
+same_book L low s b e = record { lines = ls; are = w.1; plain = p; same = opened_alone (read_text L (forms_text (translated ls))) b (sym (same_result L low s ls w.1 p) ∙ ap unnumbered e) }
   where
     w : (ls : List Line) × (parsed (split newline s) ≡ some ls)
     w = opened_parsed 1 (start L) (split newline s) b e
@@ -102,13 +104,18 @@ module _ (L : Limits) (s : Bytes) (b : Formula) (e : open_qdimacs L s ≡ opened
       by true z = absurd (let y : ◌≡◌ {A = ℕ} 0 1 = cc in omega arith)
       by false z = z
 
-  pub translates : Translates L s b
-  translates = same_book L s b read_opened
+  pub translates : L.numbers ≤ most_free → Translates L s b
+  translates low = same_book L low s b read_opened
+
+  few : opening_ok L ≡ true → L.numbers ≤ most_free
+  few room = leb-true L.numbers most_free (and_right (limits_are_ok L) (leb L.numbers most_free) room)
 
   -- and it is well formed
   facts : opening_ok L ≡ true → FormulaFacts b × (b.limits ≡ L)
   unfolding read_text
-  facts room = lines_facts 1 0 (empty_formula L) (split newline (forms_text (translated translates.lines))) b (reached_none L room) translates.same
+  facts room =
+      let t = translates (few room) in
+      lines_facts 1 0 (empty_formula L) (split newline (forms_text (translated t.lines))) b (reached_none L (and_left (limits_are_ok L) (leb L.numbers most_free) room)) t.same
 
   pub opened_formula : opening_ok L ≡ true → formula_is_ok b ≡ true
   opened_formula room = facts_formula b (facts room).0

@@ -1,19 +1,23 @@
 -- The flags of a QDIMACS text are declared without a fault, and no group declares one of them.
-use Prim.Native.Nat.{ℕ, zero, suc, ◌≤◌, ◌<◌}
+use Prim.Native.Nat.{ℕ, zero, suc, ◌≤◌, ◌<◌, zero-le}
+use native.Mathlib.Nat.{le_refl}
 use mathlib.Core.Path.{◌≡◌, refl, sym, ap, ◌∙◌, subst}
 use mathlib.Core.Logic.{inl, inr}
 use mathlib.Core.Bool.{Bool, true, false, cond, not, ◌&&◌, ◌||◌, true≢false}
 use mathlib.Core.List.{List, [], ◌∷◌, ◌++◌, map, append_assoc, append-nil, map-append}
 use mathlib.Core.Option.{Option, none}
 use native.Mathlib.Omega.{arith}
-use borrow.Author.Tests.{ne_eqb, eq-eqb, le-ltb}
+use borrow.Author.Tests.{ne_eqb, eq-eqb, le-ltb, lt-leb}
+use lib.ListN.{length, length-append, length-map}
 use lib.Dec.{eqb, leb, ltb}
-use Rattle.qbf.specs.Formula.{Limits, Quantifier, free, Prefix, any, place_from, place_of}
+use Rattle.qbf.specs.Formula.{Limits, most_free, Quantifier, free, is_free, Prefix, quantifiers, any, place_from, place_of}
+use Rattle.qbf.specs.Truth.{free_variables}
 use Rattle.qbf.specs.Card.{Mem}
 use Rattle.qbf.specs.Calls.{given, numbers_are_ok, ◌or_else◌}
 use Rattle.theory.proofs.Basics.{and_left, and_right, and_both, or_false, or_false_left, or_false_right, or_right}
+use Rattle.theory.proofs.Starting.{free_fit}
 use Rattle.theory.proofs.Prefixes.{numbers}
-use Rattle.layout.specs.Opening.{variable, declare_fault}
+use Rattle.layout.specs.Opening.{variable, crowded, declare_fault}
 use Rattle.layout_laws.proofs.Blocks.{block_numbers}
 use Rattle.qdimacs_form.specs.Opening.{flags_up_to, flag_variables, group_fault}
 
@@ -87,26 +91,48 @@ module _ (D : Prefix) (v : ℕ) where
 declare_append : (L : Limits) (κ : Quantifier) (D : Prefix) (xs ys : List ℕ) → declare_fault L κ D (xs ++ ys) ≡ (declare_fault L κ D xs or_else declare_fault L κ (D ++ map (variable κ) xs) ys)
 declare_append L κ D [] ys = rw (append-nil D)
 declare_append L κ D (x ∷ xs) ys =
-    by (eqb x 0 || ltb L.numbers x) (not (eqb (place_of D x) 0)) (declare_fault L κ (D ++ map (variable κ) (x ∷ xs)) ys)
+    by (eqb x 0 || ltb L.numbers x) (not (eqb (place_of D x) 0)) (crowded κ D) (declare_fault L κ (D ++ map (variable κ) (x ∷ xs)) ys)
     (declare_append L κ D' xs ys ∙ ap (λ (E : Prefix). declare_fault L κ D' xs or_else declare_fault L κ E ys) (append_assoc D (variable κ x ∷ []) (map (variable κ) xs)))
   where
     D' : Prefix
     D' = D ++ (variable κ x ∷ [])
 
-    by : (s t : Bool) (o : Option ℕ) → declare_fault L κ D' (xs ++ ys) ≡ (declare_fault L κ D' xs or_else o) → (given s 3 or_else given t 4 or_else declare_fault L κ D' (xs ++ ys)) ≡ ((given s 3 or_else given t 4 or_else declare_fault L κ D' xs) or_else o)
-    by true t o h = refl
-    by false true o h = refl
-    by false false o h = h
+    by : (s t c : Bool) (o : Option ℕ) → declare_fault L κ D' (xs ++ ys) ≡ (declare_fault L κ D' xs or_else o) → (given s 3 or_else given t 4 or_else given c 33 or_else declare_fault L κ D' (xs ++ ys)) ≡ ((given s 3 or_else given t 4 or_else given c 33 or_else declare_fault L κ D' xs) or_else o)
+    by true t c o h = refl
+    by false true c o h = refl
+    by false false true o h = refl
+    by false false false o h = h
 
-pub flags_none : (L : Limits) (D : Prefix) (v : ℕ) → v ≤ L.numbers → declare_fault L free [] (flags_up_to D v) ≡ none
-flags_none L D zero h = refl
-flags_none L D (suc v) h =
+-- so few flags find room
+pub flags_most : (D : Prefix) (v : ℕ) → length (flags_up_to D v) ≤ v
+flags_most D zero = zero-le
+flags_most D (suc v) = omega (arith, length-append (flags_up_to D v) (cond (eqb (place_of D (suc v)) 0) (suc v ∷ []) []), flags_most D v, one (eqb (place_of D (suc v)) 0))
+  where
+    one : (t : Bool) → length (cond t (suc v ∷ []) []) ≤ 1
+    one true = le_refl 1
+    one false = zero-le
+
+flags_room : (D : Prefix) (v : ℕ) → v < most_free → crowded free (flag_variables D v) ≡ false
+flags_room D v h =
+    lt-leb most_free (free_variables (flag_variables D v))
+    (omega (
+      arith,
+      h,
+      flags_most D v,
+      free_fit (quantifiers (flag_variables D v)),
+      length-map (flag_variables D v) (λ d. d.quantifier),
+      length-map (flags_up_to D v) (variable free),
+    ))
+
+pub flags_none : (L : Limits) → L.numbers ≤ most_free → (D : Prefix) (v : ℕ) → v ≤ L.numbers → declare_fault L free [] (flags_up_to D v) ≡ none
+flags_none L low D zero h = refl
+flags_none L low D (suc v) h =
     declare_append L free [] (flags_up_to D v) (cond (eqb (place_of D (suc v)) 0) (suc v ∷ []) [])
-    ∙ ap (λ (o : Option ℕ). o or_else declare_fault L free (flag_variables D v) (cond (eqb (place_of D (suc v)) 0) (suc v ∷ []) [])) (flags_none L D v (omega (arith, h)))
+    ∙ ap (λ (o : Option ℕ). o or_else declare_fault L free (flag_variables D v) (cond (eqb (place_of D (suc v)) 0) (suc v ∷ []) [])) (flags_none L low D v (omega (arith, h)))
     ∙ last (eqb (place_of D (suc v)) 0)
   where
     last : (t : Bool) → declare_fault L free (flag_variables D v) (cond t (suc v ∷ []) []) ≡ none
-    last true = rw (or_false (eqb (suc v) 0) (ltb L.numbers (suc v)) (ne_eqb (suc v) 0 (λ e. omega (arith, e))) (le-ltb L.numbers (suc v) h), flag_new D v)
+    last true = rw (or_false (eqb (suc v) 0) (ltb L.numbers (suc v)) (ne_eqb (suc v) 0 (λ e. omega (arith, e))) (le-ltb L.numbers (suc v) h), flag_new D v) (ap (λ (c : Bool). given c 33 or_else none) (flags_room D v (omega (arith, h, low))))
     last false = refl
 
 -- ---- flags and groups together
@@ -134,17 +160,19 @@ numbers_join L s (x ∷ F) D f d h =
     own = leb 1 x.number && leb x.number L.numbers && not (any (eqb x.number) s)
 
 -- the numbers of a completed prefix
-pub completed_numbers : (L : Limits) (D : Prefix) (v : ℕ) → v ≤ L.numbers → numbers_are_ok L [] D ≡ true → numbers_are_ok L [] (flag_variables D v ++ D) ≡ true
-completed_numbers L D v few d = numbers_join L [] (flag_variables D v) D (block_numbers L free [] (flags_up_to D v) refl (flags_none L D v few)) d (λ n m. (refl, group_lacks D v n m))
+pub completed_numbers : (L : Limits) → L.numbers ≤ most_free → (D : Prefix) (v : ℕ) → v ≤ L.numbers → numbers_are_ok L [] D ≡ true → numbers_are_ok L [] (flag_variables D v ++ D) ≡ true
+completed_numbers L low D v few d = numbers_join L [] (flag_variables D v) D (block_numbers L free [] (flags_up_to D v) refl (flags_none L low D v few)) d (λ n m. (refl, group_lacks D v n m))
 
 -- ---- a group's line
 -- a group of numbers up to the count, none of which is a flag, is judged as our own group after the flags
-pub group_same : (L : Limits) (v : ℕ) (κ : Quantifier) (F D : Prefix) (ns : List ℕ) → ((n : ℕ) → Mem n ns → (n ≤ v) × (declares n F ≡ false)) → group_fault L v κ D ns ≡ declare_fault L κ (F ++ D) ns
-group_same L v κ F D [] h = refl
-group_same L v κ F D (n ∷ ns) h =
+pub group_same : (L : Limits) (v : ℕ) (κ : Quantifier) → is_free κ ≡ false → (F D : Prefix) (ns : List ℕ) → ((n : ℕ) → Mem n ns → (n ≤ v) × (declares n F ≡ false)) → group_fault L v κ D ns ≡ declare_fault L κ (F ++ D) ns
+group_same L v κ bound F D [] h = refl
+group_same L v κ bound F D (n ∷ ns) h =
     rw (le-ltb v n (h n (inl refl)).0, place_same)
     (ap (λ (o : Option ℕ). given (eqb n 0 || ltb L.numbers n) 3 or_else given (not (eqb (place_of (F ++ D) n) 0)) 4 or_else o)
-    (group_same L v κ F (D ++ (variable κ n ∷ [])) ns (λ m q. h m (inr q)) ∙ ap (λ (E : Prefix). declare_fault L κ E ns) (sym (append_assoc F D (variable κ n ∷ [])))))
+    (ap (λ (t : Bool). given (t && leb most_free (free_variables (F ++ D))) 33 or_else group_fault L v κ (D ++ (variable κ n ∷ [])) ns) (sym bound))
+    ∙ ap (λ (o : Option ℕ). given (eqb n 0 || ltb L.numbers n) 3 or_else given (not (eqb (place_of (F ++ D) n) 0)) 4 or_else given (crowded κ (F ++ D)) 33 or_else o)
+    (group_same L v κ bound F (D ++ (variable κ n ∷ [])) ns (λ m q. h m (inr q)) ∙ ap (λ (E : Prefix). declare_fault L κ E ns) (sym (append_assoc F D (variable κ n ∷ [])))))
   where
     place_same : eqb (place_of D n) 0 ≡ eqb (place_of (F ++ D) n) 0
     place_same =

@@ -1,8 +1,8 @@
 -- What code keeps of a quantifier line is judged as the line is: numbers narrowed to the limit and one more, and the first ones.
 use Prim.Native.Nat.{ℕ, zero, suc, ◌+◌, ◌≤◌, ◌<◌}
-use mathlib.Core.Path.{◌≡◌, refl, sym, ap, ◌∙◌}
+use mathlib.Core.Path.{◌≡◌, refl, sym, ap, subst, ◌∙◌}
 use mathlib.Core.Bool.{Bool, true, false, not, ◌||◌}
-use mathlib.Core.List.{List, [], ◌∷◌, ◌++◌, map}
+use mathlib.Core.List.{List, [], ◌∷◌, ◌++◌, map, append_assoc, append-nil}
 use mathlib.Core.Option.{Option, none, some}
 use native.Mathlib.Omega.{arith}
 use native.Mathlib.Decide.{dec_lt}
@@ -14,8 +14,8 @@ use Rattle.qbf.specs.Calls.{given, numbers_are_ok, ◌or_else◌}
 use Rattle.theory.proofs.Basics.{or_false_right}
 use Rattle.theory.proofs.AcceptedRule.{given_none}
 use Rattle.theory.proofs.Widths.{prefix_width}
-use Rattle.layout.specs.Opening.{variable, declare_fault}
-use Rattle.layout_laws.proofs.Blocks.{block_numbers}
+use Rattle.layout.specs.Opening.{variable}
+use Rattle.layout_laws.proofs.Blocks.{number_declared, in_range}
 use Rattle.qdimacs_form.specs.Opening.{group_fault}
 
 -- the tests of one number, before what the numbers after it give
@@ -36,12 +36,17 @@ fine L v D n o e =
     let c = given_none (not (eqb (place_of D n) 0)) 4 o b.1 in
     record { in_range = a.0; counted = b.0; new = c.0; rest = c.1 }
 
--- a group without a fault is one of our own
-pub group_declares : (L : Limits) (v : ℕ) (κ : Quantifier) (D : Prefix) (ns : List ℕ) → group_fault L v κ D ns ≡ none → declare_fault L κ D ns ≡ none
-group_declares L v κ D [] e = refl
-group_declares L v κ D (n ∷ ns) e =
+-- a group without a fault has room
+group_declared : (L : Limits) (v : ℕ) (κ : Quantifier) (D : Prefix) (ns : List ℕ) → numbers_are_ok L [] D ≡ true → group_fault L v κ D ns ≡ none → numbers_are_ok L [] (D ++ map (variable κ) ns) ≡ true
+group_declared L v κ D [] h e = rw append-nil h
+group_declared L v κ D (n ∷ ns) h e =
     let f = fine L v D n (group_fault L v κ (D ++ (variable κ n ∷ [])) ns) e in
-    rw (f.in_range, f.new) (group_declares L v κ (D ++ (variable κ n ∷ [])) ns f.rest)
+    subst (λ (E : Prefix). numbers_are_ok L [] E ≡ true) (append_assoc D (variable κ n ∷ []) (map (variable κ) ns))
+    (group_declared L v κ (D ++ (variable κ n ∷ [])) ns (number_declared L κ D n h (in_range L D n f.in_range f.new)) f.rest)
+
+pub group_width : (L : Limits) (v : ℕ) (κ : Quantifier) (D : Prefix) (ns : List ℕ) → numbers_are_ok L [] D ≡ true → group_fault L v κ D ns ≡ none → length D + length ns ≤ L.numbers
+group_width L v κ D ns h e =
+    omega (arith, prefix_width L (D ++ map (variable κ) ns) (group_declared L v κ D ns h e), length-map (D ++ map (variable κ) ns) (λ d. d.quantifier), length-append D (map (variable κ) ns), length-map ns (variable κ))
 
 -- ---- narrowed
 -- numbers in range stay, others stay out of range
@@ -82,7 +87,7 @@ first_numbers L v κ zero D ns long h = absurd (omega (arith, long, prefix_width
 first_numbers L v κ (suc k) D [] long h = refl
 first_numbers L v κ (suc k) D (n ∷ ns) long h =
     by (eqb n 0 || ltb L.numbers n) refl (ltb v n) (not (eqb (place_of D n) 0)) refl
-    (λ p q. first_numbers L v κ k (D ++ (variable κ n ∷ [])) ns (omega (arith, long, length-append D (variable κ n ∷ []))) (block_numbers L κ D (n ∷ []) h (rw (p, q))))
+    (λ p q. first_numbers L v κ k (D ++ (variable κ n ∷ [])) ns (omega (arith, long, length-append D (variable κ n ∷ []))) (number_declared L κ D n h (in_range L D n p q)))
   where
     D' : Prefix
     D' = D ++ (variable κ n ∷ [])

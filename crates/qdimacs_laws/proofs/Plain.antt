@@ -19,7 +19,7 @@ use Rattle.layout.specs.Words.{Bytes}
 use Rattle.layout.specs.Forms.{consed}
 use Rattle.layout.specs.Opening.{variable, Opened, refused, opened, refused_or}
 use Rattle.qdimacs_form.specs.Lines.{Line, comment, header, group, clause, line_of}
-use Rattle.qdimacs_form.specs.Opening.{completed, Reading, group_fault, whole, line_fault, after, end_fault, read_line, read_lines, start}
+use Rattle.qdimacs_form.specs.Opening.{completed, Reading, group_fault, whole, line_fault, after, crowded, end_fault, read_line, read_lines, start}
 use Rattle.qdimacs_form.specs.Translation.{parsed, quantified, in_the_form, clauses_inside, Plain}
 use Rattle.qdimacs_laws.proofs.Translated.{read_parsed}
 
@@ -71,7 +71,7 @@ parsed_read n r (l ∷ m ∷ ps) ls e = by (line_of l) refl (parsed (m ∷ ps)) 
 module _ (b : Formula) where
   order : (n : ℕ) (r : Reading) (ls : List Line) → read_parsed n r ls ≡ opened b → in_the_form r.stage ls ≡ true
   unfolding read_parsed
-  order n r [] e = ap not (given_none (eqb r.stage 0) 1 (given (not (eqb (length r.formula.clauses) r.clauses)) 30) (went n (end_fault r) (opened (whole r)) b e).0).0
+  order n r [] e = ap not (given_none (eqb r.stage 0) 1 (given (crowded r) 33 or_else given (not (eqb (length r.formula.clauses) r.clauses)) 30) (went n (end_fault r) (opened (whole r)) b e).0).0
   order n r (comment ∷ ls) e = order (suc n) r ls e
   order n r (header v c ∷ ls) e =
       let w = went n (line_fault r (header v c)) (read_parsed (suc n) (after r (header v c)) ls) b e in
@@ -127,8 +127,8 @@ module _ (b : Formula) where
   unfolding read_parsed
   counts n r [] s e = (
     λ m q. absurd q,
-    let g = given_none (eqb r.stage 0) 1 (given (not (eqb (length r.formula.clauses) r.clauses)) 30) (went n (end_fault r) (opened (whole r)) b e).0 in
-        let f = given_none (not (eqb (length r.formula.clauses) r.clauses)) 30 none (thirty (not (eqb (length r.formula.clauses) r.clauses)) g.1) in
+    let g = given_none (eqb r.stage 0) 1 (given (crowded r) 33 or_else given (not (eqb (length r.formula.clauses) r.clauses)) 30) (went n (end_fault r) (opened (whole r)) b e).0 in
+        let f = given_none (not (eqb (length r.formula.clauses) r.clauses)) 30 none (thirty (not (eqb (length r.formula.clauses) r.clauses)) (given_none (crowded r) 33 (given (not (eqb (length r.formula.clauses) r.clauses)) 30) g.1).1) in
         omega (arith, eqb-true (length r.formula.clauses) r.clauses (not_false (eqb (length r.formula.clauses) r.clauses) f.0)),
   )
     where

@@ -1,15 +1,16 @@
 -- WISH 1: what a QDIMACS text opens is what our own reader gives for the translated text.
-use Prim.Native.Nat.{ℕ, suc, ◌+◌, ◌≤◌, ◌<◌}
+use Prim.Native.Nat.{ℕ, suc, ◌+◌, ◌≤◌, ◌<◌, zero-le}
 use mathlib.Core.Path.{◌≡◌, refl, sym, ap, ◌∙◌, subst}
 use mathlib.Core.Logic.{inl, inr}
 use mathlib.Core.Bool.{Bool, true, false, cond, true≢false, false≢true}
-use mathlib.Core.List.{List, [], ◌∷◌, ◌++◌, map, append_assoc, append-nil}
+use mathlib.Core.List.{List, [], ◌∷◌, ◌++◌, map, append_assoc, append-nil, map-append}
 use mathlib.Core.Option.{Option, none, some}
 use native.Mathlib.Omega.{arith}
 use borrow.Author.Tests.{eq-eqb, le-ltb}
-use lib.ListN.{length, length-append}
-use lib.Dec.{eqb}
-use Rattle.qbf.specs.Formula.{Limits, Quantifier, free, exists, forall, is_free, Prefix, Clause, Formula, any}
+use lib.ListN.{length, length-append, length-map}
+use lib.Dec.{eqb, ltb}
+use Rattle.qbf.specs.Formula.{Limits, most_free, Quantifier, free, exists, forall, is_free, Prefix, quantifiers, Clause, Formula, any}
+use Rattle.qbf.specs.Truth.{free_count, free_variables}
 use Rattle.qbf.specs.Card.{Mem}
 use Rattle.qbf.specs.Calls.{rule_fault, with_rule, clause_of}
 use Rattle.theory.proofs.Prefixes.{numbers}
@@ -22,7 +23,7 @@ use Rattle.booktext_laws.proofs.Lines.{Legible}
 use Rattle.qdimacs_form.specs.Lines.{Line, comment, header, group, clause}
 use Rattle.qdimacs_form.specs.Opening.{flags_up_to, flag_variables, Reading, whole, line_fault, after, at_end, start}
 use Rattle.qdimacs_form.specs.Translation.{count_of, quantified, forms_of, translated, unnumbered, in_the_form, promised_of, clauses_inside, Plain}
-use Rattle.qdimacs_laws.proofs.Flags.{flags_none, group_lacks, group_same}
+use Rattle.qdimacs_laws.proofs.Flags.{flags_most, flags_none, group_lacks, group_same}
 
 abbrev formula : Limits → Prefix → List Clause → Formula
 formula L D R = record { limits = L; prefix = D; clauses = R }
@@ -94,14 +95,14 @@ abbrev reading : ℕ → ℕ → ℕ → Formula → Reading
 reading s v c b = record { stage = s; variables = v; clauses = c; formula = b }
 
 module _ (v c : ℕ) where
-  late_read : (n : ℕ) (b : Formula) (ls : List Line) → in_the_form 2 ls ≡ true → length b.clauses + clauses_inside ls ≡ c → read_parsed n (reading 2 v c b) ls ≡ read_numbered 3 b (numbered_from n ls)
+  late_read : (n : ℕ) (b : Formula) (ls : List Line) → ltb most_free (free_variables b.prefix) ≡ false → in_the_form 2 ls ≡ true → length b.clauses + clauses_inside ls ≡ c → read_parsed n (reading 2 v c b) ls ≡ read_numbered 3 b (numbered_from n ls)
   unfolding read_parsed read_numbered
-  late_read n b [] h e = rw (eq-eqb (length b.clauses) c (omega (arith, e)))
-  late_read n b (comment ∷ ls) h e = late_read (suc n) b ls h e
-  late_read n b (header x y ∷ ls) h e = absurd (false≢true h)
-  late_read n b (group κ ns ∷ ls) h e = absurd (false≢true h)
-  late_read n b (clause l ∷ ls) h e =
-      ap (refused_or n (rule_fault b l)) (late_read (suc n) (with_rule none b l) ls h (omega (arith, e, length-append b.clauses (clause_of b.prefix l ∷ []))))
+  late_read n b [] room h e = rw (room, eq-eqb (length b.clauses) c (omega (arith, e)))
+  late_read n b (comment ∷ ls) room h e = late_read (suc n) b ls room h e
+  late_read n b (header x y ∷ ls) room h e = absurd (false≢true h)
+  late_read n b (group κ ns ∷ ls) room h e = absurd (false≢true h)
+  late_read n b (clause l ∷ ls) room h e =
+      ap (refused_or n (rule_fault b l)) (late_read (suc n) (with_rule none b l) ls room h (omega (arith, e, length-append b.clauses (clause_of b.prefix l ∷ []))))
 
 -- ---- what a line that is read can say
 -- a group is of exists or forall and has a number, and numbers have at most 5 digits
@@ -140,7 +141,7 @@ late_groups (group κ ns ∷ ls) h = absurd (false≢true h)
 late_groups (clause l ∷ ls) h = late_groups ls h
 
 -- Q are the variables of all the groups, D those of the groups before
-module _ (L : Limits) (v c : ℕ) (Q : Prefix) where
+module _ (L : Limits) (v c : ℕ) (Q : Prefix) (room : ltb most_free (free_variables (flag_variables Q v ++ Q)) ≡ false) where
   abbrev F : Prefix
   F = flag_variables Q v
 
@@ -148,14 +149,20 @@ module _ (L : Limits) (v c : ℕ) (Q : Prefix) where
   whole_is : (D : Prefix) → D ≡ Q → whole (reading 1 v c (formula L D [])) ≡ formula L (F ++ D) []
   whole_is D e = ap (λ (X : Prefix). formula L (flag_variables X v ++ D) []) e
 
+  -- and there are no more flags than there may be
+  room_is : (D : Prefix) → D ≡ Q → ltb most_free (free_variables (F ++ D)) ≡ false
+  room_is D e = ap (λ (X : Prefix). ltb most_free (free_variables (F ++ X))) e ∙ room
+
   early_read : (n : ℕ) (D : Prefix) (ls : List Line) → D ++ quantified ls ≡ Q → in_the_form 1 ls ≡ true → AllSpoken ls → ((m : ℕ) → Mem m (numbers (quantified ls)) → m ≤ v) → clauses_inside ls ≡ c
       → read_parsed n (reading 1 v c (formula L D [])) ls ≡ read_numbered 2 (formula L (F ++ D) []) (numbered_from n ls)
   unfolding read_parsed read_numbered
-  early_read n D [] q h sp low e = rw (eq-eqb 0 c e) (ap opened (whole_is D (sym (append-nil D) ∙ q)))
+  early_read n D [] q h sp low e =
+      rw (ap (λ (b : Formula). ltb most_free (free_variables b.prefix)) (whole_is D (sym (append-nil D) ∙ q)) ∙ room_is D (sym (append-nil D) ∙ q), eq-eqb 0 c e)
+      (ap opened (whole_is D (sym (append-nil D) ∙ q)))
   early_read n D (comment ∷ ls) q h sp low e = early_read (suc n) D ls q h sp.1 low e
   early_read n D (header x y ∷ ls) q h sp low e = absurd (false≢true h)
   early_read n D (group κ ns ∷ ls) q h sp low e =
-      ap (λ (o : Option ℕ). refused_or n o (read_parsed (suc n) (reading 1 v c (with_block κ (formula L D []) ns)) ls)) (group_same L v κ F D ns known)
+      ap (λ (o : Option ℕ). refused_or n o (read_parsed (suc n) (reading 1 v c (with_block κ (formula L D []) ns)) ls)) (group_same L v κ sp.0.0 F D ns known)
       ∙ ap (refused_or n (declare_fault L κ (F ++ D) ns))
       (early_read (suc n) (D ++ map (variable κ) ns) ls (append_assoc D (map (variable κ) ns) (quantified ls) ∙ q) h sp.1 (λ m w. low m (mem_right (map (variable κ) ns) (quantified ls) m w)) e
       ∙ ap (λ (X : Prefix). read_numbered 2 (formula L X []) (numbered_from (suc n) ls)) (sym (append_assoc F D (map (variable κ) ns))))
@@ -167,7 +174,7 @@ module _ (L : Limits) (v c : ℕ) (Q : Prefix) where
           (low m g, group_lacks Q v m (subst (λ (X : Prefix). Mem m (numbers X)) q (mem_right D (map (variable κ) ns ++ quantified ls) m g)))
   early_read n D (clause l ∷ ls) q h sp low e =
       ap (λ (b : Formula). refused_or n (rule_fault b l) (read_parsed (suc n) (reading 2 v c (with_rule none b l)) ls)) (whole_is D (sym (append-nil D) ∙ ap (λ (X : Prefix). D ++ X) (sym (late_groups ls h)) ∙ q))
-      ∙ ap (refused_or n (rule_fault (formula L (F ++ D) []) l)) (late_read v c (suc n) (with_rule none (formula L (F ++ D) []) l) ls h (omega (arith, e)))
+      ∙ ap (refused_or n (rule_fault (formula L (F ++ D) []) l)) (late_read v c (suc n) (with_rule none (formula L (F ++ D) []) l) ls (room_is D (sym (append-nil D) ∙ ap (λ (X : Prefix). D ++ X) (sym (late_groups ls h)) ∙ q)) h (omega (arith, e)))
 
 -- ---- the header
 -- the translated text, each form with the number of the line that it comes from
@@ -179,26 +186,60 @@ unfolding translated
 text_forms n ls = ap (λ (fs : List Form). book 1 ∷ block free (flags_up_to (quantified ls) (count_of ls)) ∷ fs) (forms_numbered n ls)
 
 -- the flags' line is without a fault
-flags_read : (L : Limits) (ls : List Line) (xs : List Numbered) → count_of ls ≤ L.numbers
+flags_read : (L : Limits) → L.numbers ≤ most_free → (ls : List Line) (xs : List Numbered) → count_of ls ≤ L.numbers
     → read_numbered 0 (empty_formula L) (at 0 (book 1) ∷ at 0 (block free (flags_up_to (quantified ls) (count_of ls))) ∷ xs) ≡ read_numbered 2 (formula L (flag_variables (quantified ls) (count_of ls)) []) xs
 unfolding read_numbered
-flags_read L ls xs few = rw (flags_none L (quantified ls) (count_of ls) few)
+flags_read L low ls xs few = rw (flags_none L low (quantified ls) (count_of ls) few)
 
-header_read : (L : Limits) (n : ℕ) (ls : List Line) → in_the_form 0 ls ≡ true → AllSpoken ls → count_of ls ≤ L.numbers → ((m : ℕ) → Mem m (numbers (quantified ls)) → m ≤ count_of ls) → clauses_inside ls ≡ promised_of ls
+-- groups have no flag
+bound_count : (κ : Quantifier) → is_free κ ≡ false → (ns : List ℕ) (E : Prefix) → free_count (quantifiers E) ≡ 0 → free_count (quantifiers (map (variable κ) ns ++ E)) ≡ 0
+bound_count κ f [] E e = e
+bound_count free f (n ∷ ns) E e = absurd (true≢false f)
+bound_count exists f (n ∷ ns) E e = refl
+bound_count forall f (n ∷ ns) E e = refl
+
+none_counted : (ls : List Line) → AllSpoken ls → free_count (quantifiers (quantified ls)) ≡ 0
+none_counted [] h = refl
+none_counted (comment ∷ ls) h = none_counted ls h.1
+none_counted (header v c ∷ ls) h = none_counted ls h.1
+none_counted (group κ ns ∷ ls) h = bound_count κ h.0.0 ns (quantified ls) (none_counted ls h.1)
+none_counted (clause l ∷ ls) h = none_counted ls h.1
+
+count_after : (ks ms : List Quantifier) → free_count (ks ++ ms) ≤ length ks + free_count ms
+count_after [] ms = omega arith
+count_after (free ∷ ks) ms = omega (arith, count_after ks ms)
+count_after (exists ∷ ks) ms = zero-le
+count_after (forall ∷ ks) ms = zero-le
+
+few_flags : (Q : Prefix) (v : ℕ) → v ≤ most_free → free_count (quantifiers Q) ≡ 0 → ltb most_free (free_variables (flag_variables Q v ++ Q)) ≡ false
+few_flags Q v h e =
+    le-ltb most_free (free_variables (flag_variables Q v ++ Q))
+    (omega (
+      arith,
+      h,
+      e,
+      flags_most Q v,
+      length-map (flags_up_to Q v) (variable free),
+      length-map (flag_variables Q v) (λ d. d.quantifier),
+      count_after (quantifiers (flag_variables Q v)) (quantifiers Q),
+      ap free_count (map-append (λ d. d.quantifier) (flag_variables Q v) Q),
+    ))
+
+header_read : (L : Limits) → L.numbers ≤ most_free → (n : ℕ) (ls : List Line) → in_the_form 0 ls ≡ true → AllSpoken ls → count_of ls ≤ L.numbers → ((m : ℕ) → Mem m (numbers (quantified ls)) → m ≤ count_of ls) → clauses_inside ls ≡ promised_of ls
     → read_parsed n (start L) ls ≡ read_numbered 2 (formula L (flag_variables (quantified ls) (count_of ls)) []) (numbered_from n ls)
 unfolding read_parsed
-header_read L n [] h sp few low e = absurd (false≢true h)
-header_read L n (comment ∷ ls) h sp few low e = header_read L (suc n) ls h sp.1 few low e
-header_read L n (header v c ∷ ls) h sp few low e =
+header_read L most n [] h sp few low e = absurd (false≢true h)
+header_read L most n (comment ∷ ls) h sp few low e = header_read L most (suc n) ls h sp.1 few low e
+header_read L most n (header v c ∷ ls) h sp few low e =
     rw (le-ltb L.numbers v few)
-    (early_read L v c (quantified ls) (suc n) [] ls refl h sp.1 low e ∙ ap (λ (X : Prefix). read_numbered 2 (formula L X []) (numbered_from (suc n) ls)) (append-nil (flag_variables (quantified ls) v)))
-header_read L n (group κ ns ∷ ls) h sp few low e = absurd (false≢true h)
-header_read L n (clause l ∷ ls) h sp few low e = absurd (false≢true h)
+    (early_read L v c (quantified ls) (few_flags (quantified ls) v (omega (arith, few, most)) (none_counted ls sp.1)) (suc n) [] ls refl h sp.1 low e ∙ ap (λ (X : Prefix). read_numbered 2 (formula L X []) (numbered_from (suc n) ls)) (append-nil (flag_variables (quantified ls) v)))
+header_read L most n (group κ ns ∷ ls) h sp few low e = absurd (false≢true h)
+header_read L most n (clause l ∷ ls) h sp few low e = absurd (false≢true h)
 
 -- Line by line, with the numbers of the QDIMACS lines: the same result, the same refusal at the line that it comes from.
-pub plain_read : (L : Limits) (n : ℕ) (ls : List Line) → AllSpoken ls → Plain L ls → read_parsed n (start L) ls ≡ read_numbered 0 (empty_formula L) (numbered_text n ls)
-plain_read L n ls sp p = header_read L n ls p.in_form sp p.few p.bounded p.counted ∙ sym (flags_read L ls (numbered_from n ls) p.few)
+pub plain_read : (L : Limits) → L.numbers ≤ most_free → (n : ℕ) (ls : List Line) → AllSpoken ls → Plain L ls → read_parsed n (start L) ls ≡ read_numbered 0 (empty_formula L) (numbered_text n ls)
+plain_read L low n ls sp p = header_read L low n ls p.in_form sp p.few p.bounded p.counted ∙ sym (flags_read L low ls (numbered_from n ls) p.few)
 
-pub plain_forms : (L : Limits) (n : ℕ) (ls : List Line) → AllSpoken ls → Plain L ls → unnumbered (read_parsed n (start L) ls) ≡ unnumbered (read_forms 1 0 (empty_formula L) (translated ls))
-plain_forms L n ls sp p =
-    ap unnumbered (plain_read L n ls sp p) ∙ numbered_read 1 0 (empty_formula L) (numbered_text n ls) ∙ ap (λ (fs : List Form). unnumbered (read_forms 1 0 (empty_formula L) fs)) (text_forms n ls)
+pub plain_forms : (L : Limits) → L.numbers ≤ most_free → (n : ℕ) (ls : List Line) → AllSpoken ls → Plain L ls → unnumbered (read_parsed n (start L) ls) ≡ unnumbered (read_forms 1 0 (empty_formula L) (translated ls))
+plain_forms L low n ls sp p =
+    ap unnumbered (plain_read L low n ls sp p) ∙ numbered_read 1 0 (empty_formula L) (numbered_text n ls) ∙ ap (λ (fs : List Form). unnumbered (read_forms 1 0 (empty_formula L) fs)) (text_forms n ls)

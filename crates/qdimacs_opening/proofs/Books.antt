@@ -26,7 +26,7 @@ use Rattle.opening.proofs.Closed.{said_malformed, closed_served}
 use Rattle.booktext.specs.Texts.{forms_text}
 use Rattle.booktext_laws.proofs.Room.{paper_room}
 use Rattle.qdimacs_form.specs.Lines.{Line, comment, header, group, clause, line_of}
-use Rattle.qdimacs_form.specs.Opening.{Reading, group_fault, whole, line_fault, after, read_line, end_fault, read_lines, start, read_qdimacs, open_qdimacs}
+use Rattle.qdimacs_form.specs.Opening.{Reading, group_fault, whole, line_fault, after, read_line, crowded, end_fault, read_lines, start, read_qdimacs, open_qdimacs}
 use Rattle.qdimacs_form.specs.Translation.{translated}
 use Rattle.qdimacs_laws.proofs.Books.{Translates, own_text, translates, opened_formula}
 
@@ -50,7 +50,7 @@ line_numbered r (clause ls) = numbered_given (eqb r.stage 0) 0 _ (rule_numbered 
 lines_numbered : (n : ℕ) (r : Reading) (ls : List Bytes) → NumberedText (read_lines n r ls)
 unfolding read_lines
 lines_numbered n r [] = tt
-lines_numbered n r ([] ∷ []) = fault_numbered n (end_fault r) (opened (whole r)) (numbered_given (eqb r.stage 0) 0 _ (given_numbered (not (eqb (length r.formula.clauses) r.clauses)) 29)) tt
+lines_numbered n r ([] ∷ []) = fault_numbered n (end_fault r) (opened (whole r)) (numbered_given (eqb r.stage 0) 0 _ (numbered_given (crowded r) 32 _ (given_numbered (not (eqb (length r.formula.clauses) r.clauses)) 29))) tt
 lines_numbered n r ((b ∷ l) ∷ []) = tt
 lines_numbered n r (l ∷ m ∷ ls) = by (line_of l) (λ q. lines_numbered (suc n) q (m ∷ ls))
   where
@@ -91,7 +91,7 @@ module _ (s : Bytes) (r : Answer) (told : OpenedAs (open_qdimacs paper s) r) whe
     own_book t q answered = let o = subst (λ (o : Opened). OpenedAs o q) (own_text paper s b is t refl paper_room) answered in (o.0, o.2 ∙ sym reads)
 
     pub translation : Translates paper s b
-    translation = translates paper s b is
+    translation = translates paper s b is (omega arith)
 
     -- all three demands hold for the calls served on what it opened
     pub qdimacs_served : (cs : List Call) (qs : List Said) (served : Served r.state cs qs) → Demands b r.state cs qs served

@@ -45,7 +45,7 @@ module _ {x : State} (g : Grouped x) {v : ℕ} (few : v ≤ paper.numbers) where
     groups_joinable =
         record {
           none_free = g.none_free;
-          numbers_ok = subst (λ (F : Prefix). numbers_are_ok paper [] (F ++ prefix_in x) ≡ true) (sym flags_first) (completed_numbers paper (prefix_in x) v few groups_sound.numbers_ok);
+          numbers_ok = subst (λ (F : Prefix). numbers_are_ok paper [] (F ++ prefix_in x) ≡ true) (sym flags_first) (completed_numbers paper (omega arith) (prefix_in x) v few groups_sound.numbers_ok);
         }
 
     pub groups_joined : {ns' ls' ks' : List ℕ} → Joined (prefix_of ns ls ks) (prefix_in x) ns' ls' ks' → Whole (completed v (formula_in x)) (grown_state x ns' ls' ks')

@@ -10,7 +10,7 @@ use borrow.Author.Tests.{ne_eqb, lt-leb, le-leb, le-ltb, ltb-true, ltb-false}
 use lib.IntN.{ℤ}
 use lib.ListN.{length, take, length-map, length-take}
 use lib.Dec.{eqb, leb, ltb, eqb-suc-suc}
-use Rattle.qbf.specs.Formula.{paper, Quantifier, Prefix, number_of, place_of}
+use Rattle.qbf.specs.Formula.{paper, Quantifier, is_free, Prefix, number_of, place_of}
 use Rattle.qbf.specs.Calls.{given, ◌or_else◌}
 use Rattle.theory.proofs.Basics.{or_false_right}
 use Rattle.layout.specs.Opening.{variable, declare_fault}
@@ -62,10 +62,10 @@ inside : (n : ℕ) → (eqb n 0 || ltb paper.numbers n) ≡ false → leb n pape
 inside n e = le-leb n paper.numbers (ltb-false paper.numbers n (or_false_right (eqb n 0) (ltb paper.numbers n) e))
 
 -- The numbers before it are judged as our own: of 3, 5, 4 for each number, 5 is left for the first that is above the count.
-pub group_cut : (v : ℕ) (κ : Quantifier) (D : Prefix) (ns : List ℕ)
+pub group_cut : (v : ℕ) (κ : Quantifier) → is_free κ ≡ false → (D : Prefix) (ns : List ℕ)
     → group_fault paper v κ D ns ≡ (declare_fault paper κ D (take (counted v ns) ns) or_else given (not (eqb (counted v ns) (length ns))) 5)
-group_cut v κ D [] = refl
-group_cut v κ D (n ∷ ns) = by (eqb n 0 || ltb paper.numbers n) refl (ltb v n) refl (not (eqb (place_of D n) 0)) refl (group_cut v κ (D ++ (variable κ n ∷ [])) ns)
+group_cut v κ bound D [] = refl
+group_cut v κ bound D (n ∷ ns) = by (eqb n 0 || ltb paper.numbers n) refl (ltb v n) refl (not (eqb (place_of D n) 0)) refl (group_cut v κ bound (D ++ (variable κ n ∷ [])) ns)
   where
     k : ℕ
     k = counted v ns
@@ -83,4 +83,4 @@ group_cut v κ D (n ∷ ns) = by (eqb n 0 || ltb paper.numbers n) refl (ltb v n)
     by true p b q c r ih = sym (ap cut (outside v n p) ∙ rw p)
     by false p true q c r ih = sym (ap cut (ap (λ (t : Bool). t && leb n paper.numbers) q ∙ inside n p) ∙ rw (ne_eqb 0 (suc (length ns)) (λ e. omega (arith, e))))
     by false p false q true r ih = sym (ap cut (ap (λ (t : Bool). t && leb n paper.numbers) q) ∙ rw (p, r))
-    by false p false q false r ih = ih ∙ sym (ap cut (ap (λ (t : Bool). t && leb n paper.numbers) q) ∙ rw (p, r, eqb-suc-suc k (length ns)))
+    by false p false q false r ih = ih ∙ sym (ap cut (ap (λ (t : Bool). t && leb n paper.numbers) q) ∙ rw (p, r, bound, eqb-suc-suc k (length ns)))

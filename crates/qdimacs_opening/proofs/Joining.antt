@@ -18,9 +18,9 @@ use Rattle.state.specs.Derived.{code_for}
 use Rattle.state.specs.Declare.{Sound, variable_fault, with_variable, Declarable, Declared}
 use Rattle.state.proofs.SoundPrefix.{sound_quantified}
 use Rattle.state.proofs.Listing.{listing_length, listing_at, listing_map, listing_all}
-use Rattle.layout.specs.Opening.{variable}
+use Rattle.layout.specs.Opening.{variable, crowded}
 use Rattle.layout_laws.proofs.Blocks.{Before}
-use Rattle.booktext_laws.proofs.Declared.{declare_none}
+use Rattle.booktext_laws.proofs.Declared.{declare_none, few_roomy}
 use Rattle.opening.proofs.Growing.{declarable}
 use Rattle.qdimacs_opening.specs.Completed.{Joinable, Joined}
 
@@ -81,13 +81,16 @@ module _ {m ml mk : List ℕ} (s : Sound m ml mk) where
 
     unrefused : variable_fault paper (F ++ take i E) x.number ≡ none
     unrefused =
-        by (eqb x.number 0 || ltb paper.numbers x.number) (not (eqb (place_of (F ++ take i E) x.number) 0))
-        (declare_none paper x.quantifier (F ++ take i E) (x.number ∷ []) (drop (suc i) E) (subst (λ (D : Prefix). numbers_are_ok paper [] D ≡ true) split j.numbers_ok))
+        by (eqb x.number 0 || ltb paper.numbers x.number) (not (eqb (place_of (F ++ take i E) x.number) 0)) (crowded x.quantifier (F ++ take i E))
+        (declare_none paper x.quantifier (F ++ take i E) (x.number ∷ []) (drop (suc i) E) formed (few_roomy paper (omega arith) x.quantifier ((F ++ take i E) ++ (x ∷ drop (suc i) E)) formed))
       where
-        by : (a b : Bool) → (given a 3 or_else given b 4 or_else none) ≡ none → (given a 3 or_else given b 4) ≡ none
-        by true b e = e
-        by false true e = e
-        by false false e = refl
+        formed : numbers_are_ok paper [] ((F ++ take i E) ++ (x ∷ drop (suc i) E)) ≡ true
+        formed = subst (λ (D : Prefix). numbers_are_ok paper [] D ≡ true) split j.numbers_ok
+
+        by : (a b c : Bool) → (given a 3 or_else given b 4 or_else given c 33 or_else none) ≡ none → (given a 3 or_else given b 4) ≡ none
+        by true b c e = e
+        by false true c e = e
+        by false false c e = refl
 
     module _ {kind : ℕ} (coded : kind ≡ code_for ml mk (i + 1)) {n : ℕ} (is : n ≡ entry_at m i) {ns ls ks : List ℕ} (now_sound : Sound ns ls ks) where
       of : kind ≡ code_at ml mk i

@@ -8,18 +8,17 @@ use native.Mathlib.Omega.{arith}
 use lib.IntN.{ℤ, pos, negsuc}
 use lib.ListN.{length, take}
 use lib.Seq.{take_all}
-use Rattle.qbf.specs.Formula.{paper, Quantifier, free, exists, forall, Prefix, Literal, number_of, Formula}
+use Rattle.qbf.specs.Formula.{paper, highest, Quantifier, free, exists, forall, Prefix, Literal, number_of, Formula}
 use Rattle.qbf.specs.Calls.{numbers_are_ok}
 use Rattle.theory.proofs.WellFormed.{numbers_ok}
 use Rattle.tables.specs.Views.{quantifier_code}
 use Rattle.state.specs.declared.State.{State}
 use Rattle.state.specs.Reading.{quantifier_of, prefix_in, formula_in}
-use Rattle.layout_laws.proofs.Blocks.{block_width}
 use Rattle.reader.specs.Items.{narrow, narrowed, Kept}
 use Rattle.reader.proofs.Judged.{cut_same, rule_cut, rule_cut_same}
 use Rattle.qdimacs_form.specs.Lines.{Line, group}
 use Rattle.qdimacs_form.specs.Opening.{Reading, group_fault, whole}
-use Rattle.qdimacs_laws.proofs.Judged.{Narrows, group_declares, group_narrowed, group_numbers, group_first}
+use Rattle.qdimacs_laws.proofs.Judged.{Narrows, group_width, group_narrowed, group_numbers, group_first}
 use Rattle.qdimacs_reader.specs.Lines.{LineIs}
 use Rattle.qdimacs_reader.specs.declared.line.Line.TheVariants as line
 use Rattle.qdimacs_opening.specs.declared.head.Head.{Head}
@@ -37,7 +36,7 @@ narrows = record { in_range = λ n h. (let z : narrow n ≡ n = omega arith in z
 -- the numbers that stand in the table are the first of the line's, narrowed
 number_narrowed : (l : Literal) → number_of (narrowed l) ≡ narrow (number_of l)
 number_narrowed (pos n) = refl
-number_narrowed (negsuc n) = let z : suc (min n paper.numbers) ≡ narrow (suc n) = omega arith in z
+number_narrowed (negsuc n) = let z : suc (min n highest.numbers) ≡ narrow (suc n) = omega arith in z
 
 first_numbers : (k : ℕ) (ls : List Literal) → map number_of (take k (map narrowed ls)) ≡ map narrow (take k (map number_of ls))
 first_numbers zero ls = refl
@@ -59,7 +58,7 @@ module _ (v : ℕ) (κ : Quantifier) (D : Prefix) (n : ℕ) (out : List ℤ) (ls
   -- where it is not refused they are its numbers
   group_same : group_fault paper v κ D (map number_of ls) ≡ none → map number_of (take (min n (suc paper.numbers)) out) ≡ map number_of ls
   group_same e =
-      let w = block_width paper κ D (map number_of ls) fine (group_declares paper v κ D (map number_of ls) e) in
+      let w = group_width paper v κ D (map number_of ls) fine e in
       standing ∙ ap (map narrow) (take_all (suc paper.numbers) (map number_of ls) (omega (arith, w))) ∙ group_numbers paper narrow narrows v κ D (map number_of ls) e
 
 -- ---- lines

@@ -103,7 +103,7 @@ module _ {h : Head} {x : State} (s : Stands h x) (kind : ℕ) (lits : List ℤ) 
 
     judged : group_fault paper h.variables κ (prefix_in x) (map number_of lits) ≡ (fault_in t or_else given (not (eqb n (length lits))) 5)
     judged =
-        group_cut h.variables κ (prefix_in x) (map number_of lits)
+        group_cut h.variables κ (kind_quantified kind quantifies) (prefix_in x) (map number_of lits)
         ∙ ap (λ (ns : List ℕ). declare_fault paper κ (prefix_in x) ns or_else given (not (eqb (counted h.variables (map number_of lits)) (length (map number_of lits)))) 5) (sym cut)
         ∙ ap (λ (o : Option ℕ). o or_else given (not (eqb (counted h.variables (map number_of lits)) (length (map number_of lits)))) 5) (sym (block_rank_lem kind quantifies (formula_in x) ms) ∙ own_took.fault)
         ∙ ap (λ (k : ℕ). fault_in t or_else given (not (eqb k (length (map number_of lits)))) 5) (sym is)

@@ -5,12 +5,13 @@ use mathlib.Core.Bool.{Bool, true, false, not}
 use mathlib.Core.List.{List, [], ◌∷◌}
 use mathlib.Core.Option.{Option, none, some}
 use native.Mathlib.Omega.{arith}
-use borrow.Author.Tests.{eq-eqb, ne_eqb}
+use borrow.Author.Tests.{eq-eqb, ne_eqb, le-ltb, leb-true}
 use denote.Enum.Bare.{sameb}
 use lib.ListN.{length, get_or}
 use Rattle.std.specs.Prelude.{Result, Ok, Err}
-use Rattle.qbf.specs.Formula.{Formula, paper, quantifiers}
-use Rattle.qbf.specs.Calls.{no_free, State as Read}
+use Rattle.qbf.specs.Formula.{Formula, paper, most_free, quantifiers}
+use Rattle.qbf.specs.Truth.{free_variables}
+use Rattle.qbf.specs.Calls.{no_free, free_is_ok, State as Read}
 use Rattle.qbf.specs.Runs.{fresh}
 use Rattle.tables.proofs.Laws.{rows_length}
 use Rattle.state.specs.declared.State.{State}
@@ -24,7 +25,7 @@ use Rattle.opening.specs.Lines.{Takes, Ends, ReadAs, within_text}
 use Rattle.opening.proofs.Taking.{read_is}
 use Rattle.opening.proofs.Turns.{empty_stands}
 use Rattle.qdimacs_form.specs.Lines.{Line, line_of}
-use Rattle.qdimacs_form.specs.Opening.{Reading, whole, after, read_line, at_end, read_lines, read_qdimacs, open_qdimacs}
+use Rattle.qdimacs_form.specs.Opening.{Reading, whole, after, read_line, crowded, at_end, read_lines, read_qdimacs, open_qdimacs}
 use Rattle.qdimacs_opening.specs.contracts.head.Part.{the_type}
 use Rattle.qdimacs_opening.specs.declared.head.Part.{Part}
 use Rattle.qdimacs_opening.specs.declared.head.Part.TheVariants.{Start, Groups, Clauses}
@@ -76,15 +77,21 @@ module _ (h : Head) (x : State) (number : ℕ) where
   pub end_unstarted : part_of h.part ≡ 0 → at_end number (reading_of h x) ≡ refused 1 number
   end_unstarted e = rw (eq-eqb (part_of h.part) 0 e)
 
-  module _ (e : part_of h.part ≡ 0 → ⊥) {n : ℕ} (is : n ≡ get_or x.clause_sizes 0 0) where
+  module _ (e : part_of h.part ≡ 0 → ⊥) {n : ℕ} (is : n ≡ get_or x.clause_sizes 0 0) {y : State} (w : Whole (whole (reading_of h x)) y) where
+    -- so few numbers leave room for each flag
+    room : crowded (reading_of h x) ≡ false
+    room =
+        le-ltb most_free (free_variables (whole (reading_of h x)).prefix)
+        (leb-true (free_variables (whole (reading_of h x)).prefix) most_free (subst (λ (b : Formula). free_is_ok b.prefix ≡ true) w.formula w.stands.reached.facts.free_ok))
+
     count : length (formula_in x).clauses ≡ n
     count = rows_length paper.literals x.clauses x.clause_sizes (get_or x.clause_sizes 0 0) ∙ sym is
 
     pub end_miscounted : (n ≡ h.clauses → ⊥) → at_end number (reading_of h x) ≡ refused 30 number
-    end_miscounted z = rw (ne_eqb (part_of h.part) 0 e, count, ne_eqb n h.clauses z)
+    end_miscounted z = rw (ne_eqb (part_of h.part) 0 e, room, count, ne_eqb n h.clauses z)
 
     pub end_counted : n ≡ h.clauses → at_end number (reading_of h x) ≡ opened (whole (reading_of h x))
-    end_counted z = rw (ne_eqb (part_of h.part) 0 e, count, eq-eqb n h.clauses z)
+    end_counted z = rw (ne_eqb (part_of h.part) 0 e, room, count, eq-eqb n h.clauses z)
 
 -- ---- by the parts
 pub is_part : (s t : Part) {b : Bool} → b ≡ sameb the_type s t → b ≡ true → part_of s ≡ part_of t
@@ -125,9 +132,9 @@ module _ (p : Problem) where
   pub end_started : part_of p.head.part ≡ 0 → Ends (problem_opens p) (Err NotInLayout)
   end_started e = λ n. last n ∙ end_unstarted p.head p.state n e
 
-  module _ (e : part_of p.head.part ≡ 0 → ⊥) {k : ℕ} (is : k ≡ get_or p.state.clause_sizes 0 0) where
+  module _ (e : part_of p.head.part ≡ 0 → ⊥) {k : ℕ} (is : k ≡ get_or p.state.clause_sizes 0 0) {y : State} (w : Whole (whole (reading_of p.head p.state)) y) where
     pub end_other : (k ≡ p.head.clauses → ⊥) → Ends (problem_opens p) (Err Miscounted)
-    end_other z = λ n. last n ∙ end_miscounted p.head p.state n e is z
+    end_other z = λ n. last n ∙ end_miscounted p.head p.state n e is w z
 
-    pub end_whole : k ≡ p.head.clauses → {y : State} → Whole (whole (reading_of p.head p.state)) y → Ends (problem_opens p) (Ok y)
-    end_whole z {y} w = λ n. subst (λ (o : Opened). ReadAs o (Ok y)) (sym (last n ∙ end_counted p.head p.state n e is z)) (w.stands.read ∙ ap (λ (b : Formula). some (fresh b)) w.formula)
+    pub end_whole : k ≡ p.head.clauses → Ends (problem_opens p) (Ok y)
+    end_whole z = λ n. subst (λ (o : Opened). ReadAs o (Ok y)) (sym (last n ∙ end_counted p.head p.state n e is w z)) (w.stands.read ∙ ap (λ (b : Formula). some (fresh b)) w.formula)

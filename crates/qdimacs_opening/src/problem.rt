@@ -178,9 +178,10 @@ impl LineByLine for Problem {
         if self.head.part == Part::Start {
             return Err(Refusal::NotInLayout);
         }
+        let whole = self.whole();
         if state::cells::count(&self.state.clause_sizes) != self.head.clauses {
             return Err(Refusal::Miscounted);
         }
-        Ok(self.whole())
+        Ok(whole)
     }
 }

@@ -30,9 +30,9 @@ pub wrote_printed : {t d₀ d : Bytes} {r : ℕ} → Wrote d₀ 0 t d r → Prin
 wrote_printed {t} {d₀} {d} {r} w = record { within = omega (arith, w.next, ap length w.is, length-take r d); is = w.is }
 
 -- ---- a book fits the table
-pub book_printed : {x : State} {size refusal count : ℕ} {table : Bytes} → text_room paper ≤ size → Writes x size refusal count table
+pub book_printed : (x : State) {size refusal count : ℕ} {table : Bytes} → text_room paper ≤ size → Writes x size refusal count table
     → (b : Formula) → read_state x ≡ some (fresh b) → formula_is_ok b ≡ true → Printed (book_text b) count table
-book_printed {x} long w b e ok = let p = fresh_written x b e ok w long in record { within = p.0; is = p.1 }
+book_printed x long w b e ok = let p = fresh_written x b e ok w long in record { within = p.0; is = p.1 }
 
 -- ---- a text
 module _ (s : Bytes) {d : Bytes} {r : ℕ} where

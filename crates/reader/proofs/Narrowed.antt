@@ -7,7 +7,7 @@ use lib.Signed.{mag}
 use mir.Syntax.{w16}
 use mir.Val.{to_z, of_z}
 use mir.Facts.{to_z-of_z}
-use Rattle.qbf.specs.Formula.{paper}
+use Rattle.qbf.specs.Formula.{highest}
 use Rattle.layout.specs.Forms.{off}
 use Rattle.reader.specs.Items.{narrow, narrowed}
 
@@ -16,7 +16,7 @@ pub back16 : {z : ℤ} → mag z < 32768 → to_z w16 (of_z w16 z) ≡ z
 back16 h = to_z-of_z {w = w16} (record { sfits = h })
 
 -- ---- narrowed literals
-pub narrow_small : (v : ℕ) {n : ℕ} → n ≡ narrow v → n ≤ suc paper.numbers
+pub narrow_small : (v : ℕ) {n : ℕ} → n ≡ narrow v → n ≤ suc highest.numbers
 narrow_small v e = omega arith
 
 pub narrowed_on : (v : ℕ) {n : ℕ} {r : ℤ} → n ≡ narrow v → r ≡ pos n → r ≡ narrowed (pos v)
@@ -27,4 +27,4 @@ narrowed_off v e h = h ∙ ap off e ∙ by v
   where
     by : (v : ℕ) → off (narrow v) ≡ narrowed (off v)
     by zero = refl
-    by (suc k) = let e : narrow (suc k) ≡ suc (min k paper.numbers) = omega arith in ap off e
+    by (suc k) = let e : narrow (suc k) ≡ suc (min k highest.numbers) = omega arith in ap off e

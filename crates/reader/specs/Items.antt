@@ -2,20 +2,20 @@
 use Rattle.std.specs.Prelude.{ℕ, suc, ◌≤◌, min, ◌≡◌, Bool, List, map, length, take, ℤ, pos, negsuc}
 use Rattle.std.specs.Prelude.{Option as Answer, Some, None}
 use Rattle.std.proofs.Math.Option.{Option, none, some}
-use Rattle.qbf.specs.Formula.{Literal, paper}
+use Rattle.qbf.specs.Formula.{Literal, highest}
 use Rattle.layout.specs.Words.{Bytes, space, split}
 use Rattle.layout.specs.Forms.{consed, items}
 use Rattle.reader.specs.Pieces.{pieces, cut_bytes, size_left}
 use Rattle.reader.specs.declared.item.Item.{Item}
 
 -- ---- 16 bits
--- Numbers of a text have up to 5 digits. A number that is no variable's is kept as the first that is none: no refusal changes.
+-- Numbers of a text have up to 5 digits. A number that is no variable's under any limits is kept as the first that is none: no refusal changes.
 abbrev pub narrow : ℕ → ℕ
-narrow n = min n (suc paper.numbers)
+narrow n = min n (suc highest.numbers)
 
 abbrev pub narrowed : Literal → Literal
 narrowed (pos n) = pos (narrow n)
-narrowed (negsuc n) = negsuc (min n paper.numbers)
+narrowed (negsuc n) = negsuc (min n highest.numbers)
 
 unfoldable pub all_narrowed : Option (List Literal) → Option (List Literal)
 all_narrowed none = none

@@ -57,6 +57,10 @@ fn first_item<'a>(s: &'a [u8], word: &[u8]) -> Option<Begun<'a>>
 }
 
 // The number in the one word that is left behind the item's.
+// stays (no plainer): the total of a day is read likewise (`day_reader::total`) by `read_up_to`, without the bracket that ends an item here: a function of both would take that reader as a closure, for
+// one line that differs
+// stays (no plainer): the total of a day is read likewise (`day_reader::total`), by `read_up_to`, without the bracket that ends an item here: a function of both would take the reader as a closure,
+// for the one line that differs
 fn last_item(left: Option<&[u8]>, limit: Limit) -> Option<u32>
     ensures { num_of result ≡ last_item (number_up_to limit.digits limit.top) (pieces space left.entry) }
 {

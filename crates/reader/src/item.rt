@@ -1,6 +1,6 @@
 // An item of a line, `3` or `(no 3)`, as a literal of 16 bits.
 ghost use Rattle.std.specs.Prelude.{◌≡◌, suc, ◌≤◌, ◌&&◌, pos};
-ghost use Rattle.qbf.specs.Formula.{paper};
+ghost use Rattle.qbf.specs.Formula.{highest};
 ghost use Rattle.layout.specs.Words.{same};
 ghost use Rattle.layout.specs.Forms.{no_word, off};
 ghost use Rattle.reader.specs.Items.{ItemRead, narrow};
@@ -15,24 +15,24 @@ pub struct Item<'a> {
     pub left: Option<&'a [u8]>,
 }
 
-// A number in 16 bits. It is judged before it is narrowed: one that is no variable's becomes the first that is none.
+// A number in 16 bits. It is judged before it is narrowed: one that is no variable's under any limits becomes the first that is none.
 pub fn narrow(v: u32) -> u16
     ensures { result ≡ narrow v }
 {
-    v.min(tables::BY_NUMBER as u32) as u16
+    v.min(tables::HIGHEST_BY_NUMBER as u32) as u16
 }
 
 // "positive means on, its negation off"
 // stays (no plainer): it is the cast of a small number, and its contract says so once for its three callers.
 pub fn on(n: u16) -> i16
-    requires { n ≤ suc paper.numbers }
+    requires { n ≤ suc highest.numbers }
     ensures { result ≡ pos n }
 {
     n as i16
 }
 
 pub fn off(n: u16) -> i16
-    requires { n ≤ suc paper.numbers }
+    requires { n ≤ suc highest.numbers }
     ensures { result ≡ off n }
 {
     -(n as i16)

@@ -3,7 +3,7 @@
 #![tactic(auto)]
 
 ghost use Rattle.std.specs.Prelude.{◌≡◌, true, suc, ◌^◌, ◌≤◌, ◌<◌, length, take, eqb};
-ghost use Rattle.qbf.specs.Formula.{paper, Prefix};
+ghost use Rattle.qbf.specs.Formula.{paper, highest, Prefix};
 ghost use Rattle.qbf.specs.Learning.{Constraint, push, without, resolvent, last_place};
 ghost use Rattle.qbf.specs.Calls.{in_order};
 ghost use Rattle.tables.specs.Codes.{codes, last_code, Quantified};
@@ -16,14 +16,6 @@ use coding::list::{last_code, reduced_len};
 use coding::union::unite;
 use search_entry::{Bounds, Source};
 use shelf::Shelf;
-
-// A constraint that two give: its codes are the first cells.
-// stays (no plainer): `len ≤ length cells` is said once, by the one function that makes one, and used at once by its one caller, which cuts the cells; a ghost field would say it again
-#[derive(Drop)]
-pub struct Resolvent {
-    pub cells: [u16; tables::AREA],
-    pub len: usize,
-}
 
 // Whether the last of the codes is of the place after `at`; then there is one.
 pub fn ends_next<'a>(row: &'a [u16], at: usize) -> bool
@@ -50,17 +42,19 @@ fn trimmed<'a>(row: &'a [u16], at: usize) -> &'a [u16]
     row
 }
 
-// The resolvent of two rows, without the place after `at`.
-// stays (no plainer): `length [u16] ≤ paper.numbers` is what its one caller, `join`, has of `Aside` and of the answer's part; a struct of each row would be made there and taken apart here
+// The resolvent of two rows, without the place after `at`, in the first cells of the area; how many they are. The area is lent: a level of the search has
+// no table of its own, and nothing is cleared for a resolvent.
+// stays (no plainer): `length [u16] ≤ highest.numbers` is what its one caller, `join`, has of `Aside` and of the answer's part; a struct of each row would be made there and taken apart here
 pub fn resolve<'a>(
+    area: &mut [u16; tables::CODES_AREA],
     off: &'a [u16],
     on: &'a [u16],
     at: usize,
     quantifiers: &'a [u8; tables::CODES],
     cube: bool,
-) -> Resolvent
-    requires { (length off.now ≤ paper.numbers) × (length on.now ≤ paper.numbers) }
-    ensures { (result.len ≤ length result.cells)
+) -> usize
+    requires { (length off.now ≤ highest.numbers) × (length on.now ≤ highest.numbers) }
+    ensures { (result ≤ length area.new)
         × ((D : Prefix) (e f : Constraint)
         → Quantified D quantifiers.now
         → off.now ≡ codes D e
@@ -69,12 +63,10 @@ pub fn resolve<'a>(
         → in_order D 0 f ≡ true
         → last_place D e ≤ suc at
         → last_place D f ≤ suc at
-        → take result.len result.cells ≡ codes D (resolvent D (suc at) cube e f)) }
+        → take result area.new ≡ codes D (resolvent D (suc at) cube e f)) }
 {
-    let mut cells = [0u16; tables::AREA];
-    let united = unite(&mut cells, trimmed(off, at), trimmed(on, at));
-    let len = reduced_len(&cells[..united], quantifiers, cube);
-    Resolvent { cells, len }
+    let united = unite(area, trimmed(off, at), trimmed(on, at));
+    reduced_len(&area[..united], quantifiers, cube)
 }
 
 // A row is stored: its bounds. A constraint has at most one literal of a variable, so that there is always room for its codes, and its last code has
@@ -83,14 +75,14 @@ pub fn resolve<'a>(
 pub fn store<'a>(learned: &mut Shelf, row: &'a [u16]) -> Bounds
     requires { Room learned.old }
     ensures { (newest learned.new ≤ suc (newest learned.old))
-        × (length row.now ≤ paper.numbers
+        × (length row.now ≤ highest.numbers
         → last_code row.now < code_count
-        → Stored result row.now learned.new.cells
+        → Stored result row.now learned.new.cells.now
         × (rows learned.new ≡ push paper.constraints row.now (rows learned.old))
         × (newest learned.new ≡ suc (newest learned.old))) }
 {
     let last = last_code(row) as usize;
-    if tables::NUMBERS < row.len() || tables::CODES <= last {
+    if tables::HIGHEST_NUMBERS < row.len() || tables::CODES <= last {
         return Bounds {
             source: Source::Area,
             start: 0,
@@ -100,7 +92,7 @@ pub fn store<'a>(learned: &mut Shelf, row: &'a [u16]) -> Bounds
     let slot = learned.push(row);
     Bounds {
         source: Source::Learned,
-        start: slot * (tables::NUMBERS + 1) + 1,
+        start: slot * (tables::HIGHEST_NUMBERS + 1) + 1,
         len: row.len(),
     }
 }

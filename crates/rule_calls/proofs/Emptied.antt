@@ -2,9 +2,9 @@
 use Prim.Native.Nat.{ℕ, ◌+◌, ◌≤◌, ◌<◌, zero-le}
 use native.Mathlib.Omega.{arith}
 use mathlib.Core.Path.{◌≡◌, refl, sym, ap, subst, ◌∙◌}
-use mathlib.Core.Bool.{Bool, true, cond, ◌&&◌}
+use mathlib.Core.Bool.{Bool, true, ◌&&◌}
 use mathlib.Core.List.{List, []}
-use mathlib.Core.Option.{none, some}
+use mathlib.Core.Option.{some}
 use lib.IntN.{ℤ}
 use lib.ListN.{get_or, set, length-set}
 use lib.Seq.{get_or-set_same, get_or-set_other}
@@ -18,21 +18,21 @@ use Rattle.theory.proofs.Basics.{and_both}
 use Rattle.tables.specs.Views.{rows, rows_of}
 use Rattle.tables.proofs.Laws.{rows_zero}
 use Rattle.state.specs.declared.State.{State}
-use Rattle.state.specs.Reading.{own, state_of, at_most, listing, entry_at, record_at, records_of, rows_fit, prefix_fits, fits_under, formula_under, state_under, read_under, roomy}
-use Rattle.state.proofs.Rooms.{room_is}
+use Rattle.state.specs.Reading.{own, state_of, at_most, listing, entry_at, record_at, records_of, rows_fit, prefix_fits, fits_under, formula_under, state_under}
 use Rattle.state_parts.specs.Parts.{part, limits_of, by_number, clause_count, cube_sizes, recorded, numbers_at, levels_at, kinds_at, clause_sizes_at, learned_clause_sizes_at, learned_cube_sizes_at, parts_under, state_at, read_at, valid_at, Whole}
 use Rattle.state_parts.proofs.Cutting.{part_set, part_set_before, part_set_after}
-use Rattle.state_parts.proofs.Written.{same_state, whole_exact, exact_roomy}
-use Rattle.state_parts.proofs.Accepted.{read_roomy, valid_whole, valid_state}
+use Rattle.state_parts.proofs.Written.{same_state}
+use Rattle.state_parts.proofs.Accepted.{valid_whole, valid_state}
 use Rattle.rule_calls.specs.ServesAt.{ServesAt, change_said}
 use Rattle.rule_calls.proofs.Calls.{served}
+use Rattle.rule_calls.proofs.Reading.{parts_read}
 
 -- ---- a table whose count is 0
 module _ (w cap : ℕ) (s : List ℕ) (empty : get_or s 0 0 ≡ 0) where
-  none_fit : rows_fit w cap s ≡ true
+  pub none_fit : rows_fit w cap s ≡ true
   none_fit = ap (λ (n : ℕ). leb n cap && at_most w (listing (entry_at s) 0 n)) empty ∙ ap (λ (b : Bool). b && true) (le-leb 0 cap zero-le)
 
-  none_stand : (f : List ℤ) → rows_of w f s ≡ []
+  pub none_stand : (f : List ℤ) → rows_of w f s ≡ []
   none_stand f = ap (rows w f s) empty ∙ rows_zero w f s
 
   none_recorded : records_of s ≡ []
@@ -139,20 +139,8 @@ module _ (cells : List ℕ) (literals : List ℤ) (v : valid_at cells literals �
         literals_room = w.literals_room;
       }
 
-  room : roomy L (parts_under L t₂ literals) ≡ true
-  room = room_is L (parts_under L t₂ literals) (exact_roomy L (parts_under L t₂ literals) (whole_exact L t₂ literals whole))
-
-  fits_read : read_under L x' ≡ some (state_under L x')
-  unfolding read_under
-  fits_read = ap (λ (q : Bool). cond q (some (state_under L x')) none) fits
-
   read_after : read_at t₂ literals ≡ some (record { formula = formula_under L x; store = empty_store })
-  read_after =
-      read_roomy t₂ literals (ap (λ (M : Limits). roomy M (parts_under M t₂ literals)) limits_kept ∙ room)
-      ∙ ap (λ (M : Limits). read_under M (parts_under M t₂ literals)) limits_kept
-      ∙ ap (read_under L) parts_are
-      ∙ fits_read
-      ∙ ap some reads
+  read_after = parts_read L t₂ literals limits_kept whole parts_are fits ∙ ap some reads
 
   forgotten : ServesAt cells literals forget (change_said (Ok tt)) t₂ literals
   forgotten = served cells literals forget v t₂ literals read_after refl

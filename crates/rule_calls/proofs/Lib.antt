@@ -1,2 +1,10 @@
+pub mod Lists
 pub mod Calls
 pub mod Emptied
+pub mod Reading
+pub mod Writing
+pub mod Adds
+pub mod Called
+pub mod Leaving
+pub mod Withdrawn
+pub mod Served

@@ -1,1 +1,4 @@
 pub mod ServesAt
+pub mod AddedAt
+pub mod WithdrawnAt
+pub mod Served

@@ -4,7 +4,14 @@
 ghost use Rattle.qbf.specs.Calls.{forget};
 ghost use Rattle.rule_calls.specs.ServesAt.{ServesAt, change_said};
 
+mod adding; // a rule
+mod forms; // an exactly-one form
+mod withdrawing; // a withdrawal
+
+pub use adding::rule;
+pub use forms::one;
 use refusal::Refusal;
+pub use withdrawing::withdraw;
 
 // "Forget empties the store."
 pub fn forget(cells: &mut [u16], literals: &[i16]) -> Result<(), Refusal>

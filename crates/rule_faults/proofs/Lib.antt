@@ -1,1 +1,2 @@
 pub mod Refusing
+pub mod Faultless

@@ -6,7 +6,7 @@ use mathlib.Core.Bool.{Bool, true, ◌&&◌}
 use mathlib.Core.List.{List, [], ◌∷◌, ◌++◌, map}
 use mathlib.Core.Option.{Option, none, some}
 use lib.IntN.{ℤ}
-use lib.ListN.{length, get_or}
+use lib.ListN.{length, get_or, set}
 use Rattle.qbf.specs.Formula.{paper, Prefix, Literal}
 use Rattle.qbf.specs.One.{one_forms, one_count}
 use Rattle.qbf.specs.Calls.{Call, State as Read, Answer, rule, one, answer, refused, refusal, rule_reply, rule_fault, one_fault, clause_of, with_rule, with_one, store_after_rule, guarded}
@@ -19,11 +19,11 @@ use Rattle.state.specs.Reading.{rows_fit, prefix_fits, state_of, prefix_in, form
 use Rattle.state.specs.Derived.{Checked}
 use Rattle.state.proofs.Valid.{valid_facts, table_rows, valid_tables}
 use Rattle.serving.specs.Serves.{Said, said, said_of, Serves}
-use Rattle.rule_faults.specs.Faults.{fault_after, one_fault_after}
-use Rattle.rule_rows.specs.Accepted.{Named, Accepted}
+use Rattle.rule_faults.specs.Faults.{fault_under, one_fault_under}
+use Rattle.rule_rows.specs.Accepted.{Named, Added}
 use Rattle.serving.proofs.Calls.{served, unchanged}
 use Rattle.rules.proofs.Emptied.{none_fit, none_stand}
-use Rattle.rules.proofs.Faultless.{fine_room, fine_length, one_fine_room, one_fine_length, one_fine_named}
+use Rattle.rule_faults.proofs.Faultless.{fine_room, fine_length, one_fine_room, one_fine_length, one_fine_named}
 use Rattle.rule_rows.proofs.Rows.{none_left}
 
 -- ---- a call on a valid state with the fault o, or else the clauses of these forms more and no cube
@@ -62,13 +62,13 @@ module _ (x : State) (c : Call) (cs : List (List Literal)) where
       pub adds_table : Table paper.literals paper.clauses x.clauses x.clause_sizes
       adds_table = (valid_tables x adds_valid checked.sized).clauses
 
-      module _ {cells : List ℤ} {sizes cubes : List ℕ} (a : Accepted x.clauses x.clause_sizes cs places x.learned_cube_sizes cells sizes cubes) where
+      module _ {cells : List ℤ} {sizes cubes : List ℕ} (a : Added paper.clauses x.clauses x.clause_sizes cs places cells sizes) (cleared : cubes ≡ set x.learned_cube_sizes 0 0) where
         -- the tables after the call
         abbrev y : State
         y = state_of x.numbers x.levels x.kinds cells sizes x.learned_clauses x.learned_clause_sizes x.learned_cubes cubes
 
         none_left_of : get_or cubes 0 0 ≡ 0
-        none_left_of = none_left x.learned_cube_sizes (omega (arith, checked.sized.learned_cube_sizes_room)) a.cleared
+        none_left_of = none_left x.learned_cube_sizes (omega (arith, checked.sized.learned_cube_sizes_room)) cleared
 
         q : o ≡ none
         q = judged ∙ e
@@ -76,7 +76,7 @@ module _ (x : State) (c : Call) (cs : List (List Literal)) where
         still_fits : fits y ≡ true
         still_fits =
             and_both (p' && d && b) (rows_fit paper.numbers paper.constraints cubes)
-            (and_both (p' && d) b (and_both p' d (valid_facts x adds_valid).prefix_fits_lem (table_rows paper.literals paper.clauses cells sizes a.added.table)) (valid_facts x adds_valid).learned_clauses_fit)
+            (and_both (p' && d) b (and_both p' d (valid_facts x adds_valid).prefix_fits_lem (table_rows paper.literals paper.clauses cells sizes a.table)) (valid_facts x adds_valid).learned_clauses_fit)
             (none_fit paper.numbers paper.constraints cubes none_left_of)
           where
             p' : Bool
@@ -90,7 +90,7 @@ module _ (x : State) (c : Call) (cs : List (List Literal)) where
 
         reads : state_in y ≡ after none
         reads = λ i. record {
-          formula = record { limits = paper; prefix = prefix_in x; clauses = a.added.rows (prefix_in x) (checked.placed adds_valid) i };
+          formula = record { limits = paper; prefix = prefix_in x; clauses = a.rows (prefix_in x) (checked.placed adds_valid) i };
           store = record {
             clauses = (store_in x).clauses;
             records = (store_in x).records;
@@ -116,8 +116,8 @@ module _ (x : State) (ls : List Literal) where
       by none = refl
       by (some n) = refl
 
-  rule_fault_is : fault_after (get_or x.clause_sizes 0 0) (prefix_in x) ls ≡ rule_fault (formula_in x) ls
-  rule_fault_is = ap (λ (n : ℕ). fault_after n (prefix_in x) ls) (sym counts)
+  rule_fault_is : fault_under paper (get_or x.clause_sizes 0 0) (prefix_in x) ls ≡ rule_fault (formula_in x) ls
+  rule_fault_is = ap (λ (n : ℕ). fault_under paper n (prefix_in x) ls) (sym counts)
 
   -- ---- an exactly-one form
   one_adds : Adds x (one ls) (one_forms ls) (one_fault (formula_in x) ls)
@@ -127,11 +127,11 @@ module _ (x : State) (ls : List Literal) where
       by none = refl
       by (some n) = refl
 
-  one_fault_is : one_fault_after (get_or x.clause_sizes 0 0) (prefix_in x) ls ≡ one_fault (formula_in x) ls
-  one_fault_is = ap (λ (n : ℕ). one_fault_after n (prefix_in x) ls) (sym counts)
+  one_fault_is : one_fault_under paper (get_or x.clause_sizes 0 0) (prefix_in x) ls ≡ one_fault (formula_in x) ls
+  one_fault_is = ap (λ (n : ℕ). one_fault_under paper n (prefix_in x) ls) (sym counts)
 
   module _ {places kinds : List ℕ} (checked : Checked x true places kinds) {p : Option ℕ} where
-    module _ (j : (D : Prefix) → Places D places → p ≡ fault_after (get_or x.clause_sizes 0 0) D ls) where
+    module _ (j : (D : Prefix) → Places D places → p ≡ fault_under paper (get_or x.clause_sizes 0 0) D ls) where
       pub rule_refused : (r : ℕ) → p ≡ some r → Serves x (rule ls) (said (some r) 0 0 0 []) x
       rule_refused = adds_refused x (rule ls) (ls ∷ []) rule_adds checked rule_fault_is j
 
@@ -140,15 +140,15 @@ module _ (x : State) (ls : List Literal) where
       rule_room e =
           let fine = adds_fine x (rule ls) (ls ∷ []) rule_adds checked rule_fault_is j e in (
             adds_table x (rule ls) (ls ∷ []) rule_adds checked rule_fault_is j e,
-            fine_room (get_or x.clause_sizes 0 0) (prefix_in x) ls fine,
-            fine_length (get_or x.clause_sizes 0 0) (prefix_in x) ls fine,
+            fine_room paper (get_or x.clause_sizes 0 0) (prefix_in x) ls fine,
+            fine_length paper (get_or x.clause_sizes 0 0) (prefix_in x) ls fine,
           )
 
-      pub rule_accepted : p ≡ none → {cells : List ℤ} {sizes cubes : List ℕ} → Accepted x.clauses x.clause_sizes (ls ∷ []) places x.learned_cube_sizes cells sizes cubes
+      pub rule_accepted : p ≡ none → {cells : List ℤ} {sizes cubes : List ℕ} → Added paper.clauses x.clauses x.clause_sizes (ls ∷ []) places cells sizes → cubes ≡ set x.learned_cube_sizes 0 0
           → Serves x (rule ls) (said none 0 0 0 []) (state_of x.numbers x.levels x.kinds cells sizes x.learned_clauses x.learned_clause_sizes x.learned_cubes cubes)
-      rule_accepted e a = adds_accepted x (rule ls) (ls ∷ []) rule_adds checked rule_fault_is j e a
+      rule_accepted e a k = adds_accepted x (rule ls) (ls ∷ []) rule_adds checked rule_fault_is j e a k
 
-    module _ (j : (D : Prefix) → Places D places → p ≡ one_fault_after (get_or x.clause_sizes 0 0) D ls) where
+    module _ (j : (D : Prefix) → Places D places → p ≡ one_fault_under paper (get_or x.clause_sizes 0 0) D ls) where
       pub one_refused : (r : ℕ) → p ≡ some r → Serves x (one ls) (said (some r) 0 0 0 []) x
       one_refused = adds_refused x (one ls) (one_forms ls) one_adds checked one_fault_is j
 
@@ -158,11 +158,11 @@ module _ (x : State) (ls : List Literal) where
       one_room e =
           let fine = adds_fine x (one ls) (one_forms ls) one_adds checked one_fault_is j e in (
             adds_table x (one ls) (one_forms ls) one_adds checked one_fault_is j e,
-            one_fine_room (get_or x.clause_sizes 0 0) (prefix_in x) ls fine,
-            one_fine_length (get_or x.clause_sizes 0 0) (prefix_in x) ls fine,
-            one_fine_named (get_or x.clause_sizes 0 0) (prefix_in x) ls fine,
+            one_fine_room paper (get_or x.clause_sizes 0 0) (prefix_in x) ls fine,
+            one_fine_length paper (get_or x.clause_sizes 0 0) (prefix_in x) ls fine,
+            λ k h. omega (arith, one_fine_named paper (get_or x.clause_sizes 0 0) (prefix_in x) ls fine k h),
           )
 
-      pub one_accepted : p ≡ none → {cells : List ℤ} {sizes cubes : List ℕ} → Accepted x.clauses x.clause_sizes (one_forms ls) places x.learned_cube_sizes cells sizes cubes
+      pub one_accepted : p ≡ none → {cells : List ℤ} {sizes cubes : List ℕ} → Added paper.clauses x.clauses x.clause_sizes (one_forms ls) places cells sizes → cubes ≡ set x.learned_cube_sizes 0 0
           → Serves x (one ls) (said none 0 0 0 []) (state_of x.numbers x.levels x.kinds cells sizes x.learned_clauses x.learned_clause_sizes x.learned_cubes cubes)
-      one_accepted e a = adds_accepted x (one ls) (one_forms ls) one_adds checked one_fault_is j e a
+      one_accepted e a k = adds_accepted x (one ls) (one_forms ls) one_adds checked one_fault_is j e a k

@@ -1,5 +1,4 @@
 pub mod Emptied
-pub mod Faultless
 pub mod Refused
 pub mod Adds
 pub mod Withdrawn

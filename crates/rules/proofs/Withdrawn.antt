@@ -1,21 +1,20 @@
 -- The state that a withdrawal leaves: all clauses but the last, the learned clauses whose record they still cover, and every cube.
-use Prim.Native.Nat.{ℕ, suc, ◌*◌, ◌-◌}
+use Prim.Native.Nat.{ℕ, suc, ◌-◌}
 use native.Mathlib.Omega.{arith}
 use mathlib.Core.Path.{◌≡◌, sym, ap, subst, ◌∙◌}
 use mathlib.Core.Bool.{Bool, true, ◌&&◌}
-use mathlib.Core.List.{List, [], ◌∷◌}
+use mathlib.Core.List.{List, []}
 use mathlib.Core.Option.{Option, none, some}
 use lib.IntN.{ℤ}
 use lib.Dec.{eqb}
-use lib.ListN.{length, get_or, take, drop, set, length-set}
-use lib.Seq.{take_at, get_or-set_same, get_or-set_other}
+use lib.ListN.{length, get_or, set}
 use borrow.Author.Tests.{eq-eqb, ne_eqb}
 use Rattle.qbf.specs.Formula.{paper}
 use Rattle.qbf.specs.Calls.{State as Read, withdraw, answer, rule_reply, given, withdraw_fault, without_last, standing, store_after_withdraw}
 use Rattle.qbf.specs.Demands.{refusal_of}
 use Rattle.theory.proofs.Basics.{and_both}
-use Rattle.tables.specs.Views.{Table, row, rows, rows_of}
-use Rattle.tables.proofs.Laws.{rows_length, rows_suc}
+use Rattle.tables.specs.Views.{rows_of}
+use Rattle.tables.proofs.Laws.{rows_length}
 use Rattle.state.specs.declared.State.{State}
 use Rattle.state.specs.Reading.{rows_fit, prefix_fits, state_of, records_of, prefix_in, formula_in, store_in, state_in, fits, valid}
 use Rattle.state.specs.Derived.{Sized}
@@ -23,40 +22,7 @@ use Rattle.state.proofs.Valid.{valid_facts, table_rows, valid_tables}
 use Rattle.serving.specs.Serves.{Said, said, said_of, Serves}
 use Rattle.serving.proofs.Calls.{served, unchanged}
 use Rattle.withdrawal.specs.Learned.{Room, Kept}
-use Rattle.rule_rows.proofs.Rows.{same_rows}
-
--- ---- a table that counts one row less
-module _ (w cap : ℕ) (f : List ℤ) (l : List ℕ) (t : Table w cap f l) (n : ℕ) (is : get_or l 0 0 ≡ suc n) where
-  abbrev l' : List ℕ
-  l' = set l 0 n
-
-  count : get_or l' 0 0 ≡ n
-  count = get_or-set_same l 0 n 0 (omega (arith, t.counted))
-
-  size_stays : (k : ℕ) → get_or l' (suc k) 0 ≡ get_or l (suc k) 0
-  size_stays k = get_or-set_other l 0 (suc k) n 0 (omega arith)
-
-  pub shorter_table : Table w cap f l'
-  shorter_table =
-      record {
-        room = t.room;
-        counted = omega (arith, t.counted, length-set l 0 n);
-        few = omega (arith, count, t.few, is);
-        short = λ k h. omega (arith, size_stays k, t.short k (omega (arith, h, count, is)));
-      }
-
-  -- the last row is gone
-  pub shorter_rows : rows_of w f l' ≡ take (length (rows_of w f l) - 1) (rows_of w f l)
-  shorter_rows =
-      ap (rows w f l') count
-      ∙ same_rows w f l f l' n (λ k h. ap (λ (m : ℕ). take m (drop (k * w) f)) (size_stays k))
-      ∙ sym (take_at (rows w f l n) (row w f l n ∷ []) n (rows_length w f l n))
-      ∙ ap (take n) (sym (rows_suc w f l n))
-      ∙ ap (λ (m : ℕ). take n (rows w f l m)) (sym is)
-      ∙ ap (λ (m : ℕ). take m (rows_of w f l)) less
-    where
-      less : n ≡ length (rows_of w f l) - 1
-      less = omega (arith, rows_length w f l (get_or l 0 0), is)
+use Rattle.withdrawal.proofs.Shorter.{shorter_table, shorter_rows}
 
 -- ---- the call
 module _ (x : State) (v : valid x ≡ true) where
@@ -78,11 +44,11 @@ module _ (x : State) (v : valid x ≡ true) where
       subst (λ (a : Said). Serves x withdraw a x) (ap (λ (o : Option ℕ). said_of (answer (rule_reply o) 0)) q) (unchanged x withdraw v (ap after q))
 
   module _ (z : Sized x) where
-    pub learned_room : Room x.learned_clauses x.learned_clause_sizes
+    pub learned_room : Room paper.numbers x.learned_clauses x.learned_clause_sizes
     learned_room = record { table = (valid_tables x v z).learned_clauses; behind = omega (arith, z.learned_clause_sizes_room) }
 
     -- n remain
-    module _ {n : ℕ} {cells : List ℤ} {sizes : List ℕ} (k : Kept x.learned_clauses x.learned_clause_sizes n cells sizes) (is : stand ≡ suc n) where
+    module _ {n : ℕ} {cells : List ℤ} {sizes : List ℕ} (k : Kept paper.numbers x.learned_clauses x.learned_clause_sizes n cells sizes) (is : stand ≡ suc n) where
       -- the tables after the withdrawal
       abbrev y : State
       y = state_of x.numbers x.levels x.kinds x.clauses (set x.clause_sizes 0 n) cells sizes x.learned_cubes x.learned_cube_sizes

@@ -5,15 +5,21 @@ ghost use Rattle.rules.specs.Rules.{change_said};
 ghost use Rattle.rules.specs.Lent.{adding_state, adding_left, withdrawing_state, withdrawing_left, emptying_state, emptying_left, AddingHeld, WithdrawingHeld, EmptyingHeld};
 
 use crate::lent::{Adding, Emptying, Withdrawing};
-use form_rows::accept_one;
+use form_rows::add_one;
 use refusal::Refusal;
 use rule_faults::forms::judge_form;
 use rule_faults::refusals::judge_rule;
 use rule_rows::cells::clear;
-use rule_rows::clauses::accept;
-use rule_rows::standing::{Clauses, Rule};
+use rule_rows::clauses::add_rule;
+use rule_rows::standing::Rule;
+use state_parts::limits::Layout;
 use withdrawal::leave;
-use withdrawal::standing::Left;
+
+// The limits of a state whose tables are arrays.
+const PAPER: Layout = Layout {
+    numbers: tables::NUMBERS,
+    clauses: tables::CLAUSES,
+};
 
 // "Forget empties the store."
 pub fn forget(tables: &mut Emptying<'_>) -> Result<(), Refusal>
@@ -34,13 +40,12 @@ pub fn rule(tables: &mut Adding<'_>, lits: &[i16]) -> Result<(), Refusal>
 {
     let whole = tables.lent();
     let places = whole.check()?.places;
-    judge_rule(tables.clause_sizes[0], lits, &places)?;
-    let mut rows = Clauses {
-        cells: tables.clauses,
-        sizes: tables.clause_sizes,
-    };
+    judge_rule(PAPER, tables.clause_sizes[0], lits, &places)?;
     let rule = Rule { lits };
-    accept(&mut rows, tables.learned_cube_sizes, rule, &places);
+    let cells = &mut *tables.clauses;
+    let sizes = &mut *tables.clause_sizes;
+    add_rule(PAPER.clauses, cells, sizes, rule, &places);
+    clear(tables.learned_cube_sizes);
     Ok(())
 }
 
@@ -52,13 +57,12 @@ pub fn one(tables: &mut Adding<'_>, lits: &[i16]) -> Result<(), Refusal>
 {
     let lent = tables.lent();
     let places = lent.check()?.places;
-    judge_form(tables.clause_sizes[0], lits, &places)?;
-    let mut rows = Clauses {
-        cells: tables.clauses,
-        sizes: tables.clause_sizes,
-    };
+    judge_form(PAPER, tables.clause_sizes[0], lits, &places)?;
     let rule = Rule { lits };
-    accept_one(&mut rows, tables.learned_cube_sizes, rule, &places);
+    let cells = &mut *tables.clauses;
+    let sizes = &mut *tables.clause_sizes;
+    add_one(PAPER.clauses, cells, sizes, rule, &places);
+    clear(tables.learned_cube_sizes);
     Ok(())
 }
 
@@ -74,11 +78,9 @@ pub fn withdraw(tables: &mut Withdrawing<'_>) -> Result<(), Refusal>
         return Err(Refusal::NoRule);
     }
     let remain = count - 1;
-    let mut left = Left {
-        cells: tables.learned_clauses,
-        sizes: tables.learned_clause_sizes,
-    };
-    leave(&mut left, remain);
+    let cells = &mut *tables.learned_clauses;
+    let sizes = &mut *tables.learned_clause_sizes;
+    leave(tables::NUMBERS, cells, sizes, remain);
     tables.clause_sizes[0] = remain;
     Ok(())
 }

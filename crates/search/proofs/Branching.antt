@@ -1,5 +1,5 @@
 -- A branch of the search by what its sides gave: the off side's result goes up, or both are finished.
-use Prim.Native.Nat.{ℕ, zero, suc, ◌+◌, ◌-◌, ◌≤◌, ◌<◌, suc-le-suc, zero-le}
+use Prim.Native.Nat.{ℕ, zero, suc, ◌+◌, ◌-◌, ◌≤◌, ◌<◌, zero-le}
 use native.Mathlib.Omega.{arith}
 use native.Mathlib.Numerals.{add-one}
 use mathlib.Core.Path.{◌≡◌, refl, sym, ap, ◌∙◌, subst}
@@ -8,8 +8,8 @@ use mathlib.Core.Bool.{Bool, true, false, false≢true}
 use mathlib.Core.List.{List, [], ◌∷◌}
 use lib.ListN.{length, drop, length-map}
 use lib.Dec.{eqb}
-use Rattle.qbf.specs.Formula.{paper, Quantifier, exists, forall, free, Prefix, Clause, Node, ◌▹◌, place, positive, quantifiers, quantifier_at}
-use Rattle.qbf.specs.Truth.{Outcome, decided, mixed, free_count}
+use Rattle.qbf.specs.Formula.{paper, highest, Quantifier, Prefix, Clause, Node, ◌▹◌, place, positive, quantifiers, quantifier_at}
+use Rattle.qbf.specs.Truth.{Outcome, decided, mixed}
 use Rattle.qbf.specs.Learning.{Constraint, Store, LearningResult, visit, below, branch, resolvent, union, without}
 use Rattle.qbf.specs.Ceiling.{Attempt, finished, stopped, visit_within, below_within, branch_within}
 use Rattle.qbf.specs.Calls.{numbers_are_ok}
@@ -23,13 +23,12 @@ use Rattle.theory.proofs.Basics.{length-▹}
 use Rattle.theory.proofs.Shape.{last_held}
 use Rattle.theory.proofs.WellFormed.{inside, free_before, store_shaped, shaped_store, →rising}
 use Rattle.theory.proofs.ShapedSearch.{ShapedOutcome, shaped_visit}
-use Rattle.theory.proofs.Verdict.{NoFree}
 use Rattle.theory.proofs.Search.{Below, FreeFirst}
 use Rattle.theory.proofs.Unmixed.{Unmixed, unmixed_visit, unmixed_branch}
 use Rattle.theory.proofs.Constraints.{reduce_rising}
 use Rattle.theory.proofs.Sets.{without_rising, without_sub, union_rising}
 use Rattle.theory.proofs.Widths.{prefix_width, constraint_width}
-use Rattle.tables.specs.Formed.{Formed}
+use Rattle.inner.specs.Formed.{Formed}
 use Rattle.tables.specs.Codes.{code_at, code_of, codes, last_from}
 use Rattle.tables.specs.Shelves.{code_count}
 use Rattle.tables.specs.Records.{Ledger}
@@ -124,43 +123,24 @@ below_at (x ∷ K) zero κ ks f e = subst BelowHead e f.0
     BelowHead (y ∷ ys) = Below y ys
 below_at (x ∷ K) (suc i) κ ks f e = below_at K i κ ks f.1 e
 
-not_free : (κ : Quantifier) (K : List Quantifier) (i : ℕ) (ks : List Quantifier) → NoFree (κ ∷ K) → drop i (κ ∷ K) ≡ free ∷ ks → ⊥
-not_free κ K zero ks n e = subst NoFree e n
-not_free free K (suc i) ks n e = n
-not_free exists [] (suc zero) ks n e = nil_cons free ks e
-not_free exists [] (suc (suc i)) ks n e = nil_cons free ks e
-not_free exists (x ∷ K) (suc i) ks n e = not_free x K i ks n e
-not_free forall [] (suc zero) ks n e = nil_cons free ks e
-not_free forall [] (suc (suc i)) ks n e = nil_cons free ks e
-not_free forall (x ∷ K) (suc i) ks n e = not_free x K i ks n e
-
--- and a free place is among them
-pub free_at : (K : List Quantifier) (i : ℕ) (ks : List Quantifier) → FreeFirst K → drop i K ≡ free ∷ ks → i < free_count K
-free_at [] zero ks f e = absurd (nil_cons free ks e)
-free_at [] (suc i) ks f e = absurd (nil_cons free ks e)
-free_at (free ∷ K) zero ks f e = suc-le-suc zero-le
-free_at (free ∷ K) (suc i) ks f e = suc-le-suc (free_at K i ks f.1 e)
-free_at (exists ∷ K) i ks f e = absurd (not_free exists K i ks f.0 e)
-free_at (forall ∷ K) i ks f e = absurd (not_free forall K i ks f.0 e)
-
 -- the resolvent of two constraints in place order is no longer than there are numbers
-resolvent_short : (D : Prefix) (p : ℕ) (v : Bool) (E F : Constraint) → numbers_are_ok paper [] D ≡ true → Rising D 0 E → Rising D 0 F → length (resolvent D p v E F) ≤ paper.numbers
+resolvent_short : (D : Prefix) (p : ℕ) (v : Bool) (E F : Constraint) → numbers_are_ok highest [] D ≡ true → Rising D 0 E → Rising D 0 F → length (resolvent D p v E F) ≤ highest.numbers
 resolvent_short D p v E F ok e f =
-    constraint_width paper D (resolvent D p v E F) ok
+    constraint_width highest D (resolvent D p v E F) ok
     (reduce_rising D v 0 (union D (without D p E) (without D p F))
     (union_rising D 0 (without D p E) (without D p F) (λ l m. rising_above D 0 E e l (without_sub D p E l m).0) (without_rising D 0 p F f)))
 
 -- the codes of a prefix have links
-code_low : (p : ℕ) (b : Bool) → p ≤ paper.numbers → code_at p b < code_count
+code_low : (p : ℕ) (b : Bool) → p ≤ highest.numbers → code_at p b < code_count
 code_low p true h = omega (arith, h)
 code_low p false h = omega (arith, h)
 
-last_low : (D : Prefix) (d : ℕ) (e : Constraint) → length (quantifiers D) ≤ paper.numbers → d < code_count → last_from d (codes D e) < code_count
+last_low : (D : Prefix) (d : ℕ) (e : Constraint) → length (quantifiers D) ≤ highest.numbers → d < code_count → last_from d (codes D e) < code_count
 last_low D d [] few low = low
 last_low D d (l ∷ e) few low = last_low D (code_of D l) e few (code_low (place D l) (positive l) (omega (arith, inside D l, few)))
 
-pub resolvent_fits : (D : Prefix) (p : ℕ) (s t : Node) (a o : Outcome Constraint) → numbers_are_ok paper [] D ≡ true → ShapedOutcome D s a → ShapedOutcome D t o → Fits D (resolvent_of D p a o)
-resolvent_fits D p s t (decided b E) (decided c F) ok g h = (resolvent_short D p c E F ok g.formed.rising h.formed.rising, last_low D 0 (resolvent D p c E F) (prefix_width paper D ok) (omega arith))
+pub resolvent_fits : (D : Prefix) (p : ℕ) (s t : Node) (a o : Outcome Constraint) → numbers_are_ok highest [] D ≡ true → ShapedOutcome D s a → ShapedOutcome D t o → Fits D (resolvent_of D p a o)
+resolvent_fits D p s t (decided b E) (decided c F) ok g h = (resolvent_short D p c E F ok g.formed.rising h.formed.rising, last_low D 0 (resolvent D p c E F) (prefix_width highest D ok) (omega arith))
 resolvent_fits D p s t (decided b E) (mixed ds) ok g h = (zero-le, omega arith)
 resolvent_fits D p s t (mixed ds) o ok g h = (zero-le, omega arith)
 
@@ -188,6 +168,7 @@ module _ (D : Prefix) (R : List Clause) (κ : Quantifier) (s : Node) (k : ℕ) (
   formed_on st h =
       record {
         prefix_ok = h.prefix_ok;
+        free_ok = h.free_ok;
         clauses_ok = h.clauses_ok;
         store_ok = shaped_store paper D (side (s ▹ false) st).store (shaped_visit paper one D R (rising h) eqb (drop (k + 1) (quantifiers D)) (s ▹ false) st (rest_side false) (shaped D R st h)).store_ok;
       }

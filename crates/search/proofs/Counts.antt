@@ -4,7 +4,7 @@ use native.Mathlib.Omega.{arith}
 use mathlib.Core.Path.{◌≡◌, sym, ap, ◌∙◌, subst}
 use mathlib.Core.Bool.{Bool, true, false, cond, true≢false}
 use mathlib.Core.List.{List}
-use Rattle.qbf.specs.Formula.{paper, Prefix, Node}
+use Rattle.qbf.specs.Formula.{highest, Prefix, Node}
 use Rattle.qbf.specs.Ceiling.{Attempt}
 use Rattle.tables.specs.Shelves.{newest_of}
 use Rattle.tables.specs.Records.{Ledger}
@@ -53,7 +53,7 @@ module _ (p : Position) where
   counts_concluded (found.Yes b) h r e = counts_settled r Yes b e
   counts_concluded found.Open h r e = absurd (true≢false h)
 
-  module _ (more : p.at < paper.numbers) where
+  module _ (more : p.at < highest.numbers) where
     -- what a side asks
     side_asked : {cl ql cl' ql' : List ℕ} (v l : ℕ) → AskedOpen cl ql p
         → l + (v + v) ≤ 2 ^ 62 → newest_of cl' + v ≤ 2 ^ 62 → newest_of ql' + v ≤ 2 ^ 62

@@ -26,7 +26,8 @@ use Rattle.node.specs.declared.position.Position.{Position}
 use Rattle.node.specs.declared.answer.Answer.{Answer}
 use Rattle.search.proofs.Counts as counts
 use Rattle.inner.proofs.Stepping.{facts}
-use Rattle.search.proofs.Branching.{Came, rest, free_at}
+use Rattle.inner.proofs.Frees.{free_at}
+use Rattle.search.proofs.Branching.{Came, rest}
 use Rattle.search.proofs.Returns.{UpSays, tried, off_r, on_r, whole_r, off_ended, on_came, on_halted, joined, onward_is, both_end, visits_both}
 
 -- ---- the lines of both sides, of the verdict y

@@ -7,3 +7,4 @@ pub mod SidesReturns
 pub mod Visiting
 pub mod Setting
 pub mod Opening
+pub mod Limits

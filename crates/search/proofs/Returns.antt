@@ -21,7 +21,7 @@ use Rattle.theory.proofs.WellFormed.{numbers_ok}
 use Rattle.tables.specs.Views.{quantifier_code}
 use Rattle.tables.specs.Records.{Ledger, StoreKept}
 use Rattle.cover.specs.Cover.{Covers}
-use Rattle.tables.specs.Formed.{Formed}
+use Rattle.inner.specs.Formed.{Formed}
 use Rattle.node.specs.Node.{bounds_of, entry_of, Reads, Ended, Shown, goes_up_of, onward_of, resolvent_of, Fits, new_lines, Joined}
 use Rattle.both_sides.specs.Step.{OnwardIn}
 use Rattle.search.specs.Search.{Kept, Task, Opened, Done, Halted, Result, SideVisited, branch_of}

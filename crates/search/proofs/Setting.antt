@@ -5,7 +5,7 @@ use mathlib.Core.Path.{◌≡◌, refl, sym, ap, ◌∙◌, subst}
 use mathlib.Core.List.{List, [], ◌∷◌}
 use lib.ListN.{take, drop}
 use lib.Seq.{take-take}
-use Rattle.qbf.specs.Formula.{paper}
+use Rattle.qbf.specs.Formula.{highest}
 use Rattle.node.specs.declared.position.Position.{Position}
 use Rattle.search.specs.Search.{AsideKept}
 use Rattle.search.proofs.Counts.{below}
@@ -18,9 +18,9 @@ pub aside_then : {n : ℕ} {a b c : List ℕ} → AsideKept n a b → AsideKept 
 aside_then k l = record { size = l.size ∙ k.size; first = l.first ∙ k.first }
 
 -- what a side keeps is the rows of its node's places too
-pub aside_up : {a a' : List ℕ} (p q : Position) (v l : ℕ) → q ≡ below p v l → AsideKept (q.at * paper.numbers) a a' → AsideKept (suc p.at * paper.numbers) a a'
+pub aside_up : {a a' : List ℕ} (p q : Position) (v l : ℕ) → q ≡ below p v l → AsideKept (q.at * highest.numbers) a a' → AsideKept (suc p.at * highest.numbers) a a'
 aside_up {a} {a'} p q v l e k =
-    let z : q.at * paper.numbers ≡ suc p.at * paper.numbers = omega (arith, ap (λ (x : Position). x.at) e) in
+    let z : q.at * highest.numbers ≡ suc p.at * highest.numbers = omega (arith, ap (λ (x : Position). x.at) e) in
     subst (λ (n : ℕ). AsideKept n a a') z k
 
 -- a part of the first cells

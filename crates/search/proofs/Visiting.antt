@@ -8,7 +8,7 @@ use mathlib.Core.List.{List, [], ◌∷◌, append-nil}
 use mathlib.Core.Option.{Option, none, some}
 use lib.ListN.{length, take, drop, length-map, drop_of_length-le}
 use lib.Dec.{eqb}
-use Rattle.qbf.specs.Formula.{paper, Quantifier, Prefix, Clause, Node, ◌▹◌, quantifiers, quantifier_at}
+use Rattle.qbf.specs.Formula.{paper, highest, Quantifier, Prefix, Clause, Node, ◌▹◌, quantifiers, quantifier_at}
 use Rattle.qbf.specs.Truth.{Outcome, decided}
 use Rattle.qbf.specs.Learning.{Constraint, Store, leaf, first_dead, lowest_dead, reduced_found, conclude_by}
 use Rattle.qbf.specs.Ceiling.{Attempt, finished, below_within, settle_within, visit_within}
@@ -18,7 +18,7 @@ use Rattle.theory.proofs.WellFormed.{numbers_ok}
 use Rattle.theory.proofs.Widths.{prefix_width}
 use Rattle.theory.proofs.Lowest.{lowest_none}
 use Rattle.theory.proofs.CeilingLaws.{raise_nothing_within}
-use Rattle.tables.specs.Formed.{Formed}
+use Rattle.inner.specs.Formed.{Formed}
 use Rattle.tables.specs.Views.{quantifier_code}
 use Rattle.tables.specs.Codes.{codes, given}
 use Rattle.tables.specs.Shelves.{code_count}
@@ -52,8 +52,8 @@ pub record Branched (kind : ℕ) (p : Position) (r : Answer)
       → Result D g ls (branch_of D R κ p s st) p r clauses area cs' cl' qs' ql' table'
 
 -- a prefix has no more variables than there are numbers
-prefix_short : (D : Prefix) (R : List Clause) (st : Store) → Formed D R st → length D ≤ paper.numbers
-prefix_short D R st h = omega (arith, prefix_width paper D (numbers_ok _ (facts h)), length-map D (λ d. d.quantifier))
+prefix_short : (D : Prefix) (R : List Clause) (st : Store) → Formed D R st → length D ≤ highest.numbers
+prefix_short D R st h = omega (arith, prefix_width highest D (numbers_ok _ (facts h)), length-map D (λ d. d.quantifier))
 
 -- ---- an open node
 none_found : (D : Prefix) (v : Bool) (o : Option Clause) (next : Option (Outcome Constraint)) → conclude_by v (reduced_found D v o) next ≡ none → o ≡ none
@@ -208,7 +208,7 @@ open_is found.Open e = refl
 -- ---- one value longer
 -- a side is the visit of the node one place longer
 pub side_result : (D : Prefix) (s : Node) (b : Bool) (ls : List Node) (R : List Clause) (g : Ledger) (st : Store) (k : ℕ) {cls sets kd ss cs cl qs ql tb sat mk : List ℕ} (p : Position)
-    → Task D s ls R g st cls sets kd ss cs cl qs ql tb k p → Opened D s R p sat mk → k < length D → suc k ≡ p.at → p.at ≤ paper.numbers → length ss ≡ code_count
+    → Task D s ls R g st cls sets kd ss cs cl qs ql tb k p → Opened D s R p sat mk → k < length D → suc k ≡ p.at → p.at ≤ highest.numbers → length ss ≡ code_count
     → (value : ℕ) → value ≡ byte_of b → {ss' : List ℕ} → ss' ≡ given p.at value ss → {r : Answer} {up cs' cl' qs' ql' tb' : List ℕ}
     → Visited p r cls sets kd ss' cs cl qs ql tb sat mk up cs' cl' qs' ql' tb' → Result D g ls (visit_of D R p (s ▹ b) st) p r cls up cs' cl' qs' ql' tb'
 side_result D s b ls R g st k {kd = kd} {ss = ss} p task opened inside e within full value v changed vis =

@@ -2,13 +2,13 @@
 -- every prefix, clauses, store, node and list of lines that the tables show.
 use Rattle.std.specs.Prelude.{ℕ, suc, ◌+◌, ◌-◌, ◌^◌, ◌≤◌, ◌<◌, ◌≡◌, Bool, true, false, List, ◌++◌, length, take, drop, eqb}
 use Rattle.std.proofs.Math.Option.{none}
-use Rattle.qbf.specs.Formula.{paper, Quantifier, Prefix, Clause, Node, ◌▹◌, quantifiers}
+use Rattle.qbf.specs.Formula.{paper, highest, Quantifier, Prefix, Clause, Node, ◌▹◌, quantifiers}
 use Rattle.qbf.specs.Truth.{free_variables}
 use Rattle.qbf.specs.Learning.{Store, LearningResult, first_dead}
 use Rattle.qbf.specs.Ceiling.{Attempt, finished, stopped, visit_within, below_within, branch_within}
 use Rattle.qbf.specs.Card.{byte_of}
 use Rattle.cover.specs.Cover.{Covers}
-use Rattle.tables.specs.Formed.{Formed}
+use Rattle.inner.specs.Formed.{Formed}
 use Rattle.tables.specs.Shelves.{newest_of}
 use Rattle.tables.specs.Records.{Ledger, StoreKept}
 use Rattle.tables.specs.Matrices.{MatrixShown}
@@ -30,7 +30,7 @@ side_at p v l = record p { at = p.at + 1; budget = v; lines = l }
 
 -- of the counts: room for the lines and for the numbers of stored rows, which grow no faster than the budget falls
 pub record Room (cl ql : List ℕ) (p : Position) : Type 0 where
-  pub within : p.at ≤ paper.numbers
+  pub within : p.at ≤ highest.numbers
   pub lines : p.lines + (p.budget + p.budget) ≤ 2 ^ 62
   pub clauses : newest_of cl + p.budget ≤ 2 ^ 62
   pub cubes : newest_of ql + p.budget ≤ 2 ^ 62

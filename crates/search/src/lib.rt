@@ -5,7 +5,8 @@
 // storing nothing, so every table is handed back as at any end.
 //
 // A level of the search is one call in the compiled code: `visit` is called from the start and from each side, and the others become a part of it.
-// The compiler does that for a function that is called from one place, or is short, where it takes the call to be likely; bench/ sees it.
+// The compiler does that for a function that is called from one place, or is short, where it takes the call to be likely; `sides`, which the three visitors
+// call, is marked for it. bench/ sees it.
 #![tactic(auto)]
 
 ghost use Rattle.std.specs.Prelude.{suc, ◌≤◌, length};
@@ -15,7 +16,7 @@ ghost use Rattle.search.specs.Visitors.{MayVisit, MayBranch, MayTurn, MayGoDown,
 
 use below::{to_off, to_on};
 use both_sides::{finish, put_by};
-use coding::statuses::{give, restore};
+use coding::statuses::restore;
 use inner::{Leaf, conclude};
 use node::{
     Answer, Depth, OffSide, Position, Verdict, entry_of, next_kind, settled, stopped, up_or_aside,
@@ -24,9 +25,11 @@ use node::{
 use node_lines::{NodeLines, line_if, lined, settle_lines};
 use search_entry::{Bounds, Matrix, Search, Source};
 use steps::{concluded, is_open};
+use value::give_value;
 
 mod below; // the positions of a node's two sides
 mod steps; // what steps 1 to 4 of a visit say
+mod value; // the value of a side's last place
 
 // The search at a start node, where steps 1 to 4 have been taken and leave it open: its visit is counted, and it branches.
 pub fn start<'a>(matrix: &'a Matrix, search: &mut Search, table: &mut [u8], p: Position) -> Answer
@@ -62,13 +65,9 @@ fn visit<'a>(
             at: p.at,
             words: p.words,
         };
-        conclude(
-            matrix,
-            &search.learned,
-            &search.statuses,
-            &mut search.trail,
-            here,
-        )
+        let statuses = &*search.statuses;
+        let trail = &mut *search.trail;
+        conclude(matrix, &search.learned, statuses, trail, here)
     };
     if is_open(leaf) {
         let below = branch(matrix, search, table, p);
@@ -142,6 +141,7 @@ fn free<'a>(matrix: &'a Matrix, search: &mut Search, table: &mut [u8], p: Positi
 // before the on side is visited.
 // stays (no plainer): the two literals copy `at`, and NodeLines `free`, of the position; the other fields are not the position's, and each has just what its callees read
 #[cycle(branch_exists_forall_free_side_sides_visit)]
+#[inline(always)]
 fn sides<'a>(
     matrix: &'a Matrix,
     search: &mut Search,
@@ -159,10 +159,10 @@ fn sides<'a>(
         kind,
         answer: off,
     };
-    let (clauses, cubes) = (&search.learned.clauses, &search.learned.cubes);
-    let area = &search.trail.cube;
-    let row = entry_of(off, &matrix.rows, &clauses.cells, &cubes.cells, area);
-    if up_or_aside(first, row, &mut search.aside) {
+    let trail = &*search.trail;
+    let row = entry_of(off, &matrix.rows, &search.learned, &trail.cube);
+    let aside = &mut *search.aside;
+    if up_or_aside(first, row, aside) {
         return with_lines(off, off.lines); // not copied whole: see `side`
     }
     let one = lined(off.verdict, kind, p.yes);
@@ -171,7 +171,8 @@ fn sides<'a>(
         free: p.free,
         count: off.lines,
     };
-    let lines = line_if(one, tables::OFF, table, here, &search.statuses);
+    let statuses = &*search.statuses;
+    let lines = line_if(one, tables::OFF, table, here, statuses);
     let on = side(
         matrix,
         search,
@@ -179,11 +180,13 @@ fn sides<'a>(
         to_on(p, off.budget, lines),
         tables::ON,
     );
-    let put = put_by(&search.aside, first);
-    let both = finish(put, on, matrix, &search.trail.cube, &mut search.learned);
+    let put = put_by(&*search.aside, first);
+    let trail = &mut *search.trail;
+    let (area, made) = (&trail.cube, &mut trail.resolvent);
+    let both = finish(put, on, matrix, area, made, &mut search.learned);
     let two = lined(on.verdict, kind, p.yes);
     here.count = on.lines;
-    let after = settle_lines(one, two, table, here, &search.statuses);
+    let after = settle_lines(one, two, table, here, &*search.statuses);
     with_lines(both, after)
 }
 
@@ -200,8 +203,10 @@ fn side<'a>(
     ensures left { Leaves p.at p result search.old table.old search.new table.new }
     ensures side_visited { GoesDown value p result matrix.now search.old table.old search.new table.new }
 {
-    let above = give(&mut search.statuses, p.at, value);
+    let statuses = &mut *search.statuses;
+    let above = give_value(statuses, p.at, value);
     let below = visit(matrix, search, table, p, false);
-    restore(&mut search.statuses, p.at, above);
+    let statuses = &mut *search.statuses;
+    restore(statuses, p.at, above);
     with_lines(below, below.lines) // field by field: copied whole, a struct takes its padding along, and the processor waits for that
 }

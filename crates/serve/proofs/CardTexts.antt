@@ -34,7 +34,7 @@ use Rattle.replies.specs.Replies.{card_said}
 use Rattle.std.specs.Prelude.{Result, Ok, Err}
 use Rattle.refusal.specs.declared.Refusal.{Refusal}
 use Rattle.refusal.specs.Refusal.{number_of}
-use Rattle.answers.proofs.Running.{free_within, free_small}
+use Rattle.answers.proofs.Frees.{free_within, free_small}
 use Rattle.writer.specs.Rows.{card_rows}
 use Rattle.writer.proofs.Shown.{card_shown, card_most}
 use Rattle.answer_text.specs.Room.{answer_bytes}

@@ -26,7 +26,7 @@ use Rattle.state.specs.Derived.{Quantified}
 use Rattle.state.proofs.Valid.{valid_facts, valid_numbers, valid_quantified}
 use Rattle.serving.specs.Serves.{Said, said, said_with, said_of, number, out_of}
 use Rattle.serving.proofs.Numbered.{Numbered, out_numbered}
-use Rattle.answers.proofs.Running.{free_within, free_small}
+use Rattle.answers.proofs.Frees.{free_within, free_small}
 use Rattle.closest_call.specs.Nearest.{nearest_said}
 use Rattle.std.specs.Prelude.{Result, Ok, Err}
 use Rattle.refusal.specs.declared.Refusal.{Refusal}

@@ -26,6 +26,7 @@ use reader::call::{CallLine, TABLE};
 use reader::ceiling::read_call;
 use reader::line::kept;
 use refusal::Refusal;
+use search_entry::workspace::Workspace;
 
 // The call that a line spells, the table of its literals, and its ceiling.
 #[derive(Clone, Copy)]
@@ -37,6 +38,7 @@ struct Spelled<'a> {
 }
 
 // Of the n literals by which a query or a closest reading names flags, those that the table holds, told apart by their signs.
+// stays (no plainer): `call_lines` has it too, of a state in two slices; this one goes with the nine tables
 fn told_apart(spelled: Spelled<'_>, n: usize) -> NamedFlags
     ensures { ToldApart n spelled.entry.lits.now result }
 {
@@ -68,6 +70,7 @@ fn serve_call(
     spelled: Spelled<'_>,
     line: u64,
     cards: &mut [u8; TABLE],
+    work: &mut Workspace,
     out: &mut Answer<'_>,
 ) -> Turn
     requires { Small spelled.call }
@@ -87,11 +90,12 @@ fn serve_call(
         }
         CallLine::Query(n) => {
             let flags = told_apart(spelled, n);
-            serve_query(held, flags.asked(ceiling), line, out)
+            serve_query(held, flags.asked(ceiling), work, line, out)
         }
         CallLine::Card(size) => serve_card(
             x,
             Sought { yes: true, ceiling },
+            work,
             &mut cards[..size],
             line,
             out,
@@ -102,6 +106,7 @@ fn serve_call(
                 yes: false,
                 ceiling,
             },
+            work,
             &mut cards[..size],
             line,
             out,
@@ -114,17 +119,20 @@ fn serve_call(
         }
         CallLine::Closest(n, size) => {
             let flags = told_apart(spelled, n);
-            serve_closest(x, flags.asked(ceiling), &mut cards[..size], line, out)
+            serve_closest(x, flags.asked(ceiling), work, &mut cards[..size], line, out)
         }
     }
 }
 
 // A line that is a call, or none.
+// stays (no plainer): `work` is lent beside the card's table, since one workspace serves any number of books; a struct of the two would be made at each call, and no clause could say what
+// it ends as
 pub fn serve_made(
     held: Held,
     line: &[u8],
     number: u64,
     cards: &mut [u8; TABLE],
+    work: &mut Workspace,
     out: &mut Answer<'_>,
 ) -> Turn
     ensures held { AnswerHeld out.old out.new }
@@ -139,5 +147,5 @@ pub fn serve_made(
         lits: &lits,
         ceiling: read.ceiling,
     };
-    serve_call(held, spelled, number, cards, out)
+    serve_call(held, spelled, number, cards, work, out)
 }

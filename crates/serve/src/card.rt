@@ -16,6 +16,7 @@ use answer_text::Answer;
 use answer_text::refused::put_search_refusal;
 use answer_text::shown::{Held, card_of};
 use replies::Listed;
+use search_entry::workspace::Workspace;
 use state::State;
 use writer::Output;
 use writer::card::Lines;
@@ -74,10 +75,14 @@ fn put_listed(
 }
 
 // A card in a lent table.
+// stays (no plainer): `work` is lent beside the card's table, since one workspace serves any number of books; a struct of the two would be made at each call, and no clause could say what
+// it ends as
+// stays (no plainer): `length [u8] ≤ table_bytes` is of a table that is lent to be written, and a slice keeps no fact; `Filled` keeps it once it is shared
 #[inline(never)]
 pub fn serve_card(
     x: State,
     sought: Sought,
+    work: &mut Workspace,
     table: &mut [u8],
     line: u64,
     out: &mut Answer<'_>,
@@ -96,7 +101,7 @@ pub fn serve_card(
         out.new.bytes.now }
 {
     let mut next = x;
-    let listed = answers::on_state::card_of(&mut next, table, sought.yes, sought.ceiling);
+    let listed = answers::on_state::card_of(&mut next, work, table, sought.yes, sought.ceiling);
     let made = card_of(x, listed.lines, table.len());
     let filled = Filled { sought, table };
     let length = put_listed(out, x, filled, listed, line);

@@ -17,6 +17,7 @@ use answers::asked::Asked;
 use answers::lent::Searching;
 use closest_call::Nearest;
 use refusal::Refusal;
+use search_entry::workspace::Workspace;
 use state::State;
 use writer::Output;
 use writer::answer::Closest;
@@ -68,6 +69,7 @@ fn put_nearest(
 pub fn serve_closest(
     x: State,
     asked: Asked<'_>,
+    work: &mut Workspace,
     table: &mut [u8],
     line: u64,
     out: &mut Answer<'_>,
@@ -97,7 +99,7 @@ pub fn serve_closest(
         learned_cubes: &mut next.learned_cubes,
         learned_cube_sizes: &mut next.learned_cube_sizes,
     };
-    let nearest = closest_call::closest(&mut lent, asked, table, &mut reading);
+    let nearest = closest_call::closest(&mut lent, work, asked, table, &mut reading);
     let found = card_found(nearest.told, nearest.lines);
     let made = card_of(x, found, table.len());
     let length = put_nearest(out, x, &reading, nearest, line);

@@ -9,11 +9,18 @@ use answer_text::Answer;
 use answer_text::query::put_ruling;
 use answer_text::shown::Held;
 use answers::asked::Asked;
+use search_entry::workspace::Workspace;
 
 // stays (no plainer): of `held`, `line` and `out`, the state goes to the query, and `line` and `out` to `put_ruling` alone: a struct of them would be made by the
 // caller and taken apart here
 #[inline(never)]
-pub fn serve_query(held: Held, asked: Asked<'_>, line: u64, out: &mut Answer<'_>) -> Turn
+pub fn serve_query(
+    held: Held,
+    asked: Asked<'_>,
+    work: &mut Workspace,
+    line: u64,
+    out: &mut Answer<'_>,
+) -> Turn
     ensures held { AnswerHeld out.old out.new }
     ensures turned { TurnedBeside
         held.state
@@ -24,7 +31,7 @@ pub fn serve_query(held: Held, asked: Asked<'_>, line: u64, out: &mut Answer<'_>
         out.new.bytes.now }
 {
     let mut next = held.state;
-    let ruled = answers::on_state::query(&mut next, asked);
+    let ruled = answers::on_state::query(&mut next, work, asked);
     let length = put_ruling(out, ruled.ruling, ruled.visits, line);
     let held = Held {
         state: next,

@@ -41,17 +41,17 @@ one_done y ls e = by (well_formed y) e
     by false q = absurd (some_none q)
 
 -- however a state is read
-module _ (read : State → Option Read) where
+module _ {X : Type 0} (read : X → Option Read) where
   -- ---- DEMAND 1 of the code, on every state, opened or not: each call that is refused has one of the paper's numbers, and answers and
   -- leaves what the paper says.
-  pub demand_1_served : (x : State) (cs : List Call) (qs : List Said) (s : ServedBy read x cs qs) → Each read (LeavesIfRefused read) x cs qs s
+  pub demand_1_served : (x : X) (cs : List Call) (qs : List Said) (s : ServedBy read x cs qs) → Each read (LeavesIfRefused read) x cs qs s
   demand_1_served x [] [] s = tt
   demand_1_served x [] (a ∷ qs) s = absurd s
   demand_1_served x (c ∷ cs) [] s = absurd s
   demand_1_served x (c ∷ cs) (a ∷ qs) s = (refused_leaves x c a s.0 s.1, demand_1_served s.0 cs qs s.2)
 
   -- wish 8 of the code, on every state: no call makes more visits than its ceiling
-  pub ceilings_served : (x : State) (cs : List Call) (qs : List Said) (s : ServedBy read x cs qs) → Each read UnderCeiling x cs qs s
+  pub ceilings_served : (x : X) (cs : List Call) (qs : List Said) (s : ServedBy read x cs qs) → Each read UnderCeiling x cs qs s
   ceilings_served x [] [] s = tt
   ceilings_served x [] (a ∷ qs) s = absurd s
   ceilings_served x (c ∷ cs) [] s = absurd s
@@ -63,7 +63,7 @@ module _ (read : State → Option Read) where
   one_adds_to none o' ls e q = absurd (some_none q)
   one_adds_to (some y) o' ls e q = subst (λ (w : Option Read). OneAddsTo (some y) w ls) (sym e) (call_adds y ls (one_done y ls q))
 
-  form_adds : (x : State) (c : Call) (a : Said) (x' : State) → ServesBy read x c a x' → AddsIfOne read x c a x'
+  form_adds : (x : X) (c : Call) (a : Said) (x' : X) → ServesBy read x c a x' → AddsIfOne read x c a x'
   form_adds x (rule ls) a x' s = tt
   form_adds x (query top on off) a x' s = tt
   form_adds x (card top size) a x' s = tt
@@ -75,14 +75,14 @@ module _ (read : State → Option Read) where
       one_adds_to (read x) (read x') ls s.next (sym (said_refusal out.reply out.visits) ∙ sym (ap (λ (q : Said). q.refusal) s.answered) ∙ e)
   form_adds x (closest top size on off) a x' s = tt
 
-  pub forms_served : (x : State) (cs : List Call) (qs : List Said) (s : ServedBy read x cs qs) → Each read (AddsIfOne read) x cs qs s
+  pub forms_served : (x : X) (cs : List Call) (qs : List Said) (s : ServedBy read x cs qs) → Each read (AddsIfOne read) x cs qs s
   forms_served x [] [] s = tt
   forms_served x [] (a ∷ qs) s = absurd s
   forms_served x (c ∷ cs) [] s = absurd s
   forms_served x (c ∷ cs) (a ∷ qs) s = (form_adds x c a s.0 s.1, forms_served s.0 cs qs s.2)
 
   -- ---- the answers are exactly the learning run's, visits included
-  pub served_learning : (cs : List Call) (x : State) (y : Read) → read x ≡ some y → (qs : List Said) → ServedBy read x cs qs → qs ≡ map said_of (learning_run y cs)
+  pub served_learning : (cs : List Call) (x : X) (y : Read) → read x ≡ some y → (qs : List Said) → ServedBy read x cs qs → qs ≡ map said_of (learning_run y cs)
   served_learning [] x y e [] s = refl
   served_learning [] x y e (a ∷ qs) s = absurd s
   served_learning (c ∷ cs) x y e [] s = absurd s
@@ -91,7 +91,7 @@ module _ (read : State → Option Read) where
       first : a ≡ said_of (step y c).out
       first = s.1.answered ∙ ap (λ (o : Option Read). said_of (out_of o c)) e
 
-      rest : (x' : State) → ServedBy read x' cs qs → read x' ≡ some (step y c).state → (ServedBy read x' cs qs → read x' ≡ some (step y c).state → qs ≡ map said_of (learning_run (step y c).state cs))
+      rest : (x' : X) → ServedBy read x' cs qs → read x' ≡ some (step y c).state → (ServedBy read x' cs qs → read x' ≡ some (step y c).state → qs ≡ map said_of (learning_run (step y c).state cs))
           → qs ≡ map said_of (learning_run (step y c).state cs)
       rest x' z w ih = ih z w
 
@@ -362,7 +362,7 @@ all_said (c ∷ cs) (l ∷ ls) [] h = absurd h
 all_said (c ∷ cs) (l ∷ ls) (p ∷ ps) h = (said_rightly c l p h.0, all_said cs ls ps h.1)
 
 -- ---- on a state that reads as a freshly opened formula, and any list of calls on it, each on the state that the last one returned
-module _ (read : State → Option Read) (b : Formula) (ok : formula_is_ok b ≡ true) (x : State) (e : read x ≡ some (fresh b)) (cs : List Call) (qs : List Said) (s : ServedBy read x cs qs) where
+module _ {X : Type 0} (read : X → Option Read) (b : Formula) (ok : formula_is_ok b ≡ true) (x : X) (e : read x ≡ some (fresh b)) (cs : List Call) (qs : List Said) (s : ServedBy read x cs qs) where
   learnt : qs ≡ map said_of (learning_run (fresh b) cs)
   learnt = served_learning read cs x (fresh b) e qs s
 

@@ -11,7 +11,6 @@ use Rattle.qbf.specs.Demands.{refusal_of}
 use Rattle.theory.proofs.Basics.{all→}
 use Rattle.theory.proofs.Refusals.{refusals}
 use Rattle.theory.proofs.Demands.{refusal_known}
-use Rattle.state.specs.declared.State.{State}
 use Rattle.serving.specs.Serves.{Said, said_with, said_reply, number, fault_of, told, out_of, ServesBy}
 
 abbrev pub Numbered : Option ℕ → Type 0
@@ -76,8 +75,8 @@ out_numbered none c = malformed_numbered c
 out_numbered (some y) c = known_numbered c (refusal_of (step y c).out.reply) (refusal_known y c)
 
 -- an answer of a call is what its number tells, however the state is read
-pub served_told : {read : State → Option Read} {x : State} {c : Call} {a : Said} {y : State} → ServesBy read x c a y → told a ≡ a
-served_told {read} {x} {c} {a} {y} s = λ i. said_with (numbered_is a.refusal numbered i) a.verdict a.lines a.visits a.table a.reading a.differs
+pub served_told : {X : Type 0} {read : X → Option Read} {x : X} {c : Call} {a : Said} {y : X} → ServesBy read x c a y → told a ≡ a
+served_told {X} {read} {x} {c} {a} {y} s = λ i. said_with (numbered_is a.refusal numbered i) a.verdict a.lines a.visits a.table a.reading a.differs
   where
     out : Answer
     out = out_of (read x) c

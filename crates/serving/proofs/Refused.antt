@@ -20,7 +20,6 @@ use Rattle.qbf.specs.Demands.{AfterSearch, refusal_of}
 use Rattle.theory.proofs.AcceptedRule.{some_none}
 use Rattle.theory.proofs.Refusals.{refusals}
 use Rattle.theory.proofs.Demands.{demand_1, refusal_known, visits_under_ceiling}
-use Rattle.state.specs.declared.State.{State}
 use Rattle.serving.specs.Serves.{Said, said, said_reply, number, out_of, next_of, ServesBy}
 use Rattle.serving.specs.Demands.{formula_of, zeroed, LeavesIfRefused, UnderCeiling}
 use Rattle.serving.proofs.Numbered.{said_refusal, said_visits}
@@ -185,15 +184,15 @@ same_formula n none c e = refl
 same_formula n (some y) c e = ap some (demand_1 y c n e).formula
 
 -- no more visits than the ceiling
-pub under_ceiling : {read : State → Option Read} (x : State) (c : Call) (a : Said) (x' : State) → ServesBy read x c a x' → UnderCeiling x c a x'
-under_ceiling {read} x c a x' s n top = subst (λ (q : Said). q.visits ≤ n) (sym s.answered) (subst (λ (k : ℕ). k ≤ n) (sym (said_visits (out_of (read x) c).reply (out_of (read x) c).visits)) (few (read x)))
+pub under_ceiling : {X : Type 0} {read : X → Option Read} (x : X) (c : Call) (a : Said) (x' : X) → ServesBy read x c a x' → UnderCeiling x c a x'
+under_ceiling {X} {read} x c a x' s n top = subst (λ (q : Said). q.visits ≤ n) (sym s.answered) (subst (λ (k : ℕ). k ≤ n) (sym (said_visits (out_of (read x) c).reply (out_of (read x) c).visits)) (few (read x)))
   where
     few : (o : Option Read) → (out_of o c).visits ≤ n
     few none = zero-le
     few (some y) = visits_under_ceiling y c n top
 
-pub refused_leaves : {read : State → Option Read} (x : State) (c : Call) (a : Said) (x' : State) → ServesBy read x c a x' → LeavesIfRefused read x c a x'
-refused_leaves {read} x c a x' s n e =
+pub refused_leaves : {X : Type 0} {read : X → Option Read} (x : X) (c : Call) (a : Said) (x' : X) → ServesBy read x c a x' → LeavesIfRefused read x c a x'
+refused_leaves {X} {read} x c a x' s n e =
     record {
       known = known n o c r;
       answer = says ∙ ap (λ (k : ℕ). said (some n) 0 0 k (zeroed c)) (sym (ap (λ (q : Said). q.visits) says));

@@ -40,10 +40,10 @@ OneAddsTo none o' ls = ⊥
 OneAddsTo (some y) none ls = ⊥
 OneAddsTo (some y) (some y') ls = OneAdds y.formula y'.formula ls
 
--- however a state is read
-module _ (read : State → Option Read) where
+-- however a state stands in tables, and is read
+module _ {X : Type 0} (read : X → Option Read) where
   -- the call c on the state x was refused with n: a is its answer, x' the state that it left
-  pub record Refused (x : State) (c : Call) (n : ℕ) (a : Said) (x' : State) : Type 0 where
+  pub record Refused (x : X) (c : Call) (n : ℕ) (a : Said) (x' : X) : Type 0 where
     -- the number is one that the paper has for the call
     pub known : Mem n (refusals c)
     -- "A refusal returns its number, 0 lines, 0 visits and the state as given, and zeroes the card table. .. Only 21 differs: the walk
@@ -56,11 +56,11 @@ module _ (read : State → Option Read) where
     -- "A refused call leaves declarations and rules as they were": after 21, 34 and 35 too
     pub formula : formula_of (read x') ≡ formula_of (read x)
 
-  abbrev pub LeavesIfRefused : State → Call → Said → State → Type 0
+  abbrev pub LeavesIfRefused : X → Call → Said → X → Type 0
   LeavesIfRefused x c a x' = (n : ℕ) → a.refusal ≡ some n → Refused x c n a x'
 
   -- each call of a list: the state that it was given, the call, its answer, the state that it left
-  abbrev pub Each : (State → Call → Said → State → Type 0) → (x : State) (cs : List Call) (qs : List Said) → ServedBy read x cs qs → Type 0
+  abbrev pub Each : (X → Call → Said → X → Type 0) → (x : X) (cs : List Call) (qs : List Said) → ServedBy read x cs qs → Type 0
   Each P x [] [] s = Unit {0}
   Each P x [] (a ∷ qs) s = ⊥
   Each P x (c ∷ cs) [] s = ⊥
@@ -68,7 +68,7 @@ module _ (read : State → Option Read) where
 
   -- ---- wish 10: "For all values given, the rules so added are all true exactly when one of the literals is true and every other is false"
   -- an exactly-one form that is not refused
-  abbrev pub AddsIfOne : State → Call → Said → State → Type 0
+  abbrev pub AddsIfOne : X → Call → Said → X → Type 0
   AddsIfOne x (rule ls) a x' = Unit {0}
   AddsIfOne x (query top on off) a x' = Unit {0}
   AddsIfOne x (card top size) a x' = Unit {0}
@@ -79,7 +79,7 @@ module _ (read : State → Option Read) where
   AddsIfOne x (closest top size on off) a x' = Unit {0}
 
 -- wish 8: no call makes more visits than its ceiling
-abbrev pub UnderCeiling : State → Call → Said → State → Type 0
+abbrev pub UnderCeiling : {X : Type 0} → X → Call → Said → X → Type 0
 UnderCeiling x c a x' = (n : ℕ) → ceiling_of c ≡ some n → a.visits ≤ n
 
 -- ---- demand 2: "On every card of an opened book that is not refused, a reading lies on a line exactly when the quantified rules are
@@ -270,7 +270,7 @@ pub record AnswersPlain (b : Formula) (cs : List Call) (qs : List Said) : Type 0
 
 -- ---- all three, the ceilings, the queries, the exactly-one forms, the closest readings, and what wish 7 promises of both cards, of the calls cs
 -- served on a state x of the opened formula b, with the answers qs
-pub record DemandsBy (read : State → Option Read) (b : Formula) (x : State) (cs : List Call) (qs : List Said) (s : ServedBy read x cs qs) : Type 0 where
+pub record DemandsBy {X : Type 0} (read : X → Option Read) (b : Formula) (x : X) (cs : List Call) (qs : List Said) (s : ServedBy read x cs qs) : Type 0 where
   pub demand_1 : Each read (LeavesIfRefused read) x cs qs s
   pub ceilings : Each read UnderCeiling x cs qs s
   pub forms : Each read (AddsIfOne read) x cs qs s

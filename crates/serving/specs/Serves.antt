@@ -64,21 +64,21 @@ abbrev pub next_of : Option Read → Call → Option Read
 next_of none c = none
 next_of (some y) c = some (step y c).state
 
--- How a state is read is a parameter: `read_state` reads it under the paper's limits, `read_under L` under its own.
-module _ (read : State → Option Read) where
+-- How a state stands in tables, and how it is read, are parameters: `read_state` reads one in nine tables under the paper's limits.
+module _ {X : Type 0} (read : X → Option Read) where
   -- the call c on the state x was answered by a and left the state x'
-  pub record ServesBy (x : State) (c : Call) (a : Said) (x' : State) : Type 0 where
+  pub record ServesBy (x : X) (c : Call) (a : Said) (x' : X) : Type 0 where
     pub answered : a ≡ said_of (out_of (read x) c)
     pub next : read x' ≡ next_of (read x) c
     -- "A refusal returns .. the state as given .. Only 21 differs", and 34 and 35: every cell of it
     pub kept : (n : ℕ) → refusal_of (out_of (read x) c).reply ≡ some n → (AfterSearch n → ⊥) → x' ≡ x
 
   -- ---- a list of calls, each on the state that the last one returned
-  abbrev pub ServedBy : State → List Call → List Said → Type 0
+  abbrev pub ServedBy : X → List Call → List Said → Type 0
   ServedBy x [] [] = Unit {0}
   ServedBy x [] (a ∷ qs) = ⊥
   ServedBy x (c ∷ cs) [] = ⊥
-  ServedBy x (c ∷ cs) (a ∷ qs) = (x' : State) × ServesBy x c a x' × ServedBy x' cs qs
+  ServedBy x (c ∷ cs) (a ∷ qs) = (x' : X) × ServesBy x c a x' × ServedBy x' cs qs
 
 -- ---- under the paper's limits
 abbrev pub Serves : State → Call → Said → State → Type 0

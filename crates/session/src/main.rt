@@ -3,38 +3,63 @@
 
 use answer_text::ANSWER;
 use input::read_more;
+use program::{CELLS, LITERALS};
 use reader::call::TABLE;
-use session_turn::{ROOM, Stage, turn};
+use search_entry::workspace::Workspace;
+use session_turns::{ROOM, Stage, turn};
+use state::parts::Limits;
 use std::io;
 use std::io::{Input, Read};
 
 // A turn after the other, as many as no session uses up. Where the program does not wait, what it holds is used first.
+// stays (no plainer): each table is lent to the turn; a struct of loans would be made for this one call, and no clause could say what it ends as
 fn run<R: Read>(
     rt: &impl Print,
     reader: &mut R,
+    limits: Limits,
     text: &mut [u8; ROOM],
+    cells: &mut [u16; CELLS],
+    literals: &mut [i16; LITERALS],
+    work: &mut Workspace,
     cards: &mut [u8; TABLE],
     answer: &mut [u8; ANSWER],
 ) -> io::Result<()> {
-    let mut s = session_turn::start();
+    let mut s = session_turns::start();
     for _ in 0..u64::MAX {
         let got = if s.stage.waits() {
-            read_more(reader, text, s.held)
+            read_more(reader, text, s.stage.held())
         } else {
             0
         };
-        s = turn(s, got, text, cards, answer);
+        s = turn(s, got, text, limits, cells, literals, work, cards, answer);
         rt.write_all(answer.get(..s.length).unwrap_or(&[]))?;
-        if s.stage == Stage::Over {
+        if matches!(s.stage, Stage::Over) {
             break;
         }
     }
     Ok(())
 }
 
+// The tables stand before the arguments are read, as in `card`.
 fn main(rt: HostRuntime) -> io::Result<()> {
     let mut text = [0u8; ROOM];
+    let mut cells = [0u16; CELLS];
+    let mut literals = [0i16; LITERALS];
     let mut cards = [tables::OPEN; TABLE];
     let mut answer = [0u8; ANSWER];
-    run(&rt, &mut rt.reader(), &mut text, &mut cards, &mut answer)
+    let mut work = Workspace::ZEROS;
+    let Some(limits) = arguments::limits(&rt, b"session")? else {
+        return Ok(());
+    };
+    run(
+        &rt,
+        &mut rt.reader(),
+        limits,
+        &mut text,
+        &mut cells,
+        &mut literals,
+        &mut work,
+        &mut cards,
+        &mut answer,
+    )
 }

@@ -13,6 +13,7 @@ use reader::call::TABLE;
 use reader::request::{RequestLine, read_request};
 use refusal::Refusal;
 use rows::serve_page;
+use search_entry::workspace::Workspace;
 use serve::Turn;
 use serve::call::serve_made;
 use serve::write::{serve_whole, serve_write};
@@ -33,11 +34,14 @@ pub struct Spoken {
 }
 
 // The book's text, a page, or a call.
+// stays (no plainer): `work` is lent beside the card's table, since one workspace serves any number of books; a struct of the two would be made at each call, and no clause could say what
+// it ends as
 fn serve_request(
     held: Held,
     line: &[u8],
     number: u64,
     cards: &mut [u8; TABLE],
+    work: &mut Workspace,
     out: &mut Answer<'_>,
 ) -> Turn
     ensures held { AnswerHeld out.old out.new }
@@ -52,7 +56,7 @@ fn serve_request(
         out.new.bytes.now }
 {
     let Some(request) = read_request(line) else {
-        return serve_made(held, line, number, cards, out);
+        return serve_made(held, line, number, cards, work, out);
     };
     match request {
         RequestLine::Whole => serve_whole(held, number, out),
@@ -62,11 +66,14 @@ fn serve_request(
 }
 
 // The line without its byte 10, and its number in the input. In a table of fewer than answer_text::ANSWER bytes nothing is served.
+// stays (no plainer): `work` is lent beside the card's table, since one workspace serves any number of books; a struct of the two would be made at each call, and no clause could say what
+// it ends as
 pub fn serve_line(
     held: Held,
     line: &[u8],
     number: u64,
     cards: &mut [u8; TABLE],
+    work: &mut Workspace,
     out: &mut [u8],
 ) -> Spoken
     ensures { ServesLine held.state line.now number held.shown cards.old out.old result cards.new out.new }
@@ -82,7 +89,7 @@ pub fn serve_line(
         };
     }
     let mut answer = Answer { bytes: out };
-    let turn = serve_request(held, line, number, cards, &mut answer);
+    let turn = serve_request(held, line, number, cards, work, &mut answer);
     let Held { state, shown } = turn.held;
     Spoken {
         refusal: NONE,

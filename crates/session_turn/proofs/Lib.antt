@@ -1,4 +1,3 @@
-pub mod Books
 pub mod Requests
 pub mod Turns
 pub mod Runs

@@ -24,7 +24,7 @@ use Rattle.session_turn.specs.declared.Session.{Session}
 use Rattle.line_buffer.specs.Numbers.{last_number}
 use Rattle.session_turn.specs.Turns.{started, waits, skips, part_in, Shows, Quiet, unused, feed, Ready, Went, Finished, has_ended}
 use Rattle.session_turn.specs.Runs.{Reading, Round, Ran}
-use Rattle.session_turn.proofs.Books.{all_book}
+use Rattle.buffered_lines.proofs.Books.{all_book}
 use Rattle.session_turn.proofs.Turns.{true_false, shows_over, shows_book, as_over, as_book, as_calls}
 
 -- ---- nothing is printed before more is read

@@ -39,7 +39,7 @@ use Rattle.session_turn.specs.declared.Stage.TheVariants as stage
 use Rattle.session_turn.specs.declared.Session.{Session}
 use Rattle.line_buffer.specs.Numbers.{last_number}
 use Rattle.session_turn.specs.Turns.{waits, skips, Over, WaitsForBook, BookLeft, BookTurned, Served, line_served, LineAnswered, last_text, LineEnded, too_long, Refilled, part_in, calls_in, ShowsAs, Shows, Quiet, unused, feed, Ready, Kept, Went, Finished, has_ended, Turned}
-use Rattle.session_turn.proofs.Books.{all_book, count_book, count_few}
+use Rattle.buffered_lines.proofs.Books.{all_book, count_book, count_few}
 use Rattle.session_turn.proofs.Requests.{no_request}
 
 pub true_false : true ≡ false → ⊥

@@ -10,6 +10,7 @@ use book::{book_turn, last_book_turn, wait};
 use lines::{answer_line, last_line, refill};
 use reader::call::TABLE;
 use reader::word::{NEWLINE, cut};
+use search_entry::workspace::Workspace;
 
 mod book; // the book
 mod lines; // the lines behind it
@@ -97,11 +98,14 @@ fn over(length: usize) -> Session
 
 // Where the program waited, `got` bytes were read behind what it held, and none where the input has ended. A turn on a buffer that is not the
 // program's ends it.
+// stays (no plainer): `work` is lent beside the card's table, since one workspace serves any number of books; a struct of the two would be made at each call, and no clause could say what
+// it ends as
 pub fn turn(
     s: Session,
     got: usize,
     text: &mut [u8],
     cards: &mut [u8; TABLE],
+    work: &mut Workspace,
     answer: &mut [u8],
 ) -> Session
     ensures { Turned s got text.old cards.old answer.old result text.new cards.new answer.new }
@@ -126,8 +130,8 @@ pub fn turn(
         Stage::Calls(_) => {
             let (line, left) = cut(unused, NEWLINE);
             match left {
-                Some(_) => answer_line(read, line, cards, answer),
-                None if ended => last_line(read, cards, answer),
+                Some(_) => answer_line(read, line, cards, work, answer),
+                None if ended => last_line(read, cards, work, answer),
                 None => refill(read, text),
             }
         }

@@ -6,17 +6,24 @@ use crate::{Line, Session, Stage, over};
 use answer_text::shown::Held;
 use line_buffer::{next_number, to_front};
 use reader::call::TABLE;
+use search_entry::workspace::Workspace;
 use session_line::serve_line;
 
 // A whole line, without its byte 10; one that is too long is no call, as an empty one is none.
 // stays (no plainer): that the line and its byte 10 are held could be a ghost field of a struct of the session and the line; its one caller would make that struct
 // for this call, and prove the same fact there
-pub fn answer_line(s: Session, line: &[u8], cards: &mut [u8; TABLE], answer: &mut [u8]) -> Session
+pub fn answer_line(
+    s: Session,
+    line: &[u8],
+    cards: &mut [u8; TABLE],
+    work: &mut Workspace,
+    answer: &mut [u8],
+) -> Session
     requires { s.at + length line.now < s.held }
     ensures { LineAnswered s line.now cards.old answer.old result cards.new answer.new }
 {
     let from = if s.stage.skips() { line.len() } else { 0 };
-    let spoken = serve_line(s.left, &line[from..], s.number, cards, answer);
+    let spoken = serve_line(s.left, &line[from..], s.number, cards, work, answer);
     let end = s.at + line.len();
     let left = Held {
         state: spoken.state,
@@ -33,12 +40,17 @@ pub fn answer_line(s: Session, line: &[u8], cards: &mut [u8; TABLE], answer: &mu
 }
 
 // The input has ended: a last line that is not ended is no call, as an empty one is none.
-pub fn last_line(s: Session, cards: &mut [u8; TABLE], answer: &mut [u8]) -> Session
+pub fn last_line(
+    s: Session,
+    cards: &mut [u8; TABLE],
+    work: &mut Workspace,
+    answer: &mut [u8],
+) -> Session
     ensures { LineEnded s cards.old answer.old result answer.new }
 {
     let unended = s.stage.skips() || s.at < s.held;
     if unended {
-        let spoken = serve_line(s.left, b"", s.number, cards, answer);
+        let spoken = serve_line(s.left, b"", s.number, cards, work, answer);
         return over(spoken.length);
     }
     over(0)

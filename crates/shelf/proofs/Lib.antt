@@ -6,3 +6,4 @@ pub mod Writing
 pub mod Linking
 pub mod Pushing
 pub mod Empty
+pub mod Encoding

@@ -36,7 +36,7 @@ module _ (d : List ℕ) (at : ℕ) (e : List ℕ) (room : at + length e ≤ leng
   paste_after : drop (at + length e) d' ≡ drop (at + length e) d
   paste_after = drop-paste d at e (length e) (omega arith) (omega arith)
 
-  part_copy : take (length e) (drop at d') ≡ e
+  pub part_copy : take (length e) (drop at d') ≡ e
   part_copy =
       ap (λ (l : List ℕ). take (length e) (drop at l)) split
       ∙ ap (take (length e)) (drop_at (take at d) (take (length e) e ++ drop (at + length e) d) at long)

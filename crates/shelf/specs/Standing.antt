@@ -2,21 +2,21 @@
 use Rattle.std.specs.Prelude.{ℕ, ◌^◌, ◌<◌, ◌≡◌, List, Some, None}
 use Rattle.std.specs.Prelude as code
 use Rattle.std.proofs.Math.Option.{Option, none, some}
-use Rattle.qbf.specs.Formula.{paper}
+use Rattle.qbf.specs.Formula.{paper, highest}
 use Rattle.tables.specs.Shelves.{Entries, entries_of, newest_of, row_at}
 use Rattle.shelf.specs.declared.Shelf.{Shelf}
 
 -- its cells and its links agree
 abbrev pub Kept : Shelf → Type 0
-Kept x = Entries x.cells x.links
+Kept x = Entries x.cells.now x.links.now
 
 -- the rows that stand, the oldest first
 abbrev pub rows : Shelf → List (List ℕ)
-rows x = entries_of x.cells x.links
+rows x = entries_of x.cells.now x.links.now
 
 -- the number of the newest row
 abbrev pub newest : Shelf → ℕ
-newest x = newest_of x.links
+newest x = newest_of x.links.now
 
 -- there is a number for one row more
 abbrev pub Room : Shelf → Type 0
@@ -28,4 +28,4 @@ FoundIn stride slots cells (Some r) o = (r < slots) × (o ≡ some (row_at strid
 FoundIn stride slots cells None o = o ≡ none
 
 abbrev pub Found : Shelf → code.Option ℕ → Option (List ℕ) → Type 0
-Found x f o = FoundIn paper.numbers paper.constraints x.cells f o
+Found x f o = FoundIn highest.numbers paper.constraints x.cells.now f o

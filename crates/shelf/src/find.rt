@@ -1,9 +1,9 @@
 // The oldest row that ends in a code and whose codes all have one status. The rows with that last code are linked from the newest to the
 // oldest; the last one that matches on the way is the oldest.
 ghost use Rattle.std.specs.Prelude.{◌≡◌, suc, ◌-◌, ◌*◌, ◌%◌, ◌≤◌, ◌<◌, length};
-ghost use Rattle.qbf.specs.Formula.{paper};
+ghost use Rattle.qbf.specs.Formula.{paper, highest};
 ghost use Rattle.tables.specs.Shelves.{code_count, shelf_rows, row_at, first_match};
-ghost use Rattle.shelf.specs.Standing.{rows, Found, FoundIn};
+ghost use Rattle.shelf.specs.Standing.{rows, newest, Found, FoundIn};
 
 use crate::row::all_are;
 use crate::{LentShelf, Shelf};
@@ -60,26 +60,34 @@ impl<'a> LentShelf<'a> {
     }
 }
 
-impl Shelf {
-    // Its own tables, as lent ones.
+impl Shelf<'_> {
+    // Its tables, to be read.
     fn lent<'a>(&'a self) -> LentShelf<'a>
-        ensures { (result.cells.now ≡ self.now.cells)
-            × (result.links.now ≡ self.now.links)
-            × (result.stride ≡ paper.numbers)
+        ensures { (result.cells.now ≡ self.now.cells.now)
+            × (result.links.now ≡ self.now.links.now)
+            × (result.stride ≡ highest.numbers)
             × (result.slots ≡ paper.constraints) }
     {
         LentShelf {
-            cells: &self.cells,
-            links: &self.links,
-            stride: tables::NUMBERS,
+            cells: &*self.cells,
+            links: &*self.links,
+            stride: tables::HIGHEST_NUMBERS,
             slots: tables::CONSTRAINTS,
         }
+    }
+
+    // The number of the newest row.
+    pub fn newest(&self) -> u64
+        ensures { result ≡ newest self.now }
+    {
+        let links = &*self.links;
+        links[tables::CODES]
     }
 
     // The row in a slot.
     pub fn row_in<'a>(&'a self, slot: usize) -> &'a [u16]
         requires { slot < paper.constraints }
-        ensures { (result.now ≡ row_at paper.numbers self.now.cells slot) × (length result.now ≤ paper.numbers) }
+        ensures { (result.now ≡ row_at highest.numbers self.now.cells.now slot) × (length result.now ≤ highest.numbers) }
     {
         self.lent().row_in(slot)
     }

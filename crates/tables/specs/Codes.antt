@@ -2,7 +2,7 @@
 use Rattle.std.specs.Prelude.{ℕ, ◌+◌, ◌*◌, ◌≤◌, ◌<◌, ◌≡◌, Bool, true, false, cond, List, [], ◌∷◌, map, length, get_or, set, eqb}
 use Rattle.std.specs.Bool.{beq}
 use Rattle.std.proofs.Math.Option.{Option, none, some}
-use Rattle.qbf.specs.Formula.{paper, Prefix, Literal, Node, place, positive, all, quantifier_at, value_at}
+use Rattle.qbf.specs.Formula.{highest, Prefix, Literal, Node, place, positive, all, quantifier_at, value_at}
 use Rattle.tables.specs.Views.{quantifier_code, negated}
 
 abbrev pub sign : Bool → ℕ
@@ -50,4 +50,4 @@ given p v t = set (set t (code_at p false) (negated v)) (code_at p true) v
 -- ---- the quantifier of each code's variable; 3 after the last variable's place
 pub record Quantified (D : Prefix) (t : List ℕ) : Type 0 where
   pub at : (p : ℕ) (b : Bool) → p ≤ length D → get_or t (code_at p b) 0 ≡ quantifier_code (quantifier_at D p)
-  pub end : (p : ℕ) (b : Bool) → length D < p → p ≤ paper.numbers → get_or t (code_at p b) 0 ≡ 3
+  pub end : (p : ℕ) (b : Bool) → length D < p → p ≤ highest.numbers → get_or t (code_at p b) 0 ≡ 3

@@ -2,7 +2,7 @@
 -- (Sets). Clauses are numbered from 0 in the order of adding. Cells of rows that are no clause's are free.
 use Rattle.std.specs.Prelude.{ℕ, zero, suc, ◌*◌, ◌/◌, ◌≤◌, ◌<◌, ◌≡◌, false, List, [], ◌∷◌, ◌++◌, length, get_or, take, drop}
 use Rattle.bitset.specs.Rows.{width}
-use Rattle.qbf.specs.Formula.{paper, Prefix, Clause}
+use Rattle.qbf.specs.Formula.{paper, highest, Prefix, Clause}
 use Rattle.qbf.specs.Learning.{reduce}
 use Rattle.tables.specs.Codes.{codes}
 use Rattle.tables.specs.Sets.{ClauseSets}
@@ -34,7 +34,7 @@ abbrev pub words_of : ℕ → ℕ
 words_of n = suc (n / (width * block)) * block
 
 abbrev pub row_words : ℕ
-row_words = words_of paper.clauses
+row_words = words_of highest.clauses
 
 -- how long a row of words may be
 pub record RowLength (wc : ℕ) : Type 0 where
@@ -42,7 +42,7 @@ pub record RowLength (wc : ℕ) : Type 0 where
 
 -- both show the clauses R
 pub record MatrixShown (D : Prefix) (R : List Clause) (wc : ℕ) (cells sets : List ℕ) : Type 0 where
-  pub few : length R ≤ paper.clauses
+  pub few : length R ≤ highest.clauses
   pub short : (k : ℕ) → k < length R → left_at cells k ≤ paper.literals
   pub dying : (k : ℕ) → k < length R → dying_at cells k ≡ codes D (reduce D false (get_or R k []))
   pub by_code : ClauseSets D R wc sets

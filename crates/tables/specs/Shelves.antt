@@ -3,13 +3,13 @@
 -- the number of the next older one with the same last code; a number that is not above `base` is that of no row that stands.
 use Rattle.std.specs.Prelude.{ℕ, zero, suc, ◌+◌, ◌-◌, ◌*◌, ◌%◌, ◌≤◌, ◌<◌, ◌≡◌, Bool, cond, ◌&&◌, List, [], ◌∷◌, ◌++◌, map, length, get_or, take, drop, eqb}
 use Rattle.std.proofs.Math.Option.{Option}
-use Rattle.qbf.specs.Formula.{paper, Prefix}
+use Rattle.qbf.specs.Formula.{paper, highest, Prefix}
 use Rattle.qbf.specs.Learning.{Store, first}
 use Rattle.tables.specs.Codes.{codes, last_code, all_are}
 
--- how many codes there are: two for each place
+-- how many codes there are: two for each place that the highest limit allows
 abbrev pub code_count : ℕ
-code_count = suc paper.numbers * 2
+code_count = suc highest.numbers * 2
 
 -- ---- the cells: in each slot a row's length, then its codes
 abbrev pub length_at : ℕ → List ℕ → ℕ → ℕ
@@ -76,10 +76,10 @@ first_match c statuses w rows = first (λ row. ends_in c row && all_are statuses
 
 -- ---- the learned constraints on shelves
 abbrev pub Entries : List ℕ → List ℕ → Type 0
-Entries cells links = Shelf paper.numbers paper.constraints cells links
+Entries cells links = Shelf highest.numbers paper.constraints cells links
 
 abbrev pub entries_of : List ℕ → List ℕ → List (List ℕ)
-entries_of cells links = shelf_rows paper.numbers paper.constraints cells links
+entries_of cells links = shelf_rows highest.numbers paper.constraints cells links
 
 pub record Shelves (cs cl qs ql : List ℕ) : Type 0 where
   pub clauses : Entries cs cl

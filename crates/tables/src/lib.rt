@@ -38,26 +38,32 @@ pub const LEARNED_CLAUSE_SIZES: usize = CONSTRAINT_SIZES + CONSTRAINTS;
 // Room for two constraints, so that one can be put into the other.
 pub const AREA: usize = NUMBERS * 2;
 
+// The tables below are those of a search. Paper 02, wish 8: one program serves books of any limits, so that the tables are of the highest ones,
+// whatever a book's own are: a search reads and writes as much of each as its book has use for.
+
+// Room for the codes of two constraints.
+pub const CODES_AREA: usize = HIGHEST_NUMBERS * 2;
+
 // Codes of literals inside a search: two for each place. In a shelf each slot has a row's length and its codes; its links have a cell for each
 // code, one for the newest row's number, and one for each slot.
-pub const CODES: usize = BY_NUMBER * 2;
+pub const CODES: usize = HIGHEST_BY_NUMBER * 2;
 
 // The clauses inside a search: of each how many codes universal reduction leaves, and its codes.
 pub const CLAUSE_ROW: usize = LITERALS + 1;
 
-pub const CLAUSE_ROWS: usize = CLAUSES * CLAUSE_ROW;
+pub const CLAUSE_ROWS: usize = HIGHEST_CLAUSES * CLAUSE_ROW;
 
 // Sets of clauses are rows of words, a multiple of a block; the longest has room for one number more than there are clauses. Of each code there are two
 // rows; of each place, and before the first, there is one.
 pub const BLOCK: usize = 4;
 
-pub const ROW_WORDS: usize = (CLAUSES / (bitset::rows::WIDTH * BLOCK) + 1) * BLOCK;
+pub const ROW_WORDS: usize = (HIGHEST_CLAUSES / (bitset::rows::WIDTH * BLOCK) + 1) * BLOCK;
 
 pub const CLAUSE_SETS: usize = CODES * 2 * ROW_WORDS;
 
-pub const SATISFIED: usize = BY_NUMBER * ROW_WORDS;
+pub const SATISFIED: usize = HIGHEST_BY_NUMBER * ROW_WORDS;
 
-pub const CONSTRAINT_CODES: usize = CONSTRAINTS * (NUMBERS + 1);
+pub const CONSTRAINT_CODES: usize = CONSTRAINTS * HIGHEST_BY_NUMBER;
 
 pub const CONSTRAINT_LINKS: usize = CODES + 1 + CONSTRAINTS;
 

@@ -11,7 +11,7 @@ use mathlib.Core.List.{List, [], ◌∷◌, ◌++◌, map}
 use lib.IntN.{ℤ, pos}
 use lib.ListN.{length, get_or, take, drop, set, length-drop, length-take, length-set, length-map}
 use lib.Seq.{take_all, take-suc, take-suc-set, take-set-le, drop-set-add, drop-set-lt, get_or-set_same, get_or-set_other}
-use Rattle.qbf.specs.Formula.{Limits, paper, Prefix, Literal, place}
+use Rattle.qbf.specs.Formula.{Limits, paper, highest, Prefix, Literal, place}
 use Rattle.qbf.specs.Learning.{Constraint}
 use Rattle.qbf.specs.Card.{Mem}
 use Rattle.qbf.specs.Calls.{numbers_are_ok}
@@ -45,7 +45,7 @@ mem_at (x ∷ xs) (suc i) d h = inr (mem_at xs i d (le_of_suc-le-suc h))
 pub record Decoding (numbers r : List ℕ) (at : ℕ) (f₀ : List ℤ) (i : ℕ) (f : List ℤ) : Type 0 where
   pub size : length f ≡ length f₀
   pub kept : take at f ≡ take at f₀
-  pub is : (D : Prefix) (e : Constraint) → Numbers D numbers → numbers_are_ok paper [] D ≡ true → r ≡ codes D e
+  pub is : (D : Prefix) (e : Constraint) → Numbers D numbers → numbers_are_ok highest [] D ≡ true → r ≡ codes D e
       → ((l : Literal) → Mem l e → 1 ≤ place D l) → take i (drop at f) ≡ take i e
 
 -- none yet
@@ -55,7 +55,7 @@ decode_none numbers r at f₀ = record { size = refl; kept = refl; is = λ D e n
 -- the literal of code i too
 pub decode_more : {numbers r : List ℕ} {at : ℕ} {f₀ : List ℤ} {i : ℕ} {f : List ℤ} → Decoding numbers r at f₀ i f
     → i < length r → at + i < length f₀ → {v : ℤ}
-    → ((D : Prefix) (l : Literal) → Numbers D numbers → numbers_are_ok paper [] D ≡ true → code_of D l ≡ get_or r i 0 → 1 ≤ place D l → v ≡ l)
+    → ((D : Prefix) (l : Literal) → Numbers D numbers → numbers_are_ok highest [] D ≡ true → code_of D l ≡ get_or r i 0 → 1 ≤ place D l → v ≡ l)
     → Decoding numbers r at f₀ (i + 1) (set f (at + i) v)
 decode_more {numbers} {r} {at} {f₀} {i} {f} inv low room {v} h = record {
   size = length-set f (at + i) v ∙ inv.size;
@@ -76,7 +76,7 @@ decode_more {numbers} {r} {at} {f₀} {i} {f} inv low room {v} h = record {
 -- all literals of the row
 pub decode_end : {numbers r : List ℕ} {at : ℕ} {f₀ : List ℤ} {i : ℕ} {f : List ℤ} → Decoding numbers r at f₀ i f → i ≡ length r
     → (length f ≡ length f₀) × (take at f ≡ take at f₀)
-    × ((D : Prefix) (e : Constraint) → Numbers D numbers → numbers_are_ok paper [] D ≡ true → r ≡ codes D e
+    × ((D : Prefix) (e : Constraint) → Numbers D numbers → numbers_are_ok highest [] D ≡ true → r ≡ codes D e
     → ((l : Literal) → Mem l e → 1 ≤ place D l) → take (length r) (drop at f) ≡ e)
 decode_end {numbers} {r} {at} {f₀} {i} {f} inv z = (
   inv.size,
@@ -88,13 +88,13 @@ decode_end {numbers} {r} {at} {f₀} {i} {f} inv z = (
 
 -- ---- one row of a shelf, found in its slot
 pub unload_row : (w : ℕ) (numbers cells links : List ℕ) (k slot : ℕ) (f f' : List ℤ) (l r : List ℕ)
-    → slot ≡ (base_of paper.constraints links + k) % paper.constraints → r ≡ row_at paper.numbers cells slot → length r ≤ w
+    → slot ≡ (base_of paper.constraints links + k) % paper.constraints → r ≡ row_at highest.numbers cells slot → length r ≤ w
     → k < paper.constraints → suc paper.constraints ≤ length l → length f' ≡ length f → take (k * w) f' ≡ take (k * w) f
-    → ((D : Prefix) (e : Constraint) → Numbers D numbers → numbers_are_ok paper [] D ≡ true → r ≡ codes D e
+    → ((D : Prefix) (e : Constraint) → Numbers D numbers → numbers_are_ok highest [] D ≡ true → r ≡ codes D e
     → ((x : Literal) → Mem x e → 1 ≤ place D x) → take (length r) (drop (k * w) f') ≡ e)
     → Unloaded w numbers (entry_at cells links k) k f l f' (set l (k + 1) (length r))
 unload_row w numbers cells links k slot f f' l r z y small low counted room kept h =
-    let same : r ≡ entry_at cells links k = y ∙ ap (row_at paper.numbers cells) z in
+    let same : r ≡ entry_at cells links k = y ∙ ap (row_at highest.numbers cells) z in
     let size : get_or (set l (k + 1) (length r)) (suc k) 0 ≡ length r =
     ap (λ (j : ℕ). get_or (set l (k + 1) (length r)) j 0) (sym (add-one k)) ∙ get_or-set_same l (k + 1) (length r) 0 (omega arith)
     in
@@ -120,7 +120,7 @@ pub record Unloading (w : ℕ) (numbers cells links l₀ : List ℕ) (k : ℕ) (
   pub size : length l ≡ length l₀
   pub behind : drop (suc paper.constraints) l ≡ drop (suc paper.constraints) l₀
   pub short : (j : ℕ) → j < k → get_or l (suc j) 0 ≤ w
-  pub is : (D : Prefix) (es : List Constraint) → Numbers D numbers → numbers_are_ok paper [] D ≡ true → entries_of cells links ≡ map (codes D) es
+  pub is : (D : Prefix) (es : List Constraint) → Numbers D numbers → numbers_are_ok highest [] D ≡ true → entries_of cells links ≡ map (codes D) es
       → ((e : Constraint) → Mem e es → (x : Literal) → Mem x e → 1 ≤ place D x) → rows w f l k ≡ take k es
 
 -- none yet
@@ -143,12 +143,12 @@ module _ (cells links : List ℕ) where
   -- as many constraints as rows that stand
   as_many : (D : Prefix) (es : List Constraint) → entries_of cells links ≡ map (codes D) es → length es ≡ stand
   as_many D es p =
-      sym (length-map es (codes D)) ∙ sym (ap length p) ∙ ring_length paper.numbers paper.constraints cells (base_of paper.constraints links) stand
+      sym (length-map es (codes D)) ∙ sym (ap length p) ∙ ring_length highest.numbers paper.constraints cells (base_of paper.constraints links) stand
 
   -- the row that stands at index k is that constraint in codes
   entry_is : (D : Prefix) (es : List Constraint) (k : ℕ) → entries_of cells links ≡ map (codes D) es → k < stand → entry_at cells links k ≡ codes D (get_or es k [])
   entry_is D es k p h =
-      sym (ring_at paper.numbers paper.constraints cells (base_of paper.constraints links) stand k h)
+      sym (ring_at highest.numbers paper.constraints cells (base_of paper.constraints links) stand k h)
       ∙ ap (λ (xs : List (List ℕ)). get_or xs k []) p
       ∙ sym (map_at (codes D) es k [] [] (omega (arith, as_many D es p)))
 
@@ -185,7 +185,7 @@ module _ (cells links : List ℕ) where
   -- every row that stands, and their number in the first cell
   ended : {w : ℕ} {numbers l₀ : List ℕ} {k : ℕ} {f : List ℤ} {l : List ℕ} → Unloading w numbers cells links l₀ k f l → k ≡ stand
       → Held w paper.constraints f (set l 0 k)
-      × ((D : Prefix) (es : List Constraint) → Numbers D numbers → numbers_are_ok paper [] D ≡ true → entries_of cells links ≡ map (codes D) es
+      × ((D : Prefix) (es : List Constraint) → Numbers D numbers → numbers_are_ok highest [] D ≡ true → entries_of cells links ≡ map (codes D) es
       → ((e : Constraint) → Mem e es → (x : Literal) → Mem x e → 1 ≤ place D x) → rows_of w f (set l 0 k) ≡ es)
       × (get_or (set l 0 k) 0 0 ≡ stand)
       × (drop (suc paper.constraints) (set l 0 k) ≡ drop (suc paper.constraints) l₀)
@@ -210,18 +210,18 @@ module _ (cells links : List ℕ) where
   -- .. where the code has the number by another name
   pub unload_end : {w : ℕ} {numbers l₀ : List ℕ} {k : ℕ} {f : List ℤ} {l : List ℕ} → Unloading w numbers cells links l₀ k f l → (n : ℕ) → k ≡ n → n ≡ stand
       → Held w paper.constraints f (set l 0 n)
-      × ((D : Prefix) (es : List Constraint) → Numbers D numbers → numbers_are_ok paper [] D ≡ true → entries_of cells links ≡ map (codes D) es
+      × ((D : Prefix) (es : List Constraint) → Numbers D numbers → numbers_are_ok highest [] D ≡ true → entries_of cells links ≡ map (codes D) es
       → ((e : Constraint) → Mem e es → (x : Literal) → Mem x e → 1 ≤ place D x) → rows_of w f (set l 0 n) ≡ es)
       × (get_or (set l 0 n) 0 0 ≡ stand)
       × (drop (suc paper.constraints) (set l 0 n) ≡ drop (suc paper.constraints) l₀)
   unload_end {w} {numbers} {l₀} {k} {f} {l} inv n e z = ended (subst (λ (j : ℕ). Unloading w numbers cells links l₀ j f l) e inv) z
 
 -- a shelf's rows are no longer than its stride
-pub entries_narrow : {cells links : List ℕ} → Entries cells links → Narrow paper.numbers cells links
+pub entries_narrow : {cells links : List ℕ} → Entries cells links → Narrow highest.numbers cells links
 entries_narrow {cells} {links} s k h =
     omega (
       arith,
-      length-take (length_at paper.numbers cells j) (drop (suc (j * suc paper.numbers)) cells),
+      length-take (length_at highest.numbers cells j) (drop (suc (j * suc highest.numbers)) cells),
       s.short j (mod-lt (base_of paper.constraints links + k) {m = paper.constraints} (omega arith)),
     )
   where

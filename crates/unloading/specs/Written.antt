@@ -1,6 +1,6 @@
 -- One row of a shelf written back into a state's lent table, and the records of the learned clauses.
 use Rattle.std.specs.Prelude.{ℕ, suc, ◌+◌, ◌-◌, ◌*◌, ◌%◌, ◌≤◌, ◌<◌, ◌≡◌, true, cond, List, [], ℤ, length, get_or, take, set, ltb}
-use Rattle.qbf.specs.Formula.{paper, Prefix, Literal, place}
+use Rattle.qbf.specs.Formula.{paper, highest, Prefix, Literal, place}
 use Rattle.qbf.specs.Learning.{Constraint}
 use Rattle.qbf.specs.Card.{Mem}
 use Rattle.qbf.specs.Calls.{numbers_are_ok}
@@ -10,7 +10,7 @@ use Rattle.tables.specs.Shelves.{newest_of, base_of, row_at}
 
 -- the row that stands at index k, from the oldest
 abbrev pub entry_at : List ℕ → List ℕ → ℕ → List ℕ
-entry_at cells links k = row_at paper.numbers cells ((base_of paper.constraints links + k) % paper.constraints)
+entry_at cells links k = row_at highest.numbers cells ((base_of paper.constraints links + k) % paper.constraints)
 
 -- no row that stands has more than w codes
 abbrev pub Narrow : ℕ → List ℕ → List ℕ → Type 0
@@ -24,7 +24,7 @@ pub record Unloaded (w : ℕ) (numbers r : List ℕ) (k : ℕ) (f : List ℤ) (l
   pub kept : take (k * w) f' ≡ take (k * w) f
   pub is : (D : Prefix) (e : Constraint)
       → Numbers D numbers
-      → numbers_are_ok paper [] D ≡ true
+      → numbers_are_ok highest [] D ≡ true
       → r ≡ codes D e
       → ((l : Literal) → Mem l e → 1 ≤ place D l)
       → row w f' l' k ≡ e

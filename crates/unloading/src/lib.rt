@@ -2,7 +2,7 @@
 #![tactic(auto)]
 
 ghost use Rattle.std.specs.Prelude.{◌≡◌, true, List, [], map, suc, ◌+◌, ◌-◌, ◌*◌, ◌%◌, ◌≤◌, ◌<◌, length, get_or, take, drop};
-ghost use Rattle.qbf.specs.Formula.{paper, Prefix, Literal, place};
+ghost use Rattle.qbf.specs.Formula.{paper, highest, Prefix, Literal, place};
 ghost use Rattle.qbf.specs.Learning.{Constraint};
 ghost use Rattle.qbf.specs.Card.{Mem};
 ghost use Rattle.qbf.specs.Calls.{numbers_are_ok};
@@ -51,7 +51,7 @@ fn decode<'a>(store: &mut [i16], at: usize, row: &'a [u16], numbers: &'a [u16])
         × (take at store.new ≡ take at store.old)
         × ((D : Prefix) (e : Constraint)
         → Numbers D numbers.now
-        → numbers_are_ok paper [] D ≡ true
+        → numbers_are_ok highest [] D ≡ true
         → row.now ≡ codes D e
         → ((l : Literal) → Mem l e → 1 ≤ place D l)
         → take (length row.now) (drop at store.new) ≡ e) }
@@ -64,43 +64,43 @@ fn decode<'a>(store: &mut [i16], at: usize, row: &'a [u16], numbers: &'a [u16])
 }
 
 // The row that stands at index k is written into row k of the table; the rows before it stay.
-fn unload_row<'a>(shelf: &'a Shelf, numbers: &'a [u16], table: &mut LentTable<'_>, k: usize)
-    requires { (k < newest shelf.now - base_of paper.constraints shelf.now.links)
-        × (length (entry_at shelf.now.cells shelf.now.links k) ≤ table.old.width) }
+fn unload_row<'a>(shelf: &'a Shelf<'_>, numbers: &'a [u16], table: &mut LentTable<'_>, k: usize)
+    requires { (k < newest shelf.now - base_of paper.constraints shelf.now.links.now)
+        × (length (entry_at shelf.now.cells.now shelf.now.links.now k) ≤ table.old.width) }
     ensures same { Same table.old table.new }
     ensures unloaded { Unloaded
         table.old.width
         numbers.now
-        (entry_at shelf.now.cells shelf.now.links k)
+        (entry_at shelf.now.cells.now shelf.now.links.now k)
         k
         table.old.cells.now
         table.old.sizes.now
         table.new.cells.now
         table.new.sizes.now }
 {
-    let row = shelf.row_in(slot_at(shelf.links[tables::CODES], k));
+    let row = shelf.row_in(slot_at(shelf.newest(), k));
     decode(table.cells, k * table.width, row, numbers);
     table.sizes[k + 1] = row.len() as u16;
 }
 
 // The rows one after the other, from the oldest; what stands behind the sizes stays.
-pub fn unload_rows<'a>(shelf: &'a Shelf, numbers: &'a [u16], table: &mut LentTable<'_>)
-    requires { Narrow table.old.width shelf.now.cells shelf.now.links }
+pub fn unload_rows<'a>(shelf: &'a Shelf<'_>, numbers: &'a [u16], table: &mut LentTable<'_>)
+    requires { Narrow table.old.width shelf.now.cells.now shelf.now.links.now }
     ensures same { Same table.old table.new }
     ensures unloaded { Held table.old.width paper.constraints table.new.cells.now table.new.sizes.now
         × ((D : Prefix) (es : List Constraint)
         → Numbers D numbers.now
-        → numbers_are_ok paper [] D ≡ true
+        → numbers_are_ok highest [] D ≡ true
         → rows shelf.now ≡ map (codes D) es
         → ((e : Constraint) → Mem e es → (l : Literal) → Mem l e → 1 ≤ place D l)
         → rows_of table.old.width table.new.cells.now table.new.sizes.now ≡ es)
-        × (get_or table.new.sizes.now 0 0 ≡ newest shelf.now - base_of paper.constraints shelf.now.links)
+        × (get_or table.new.sizes.now 0 0 ≡ newest shelf.now - base_of paper.constraints shelf.now.links.now)
         × (drop (suc paper.constraints) table.new.sizes.now
         ≡ drop (suc paper.constraints) table.old.sizes.now)
         × (length table.new.cells.now ≡ length table.old.cells.now)
         × (length table.new.sizes.now ≡ length table.old.sizes.now) }
 {
-    let count = standing(shelf.links[tables::CODES]);
+    let count = standing(shelf.newest());
     for k in 0..count {
         unload_row(shelf, numbers, table, k);
     }
@@ -123,19 +123,19 @@ fn write_records(sizes: &mut [u16], newest: u64, before: usize, clauses: u16)
 
 // .. of the learned clauses, with their records behind the sizes.
 pub fn unload_with_records<'a>(
-    shelf: &'a Shelf,
+    shelf: &'a Shelf<'_>,
     numbers: &'a [u16],
     table: &mut LentTable<'_>,
     clauses: u16,
 )
     requires { (suc paper.constraints + paper.constraints ≤ length table.old.sizes.now)
         × (get_or table.old.sizes.now 0 0 ≤ paper.constraints)
-        × Narrow table.old.width shelf.now.cells shelf.now.links }
+        × Narrow table.old.width shelf.now.cells.now shelf.now.links.now }
     ensures same { Same table.old table.new }
     ensures unloaded { Held table.old.width paper.constraints table.new.cells.now table.new.sizes.now
         × ((D : Prefix) (es : List Constraint)
         → Numbers D numbers.now
-        → numbers_are_ok paper [] D ≡ true
+        → numbers_are_ok highest [] D ≡ true
         → rows shelf.now ≡ map (codes D) es
         → ((e : Constraint) → Mem e es → (l : Literal) → Mem l e → 1 ≤ place D l)
         → rows_of table.old.width table.new.cells.now table.new.sizes.now ≡ es)
@@ -144,6 +144,6 @@ pub fn unload_with_records<'a>(
         × (length table.new.sizes.now ≡ length table.old.sizes.now) }
 {
     let before = table.sizes[0] as usize;
-    write_records(table.sizes, shelf.links[tables::CODES], before, clauses);
+    write_records(table.sizes, shelf.newest(), before, clauses);
     unload_rows(shelf, numbers, table);
 }

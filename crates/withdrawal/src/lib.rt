@@ -1,74 +1,50 @@
 // The learned clauses that a withdrawal leaves: those whose record is no larger than the count of clauses that remain, in their order, with
-// their records.
+// their records. They are moved to the front of the tables in which they stand.
 #![tactic(auto)]
 
-ghost use Rattle.std.specs.Prelude.{◌≡◌, ◌≤◌, ◌<◌, length, get_or};
-ghost use Rattle.qbf.specs.Formula.{paper};
-ghost use Rattle.tables.specs.Views.{row};
-ghost use Rattle.state.specs.Reading.{record_at};
-ghost use Rattle.withdrawal.specs.Lent.{GrownIn, KeptIn, LeftIn};
+ghost use Rattle.std.specs.Prelude.{◌≤◌};
+ghost use Rattle.qbf.specs.Formula.{highest};
+ghost use Rattle.withdrawal.specs.Learned.{Room, Movable, Moved, KeptRow, Kept};
 
-pub mod standing; // the tables of the learned clauses
-
-use lent_rows::LentRows;
-use rule_rows::cells::write;
-use standing::{Bars, Left};
-
-impl Left<'_> {
-    // One learned clause more, behind the others, with its record.
-    fn append(&mut self, row: &[i16], standing: u16)
-        requires { (get_or self.old.sizes.now 0 0 < paper.constraints) × (length row.now ≤ paper.numbers) }
-        ensures { GrownIn row.now standing self.old self.new }
-    {
-        let count = self.sizes[0] as usize;
-        let cells = &mut *self.cells;
-        write(cells, count * tables::NUMBERS, row);
-        self.sizes[count + 1] = row.len() as u16;
-        self.sizes[0] = (count + 1) as u16;
-        self.sizes[tables::CONSTRAINT_SIZES + count] = standing;
-    }
+// Row i goes behind those kept so far, which are no more than the rows before it, and its record behind theirs.
+// stays (no plainer): parts of two tables that are lent to be written; of a struct of both nothing is known once they are given back
+fn move_row(width: usize, cells: &mut [i16], sizes: &mut [u16], i: usize)
+    requires { Movable width cells.old sizes.old i }
+    ensures { Moved width i cells.old sizes.old cells.new sizes.new }
+{
+    let kept = sizes[0] as usize;
+    let size = sizes[i + 1];
+    let record = sizes[tables::CONSTRAINT_SIZES + i];
+    let from = i * width;
+    let end = from + size as usize;
+    cells.copy_within(from..end, kept * width);
+    sizes[kept + 1] = size;
+    sizes[0] = (kept + 1) as u16;
+    sizes[tables::CONSTRAINT_SIZES + kept] = record;
 }
 
-// Learned clause i goes behind those kept so far, if its record is no larger than the count of clauses that remain.
-fn keep_row(bars: Bars<'_>, i: usize, remain: u16, left: &mut Left<'_>)
-    requires { (i < get_or bars.rows.sizes.now 0 0) × (get_or left.old.sizes.now 0 0 ≤ i) }
-    ensures { KeptIn
-        (row paper.numbers bars.entry.rows.cells.now bars.entry.rows.sizes.now i)
-        (record_at bars.entry.rows.sizes.now i)
-        remain
-        left.old
-        left.new }
+// It does so if its record is no larger than the count of clauses that remain.
+// stays (no plainer): as `move_row`
+fn keep_row(width: usize, cells: &mut [i16], sizes: &mut [u16], i: usize, remain: u16)
+    requires { Movable width cells.old sizes.old i }
+    ensures { KeptRow width i remain cells.old sizes.old cells.new sizes.new }
 {
-    let record = state::cells::record(bars.rows.sizes, i);
-    if record > remain as usize {
+    if state::cells::record(sizes, i) > remain as usize {
         return;
     }
-    left.append(bars.rows.row(i), record as u16);
+    move_row(width, cells, sizes, i);
 }
 
-// "Bars with a larger record than the rules that remain are dropped": the others, into tables in which none stands yet.
-fn keep(bars: Bars<'_>, remain: u16, left: &mut Left<'_>)
-    requires { get_or left.old.sizes.now 0 0 ≡ 0 }
-    ensures { LeftIn bars.entry.rows.cells.now bars.entry.rows.sizes.now remain left.old left.new }
+// "Bars with a larger record than the rules that remain are dropped": rows of that many cells, with room for the records behind their sizes.
+// stays (no plainer): as `move_row`
+// stays (no plainer): `usize ≤ highest.numbers` is of a state's limit, which `Layout` keeps; the rows of the nine tables have none
+pub fn leave(width: usize, cells: &mut [i16], sizes: &mut [u16], remain: u16)
+    requires { (width ≤ highest.numbers) × Room width cells.old sizes.old }
+    ensures { Kept width cells.old sizes.old remain cells.new sizes.new }
 {
-    let count = bars.rows.count();
+    let count = sizes[0] as usize;
+    sizes[0] = 0;
     for i in 0..count {
-        keep_row(bars, i, remain, left);
+        keep_row(width, cells, sizes, i, remain);
     }
-}
-
-// The same where the learned clauses stand.
-pub fn leave(left: &mut Left<'_>, remain: u16)
-    ensures { LeftIn left.old.cells.now left.old.sizes.now remain left.old left.new }
-{
-    let all = *left.cells;
-    let all_sizes = *left.sizes;
-    let rows = LentRows {
-        cells: &all,
-        sizes: &all_sizes,
-        width: tables::NUMBERS,
-    };
-    let bars = Bars { rows };
-    left.sizes[0] = 0;
-    keep(bars, remain, left);
 }

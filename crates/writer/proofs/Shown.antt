@@ -5,13 +5,13 @@ use mathlib.Core.Logic.{inl, inr}
 use mathlib.Core.Bool.{Bool, true, false, cond, not, ◌&&◌}
 use mathlib.Core.List.{List, [], ◌∷◌, ◌++◌, map, append_assoc, append-nil}
 use native.Mathlib.Omega.{arith}
-use native.Mathlib.Nat.{le_of_suc-le-suc, not-suc-le-zero, suc-mul}
+use native.Mathlib.Nat.{le_of_suc-le-suc, not-suc-le-zero, suc-mul, mul-le-mul_right, mul_comm}
 use borrow.Author.Tests.{leb-true}
 use lib.Dec.{leb, eqb}
 use lib.IntN.{pos}
 use lib.ListN.{length, get_or, take, drop, replicate, length-append}
 use lib.Seq.{take_at, drop_at}
-use Rattle.qbf.specs.Formula.{Limits, paper, Variable, Prefix, Node, any}
+use Rattle.qbf.specs.Formula.{Limits, paper, highest, Variable, Prefix, Node, any}
 use Rattle.qbf.specs.Card.{Mem, byte_of, line_bytes, bytes_of, table_of}
 use Rattle.qbf.specs.Calls.{numbers_are_ok}
 use Rattle.theory.proofs.Basics.{and_left, and_right}
@@ -126,54 +126,69 @@ module _ (L : Limits) (D : Prefix) (numbers : List ℕ) (fine : numbers_are_ok L
       next : (k : ℕ) → 1 + k ≡ suc k
       next k = omega arith
 
--- ---- how long a card is at most
-two_digits : (seen : List ℕ) (d : Variable) (D : Prefix) → numbers_are_ok paper seen (d ∷ D) ≡ true → d.number < 100
-two_digits seen d D e =
-    let h = leb-true d.number paper.numbers (and_right (leb 1 d.number) (leb d.number paper.numbers) (and_left (leb 1 d.number && leb d.number paper.numbers) (not (any (eqb d.number) seen)) (and_left (leb 1 d.number && leb d.number paper.numbers && not (any (eqb d.number) seen)) (numbers_are_ok paper (d.number ∷ seen) D) e))) in
-    omega (arith, h)
+-- ---- how long a card is at most, where the numbers of the variables have at most w digits
+module _ (L : Limits) (w : ℕ) (narrow : (n : ℕ) → n ≤ L.numbers → length (decimal n) ≤ w) where
+  in_range : (seen : List ℕ) (d : Variable) (D : Prefix) → numbers_are_ok L seen (d ∷ D) ≡ true → d.number ≤ L.numbers
+  in_range seen d D e =
+      leb-true d.number L.numbers (and_right (leb 1 d.number) (leb d.number L.numbers) (and_left (leb 1 d.number && leb d.number L.numbers) (not (any (eqb d.number) seen)) (and_left (leb 1 d.number && leb d.number L.numbers && not (any (eqb d.number) seen)) (numbers_are_ok L (d.number ∷ seen) D) e)))
 
-literal_most : (n : ℕ) (v : Bool) → n < 100 → length (literal_text (cond v (pos n) (off n))) ≤ 7
-unfolding literal_text
-literal_most n true h = omega (arith, decimal_length 1 n h)
-literal_most zero false h = omega (arith, decimal_length 1 0 h)
-literal_most (suc n) false h = omega (arith, decimal_length 1 (suc n) h, length-append (ascii "(no " ++ decimal (suc n)) (ascii ")"))
+  literal_most : (n : ℕ) (v : Bool) → n ≤ L.numbers → length (literal_text (cond v (pos n) (off n))) ≤ 5 + w
+  unfolding literal_text
+  literal_most n true h = omega (arith, narrow n h)
+  literal_most zero false h = omega (arith, narrow zero h)
+  literal_most (suc n) false h = omega (arith, narrow (suc n) h, length-append (ascii "(no " ++ decimal (suc n)) (ascii ")"))
 
-items_most : (seen : List ℕ) (D : Prefix) (s : Node) → numbers_are_ok paper seen D ≡ true → length (items_text (set_literals D s)) ≤ 8 * length s
-unfolding items_text
-items_most seen [] s e = zero-le
-items_most seen (d ∷ D) [] e = zero-le
-items_most seen (d ∷ D) (v ∷ s) e =
-    omega (arith, literal_most d.number v (two_digits seen d D e), length-append (literal_text (cond v (pos d.number) (off d.number))) (items_text (set_literals D s)), items_most (d.number ∷ seen) D s (rest_ok paper seen d D e))
+  items_most : (seen : List ℕ) (D : Prefix) (s : Node) → numbers_are_ok L seen D ≡ true → length (items_text (set_literals D s)) ≤ length s * (6 + w)
+  unfolding items_text
+  items_most seen [] s e = zero-le
+  items_most seen (d ∷ D) [] e = zero-le
+  items_most seen (d ∷ D) (v ∷ s) e =
+      omega (arith, literal_most d.number v (in_range seen d D e), length-append (literal_text (cond v (pos d.number) (off d.number))) (items_text (set_literals D s)), items_most (d.number ∷ seen) D s (rest_ok L seen d D e), suc-mul (length s) (6 + w))
+
+  module _ (D : Prefix) (fine : numbers_are_ok L [] D ≡ true) where
+    line_most : (s : Node) → length (line_text D s) ≤ length s * (6 + w) + 7
+    unfolding line_text
+    line_most s = omega (arith, items_most [] D s fine, length-append (ascii "(line" ++ items_text (set_literals D s)) (ascii ")\n"))
+
+    lines_most : (f : ℕ) (ls : List Node) → Within f ls → length (lines_text D ls) ≤ length ls * (f * (6 + w) + 7)
+    unfolding lines_text
+    lines_most f [] within = zero-le
+    lines_most f (s ∷ ls) within =
+        omega (arith, line_most s, mul-le-mul_right (6 + w) (within s (inl refl)), length-append (line_text D s) (lines_text D ls), lines_most f ls (λ r m. within r (inr m)), suc-mul (length ls) (f * (6 + w) + 7))
+
+    -- visits have at most 20 digits
+    pub card_most_under : (p : Bool) (f : ℕ) (ls : List Node) (visits : ℕ) → Within f ls → visits < 10 ^ 20 → length (card_text p D ls visits) ≤ length ls * (f * (6 + w) + 7) + 50
+    unfolding card_text
+    card_most_under p f ls visits within small =
+        omega (
+          arith,
+          lines_most f ls within,
+          visits_length visits,
+          decimal_length 19 visits small,
+          head_length p,
+          length-append (card_head p ++ lines_text D ls ++ visits_text visits) (ascii "(end)\n"),
+          length-append (card_head p ++ lines_text D ls) (visits_text visits),
+          length-append (card_head p) (lines_text D ls),
+        )
+
+    -- numbers of at most 20 digits
+    pub closest_most_under : (t : Node) (differs lines visits : ℕ) → differs < 10 ^ 20 → lines < 10 ^ 20 → visits < 10 ^ 20 → length (closest_text D t differs lines visits) ≤ length t * (6 + w) + 110
+    unfolding closest_text
+    closest_most_under t differs lines visits a b c =
+        let sum : length (closest_text D t differs lines visits) ≡ length (items_text (set_literals D t)) + length (decimal differs) + length (decimal lines) + length (decimal visits) + 50 = simp length-append (omega arith) in
+        omega (arith, sum, items_most [] D t fine, decimal_length 19 differs a, decimal_length 19 lines b, decimal_length 19 visits c)
+
+-- under the limits of paper 01, and under the highest: two digits, and four
+two_digits : (n : ℕ) → n ≤ paper.numbers → length (decimal n) ≤ 2
+two_digits n h = decimal_length 1 n (omega (arith, h))
+
+pub four_digits : (L : Limits) → L.numbers ≤ highest.numbers → (n : ℕ) → n ≤ L.numbers → length (decimal n) ≤ 4
+four_digits L h n k = decimal_length 3 n (omega (arith, h, k))
 
 module _ (D : Prefix) (fine : numbers_are_ok paper [] D ≡ true) where
-  pub line_most : (s : Node) → length (line_text D s) ≤ 8 * length s + 7
-  unfolding line_text
-  line_most s = omega (arith, items_most [] D s fine, length-append (ascii "(line" ++ items_text (set_literals D s)) (ascii ")\n"))
-
-  lines_most : (f : ℕ) (ls : List Node) → Within f ls → length (lines_text D ls) ≤ length ls * (8 * f + 7)
-  unfolding lines_text
-  lines_most f [] within = zero-le
-  lines_most f (s ∷ ls) within =
-      omega (arith, line_most s, within s (inl refl), length-append (line_text D s) (lines_text D ls), lines_most f ls (λ r m. within r (inr m)), suc-mul (length ls) (8 * f + 7))
-
-  -- visits have at most 20 digits
   pub card_most : (p : Bool) (f : ℕ) (ls : List Node) (visits : ℕ) → Within f ls → visits < 10 ^ 20 → length (card_text p D ls visits) ≤ length ls * (8 * f + 7) + 50
-  unfolding card_text
   card_most p f ls visits within small =
-      omega (
-        arith,
-        lines_most f ls within,
-        visits_length visits,
-        decimal_length 19 visits small,
-        head_length p,
-        length-append (card_head p ++ lines_text D ls ++ visits_text visits) (ascii "(end)\n"),
-        length-append (card_head p ++ lines_text D ls) (visits_text visits),
-        length-append (card_head p) (lines_text D ls),
-      )
+      omega (arith, card_most_under paper 2 two_digits D fine p f ls visits within small, ap (λ (k : ℕ). length ls * (k + 7)) (mul_comm f 8))
 
-  -- numbers of at most 20 digits
   pub closest_most : (t : Node) (differs lines visits : ℕ) → differs < 10 ^ 20 → lines < 10 ^ 20 → visits < 10 ^ 20 → length (closest_text D t differs lines visits) ≤ 8 * length t + 110
-  unfolding closest_text
-  closest_most t differs lines visits a b c =
-      let sum : length (closest_text D t differs lines visits) ≡ length (items_text (set_literals D t)) + length (decimal differs) + length (decimal lines) + length (decimal visits) + 50 = simp length-append (omega arith) in
-      omega (arith, sum, items_most [] D t fine, decimal_length 19 differs a, decimal_length 19 lines b, decimal_length 19 visits c)
+  closest_most t differs lines visits a b c = omega (arith, closest_most_under paper 2 two_digits D fine t differs lines visits a b c)

@@ -1,13 +1,16 @@
 //! Paper 02, wish 8: a book with its own limits, whose searches have a ceiling on visits.
 //!
 //! The search under a ceiling and the calls are those of `learning` and `solver`; here are books opened under
-//! own limits, which no program has yet, and mistakes that can be switched in.
+//! own limits, and mistakes that can be switched in.
 
 use crate::answer::{Answer, Call, Said, Subject, HIGHEST_CEILING};
+use crate::constraint::Polarity;
+use crate::learning::LearningSearch;
 use crate::options::{Limits, Options};
 use crate::qdimacs;
-use crate::solver::Solver;
+use crate::solver::{Solver, State};
 use crate::store::Store;
+use crate::table;
 use crate::text::{self, TextRefusal};
 
 /// Mistakes that can be switched in.
@@ -22,6 +25,7 @@ pub enum CeilingSlip {
     StoreOfTheFullWalk,
     LastJoinsLost,
     TableKeptAfter34,
+    LinesKeptAfter34,
     FullBefore34,
     NoVisitsAt34,
     NumbersNotCapped,
@@ -38,6 +42,7 @@ pub const ALL: &[(CeilingSlip, &str)] = &[
     (CeilingSlip::StoreOfTheFullWalk, "a stopped search keeps what the full one would store"),
     (CeilingSlip::LastJoinsLost, "what is joined after the last allowed visit is thrown away"),
     (CeilingSlip::TableKeptAfter34, "the table is not zeroed by 34"),
+    (CeilingSlip::LinesKeptAfter34, "the lines of a stopped card are left in the table"),
     (CeilingSlip::FullBefore34, "21 for a stopped card whose table is full already"),
     (CeilingSlip::NoVisitsAt34, "34 reports no visits"),
     (CeilingSlip::NumbersNotCapped, "a limit for numbers above 1,000 is taken as given"),
@@ -92,6 +97,7 @@ impl Bounded {
             }
             Some(CeilingSlip::LastJoinsLost) => *store = until_last_visit(before, call, given),
             Some(CeilingSlip::TableKeptAfter34) => answer.table.fill(0xA5),
+            Some(CeilingSlip::LinesKeptAfter34) => leave_lines(before, call, given, answer),
             Some(CeilingSlip::FullBefore34) => {
                 let full = before.call_within(call, HIGHEST_CEILING).said == Said::Refused(21);
                 answer.said = if full { Said::Refused(21) } else { answer.said };
@@ -125,6 +131,20 @@ impl Subject for Bounded {
         }
         answer
     }
+}
+
+/// The lines found before a card was stopped, as far as the table holds them.
+fn leave_lines(mut before: Solver, call: &Call, ceiling: u32, answer: &mut Answer) {
+    let wanted = match call {
+        Call::Card(_) | Call::Closest(..) => Polarity::Cube,
+        Call::KeepCard(_) => Polarity::Clause,
+        _ => return,
+    };
+    let State { formula, store } = &mut before.state;
+    let (_, search) = LearningSearch::run(formula, store, &[], wanted, ceiling, &before.options);
+    let held = table::lines_held(formula, answer.table.len(), &before.options);
+    let lines = &search.lines.nodes()[..search.lines.count().min(held)];
+    table::write(lines, formula.free_count(), &mut answer.table, &before.options);
 }
 
 /// The store when the last allowed visit begins.

@@ -1,7 +1,8 @@
 //! The stored cases of `tests/cases` and the books of `examples`, with what each is expected to
 //! print.
 
-use crate::options::Options;
+use crate::limits::{self, LimitSlip};
+use crate::options::{Limits, Options};
 use crate::page::pages_program;
 use crate::{day, editions, qdimacs, session, text};
 use std::path::{Path, PathBuf};
@@ -31,6 +32,16 @@ impl Program {
         Program::Day,
     ];
 
+    /// Those that take limits as arguments: "every program but `day`".
+    pub const LIMITED: [Program; 6] = [
+        Program::Card,
+        Program::Session,
+        Program::Pages,
+        Program::Qdimacs,
+        Program::Tag,
+        Program::Untag,
+    ];
+
     /// Its name, and that of the folder of its cases.
     pub fn name(self) -> &'static str {
         match self {
@@ -49,6 +60,8 @@ impl Program {
 pub struct StoredCase {
     pub name: String,
     pub program: Program,
+    /// What the program is started with: limits, or what is none.
+    pub arguments: Vec<String>,
     pub input: Vec<u8>,
     pub expected: Vec<u8>,
 }
@@ -62,6 +75,18 @@ fn folder(path: &str) -> PathBuf {
 pub fn stored(program: Program) -> io::Result<Vec<StoredCase>> {
     let folder = folder("tests/cases").join(program.name());
     read_all(&folder, program, "in", "out")
+}
+
+/// The cases of a program that is started with arguments; their names begin with the folder's.
+pub fn limited(program: Program) -> io::Result<Vec<StoredCase>> {
+    let folder = folder("tests/cases").join(program.name()).join("limits");
+    let mut cases = read_all(&folder, program, "in", "out")?;
+    for case in &mut cases {
+        let arguments = fs::read_to_string(folder.join(format!("{}.args", case.name)))?;
+        case.arguments = arguments.lines().map(str::to_owned).collect();
+        case.name = format!("limits/{}", case.name);
+    }
+    Ok(cases)
 }
 
 /// The books of `examples` with their cards.
@@ -90,7 +115,7 @@ fn read_all(
     let case = |name: String| {
         let input = contents(folder, &format!("{name}.{input}"))?;
         let expected = contents(folder, &format!("{name}.{expected}"))?;
-        Ok(StoredCase { name, program, input, expected })
+        Ok(StoredCase { name, program, arguments: vec![], input, expected })
     };
     names.into_iter().map(case).collect()
 }
@@ -107,8 +132,22 @@ fn contents(folder: &Path, name: &str) -> io::Result<Vec<u8>> {
 }
 
 impl StoredCase {
+    /// The limits that it is started with, not capped yet; none where the usage is printed.
+    pub fn given(&self, slip: Option<LimitSlip>) -> Option<(usize, usize)> {
+        limits::arguments(&self.arguments, slip)
+    }
+
     /// What this implementation prints.
     pub fn printed(&self, options: &Options) -> Vec<u8> {
+        match self.given(options.of_limits) {
+            Some((numbers, rules)) => {
+                self.printed_under(&Options { limits: Limits::own(numbers, rules), ..*options })
+            }
+            None => limits::usage(self.program).into_bytes(),
+        }
+    }
+
+    fn printed_under(&self, options: &Options) -> Vec<u8> {
         match self.program {
             Program::Card => text::card_program(&self.input, options).into_bytes(),
             Program::Pages => pages_program(&self.input, options, None),

@@ -2,6 +2,7 @@
 
 use crate::constraint::Polarity;
 use crate::formula::{Formula, Literal, Quantifier};
+use crate::limits::LimitSlip;
 use crate::options::{Limits, Options, MOST_FLAGS};
 use crate::slip::Slip;
 use crate::solver::State;
@@ -31,16 +32,28 @@ pub enum Check {
 
 /// "22 the state is malformed".
 pub fn malformed(state: &State, options: &Options) -> bool {
-    let faults = [own_limits, declarations, clauses, entries, records];
+    let faults = [declarations, clauses, entries, records];
     let standing = state.formula.clauses.len();
     if options.slips(Slip::EqualRecordRefused) && state.store.records.contains(&standing) {
         return true;
     }
-    faults.iter().any(|fault| {
-        fault(state, &options.limits)
-            .into_iter()
-            .any(|check| options.slip != Some(Slip::CheckOmits(check)))
-    })
+    let own = match options.of_limits {
+        Some(LimitSlip::StateByTheCap) => Limits::HIGHEST,
+        _ => options.limits,
+    };
+    let high = own_limits(state, &options.limits);
+    let others = faults.iter().flat_map(|fault| fault(state, &own));
+    high.into_iter().chain(others).any(|check| !omitted(check, options))
+}
+
+/// Whether a slip leaves a part of the check out.
+fn omitted(check: Check, options: &Options) -> bool {
+    let of_limits = match check {
+        Check::LimitsTooHigh => options.slips_in_limits(LimitSlip::LimitsNotJudged),
+        Check::TooManyFlags => options.slips_in_limits(LimitSlip::FlagsNotJudged),
+        _ => false,
+    };
+    of_limits || options.slips(Slip::CheckOmits(check))
 }
 
 /// Paper 02, wish 8: limits above the highest, and more than 40 flags.

@@ -140,7 +140,11 @@ impl Reader<'_> {
             Reads::Second => edition == 2,
             Reads::Both => edition == 1 || edition == 2,
         };
-        if read { Ok(()) } else { Err(2) }
+        if read {
+            Ok(())
+        } else {
+            Err(2)
+        }
     }
 
     fn declare(&mut self, numbers: &[i32], quantifier: Quantifier) -> Result<(), u8> {
@@ -174,7 +178,13 @@ impl Reader<'_> {
         let full = self.formula.clauses.len() >= self.options.clause_limit();
         if out_of_range && self.slips(Slip::RangeAfterLength) {
             let length = literals.is_empty() || literals.len() > self.options.literal_limit();
-            return Err(if full { 20 } else if length { 7 } else { 39 });
+            return Err(if full {
+                20
+            } else if length {
+                7
+            } else {
+                39
+            });
         }
         match (full && !self.slips(Slip::RangeBeforeFull), out_of_range) {
             (true, _) => Err(20),
@@ -208,8 +218,9 @@ impl Reader<'_> {
 
     /// "first with second, first with third and so on".
     fn pairs(&self, count: usize) -> Vec<(usize, usize)> {
-        let mut pairs: Vec<(usize, usize)> =
-            (0..count).flat_map(|first| (first + 1..count).map(move |next| (first, next))).collect();
+        let mut pairs: Vec<(usize, usize)> = (0..count)
+            .flat_map(|first| (first + 1..count).map(move |next| (first, next)))
+            .collect();
         if self.slips(Slip::PairsBySecond) {
             pairs.sort_by_key(|&(first, second)| (second, first));
         }

@@ -1,5 +1,6 @@
 //! The limits of a solver and the slip that is switched into it.
 
+use crate::limits::LimitSlip;
 use crate::slip::Slip;
 
 /// The paper's limits. They are data, so that small ones can be run as well.
@@ -42,6 +43,8 @@ pub const MOST_FLAGS: usize = 40;
 pub struct Options {
     pub limits: Limits,
     pub slip: Option<Slip>,
+    /// A slip in own limits.
+    pub of_limits: Option<LimitSlip>,
     /// Whether every call judges its state (refusal 22). Only a slipped solver goes without, so
     /// that a case shows what the slip does to answers and not that its own check notices.
     pub judges_state: bool,
@@ -53,21 +56,35 @@ impl Options {
     }
 
     pub fn with(limits: Limits) -> Options {
-        Options { limits, slip: None, judges_state: true }
+        Options { limits, slip: None, of_limits: None, judges_state: true }
     }
 
     pub fn slips(&self, slip: Slip) -> bool {
         self.slip == Some(slip)
     }
 
+    pub fn slips_in_limits(&self, slip: LimitSlip) -> bool {
+        self.of_limits == Some(slip)
+    }
+
     /// "number not 1 to 40": the largest number that a rule or declaration may use.
     pub fn largest_number(&self) -> i32 {
-        i32::from(self.limits.numbers) - i32::from(self.slips(Slip::NumberLimitOneLess))
+        let limit = match self.of_limits {
+            Some(LimitSlip::NumbersByTheCap) => Limits::HIGHEST.numbers,
+            Some(LimitSlip::NumbersByThePaper) => Limits::PAPER.numbers,
+            _ => self.limits.numbers,
+        };
+        i32::from(limit) - i32::from(self.slips(Slip::NumberLimitOneLess))
     }
 
     /// "a rule when 255 stand".
     pub fn clause_limit(&self) -> usize {
-        self.limits.clauses - usize::from(self.slips(Slip::ClauseLimitOneLess))
+        let limit = match self.of_limits {
+            Some(LimitSlip::RulesByTheCap) => Limits::HIGHEST.clauses,
+            Some(LimitSlip::RulesByThePaper) => Limits::PAPER.clauses,
+            _ => self.limits.clauses,
+        };
+        limit - usize::from(self.slips(Slip::ClauseLimitOneLess))
     }
 
     /// "no literal, or over 16".

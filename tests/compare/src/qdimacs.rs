@@ -2,7 +2,8 @@
 //! description of its text (appendix A of source 000) alone.
 
 use crate::formula::{Formula, Quantifier, Variable};
-use crate::options::{Options, MOST_FLAGS};
+use crate::limits::LimitSlip;
+use crate::options::Options;
 use crate::refusal;
 use crate::text::{TextRefusal, LARGEST_TEXT};
 use crate::write;
@@ -78,6 +79,10 @@ impl Reader<'_> {
         if header.variables > most || both {
             return Err(3);
         }
+        let many = header.variables as usize > refusal::most_flags(self.options);
+        if many && self.options.slips_in_limits(LimitSlip::HeaderCountsFlags) {
+            return Err(33);
+        }
         self.header = Some(header);
         Ok(())
     }
@@ -129,6 +134,11 @@ impl Reader<'_> {
     fn take_clause(&mut self, literals: &[i32]) -> Result<(), u8> {
         let Some(header) = self.header else { return Err(1) };
         let whole = self.whole(header);
+        if whole.free_count() > refusal::most_flags(self.options)
+            && self.options.slips_in_limits(LimitSlip::FlagsAtFirstClause)
+        {
+            return Err(33);
+        }
         let alone = literals.is_empty() && self.slips(Slip::ZeroAloneNoLine);
         let book = self.book.get_or_insert(whole);
         if alone {
@@ -154,7 +164,8 @@ impl Reader<'_> {
         };
         let whole = self.whole(header);
         let mut book = self.book.take().unwrap_or(whole);
-        if book.free_count() > MOST_FLAGS {
+        let many = book.free_count() > refusal::most_flags(self.options);
+        if many && !self.options.slips_in_limits(LimitSlip::FlagsAfterCount) {
             return Err(33);
         }
         let found = book.clauses.len() as i32;
@@ -163,8 +174,8 @@ impl Reader<'_> {
             Some(Slip::LackAccepted) => found > header.clauses,
             _ => found != header.clauses,
         };
-        if differs {
-            return Err(30);
+        if differs || many {
+            return Err(if differs { 30 } else { 33 });
         }
         self.slip_flags(&mut book);
         Ok(book)

@@ -1,6 +1,7 @@
 //! Refusals of rules, declarations and queries, in the paper's order.
 
 use crate::formula::{Formula, Quantifier};
+use crate::limits::LimitSlip;
 use crate::one;
 use crate::options::{Options, MOST_FLAGS};
 use crate::reading::Reading;
@@ -89,9 +90,23 @@ pub fn of_declaration(
     options: &Options,
 ) -> Option<u8> {
     let range = out_of_range(number, options).then_some(3);
+    let twice = (!undeclared(formula, number)).then_some(4);
     let flag = quantifier == Quantifier::Free;
-    let full = flag && formula.free_count() >= MOST_FLAGS;
-    range.or_else(|| (!undeclared(formula, number)).then_some(4)).or(full.then_some(33))
+    let full = (flag && formula.free_count() >= most_flags(options)).then_some(33);
+    match options.of_limits {
+        Some(LimitSlip::FlagsBeforeRange) => full.or(range).or(twice),
+        Some(LimitSlip::FlagsBeforeTwice) => range.or(full).or(twice),
+        _ => range.or(twice).or(full),
+    }
+}
+
+/// "flags stay at most 40".
+pub fn most_flags(options: &Options) -> usize {
+    match options.of_limits {
+        Some(LimitSlip::FlagsNotCounted) => usize::MAX,
+        Some(LimitSlip::FlagsOneLess) => MOST_FLAGS - 1,
+        _ => MOST_FLAGS,
+    }
 }
 
 /// "8 a query names a non-flag, or a flag twice": every bad number is an 8. "A number given both as on and as

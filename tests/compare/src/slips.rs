@@ -8,6 +8,7 @@ use crate::editions::{self, EditionSlip, Reads};
 use crate::finder::{find, Difference, Effort, Source};
 use crate::formula::Formula;
 use crate::last_card::{self, LastCardSlip};
+use crate::limits::{self, LimitSlip};
 use crate::options::Options;
 use crate::page::{self, PageSlip};
 use crate::qdimacs::{self, QdimacsSlip};
@@ -21,6 +22,7 @@ use std::io;
 pub enum AnySlip {
     Call(Slip),
     Ceiling(CeilingSlip),
+    Limit(LimitSlip),
     LastCard(LastCardSlip),
     Page(PageSlip),
     Qdimacs(QdimacsSlip),
@@ -79,7 +81,8 @@ pub fn sections() -> Vec<Section> {
         ("Wish 5: queries with open flags", calls(&|slip| first(slip, Slip::is_of_open_query))),
         ("Wish 6: the finder of dead rules", calls(&|slip| first(slip, Slip::is_of_finder))),
         ("Wish 7: the keep card", calls(&|slip| first(slip, Slip::is_of_keep_card))),
-        ("Wish 8: a ceiling on visits, and own limits", all(bounded::ALL, AnySlip::Ceiling)),
+        ("Wish 8: a ceiling on visits", all(bounded::ALL, AnySlip::Ceiling)),
+        ("Wish 8: own limits", all(limits::ALL, AnySlip::Limit)),
         ("Wish 9: the closest reading", calls(&|slip| first(slip, Slip::is_of_closest))),
         ("Wish 10: exactly-one forms by a call", calls(&|slip| first(slip, Slip::is_of_one))),
         ("Wish 11: a printed page", all(page::ALL, AnySlip::Page)),
@@ -98,6 +101,7 @@ impl AnySlip {
         match self {
             AnySlip::Call(slip) => format!("{slip:?}"),
             AnySlip::Ceiling(slip) => format!("{slip:?}"),
+            AnySlip::Limit(slip) => format!("{slip:?}"),
             AnySlip::LastCard(slip) => format!("{slip:?}"),
             AnySlip::Page(slip) => format!("{slip:?}"),
             AnySlip::Qdimacs(slip) => format!("{slip:?}"),
@@ -111,6 +115,8 @@ impl AnySlip {
         match self {
             AnySlip::Call(_) => &[Program::Card, Program::Session],
             AnySlip::Ceiling(_) | AnySlip::LastCard(_) => &[Program::Session],
+            AnySlip::Limit(slip) if slip.is_of_states() => &[],
+            AnySlip::Limit(_) => &Program::LIMITED,
             AnySlip::Page(_) => &[Program::Pages],
             AnySlip::Qdimacs(_) => &[Program::Qdimacs],
             AnySlip::Edition(_) => &[Program::Tag, Program::Untag, Program::Card],
@@ -126,6 +132,7 @@ impl AnySlip {
             AnySlip::Call(slip) if slip.is_of_check() => Witness::Drawn(Source::Malformed),
             AnySlip::Call(_) => Witness::Drawn(Source::Opened),
             AnySlip::Ceiling(_) => Witness::Test("bounded"),
+            AnySlip::Limit(_) => Witness::Test("limits"),
             AnySlip::LastCard(_) => Witness::Test("cases"),
             AnySlip::Page(_) => Witness::Test("page"),
             AnySlip::Qdimacs(_) => Witness::Test("qdimacs"),
@@ -136,9 +143,21 @@ impl AnySlip {
 
     /// Whether a stored case prints something else with the slip switched in.
     pub fn changes(&self, case: &StoredCase) -> bool {
-        let (options, input) = (Options::paper(), &case.input[..]);
+        let input = &case.input[..];
         let bytes = "bytes in and out";
         let mut output = vec![];
+        let of_ceiling = match *self {
+            AnySlip::Ceiling(slip) => Some(slip),
+            _ => None,
+        };
+        // Where its usage is printed the program reads nothing.
+        let given = match (case.given(None), self) {
+            (None, AnySlip::Limit(_)) => (0, 0),
+            (None, _) => return false,
+            (Some(_), AnySlip::Limit(_)) if case.arguments.is_empty() => return false,
+            (Some(given), _) => given,
+        };
+        let options = Options::with(bounded::limits(given.0, given.1, of_ceiling));
         match (*self, case.program) {
             (AnySlip::Call(slip), _) => {
                 let judges_state = slip.judges_state();
@@ -150,6 +169,9 @@ impl AnySlip {
                     slip: Some(slip),
                 };
                 session::run_on(input, &mut output, &options, None, start).expect(bytes);
+            }
+            (AnySlip::Limit(slip), _) => {
+                output = case.printed(&Options { of_limits: Some(slip), ..options });
             }
             (AnySlip::LastCard(slip), _) => {
                 let start = |formula| Solver::opened(formula, options);
@@ -245,6 +267,9 @@ pub fn stored() -> io::Result<Vec<StoredCase>> {
     let mut all = vec![];
     for program in Program::ALL {
         all.extend(cases::stored(program)?);
+    }
+    for program in Program::LIMITED {
+        all.extend(cases::limited(program)?);
     }
     Ok(all)
 }

@@ -50,7 +50,16 @@ fn books_converted() {
 
 #[test]
 fn days() {
-    hold(cases::stored(Program::Day).expect("cases can be read"), 28, as_printed);
+    hold(cases::stored(Program::Day).expect("cases can be read"), 32, as_printed);
+}
+
+/// Programs that are started with the limits of their books, or with what is none.
+#[test]
+fn own_limits() {
+    let least = [40, 16, 5, 19, 7, 6];
+    for (program, least) in Program::LIMITED.into_iter().zip(least) {
+        hold(cases::limited(program).expect("cases can be read"), least, as_printed);
+    }
 }
 
 #[test]

@@ -1,8 +1,10 @@
 //! Paper 02, wish 12: the figures of the team's readings, the promises over random days, and that every slip shows.
 
-use compare::day::{Accounts, Day, DaySlip, ALL, PLACES};
-use compare::finder::{Case, Shape, Source};
+use compare::day::{program, Accounts, Day, DaySlip, ALL, PLACES};
+use compare::draw::days::{self, draw, Drawn};
+use compare::draw::lines;
 use compare::random::Random;
+use compare::session::{request, Request};
 use compare::text::open;
 use compare::{Answer, Call, Options, PlainRun, Said, Solver, Subject, HIGHEST_CEILING};
 
@@ -66,44 +68,15 @@ fn accounts_of_any_total() {
     assert!(all.malformed(None));
 }
 
-/// A random day: books at some places, one of each with its calls.
-struct Drawn {
-    day: Day,
-    cases: Vec<Option<Case>>,
-}
-
-fn draw(random: &mut Random, slip: Option<DaySlip>) -> Drawn {
-    let total = random.pick(&[0, 7, 15, 40, 90, 150, 400, 2_000]) + random.below(9) as u32;
-    let mut day = Day { slip, ..Day::new(total) };
-    let mut cases = vec![];
-    for place in 1..=PLACES {
-        let empty = random.one_in(3);
-        let shape = Shape { calls: 8, ..Shape::of_attempt(random.below(4)) };
-        let case = shape.case(Source::Opened, random);
-        if !empty {
-            day.load(place, case.state.formula.clone(), Options::with(case.limits));
-        }
-        cases.push((!empty).then_some(case));
-    }
-    Drawn { day, cases }
-}
-
-/// The next call of any place, and its ceiling.
-fn next(cases: &mut [Option<Case>], random: &mut Random) -> (usize, Call, u32) {
-    let index = random.below(PLACES);
-    let ceiling = random.pick(&[0, 1, 3, 9, 20, HIGHEST_CEILING, HIGHEST_CEILING]);
-    let call = cases[index].as_mut().and_then(|case| case.calls.pop()).unwrap_or(Call::Card(40));
-    (index + 1, call, ceiling)
-}
-
 /// Over every list: the sum never exceeds T, a book that has used less than its floor can use the rest, and apart from
 /// the limit each book answers as if alone.
 #[test]
 fn random_days() {
     let mut random = Random::new(20_241);
     let mut seen = std::collections::BTreeMap::<u8, u32>::new();
-    for _ in 0..4_000 {
-        let Drawn { mut day, mut cases } = draw(&mut random, None);
+    for _ in 0..6_000 {
+        let drawn = draw(&mut random);
+        let mut day = drawn.day();
         let mut alone = day.books.clone();
         let plain = |book: &Option<Solver>| {
             let book = book.as_ref()?;
@@ -111,15 +84,16 @@ fn random_days() {
         };
         let mut plain: Vec<Option<PlainRun>> = alone.iter().map(plain).collect();
         let floor = day.accounts.total / 8;
-        for _ in 0..random.between(4, 30) {
-            let (place, call, ceiling) = next(&mut cases, &mut random);
-            let left = day.accounts.left(place - 1, None);
-            let used = day.accounts.used[place - 1];
+        for (place, call, ceiling) in drawn.calls {
+            let before = day.accounts.clone();
             let answer = day.call(place, &call, ceiling);
-            let Some(book) = &mut alone[place - 1] else {
-                assert_eq!(answer.said, Said::Refused(38));
+            let index = place.wrapping_sub(1);
+            let Some(Some(book)) = alone.get_mut(index) else {
+                assert_eq!((answer.said, answer.visits), (Said::Refused(38), 0));
+                assert_eq!(day.accounts, before);
                 continue;
             };
+            let (left, used) = (before.left(index, None), before.used[index]);
             assert!(left >= floor.saturating_sub(used), "{call}");
             let mut expected = book.call_within(&call, ceiling.min(left));
             if expected.said == Said::Refused(34) && ceiling > left {
@@ -147,33 +121,108 @@ fn random_days() {
     assert!([8, 21, 34, 35, 37].iter().all(|number| seen.get(number) > Some(&50)), "{seen:?}");
 }
 
+const OF_THE_PROGRAM: [DaySlip; 5] = [
+    DaySlip::PlaceGivenAgain,
+    DaySlip::LimitsLost,
+    DaySlip::TextNotSkipped,
+    DaySlip::LinesOfTheText,
+    DaySlip::CardOfAnotherPlace,
+];
+
+/// A drawn day, now and then with accounts or a book that no calls reach.
+fn any_day(drawn: &Drawn, random: &mut Random) -> Day {
+    let mut day = drawn.day();
+    if random.one_in(4) {
+        day.accounts.used[random.below(PLACES)] = random.below(300) as u32;
+    }
+    if let (Some(book), true) = (&mut day.books[0], random.one_in(4)) {
+        book.state.store.cubes.push(vec![0]);
+    }
+    day
+}
+
 /// Every slip of the accounts and the calls changes an answer, a state or the accounts.
 #[test]
 fn every_slip_shows() {
-    use DaySlip::*;
-    let of_the_program =
-        [PlaceGivenAgain, LimitsLost, TextNotSkipped, LinesOfTheText, CardOfAnotherPlace];
-    for (slip, words) in ALL.iter().filter(|(slip, _)| !of_the_program.contains(slip)) {
+    for (slip, words) in ALL.iter().filter(|(slip, _)| !OF_THE_PROGRAM.contains(slip)) {
         let mut random = Random::new(1);
         let shown = (0..3_000).any(|_| {
-            let Drawn { mut day, mut cases } = draw(&mut random, None);
-            if random.one_in(4) {
-                day.accounts.used[random.below(PLACES)] = random.below(300) as u32;
-            }
-            if let (Some(book), true) = (&mut day.books[0], random.one_in(4)) {
-                book.state.store.cubes.push(vec![0]);
-            }
+            let drawn = draw(&mut random);
+            let mut day = any_day(&drawn, &mut random);
             let mut slipped = Day { slip: Some(*slip), ..day.clone() };
-            (0..20).any(|_| {
-                let (place, call, ceiling) = next(&mut cases, &mut random);
-                let right = day.call(place, &call, ceiling);
+            drawn.calls.iter().any(|(place, call, ceiling)| {
+                let right = day.call(*place, call, *ceiling);
                 let states = |day: &Day| -> Vec<_> {
                     day.books.iter().map(|book| book.as_ref().map(|b| b.state.clone())).collect()
                 };
-                right != slipped.call(place, &call, ceiling)
+                right != slipped.call(*place, call, *ceiling)
                     || states(&day) != states(&slipped)
                     || day.accounts != slipped.accounts
             })
+        });
+        assert!(shown, "{slip:?}: {words}");
+    }
+}
+
+fn printed(text: &[u8], slip: Option<DaySlip>) -> String {
+    let mut output = vec![];
+    program::run(text, &mut output, slip).expect("bytes in, bytes out");
+    String::from_utf8(output).expect("answers are ASCII")
+}
+
+/// The program charges what the calls need: its last line, `(shares)`, is that of the same calls on the books.
+#[test]
+fn the_program_on_drawn_days() {
+    let mut random = Random::new(20_242);
+    let mut stopped = 0;
+    for _ in 0..2_000 {
+        let drawn = draw(&mut random);
+        let text = days::text(&drawn, &mut random);
+        let mut day = drawn.day();
+        for (place, call, ceiling) in &drawn.calls {
+            if lines::line(call, *ceiling).is_some() {
+                day.call(*place, call, *ceiling);
+            }
+        }
+        let place = |index: usize| {
+            let (used, left) = (day.accounts.used[index], day.accounts.left(index, None));
+            format!(" (place {} (used {used}) (left {left}))", index + 1)
+        };
+        let places: String = (0..PLACES).map(place).collect();
+        let shares = format!("(shares (total {}){places})", drawn.total);
+        let output = printed(&text, None);
+        assert_eq!(output.lines().last(), Some(&shares[..]), "{}", String::from_utf8_lossy(&text));
+        stopped += output.matches("(refused 37 ").count();
+    }
+    assert!(stopped > 1_000, "only {stopped}");
+}
+
+/// A call is read from its line as it was written.
+#[test]
+fn lines_of_drawn_calls() {
+    let mut random = Random::new(20_243);
+    for _ in 0..500 {
+        for (_, call, ceiling) in draw(&mut random).calls {
+            let Some(line) = lines::line(&call, ceiling) else { continue };
+            let Some(Request::Call(read, within)) = request(line.as_bytes()) else {
+                panic!("{line}")
+            };
+            let ceiling = if call.searches() { ceiling } else { HIGHEST_CEILING };
+            // -32768 stands in a line as a number that is out of range all the same.
+            let same = read.to_string() == call.to_string().replace("-32768", "-32767");
+            assert!(same && within == ceiling, "{line}: {read}, {call}");
+        }
+    }
+}
+
+/// Every slip changes what the program prints for a drawn input, but those that no input shows.
+#[test]
+fn every_slip_of_the_program_shows() {
+    for (slip, words) in ALL.iter().filter(|(slip, _)| !slip.is_of_states()) {
+        let mut random = Random::new(2);
+        let shown = (0..2_000).any(|_| {
+            let text = days::text(&draw(&mut random), &mut random);
+            printed(&text, None) != printed(&text, Some(*slip))
         });
         assert!(shown, "{slip:?}: {words}");
     }

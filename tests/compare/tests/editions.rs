@@ -117,7 +117,8 @@ fn conversions(slip: Option<EditionSlip>) -> Vec<Result<Vec<u8>, (u8, usize)>> {
         book(2, &(rules + after))
     };
     let limits = Limits { clauses: 4_000, ..Limits::PAPER };
-    let rule = format!("(rule{})\n", (1..=4).map(|number| format!(" (no {number})")).collect::<String>());
+    let rule =
+        format!("(rule{})\n", (1..=4).map(|number| format!(" (no {number})")).collect::<String>());
     let long = book(1, &(rule.repeat(1_600) + "(end)\n"));
     let number = |fault: compare::text::TextRefusal| (fault.number, fault.line);
     let mut answers = vec![];

@@ -1,6 +1,7 @@
 //! The calls in place. The tables of a state are lent one by one, each between guard cells.
 
 use crate::raw::{Nearest, Raw, Reply, Returned, Written, CELLS, LENGTHS};
+use std::cell::RefCell;
 
 extern "C" {
     fn bullacetop_rule_in_place(
@@ -61,6 +62,7 @@ extern "C" {
         learned_clause_sizes: *mut u16,
         learned_cubes: *mut i16,
         learned_cube_sizes: *mut u16,
+        work: *mut u64,
         on: *const i16,
         on_count: usize,
         off: *const i16,
@@ -77,6 +79,7 @@ extern "C" {
         learned_clause_sizes: *mut u16,
         learned_cubes: *mut i16,
         learned_cube_sizes: *mut u16,
+        work: *mut u64,
         table: *mut u8,
         length: usize,
         ceiling: u32,
@@ -91,6 +94,7 @@ extern "C" {
         learned_clause_sizes: *mut u16,
         learned_cubes: *mut i16,
         learned_cube_sizes: *mut u16,
+        work: *mut u64,
         table: *mut u8,
         length: usize,
         ceiling: u32,
@@ -105,6 +109,7 @@ extern "C" {
         learned_clause_sizes: *mut u16,
         learned_cubes: *mut i16,
         learned_cube_sizes: *mut u16,
+        work: *mut u64,
         on: *const i16,
         on_count: usize,
         off: *const i16,
@@ -127,6 +132,21 @@ extern "C" {
         table: *mut u8,
         length: usize,
     ) -> Written;
+}
+
+/// Words of a workspace, `sizeof (struct bullacetop_workspace)` of the header.
+const WORKSPACE: usize = 625_739;
+
+/// What stands in a workspace that is lent for the first time: its content is free.
+const LENT_WORD: u64 = 0xA5C3_96E1_5A3C_691E;
+
+thread_local! {
+    static WORK: RefCell<Vec<u64>> = RefCell::new(vec![LENT_WORD; WORKSPACE]);
+}
+
+/// The thread's workspace: a call finds in it what the calls before it left.
+pub fn workspace() -> *mut u64 {
+    WORK.with(|work| work.borrow_mut().as_mut_ptr())
 }
 
 /// Where the tables of a state stand, in the order of the state.
@@ -255,6 +275,7 @@ pub unsafe fn query(at: Tables, on: List, off: List, ceiling: u32) -> Reply {
         learned_sizes,
         cubes.cast(),
         cube_sizes,
+        workspace(),
         on.0,
         on.1,
         off.0,
@@ -277,6 +298,7 @@ pub unsafe fn card(at: Tables, table: *mut u8, length: usize, ceiling: u32) -> R
         learned_sizes,
         cubes.cast(),
         cube_sizes,
+        workspace(),
         table,
         length,
         ceiling,
@@ -297,6 +319,7 @@ pub unsafe fn keep_card(at: Tables, table: *mut u8, length: usize, ceiling: u32)
         learned_sizes,
         cubes.cast(),
         cube_sizes,
+        workspace(),
         table,
         length,
         ceiling,
@@ -324,6 +347,7 @@ pub unsafe fn closest(
         learned_sizes,
         cubes.cast(),
         cube_sizes,
+        workspace(),
         on.0,
         on.1,
         off.0,

@@ -107,23 +107,13 @@ impl Native {
             })
         })?;
         *self.state = next;
-        let said = match nearest {
-            Nearest { refusal: 0, differs, lines, .. } => {
-                Said::Closest(Closest { reading: values, differs, lines })
-            }
-            Nearest { refusal, differs: 0, lines: 0, visits } if values == [0; MOST_FLAGS] => {
-                let told = matches!(refusal, 21 | 34 | 35) || visits == 0;
-                let number = u8::try_from(refusal).ok().filter(|_| told);
-                Said::Refused(number.ok_or(format!("{nearest:?} is no refusal"))?)
-            }
-            _ => return Err(format!("{nearest:?} and the reading {values:?} are no answer")),
-        };
+        let said = said_of_nearest(&nearest, values)?;
         Ok(Answer { said, table, visits: nearest.visits })
     }
 }
 
 /// The length of a text in the place of the count of lines.
-fn as_reply(Written { refusal, length }: Written) -> Reply {
+pub fn as_reply(Written { refusal, length }: Written) -> Reply {
     Reply { refusal, verdict: 0, lines: length, visits: 0 }
 }
 
@@ -204,7 +194,7 @@ fn lend_table(
 }
 
 /// The reply's numbers as an answer: each call has its own, and a refusal has no other.
-fn said(call: &Call, reply: &Reply) -> Result<Said, String> {
+pub fn said(call: &Call, reply: &Reply) -> Result<Said, String> {
     let Reply { refusal, verdict, lines, visits } = *reply;
     let said = match (call, refusal, verdict, lines, visits) {
         (Call::Card(_) | Call::KeepCard(_), 21, 0, 0, _) => Some(Said::Refused(21)),
@@ -222,4 +212,19 @@ fn said(call: &Call, reply: &Reply) -> Result<Said, String> {
     };
     let numbers = (refusal, verdict, lines, visits);
     said.ok_or(format!("refusal, verdict, lines, visits {numbers:?} are no answer"))
+}
+
+/// The numbers of a closest reading, and the bytes of the lent one.
+pub fn said_of_nearest(nearest: &Nearest, values: [u8; MOST_FLAGS]) -> Result<Said, String> {
+    match *nearest {
+        Nearest { refusal: 0, differs, lines, .. } => {
+            Ok(Said::Closest(Closest { reading: values, differs, lines }))
+        }
+        Nearest { refusal, differs: 0, lines: 0, visits } if values == [0; MOST_FLAGS] => {
+            let told = matches!(refusal, 21 | 34 | 35) || visits == 0;
+            let number = u8::try_from(refusal).ok().filter(|_| told);
+            Ok(Said::Refused(number.ok_or(format!("{nearest:?} is no refusal"))?))
+        }
+        _ => Err(format!("{nearest:?} and the reading {values:?} are no answer")),
+    }
 }

@@ -1,5 +1,6 @@
 //! The library's functions on texts. The lent page stands between guard bytes.
 
+use crate::in_place::workspace;
 use crate::raw::{Raw, Written};
 use compare::answer::LENT_BYTE;
 use std::ptr;
@@ -33,7 +34,13 @@ struct RawOpened {
 
 extern "C" {
     fn bullacetop_room() -> usize;
-    fn bullacetop_print(text: *const u8, count: usize, out: *mut u8, room: usize) -> Written;
+    fn bullacetop_print(
+        text: *const u8,
+        count: usize,
+        work: *mut u64,
+        out: *mut u8,
+        room: usize,
+    ) -> Written;
     fn bullacetop_open(text: *const u8, count: usize) -> RawOpened;
     fn bullacetop_open_qdimacs(text: *const u8, count: usize) -> RawOpened;
     fn bullacetop_tag(text: *const u8, count: usize, table: *mut u8, size: usize) -> Converted;
@@ -46,6 +53,7 @@ extern "C" {
         number: u64,
         shown: Shown,
         cards: *mut u8,
+        work: *mut u64,
         out: *mut u8,
         room: usize,
     ) -> Turn;
@@ -189,7 +197,8 @@ impl Page {
 
     pub fn print(&mut self, text: &[u8]) -> Result<Option<Vec<u8>>, String> {
         let (length, out, lent) = (self.length, self.out(), Lent::new(text));
-        let told = unsafe { bullacetop_print(lent.address(), text.len(), out, length) };
+        let (count, work) = (text.len(), workspace());
+        let told = unsafe { bullacetop_print(lent.address(), count, work, out, length) };
         lent.kept(text)?;
         self.answer(told)
     }
@@ -205,7 +214,17 @@ impl Page {
         let (room, out, lent) = (self.length, self.out(), Lent::new(line));
         let (count, table) = (line.len(), cards.bytes[GUARDS..].as_mut_ptr());
         let Turn { refusal, length, state, shown } = unsafe {
-            bullacetop_line(*state, lent.address(), count, number, cards.shown, table, out, room)
+            bullacetop_line(
+                *state,
+                lent.address(),
+                count,
+                number,
+                cards.shown,
+                table,
+                workspace(),
+                out,
+                room,
+            )
         };
         lent.kept(line)?;
         cards.shown = shown;

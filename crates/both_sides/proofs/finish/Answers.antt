@@ -9,7 +9,7 @@ pub returns-in-On : goal.returns-in-On
 returns-in-On c = record {
   finished = (
     record { budget = refl; lines = refl },
-    grown_none c.args.learned.now.clauses.links c.args.learned.now.cubes.links,
+    grown_none c.args.learned.now.clauses.links.now c.args.learned.now.cubes.links.now,
   );
   joined = λ D R s κ a o g st k qu l e p q ea eo sh gr ss.
       joined_on D R κ s st k _ _ a o c.args.off.verdict c.args.on refl p q ss (sym (c.step_of.ensures κ e) ∙ c.in-On.is) c.args.matrix.now.rows c.args.area.now refl;
@@ -21,7 +21,7 @@ returns-in-Clauses c = record {
   joined = λ D R s κ a o g st k qu l e p q ea eo sh gr ss.
       onward_joined D R κ s st k _ _ a o false c.args.on c.join.result c.args.off.at l c.args.matrix.now.rows c.args.area.now gr ss
       (clauses_step D R κ s st k _ _ a o c.args.off.verdict c.args.on.verdict refl (sym (c.step_of.ensures κ e) ∙ c.in-Clauses.is) p q)
-      refl ea eo sh c.join.new.learned.cells c.join.new.learned.links
+      refl ea eo sh c.join.new.learned.cells.now c.join.new.learned.links.now
       (λ x y off on ox oy lx ly fits. c.join.ensures.2 D x y st.clauses qu off on ox oy lx ly fits ss.shown.clauses)
       c.join.ensures.0.verdict;
 }
@@ -32,7 +32,7 @@ returns-in-Cubes c = record {
   joined = λ D R s κ a o g st k qu l e p q ea eo sh gr ss.
       onward_joined D R κ s st k _ _ a o true c.args.on c.join-in-Cubes.result c.args.off.at l c.args.matrix.now.rows c.args.area.now gr ss
       (cubes_step D R κ s st k _ _ a o c.args.off.verdict c.args.on.verdict refl (sym (c.step_of.ensures κ e) ∙ c.in-Cubes.is) p q)
-      refl ea eo sh c.join-in-Cubes.new.learned.cells c.join-in-Cubes.new.learned.links
+      refl ea eo sh c.join-in-Cubes.new.learned.cells.now c.join-in-Cubes.new.learned.links.now
       (λ x y off on ox oy lx ly fits. c.join-in-Cubes.ensures.2 D x y st.cubes qu off on ox oy lx ly fits ss.shown.cubes)
       c.join-in-Cubes.ensures.0.verdict;
 }

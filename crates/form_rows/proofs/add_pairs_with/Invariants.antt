@@ -10,6 +10,7 @@ use Rattle.form_rows.proofs.add_pairs_with.Given as goal
 abbrev pub invariant-loop-other : goal.invariant-loop-other
 invariant-loop-other l =
     (l.other-index ≤ length l.rest)
+    × (l.rows.most ≡ l.initial.rows.most)
     × (l.rows.cells.ghost_name ≡ l.initial.rows.cells.ghost_name)
     × (l.rows.sizes.ghost_name ≡ l.initial.rows.sizes.ghost_name)
-    × Adding l.initial.rows.cells.now l.initial.rows.sizes.now l.places (pairs_with l.fn.lit l.rest) (pairs_with l.fn.lit (drop l.other-index l.rest)) l.rows.cells.now l.rows.sizes.now
+    × Adding l.initial.rows.most l.initial.rows.cells.now l.initial.rows.sizes.now l.places (pairs_with l.fn.lit l.rest) (pairs_with l.fn.lit (drop l.other-index l.rest)) l.rows.cells.now l.rows.sizes.now

@@ -15,6 +15,6 @@ returns-then-step_down-clause-leaf_coded c =
     λ D R s st k cls cs quantified shown formed given rows by entered.
     let down = c.step_down.ensures.descended D R s k given by entered in (
       down.0,
-      reached_all D R s (matched D eqb s st.cubes) down.1 cls cs c.args.cubes.now.cells c.cube-n.new.up c.if-step_down.true at
+      reached_all D R s (matched D eqb s st.cubes) down.1 cls cs c.args.cubes.now.cells.now c.cube-n.new.up c.if-step_down.true at
           (c.cube-n.ensures.1 D R s st shown quantified formed given.long down.0.marked (sym down.1 ∙ c.if-step_down.true)),
     )

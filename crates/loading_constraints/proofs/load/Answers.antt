@@ -12,9 +12,9 @@ use Rattle.loading_constraints.proofs.Loading.{load_none, load_more}
 use Rattle.loading_constraints.proofs.load.Goals as goal
 
 pub loop-k-init : goal.loop-k-init
-loop-k-init c = load_none c.args.table.width c.args.table.cells.now c.args.table.sizes.now c.args.places.now c.args.shelf.now.cells c.args.shelf.now.links c.args.shelf.now.agree c.requires.2
+loop-k-init c = load_none c.args.table.width c.args.table.cells.now c.args.table.sizes.now c.args.places.now c.args.shelf.now.cells.now c.args.shelf.now.links.now c.args.shelf.now.agree c.requires.2
 
 pub loop-k-preserved : goal.loop-k-preserved
 loop-k-preserved c =
-    load_more c.loop-k.invariant (omega (arith, c.loop-k-test.true, c.count-count.ensures, c.requires.0.few)) _ _ c.load_row.new.shelf.agree (c.load_row.ensures.0 ∙ ap suc c.loop-k.invariant.newest)
-    (λ D p few. c.load_row.ensures.1 D p few ∙ ap (λ (x : List ℤ). push paper.constraints (codes D x) (entries_of c.loop-k.shelf.cells c.loop-k.shelf.links)) c.row.ensures)
+    load_more c.loop-k.invariant (omega (arith, c.loop-k-test.true, c.count-count.ensures, c.requires.0.few)) _ _ c.push_literals.new.self.agree (c.push_literals.ensures.0 ∙ ap suc c.loop-k.invariant.newest)
+    (λ D p few. c.push_literals.ensures.1 D p few ∙ ap (λ (x : List ℤ). push paper.constraints (codes D x) (entries_of c.loop-k.shelf.cells.now c.loop-k.shelf.links.now)) c.row.ensures)

@@ -8,7 +8,7 @@ use Rattle.node.specs.declared.Verdict.TheVariants.{Mixed}
 use Rattle.open_search.specs.Searching.{search_at}
 use Rattle.open_search.proofs.Budgets.{found_decided, found_up, found_both, found_with, fewer_as, answer_as, verdict_as}
 use Rattle.open_search.proofs.Rows.{rows_same, rows_then, rows_less, rows_united, rows_side, opened_kept, below_dead, below_satisfied, below_opened}
-use Rattle.open_search.proofs.Visiting.{visit_stopped, visit_no, visit_yes, kind_found, end_found, next_in, enter_recorded, left_as, visited_as, branched_as, entered_as}
+use Rattle.open_search.proofs.Visiting.{visit_stopped, visit_no, visit_yes, kind_found, end_found, next_in, next_is, enter_open, enter_recorded, left_as, visited_as, branched_as, entered_as}
 use Rattle.open_search.proofs.+branch_exists_forall_free_sides_visit.Goals as goal
 
 pub branch-returns-then-kind-eq-EXISTS : goal.branch-returns-then-kind-eq-EXISTS
@@ -18,13 +18,16 @@ pub branch-returns-then-kind-eq-FORALL : goal.branch-returns-then-kind-eq-FORALL
 branch-returns-then-kind-eq-FORALL t c = (left_as (ap suc c.fork-then-kind-eq-FORALL.ensures.0) c.fork-then-kind-eq-FORALL.ensures.1 c.fork-then-kind-eq-FORALL.ensures.2 c.forall.ensures.0, record { result = λ D R os s task opened. kind_found task opened c.next_kind-kind.result c.next_kind-kind.ensures forall c.args.p.budget c.forall.result c.if-kind-eq-FORALL.true ((branched_as c.fork-then-kind-eq-FORALL.ensures.0 c.fork-then-kind-eq-FORALL.ensures.1 c.fork-then-kind-eq-FORALL.ensures.2 c.forall.ensures.1).result D R os s forall task opened (next_in task opened c.next_kind-kind.result c.next_kind-kind.ensures forall c.if-kind-eq-FORALL.true) refl) })
 
 pub branch-returns-then-kind-eq-FREE : goal.branch-returns-then-kind-eq-FREE
-branch-returns-then-kind-eq-FREE t c = (left_as (ap suc c.fork-then-kind-eq-FREE.ensures.0) c.fork-then-kind-eq-FREE.ensures.1 c.fork-then-kind-eq-FREE.ensures.2 c.free.ensures.0, record { result = λ D R os s task opened. kind_found task opened c.next_kind-kind.result c.next_kind-kind.ensures free c.args.p.budget c.free.result c.if-kind-eq-FREE.true ((entered_as c.fork-then-kind-eq-FREE.ensures.0 c.fork-then-kind-eq-FREE.ensures.1 c.fork-then-kind-eq-FREE.ensures.2 c.free.ensures.1).result D R os s task opened (next_in task opened c.next_kind-kind.result c.next_kind-kind.ensures free c.if-kind-eq-FREE.true)) })
+branch-returns-then-kind-eq-FREE t c = (left_as (ap suc c.fork-then-kind-eq-FREE.ensures.0) c.fork-then-kind-eq-FREE.ensures.1 c.fork-then-kind-eq-FREE.ensures.2 c.free.ensures.0, record { result = λ D R os s task opened. kind_found task opened c.next_kind-kind.result c.next_kind-kind.ensures free c.args.p.budget c.free.result c.if-kind-eq-FREE.true ((entered_as c.fork-then-kind-eq-FREE.ensures.0 c.fork-then-kind-eq-FREE.ensures.1 c.fork-then-kind-eq-FREE.ensures.2 c.free.ensures.1).result D R os s task opened (next_in task opened c.next_kind-kind.result c.next_kind-kind.ensures free c.if-kind-eq-FREE.true) (next_is task opened c.next_kind-kind.result c.next_kind-kind.ensures free c.if-kind-eq-FREE.true (next_in task opened c.next_kind-kind.result c.next_kind-kind.ensures free c.if-kind-eq-FREE.true))) })
 
 pub branch-returns-else-kind-eq-FREE : goal.branch-returns-else-kind-eq-FREE
 branch-returns-else-kind-eq-FREE t c = (record { kept = rows_same _ _ _; fewer = fewer_as c.found.ensures (omega (arith, c.counted.ensures)) }, record { result = λ D R os s task opened. end_found task opened c.next_kind-kind.result c.next_kind-kind.ensures c.args.p.budget c.found.result c.if-kind-eq-EXISTS.false c.if-kind-eq-FORALL.false c.if-kind-eq-FREE.false (answer_as c.found.ensures c.counted.ensures (found_decided false c.args.p.budget)) })
 
+pub free-returns-then-open : goal.free-returns-then-open
+free-returns-then-open t c = (c.sides.ensures.0, record { result = λ D R os s task opened inside is. enter_open task opened c.args.p.budget c.sides.result c.recorded_in-value.result inside is c.recorded_in-value.ensures c.if-open.true (c.sides.ensures.1.result D R os s free task opened inside refl) })
+
 pub free-returns : goal.free-returns
-free-returns t c = (record { kept = rows_side (left_as c.below-below.ensures.0 c.below-below.ensures.1 refl c.visit.ensures.0).kept; fewer = omega (arith, c.visit.ensures.0.fewer, c.below-below.ensures.2) }, record { result = λ D R os s task opened inside. enter_recorded task opened c.args.p.budget c.visit.result c.recorded_in-value.result inside c.recorded_in-value.ensures c.if-open.false (found_with c.below-below.ensures.2 ((visited_as c.below-below.ensures.0 c.below-below.ensures.1 refl c.visit.ensures.1).result D R os s c.args.p.at task opened inside refl)) })
+free-returns t c = (record { kept = rows_side (left_as c.below-below.ensures.0 c.below-below.ensures.1 refl c.visit.ensures.0).kept; fewer = omega (arith, c.visit.ensures.0.fewer, c.below-below.ensures.2) }, record { result = λ D R os s task opened inside is. enter_recorded task opened c.args.p.budget c.visit.result c.recorded_in-value.result inside is c.recorded_in-value.ensures c.if-open.false (found_with c.below-below.ensures.2 ((visited_as c.below-below.ensures.0 c.below-below.ensures.1 refl c.visit.ensures.1).result D R os s c.args.p.at task opened inside refl)) })
 
 -- ---- sides
 pub sides-returns-then-is_enough : goal.sides-returns-then-is_enough

@@ -5,4 +5,4 @@ use Rattle.qdimacs_printer.proofs.Printing.{book_printed}
 use Rattle.qdimacs_printer.proofs.put_book.Goals as goal
 
 pub returns : goal.returns
-returns c = book_printed (omega (arith, paper_longest)) c.write_book-written.ensures
+returns c = book_printed c.args.x (omega (arith, paper_longest)) c.write_book-written.ensures

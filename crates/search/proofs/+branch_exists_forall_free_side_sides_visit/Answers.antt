@@ -5,7 +5,7 @@ use mathlib.Core.Bool.{false, true≢false}
 use Prim.Native.Nat.{◌*◌}
 use mathlib.Core.List.{List}
 use Prim.Native.Nat.{ℕ}
-use Rattle.qbf.specs.Formula.{paper}
+use Rattle.qbf.specs.Formula.{highest}
 use Rattle.node.specs.declared.Verdict.TheVariants.{No}
 use Rattle.inner.specs.declared.Leaf.{Leaf}
 use Rattle.search_entry.specs.declared.Search.{Search}
@@ -65,7 +65,7 @@ sides-returns-then-up_or_aside t c = let more = more_places _ c.args.p.at c.args
 pub sides-returns : goal.sides-returns
 sides-returns t c = let more = more_places _ c.args.p.at c.args.kind c.requires.next c.requires.code in
     let line = c.line_if-lines.ensures.table_len_unchanged in
-    let put : AsideKept (c.args.p.at * paper.numbers) c.side-off.new.search.aside c.up_or_aside.new.aside = record { size = omega (arith, c.up_or_aside.ensures.size); first = c.up_or_aside.ensures.put.0 } in
+    let put : AsideKept (c.args.p.at * highest.numbers) c.side-off.new.search.aside.now c.up_or_aside.new.aside = record { size = omega (arith, c.up_or_aside.ensures.size); first = c.up_or_aside.ensures.put.0 } in
     let on_aside = aside_up c.args.p c.to_on.result _ _ c.to_on.ensures c.side-on.ensures.left.1 in
     record {
       left = (
@@ -87,7 +87,7 @@ sides-returns t c = let more = more_places _ c.args.p.at c.args.kind c.requires.
                   (sides_result c.args.kind c.args.p c.to_off.result c.to_off.ensures c.side-off.result c.side-off.ensures.side_visited c.up_or_aside.result (rw c.entry_of-row.ensures.0 at c.up_or_aside.ensures.up) c.side-off.ensures.left.0.kept
                   c.lined-one.result c.lined-one.ensures c.line_if-lines.result line.1 line.2 c.line_if-lines.ensures.covers
                   c.to_on.result c.to_on.ensures c.side-on.result c.side-on.ensures.side_visited _
-                  (aside_row (c.args.p.at * paper.numbers) c.side-off.result.len (omega (arith, c.side-off.result.inside.short)) on_aside ∙ (rw c.entry_of-row.ensures.1 at c.up_or_aside.ensures.put.1) c.if-up_or_aside.false ∙ c.entry_of-row.ensures.0)
+                  (aside_row (c.args.p.at * highest.numbers) c.side-off.result.len (omega (arith, c.side-off.result.inside.short)) on_aside ∙ (rw c.entry_of-row.ensures.1 at c.up_or_aside.ensures.put.1) c.if-up_or_aside.false ∙ c.entry_of-row.ensures.0)
                   c.finish-both.result (rw (c.put_by-put.ensures.0, c.put_by-put.ensures.1, c.put_by-put.ensures.2, c.put_by-put.ensures.3) at c.finish-both.ensures.joined) c.if-up_or_aside.false c.finish-both.ensures.finished.0.budget
                   c.side-on.ensures.left.0.kept.statuses_restored c.lined-two.result c.lined-two.ensures c.settle_lines-after.result c.settle_lines-after.ensures.table_len_unchanged.1 c.settle_lines-after.ensures.table_len_unchanged.2
                   c.settle_lines-after.ensures.settled_to
@@ -104,7 +104,7 @@ side-returns t c = record {
       kept = record {
         statuses_restored =
             c.restore.ensures
-            ∙ statuses_back c.args.p.at c.args.value _ _ c.args.search.now.statuses _ (omega (arith, c.requires.room.within)) (c.visit-below.ensures.left.0.kept.statuses_restored ∙ c.give-above.ensures.0) c.give-above.ensures.1 c.give-above.ensures.2;
+            ∙ statuses_back c.args.p.at c.args.value _ _ c.args.search.now.statuses.now _ (omega (arith, c.requires.room.within, c.give_value-above.ensures.long)) (c.visit-below.ensures.left.0.kept.statuses_restored ∙ c.give_value-above.ensures.given.0) c.give_value-above.ensures.given.1 c.give_value-above.ensures.given.2;
         size = c.visit-below.ensures.left.0.kept.size;
         rows = c.visit-below.ensures.left.0.kept.rows;
       };
@@ -114,7 +114,7 @@ side-returns t c = record {
   side_visited = record {
     result = λ D s b ls R g st k task opened inside e v.
         result_as (sym c.with_lines.ensures)
-        (side_result D s b ls R g st k c.args.p task opened inside e c.requires.room.within (omega arith) c.args.value v c.give-above.ensures.0 (c.visit-below.ensures.reached.visited refl));
+        (side_result D s b ls R g st k c.args.p task opened inside e c.requires.room.within c.give_value-above.ensures.long c.args.value v c.give_value-above.ensures.given.0 (c.visit-below.ensures.reached.visited refl));
   };
 }
 
@@ -125,9 +125,9 @@ visit-returns-then-is_open t c = let opened = sym c.is_open.ensures ∙ c.if-is_
     let z = c.branch-below.new.search in
     elim c.if-at_start.branch [
       | visit-then-at_start w ↦ record {
-        left = open_left x x.trail w.search-is z _ _ (sym c.with_lines.ensures) (rows_same _ _ _ _) c.branch-below.ensures.left;
+        left = open_left x x.trail.now w.search-is z _ _ (sym c.with_lines.ensures) (rows_same _ _ _ _) c.branch-below.ensures.left;
         reached = record {
-          followed = λ e. open_followed {p = p} x x.trail w.search-is z _ _ (sym c.with_lines.ensures) c.args.matrix.now c.branch-below.ensures.followed;
+          followed = λ e. open_followed {p = p} x x.trail.now w.search-is z _ _ (sym c.with_lines.ensures) c.args.matrix.now c.branch-below.ensures.followed;
           visited = λ e. absurd (true≢false (sym w.if-at_start.true ∙ e));
         };
       }

@@ -7,5 +7,5 @@ use Rattle.unloading.proofs.unload_rows.Given as goal
 
 abbrev pub invariant-loop-k : goal.invariant-loop-k
 invariant-loop-k l = Same l.initial.table l.table
-    × Unloading l.initial.table.width l.numbers l.shelf.cells l.shelf.links l.initial.table.sizes.now l.k l.table.cells.now l.table.sizes.now
+    × Unloading l.initial.table.width l.numbers l.shelf.cells.now l.shelf.links.now l.initial.table.sizes.now l.k l.table.cells.now l.table.sizes.now
     × (length l.table.cells.now ≡ length l.initial.table.cells.now)

@@ -1,13 +1,16 @@
 //! The program `pages` of this implementation: a book on standard input, the pages of its card on
 //! standard output.
 
+use compare::cases::Program;
+use compare::limits::of_this_program;
 use compare::page::pages_program;
 use compare::text::LARGEST_TEXT;
 use compare::Options;
 use std::io::{self, Read, Write};
 
 fn main() -> io::Result<()> {
+    let Some(limits) = of_this_program(Program::Pages) else { return Ok(()) };
     let mut text = vec![];
     io::stdin().lock().take(LARGEST_TEXT as u64 + 1).read_to_end(&mut text)?;
-    io::stdout().write_all(&pages_program(&text, &Options::paper(), None))
+    io::stdout().write_all(&pages_program(&text, &Options::with(limits), None))
 }

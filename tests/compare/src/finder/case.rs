@@ -30,7 +30,7 @@ impl Case {
 
     pub fn slipped_answers(&self, slip: Slip) -> Vec<Answer> {
         let judges_state = slip.judges_state();
-        let options = Options { limits: self.limits, slip: Some(slip), judges_state };
+        let options = Options { slip: Some(slip), judges_state, ..Options::with(self.limits) };
         Solver::new(self.state.clone(), options).run(&self.calls)
     }
 

@@ -1,68 +1,29 @@
--- `answers::in_place::query` meets its contract.
-use native.Mathlib.Omega.{arith}
+-- `answers::in_place::query` meets its contract: what was answered on the state as it was checked, with what was learned written back.
+use mathlib.Core.Path.{ap, subst, sym, ◌∙◌}
 use mathlib.Core.Bool.{true}
-use mathlib.Core.Path.{ap, refl, subst, sym, ◌∙◌}
 use Rattle.qbf.specs.Calls.{query}
 use Rattle.state.specs.declared.State.{State}
 use Rattle.state.specs.Reading.{valid}
 use Rattle.state.specs.Derived.{Checked}
 use Rattle.state.proofs.Checks.{refused_invalid}
-use Rattle.state.proofs.Valid.{valid_numbers, valid_quantified}
-use Rattle.serving.proofs.Calls.{malformed}
-use Rattle.reading.proofs.Querying.{read_refused}
 use Rattle.answers.proofs.Lending.{served_back}
-use Rattle.answers.proofs.Running.{ready, open_ready, free_within, free_small}
-use Rattle.answers.proofs.Asking.{served_as_lem, read_ready, asked_by, halted_by, refused_query, open_shown, open_by}
+use Rattle.answers.proofs.Keeping.{malformed_as, few_learned, narrow, served_same, served_kept}
 use Rattle.answers.proofs.in_place.query.Goals as goal
 
 pub returns-in_default-clause-serves : goal.returns-in_default-clause-serves
-returns-in_default-clause-serves c = served_as_lem _ (query c.args.asked.ceiling _ _) c.refused.ensures (malformed _ (query c.args.asked.ceiling _ _) (ap valid (sym c.lent.ensures) ∙ refused_invalid _ c.check.result c.check.ensures c.in_default.not-Ok))
+returns-in_default-clause-serves c = malformed_as _ (query c.args.asked.ceiling _ _) (ap valid (sym c.lent.ensures) ∙ refused_invalid _ c.check.result c.check.ensures c.in_default.not-Ok) c.refused.ensures
 
-pub returns-in_default-read-clause-serves : goal.returns-in_default-read-clause-serves
-returns-in_default-read-clause-serves c = let checked = subst (λ (x : State). Checked x true c.in-Ok.prefix.places c.in-Ok.prefix.kinds) c.lent.ensures c.in-Ok.ensures in
+pub write_back-requires : goal.write_back-requires
+write_back-requires c = let checked = subst (λ (x : State). Checked x true c.in-Ok.prefix.places c.in-Ok.prefix.kinds) c.lent.ensures c.in-Ok.ensures in
     let v = sym checked.said in
-    let frees = c.free_count-free.ensures _ (valid_numbers _ v) (valid_quantified _ v) in
-    served_as_lem _ (query c.args.asked.ceiling _ _) c.refused-in_default-read.ensures
-    (refused_query _ v frees (read_refused c.read.result (c.read.ensures _ _ (read_ready _ v frees (checked.placed v))) c.in_default-read.not-Ok) c.args.asked.ceiling refl)
+    let short = narrow _ _ c.checked.ensures (query c.args.asked.ceiling _ _) _ v _ _ c.in-Some.is c.query-learned.ensures checked.sized in
+    (few_learned _ v, short.0, short.1)
 
-pub invariant_of-completing : goal.invariant_of-completing
-invariant_of-completing c = let checked = subst (λ (x : State). Checked x true c.in-Ok.prefix.places c.in-Ok.prefix.kinds) c.lent.ensures c.in-Ok.ensures in
-    let v = sym checked.said in
-    let frees = c.free_count-free.ensures _ (valid_numbers _ v) (valid_quantified _ v) in
-    record { ready = open_ready _ v checked.sized _ (free_small _ v _ frees) }
+pub returns-in-Some-clause-serves : goal.returns-in-Some-clause-serves
+returns-in-Some-clause-serves c = let checked = subst (λ (x : State). Checked x true c.in-Ok.prefix.places c.in-Ok.prefix.kinds) c.lent.ensures c.in-Ok.ensures in
+    served_back _ _ c.write_back.ensures.held
+    (served_kept _ _ c.checked.ensures (query c.args.asked.ceiling _ _) _ (sym checked.said) _ _ c.in-Some.is c.query-learned.ensures checked.sized c.write_back.ensures.back)
 
-pub returns-then-not-full-clause-serves : goal.returns-then-not-full-clause-serves
-returns-then-not-full-clause-serves c = let checked = subst (λ (x : State). Checked x true c.in-Ok.prefix.places c.in-Ok.prefix.kinds) c.lent.ensures c.in-Ok.ensures in
-    let v = sym checked.said in
-    let frees = c.free_count-free.ensures _ (valid_numbers _ v) (valid_quantified _ v) in
-    let read = c.in-Ok-read.ensures _ _ (read_ready _ v frees (checked.placed v)) in
-    let partly = c.if-not-full.true in
-    open_by _ v frees read refl partly c.args.asked.ceiling (c.query.ensures.ruled _ _ (open_shown _ v frees read refl partly (checked.placed v) (checked.kinded v)))
-
-pub invariant_of-task : goal.invariant_of-task
-invariant_of-task c = let checked = subst (λ (x : State). Checked x true c.in-Ok.prefix.places c.in-Ok.prefix.kinds) c.lent.ensures c.in-Ok.ensures in
-    let v = sym checked.said in
-    record { few = free_small _ v _ (c.free_count-free.ensures _ (valid_numbers _ v) (valid_quantified _ v)); bounded = c.budget_of.ensures.1 }
-
-pub run-found-requires : goal.run-found-requires
-run-found-requires c = let checked = subst (λ (x : State). Checked x true c.in-Ok.prefix.places c.in-Ok.prefix.kinds) c.lent.ensures c.in-Ok.ensures in
-    let v = sym checked.said in
-    let frees = c.free_count-free.ensures _ (valid_numbers _ v) (valid_quantified _ v) in
-    ready _ v checked.sized _ (omega (arith, free_within _ v _ frees))
-
-pub returns-then-found-eq0-clause-serves : goal.returns-then-found-eq0-clause-serves
-returns-then-found-eq0-clause-serves c = let checked = subst (λ (x : State). Checked x true c.in-Ok.prefix.places c.in-Ok.prefix.kinds) c.lent.ensures c.in-Ok.ensures in
-    let v = sym checked.said in
-    let frees = c.free_count-free.ensures _ (valid_numbers _ v) (valid_quantified _ v) in
-    served_back _ _ c.run-found.ensures.held
-    (served_as_lem _ (query c.args.asked.ceiling _ _) c.stopped.ensures
-    (halted_by _ v frees (c.in-Ok-read.ensures _ _ (read_ready _ v frees (checked.placed v))) c.args.asked.ceiling c.run-found.result _ _ (checked.placed v) (checked.kinded v)
-    refl c.if-not-full.false (c.run-found.ensures.ran v) refl c.budget_of.ensures.0 c.if-found-eq0.true))
-
-pub returns-clause-serves : goal.returns-clause-serves
-returns-clause-serves c = let checked = subst (λ (x : State). Checked x true c.in-Ok.prefix.places c.in-Ok.prefix.kinds) c.lent.ensures c.in-Ok.ensures in
-    let v = sym checked.said in
-    let frees = c.free_count-free.ensures _ (valid_numbers _ v) (valid_quantified _ v) in
-    served_back _ _ c.run-found.ensures.held
-    (asked_by _ v frees (c.in-Ok-read.ensures _ _ (read_ready _ v frees (checked.placed v))) c.args.asked.ceiling c.run-found.result _ _ (checked.placed v) (checked.kinded v)
-    refl c.if-not-full.false (c.run-found.ensures.ran v) refl c.budget_of.ensures.0 c.visits_of.result c.visits_of.ensures c.if-found-eq0.false c.of.ensures)
+pub returns-in-None-clause-serves : goal.returns-in-None-clause-serves
+returns-in-None-clause-serves c = let checked = subst (λ (x : State). Checked x true c.in-Ok.prefix.places c.in-Ok.prefix.kinds) c.lent.ensures c.in-Ok.ensures in
+    served_same _ _ c.checked.ensures (query c.args.asked.ceiling _ _) _ (sym checked.said) _ c.in-None.is c.query-learned.ensures

@@ -15,8 +15,8 @@ use Rattle.both_sides.proofs.join.join.Goals as goal
 
 pub returns-then-lacks : goal.returns-then-lacks
 returns-then-lacks c = let on = c.args.on in
-    let row : c.entry-row.result.now ≡ entry_at (bounds_of on) c.args.matrix.now.rows c.args.learned.now.cells c.args.area.now =
-    c.entry-row.ensures.0 ∙ ap (λ (b : Bounds). entry_at b c.args.matrix.now.rows c.args.learned.now.cells c.args.area.now) c.bounds_of.ensures in (
+    let row : c.entry-row.result.now ≡ entry_at (bounds_of on) c.args.matrix.now.rows c.args.learned.now.cells.now c.args.area.now =
+    c.entry-row.ensures.0 ∙ ap (λ (b : Bounds). entry_at b c.args.matrix.now.rows c.args.learned.now.cells.now c.args.area.now) c.bounds_of.ensures in (
       side_same on,
       omega arith,
       λ D e f es q he hf oe of le lf sh hs.
@@ -25,14 +25,14 @@ returns-then-lacks c = let on = c.args.on in
 
 pub returns : goal.returns
 returns c = let on = c.args.on in
-    let row : c.entry-row.result.now ≡ entry_at (bounds_of on) c.args.matrix.now.rows c.args.learned.now.cells c.args.area.now =
-    c.entry-row.ensures.0 ∙ ap (λ (b : Bounds). entry_at b c.args.matrix.now.rows c.args.learned.now.cells c.args.area.now) c.bounds_of.ensures in (
+    let row : c.entry-row.result.now ≡ entry_at (bounds_of on) c.args.matrix.now.rows c.args.learned.now.cells.now c.args.area.now =
+    c.entry-row.ensures.0 ∙ ap (λ (b : Bounds). entry_at b c.args.matrix.now.rows c.args.learned.now.cells.now c.args.area.now) c.bounds_of.ensures in (
       rw c.with_bounds.ensures (side_at_lem on c.store.result),
       c.store.ensures.0,
       λ D e f es q he hf oe of le lf sh hs.
           rw c.with_bounds.ensures
           (joined_named D c.args.off.at (is_of true on.verdict) e f of lf (c.ends_next-ends.ensures.1 D f (row ∙ hf)) c.if-lacks.false es
-          c.resolve-joined.result.cells c.resolve-joined.result.len c.resolve-joined.ensures.0
-          (subst (λ (v : Bool). take c.resolve-joined.result.len c.resolve-joined.result.cells ≡ codes D (resolvent D (suc c.args.off.at) v e f)) c.is_of-cube.ensures (c.resolve-joined.ensures.1 D e f q he (row ∙ hf) oe of le lf)) sh
-          c.store.result c.args.matrix.now.rows c.store.new.learned.cells c.args.area.now hs (λ h k. c.store.ensures.1 (simp length-take (omega (arith, h))) k)),
+          c.resolve-len.new.area c.resolve-len.result c.resolve-len.ensures.0
+          (subst (λ (v : Bool). take c.resolve-len.result c.resolve-len.new.area ≡ codes D (resolvent D (suc c.args.off.at) v e f)) c.is_of-cube.ensures (c.resolve-len.ensures.1 D e f q he (row ∙ hf) oe of le lf)) sh
+          c.store.result c.args.matrix.now.rows c.store.new.learned.cells.now c.args.area.now hs (λ h k. c.store.ensures.1 (simp length-take (omega (arith, h))) k)),
     )

@@ -1,4 +1,5 @@
 -- `rules::in_place::one` meets its contract: what is added stands on a valid state, and there is room for it.
+use native.Mathlib.Omega.{arith}
 use mathlib.Core.Path.{refl}
 use Rattle.std.proofs.lemmas.Result.{err_from_is_err_and}
 use Rattle.qbf.specs.Calls.{one}
@@ -16,11 +17,8 @@ returns-in_err-judge_form-clause-serves c =
     let p = err_from_is_err_and c.from_residual-in_err-judge_form.result c.from_residual-in_err-judge_form.ensures.1 in
     rw (p.1, p.2) (one_refused _ c.args.lits.now (checked_lent c.lent-lent.ensures c.in_ok-places.ensures) c.in_err-judge_form.ensures _ refl)
 
-pub invariant_of-rows : goal.invariant_of-rows
-invariant_of-rows c = let r = one_room _ c.args.lits.now (checked_lent c.lent-lent.ensures c.in_ok-places.ensures) c.in_ok-judge_form.ensures refl in record { table = r.0 }
-
-pub accept_one-requires : goal.accept_one-requires
-accept_one-requires c = let r = one_room _ c.args.lits.now (checked_lent c.lent-lent.ensures c.in_ok-places.ensures) c.in_ok-judge_form.ensures refl in (r.1, r.3)
+pub add_one-requires : goal.add_one-requires
+add_one-requires c = let r = one_room _ c.args.lits.now (checked_lent c.lent-lent.ensures c.in_ok-places.ensures) c.in_ok-judge_form.ensures refl in (omega arith, r.0, r.1, r.3)
 
 pub returns-clause-serves : goal.returns-clause-serves
-returns-clause-serves c = one_accepted _ c.args.lits.now (checked_lent c.lent-lent.ensures c.in_ok-places.ensures) c.in_ok-judge_form.ensures refl c.accept_one.ensures.accepted
+returns-clause-serves c = one_accepted _ c.args.lits.now (checked_lent c.lent-lent.ensures c.in_ok-places.ensures) c.in_ok-judge_form.ensures refl c.add_one.ensures c.clear.ensures

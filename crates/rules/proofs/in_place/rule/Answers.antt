@@ -1,4 +1,5 @@
 -- `rules::in_place::rule` meets its contract: what is added stands on a valid state, and there is room for it.
+use native.Mathlib.Omega.{arith}
 use mathlib.Core.Path.{refl}
 use Rattle.std.proofs.lemmas.Result.{err_from_is_err_and}
 use Rattle.qbf.specs.Calls.{rule}
@@ -16,8 +17,8 @@ returns-in_err-judge_rule-clause-serves c =
     let p = err_from_is_err_and c.from_residual-in_err-judge_rule.result c.from_residual-in_err-judge_rule.ensures.1 in
     rw (p.1, p.2) (rule_refused _ c.args.lits.now (checked_lent c.lent-whole.ensures c.in_ok-places.ensures) c.in_err-judge_rule.ensures _ refl)
 
-pub invariant_of-rows : goal.invariant_of-rows
-invariant_of-rows c = let r = rule_room _ c.args.lits.now (checked_lent c.lent-whole.ensures c.in_ok-places.ensures) c.in_ok-judge_rule.ensures refl in record { table = r.0 }
+pub add_rule-requires : goal.add_rule-requires
+add_rule-requires c = let r = rule_room _ c.args.lits.now (checked_lent c.lent-whole.ensures c.in_ok-places.ensures) c.in_ok-judge_rule.ensures refl in (omega arith, r.0, r.1)
 
 pub returns-clause-serves : goal.returns-clause-serves
-returns-clause-serves c = rule_accepted _ c.args.lits.now (checked_lent c.lent-whole.ensures c.in_ok-places.ensures) c.in_ok-judge_rule.ensures refl c.accept.ensures.accepted
+returns-clause-serves c = rule_accepted _ c.args.lits.now (checked_lent c.lent-whole.ensures c.in_ok-places.ensures) c.in_ok-judge_rule.ensures refl c.add_rule.ensures c.clear.ensures

@@ -18,12 +18,12 @@ returns-then-count-eq0-clause-serves c =
     let k = checked_lent c.lent-lent.ensures c.in_ok-check.ensures in
     none_to_withdraw (withdrawing_state c.args.tables.now) (sym k.said) (omega (arith, c.if-count-eq0.true))
 
-pub invariant_of-left : goal.invariant_of-left
-invariant_of-left c =
+pub leave-requires : goal.leave-requires
+leave-requires c =
     let k = checked_lent c.lent-lent.ensures c.in_ok-check.ensures in
-    record { room = learned_room (withdrawing_state c.args.tables.now) (sym k.said) k.sized; long = k.sized.learned_clause_sizes_room }
+    (omega arith, learned_room (withdrawing_state c.args.tables.now) (sym k.said) k.sized)
 
 pub returns-clause-serves : goal.returns-clause-serves
 returns-clause-serves c =
     let k = checked_lent c.lent-lent.ensures c.in_ok-check.ensures in
-    withdrawn (withdrawing_state c.args.tables.now) (sym k.said) k.sized c.leave.ensures.kept (omega arith)
+    withdrawn (withdrawing_state c.args.tables.now) (sym k.said) k.sized c.leave.ensures (omega arith)

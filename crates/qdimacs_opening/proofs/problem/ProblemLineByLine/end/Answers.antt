@@ -7,7 +7,7 @@ pub returns-then-eq : goal.returns-then-eq
 returns-then-eq c = end_started c.args.self (is_part c.args.self.head.part Start c.eq.ensures c.if-eq.true)
 
 pub returns-then-count-self : goal.returns-then-count-self
-returns-then-count-self c = end_other c.args.self (not_part c.args.self.head.part Start c.eq.ensures c.if-eq.false) c.count.ensures c.if-count-self.true
+returns-then-count-self c = end_other c.args.self (not_part c.args.self.head.part Start c.eq.ensures c.if-eq.false) c.count.ensures c.whole-whole.ensures c.if-count-self.true
 
 pub returns : goal.returns
-returns c = end_whole c.args.self (not_part c.args.self.head.part Start c.eq.ensures c.if-eq.false) c.count.ensures c.if-count-self.false c.whole.ensures
+returns c = end_whole c.args.self (not_part c.args.self.head.part Start c.eq.ensures c.if-eq.false) c.count.ensures c.whole-whole.ensures c.if-count-self.false

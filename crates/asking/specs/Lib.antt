@@ -1,0 +1,3 @@
+pub mod OpenRun
+pub mod Answered
+pub mod Stored

@@ -1,0 +1,4 @@
+pub mod Books
+pub mod Cuts
+pub mod Lines
+pub mod Runs

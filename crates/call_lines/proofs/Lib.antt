@@ -1,0 +1,4 @@
+pub mod Cut
+pub mod Calls
+pub mod Searches
+pub mod Shares

@@ -1,0 +1,4 @@
+pub mod Calling
+pub mod Sharing
+pub mod Small
+pub mod Flags

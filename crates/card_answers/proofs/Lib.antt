@@ -1,0 +1,4 @@
+pub mod FreeLines
+pub mod NamesRead
+pub mod CardTexts
+pub mod LastCard

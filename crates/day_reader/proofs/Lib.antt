@@ -1,0 +1,3 @@
+pub mod Cuts
+pub mod Lines
+pub mod Asked

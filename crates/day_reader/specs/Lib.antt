@@ -1,0 +1,3 @@
+pub mod Read
+pub mod Limits
+pub mod Placed

@@ -1,0 +1,4 @@
+pub mod Taking
+pub mod Lines
+pub mod Turns
+pub mod Served

@@ -1,0 +1,3 @@
+pub mod Line
+pub mod Changes
+pub mod Cards

@@ -1,0 +1,9 @@
+pub mod Laws
+pub mod Growing
+pub mod Blocks
+pub mod Taking
+pub mod Judging
+pub mod Turns
+pub mod Reading
+pub mod Preparing
+pub mod Closed

@@ -1,0 +1,5 @@
+pub mod Standing
+pub mod Lines
+pub mod Blocks
+pub mod Forms
+pub mod Opened

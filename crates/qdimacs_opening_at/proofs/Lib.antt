@@ -1,0 +1,10 @@
+pub mod Freed
+pub mod Forming
+pub mod Building
+pub mod Completing
+pub mod Counting
+pub mod Taking
+pub mod Judging
+pub mod Turns
+pub mod Formed
+pub mod Served

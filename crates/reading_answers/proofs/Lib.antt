@@ -1,0 +1,3 @@
+pub mod NearestTexts
+pub mod LastCard
+pub mod Served

@@ -1,0 +1,3 @@
+pub mod Checked
+pub mod Back
+pub mod Full

@@ -1,0 +1,5 @@
+pub mod Requests
+pub mod Books
+pub mod Calls
+pub mod Turns
+pub mod Runs

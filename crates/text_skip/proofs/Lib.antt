@@ -1,0 +1,3 @@
+pub mod Seen
+pub mod Skipping
+pub mod Fed

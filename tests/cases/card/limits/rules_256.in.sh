@@ -1,0 +1,2 @@
+# 256 rules
+awk 'BEGIN { print "(book 1)\n(flags 1)"; for (n = 0; n < 256; n++) print "(rule 1)"; print "(end)" }'

@@ -1,0 +1,31 @@
+# flag 1, exists 2 to 1000, each equal to the one before, and rule 1000
+awk 'BEGIN {
+    print "(book 1)\n(flags 1)"
+    printf "(exists"
+    for (n = 2; n <= 1000; n++) printf " %d", n
+    print ")"
+    for (n = 2; n <= 1000; n++) printf "(rule (no %d) %d)\n(rule %d (no %d))\n", n - 1, n, n - 1, n
+    print "(rule 1000)\n(end)"
+    print "(query 1)"
+    print "(query (no 1))"
+    print "(query)"
+    print "(card (ceiling 3998))"
+    print "(card)"
+    print "(card)"
+    print "(keep-card)"
+    print "(page 1)"
+    print "(closest (no 1))"
+    print "(closest 1 (bytes 0))"
+    print "(closest 1 (ceiling 0))"
+    print "(forget)"
+    print "(card (ceiling 3999))"
+    print "(rule (no 1000))"
+    print "(card)"
+    print "(withdraw)"
+    print "(withdraw)"
+    print "(card)"
+    print "(write 9)"
+    print "(query 1001)"
+    print "(rule 1001)"
+    print "(rule 1000 (no 1000))"
+}'

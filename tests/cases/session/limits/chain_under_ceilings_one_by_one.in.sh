@@ -1,0 +1,33 @@
+# flag 1, exists 2 to 1000, each equal to the one before, and rule 1000
+awk 'BEGIN {
+    print "(book 1)\n(flags 1)"
+    printf "(exists"
+    for (n = 2; n <= 1000; n++) printf " %d", n
+    print ")"
+    for (n = 2; n <= 1000; n++) printf "(rule (no %d) %d)\n(rule %d (no %d))\n", n - 1, n, n - 1, n
+    print "(rule 1000)\n(end)"
+    print "(card (ceiling 0))"
+    print "(forget)"
+    print "(card (ceiling 1))"
+    print "(forget)"
+    print "(card (ceiling 1000))"
+    print "(forget)"
+    print "(card (ceiling 1001))"
+    print "(forget)"
+    print "(card (ceiling 1002))"
+    print "(forget)"
+    print "(card (ceiling 3996))"
+    print "(forget)"
+    print "(card (ceiling 3997))"
+    print "(forget)"
+    print "(card (ceiling 3998))"
+    print "(forget)"
+    print "(card (ceiling 3999))"
+    print "(forget)"
+    print "(card (ceiling 4000))"
+    print "(forget)"
+    print "(card (ceiling 3998))"
+    print "(card (ceiling 1999))"
+    print "(card (ceiling 2000))"
+    print "(card (ceiling 2001))"
+}'
