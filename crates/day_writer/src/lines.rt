@@ -18,7 +18,8 @@ const SHARE: usize = 85;
 
 // The place of the answer that follows.
 #[tactic(auto, using(crate::proofs::Rooms::at_room))]
-pub fn write_at(out: &mut [u8; LINE], place: u64) -> usize
+pub fn write_at(out: &mut [u8], place: u64) -> usize
+    requires { line_bytes ≤ length out.old }
     ensures { Wrote out.old 0 (at_text place) out.new result }
 {
     let mut text = Output { bytes: out, at: 0 };
@@ -27,7 +28,8 @@ pub fn write_at(out: &mut [u8; LINE], place: u64) -> usize
 }
 
 // .. of a text that was opened
-pub fn write_opened(out: &mut [u8; LINE], place: u64) -> usize
+pub fn write_opened(out: &mut [u8], place: u64) -> usize
+    requires { line_bytes ≤ length out.old }
     ensures { Wrote out.old 0 (at_text place ++ opened_text) out.new result }
 {
     let mut text = Output { bytes: out, at: 0 };
@@ -38,7 +40,8 @@ pub fn write_opened(out: &mut [u8; LINE], place: u64) -> usize
 
 // .. or refused, by its number and its line
 // stays (no plainer): `refusal_text` is of every number; a `Refusal` is one of 23, and would ask more of a caller
-pub fn write_refused(out: &mut [u8; LINE], place: u64, refusal: u16, line: u64) -> usize
+pub fn write_refused(out: &mut [u8], place: u64, refusal: u16, line: u64) -> usize
+    requires { line_bytes ≤ length out.old }
     ensures { Wrote out.old 0 (at_text place ++ refusal_text refusal line) out.new result }
 {
     let mut text = Output { bytes: out, at: 0 };
@@ -47,7 +50,8 @@ pub fn write_refused(out: &mut [u8; LINE], place: u64, refusal: u16, line: u64) 
     text.at
 }
 
-pub fn write_shares(out: &mut [u8; LINE], used: [u32; BOOKS], total: u32) -> usize
+pub fn write_shares(out: &mut [u8], used: [u32; BOOKS], total: u32) -> usize
+    requires { line_bytes ≤ length out.old }
     ensures { Wrote out.old 0 (shares_text total used) out.new result }
 {
     let mut text = Output { bytes: out, at: 0 };
