@@ -34,7 +34,7 @@ line_short : (l : Bytes) → length l ≤ text_bytes → as_line l ≡ some l
 line_short l h = ap (λ (t : Bool). cond t none (some l)) (le-ltb text_bytes (length l) h)
 
 -- Of a text that is too long nothing has to be kept: whatever follows, it is too long.
-joined_kept : (t l : Bytes) → joined_parts (kept t) (kept l) ≡ kept (t ++ l)
+pub joined_kept : (t l : Bytes) → joined_parts (kept t) (kept l) ≡ kept (t ++ l)
 joined_kept t l = by (dec_lt text_bytes (length t)) (dec_lt text_bytes (length l))
   where
     by : Dec (text_bytes < length t) → Dec (text_bytes < length l) → joined_parts (kept t) (kept l) ≡ kept (t ++ l)
@@ -42,7 +42,7 @@ joined_kept t l = by (dec_lt text_bytes (length t)) (dec_lt text_bytes (length l
     by (no h) (yes k) = rw (kept_short t (omega (arith, h)), kept_long l k) (sym (kept_long (t ++ l) (omega (arith, k, length-append t l))))
     by (no h) (no k) = rw (kept_short t (omega (arith, h)), kept_short l (omega (arith, k))) refl
 
-line_kept : (t l : Bytes) → with_line (kept t) (as_line l) ≡ kept (t ++ (l ++ (newline ∷ [])))
+pub line_kept : (t l : Bytes) → with_line (kept t) (as_line l) ≡ kept (t ++ (l ++ (newline ∷ [])))
 line_kept t l = by (dec_lt text_bytes (length t)) (dec_lt text_bytes (length l))
   where
     longer : length t + length l ≤ length (t ++ (l ++ (newline ∷ [])))
@@ -71,7 +71,7 @@ longer_other (a ∷ w) (b ∷ v) h = rw (longer_other w v (omega (arith, h))) (b
     by true = refl
     by false = refl
 
-end_told : (l : Bytes) → ends_text (as_line l) ≡ same l end_line
+pub end_told : (l : Bytes) → ends_text (as_line l) ≡ same l end_line
 end_told l = by (dec_lt text_bytes (length l))
   where
     by : Dec (text_bytes < length l) → ends_text (as_line l) ≡ same l end_line

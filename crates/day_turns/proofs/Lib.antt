@@ -1,0 +1,4 @@
+pub mod Texts
+pub mod Shows
+pub mod LineSteps
+pub mod Held

@@ -1,0 +1,3 @@
+pub mod Lent
+pub mod Turns
+pub mod Turned
