@@ -181,8 +181,8 @@ module _ {M : Type 0} (T : Shown M) (t : PlaceLine) (z : Loading) (p : Place) (r
           shows = (
             z,
             loads,
+            λ w. refl,
             record {
-              none = λ w. refl;
               line = f.0;
               text = f.1;
               seen = seen_last z t p.number bytes b long ∙ ap (λ (r : Step Held). seen_of r.held.part) f.2;
@@ -238,7 +238,7 @@ module _ {M : Type 0} (T : Shown M) (t : PlaceLine) (z : Loading) (p : Place) (r
         not_full = omega (arith, count, room, inside_, ne)
 
 -- ---- a text that is skipped
-module _ {M : Type 0} (T : Shown M) (k : Skipping) (z : Loading) (p : Place) (r : Day) (text_ : Bytes) (at : p.at ≤ p.held) (inside_ : p.held ≤ length text_) (d : Bytes) (h : Held) (w : SkippedIn z k p h) where
+module _ {M : Type 0} (T : Shown M) (k : Skipping) (z : Loading) (p : Place) (r : Day) (text_ : Bytes) (at : p.at ≤ p.held) (inside_ : p.held ≤ length text_) (d : Bytes) (h : Held) (w : SkippedIn z k p.number h) where
   abbrev q : Bytes
   q = drop p.at (take p.held text_)
 
@@ -320,7 +320,7 @@ module _ {M : Type 0} (T : Shown M) (k : Skipping) (z : Loading) (p : Place) (r 
       (record {
         left = record { at = omega arith; held = omega arith; room = refl; within = omega (arith, v.printed); few = omega (arith, ap length (none_used text_), count_few q) };
         next = next;
-        shows = (z, loads, record { none = λ y. refl; line = l; text = u; seen = seen_is; skips = skips; held = refl });
+        shows = (z, loads, λ y. refl, record { line = l; text = u; seen = seen_is; skips = skips; held = refl });
         fed =
             f
             ∙ ap (λ (n : ℕ). record { text = []; held = inside z (place_is k.told) (n + count_of_lines q) l u }) number_is

@@ -13,7 +13,7 @@ use Rattle.text_skip.specs.Fed.{Skips, inside}
 use Rattle.buffered_lines.specs.declared.Place.{Place}
 use Rattle.buffered_lines.specs.Places.{waits, skips, part_in}
 use Rattle.buffered_lines.specs.Turns.{View}
-use Rattle.buffered_lines.specs.Runs.{Program}
+use Rattle.buffered_lines.specs.Runs.{Program, TurnOf}
 use Rattle.day_reader.specs.declared.place.PlaceLine.{PlaceLine}
 use Rattle.day_reader.specs.Read.{place_is}
 use Rattle.day_turns.specs.declared.Stage.{Stage}
@@ -49,20 +49,23 @@ whose p = place_is (Some p)
 abbrev pub LoadsAs : {M : Type 0} → Shown M → List Bool → M → Loading → Type 0
 LoadsAs T g m z = (z.given ≡ g) × Loads T m z.total z.books
 
--- Where more of a text that is skipped is to be read, nothing of it is held.
-pub record Skipped (z : Loading) (k : Skipping) (p : Place) (h : Held) : Type 0 where
-  pub none : waits p.line ≡ true → p.held ≡ p.at
+-- in a text that is skipped, before line n or in it
+pub record Skipped (z : Loading) (k : Skipping) (n : ℕ) (h : Held) : Type 0 where
   pub line : Part
   pub text : Part
   pub seen : k.seen ≡ seen_of line
   pub skips : Skips (place_is k.told) line text
-  pub held : h ≡ inside z (place_is k.told) p.number line text
+  pub held : h ≡ inside z (place_is k.told) n line text
+
+-- where more of it is to be read, nothing of it is held
+abbrev pub Unheld : Place → Type 0
+Unheld p = waits p.line ≡ true → p.held ≡ p.at
 
 abbrev pub ShowsIn : {M : Type 0} → Shown M → Stage → Place → List Bool → M → Held → Type 0
 ShowsIn T stage.First p g m h = T.Lent m × (h ≡ line_in p first)
 ShowsIn T stage.Places p g m h = (z : Loading) × LoadsAs T g m z × (h ≡ line_in p (places z))
 ShowsIn T (stage.Text t) p g m h = (z : Loading) × LoadsAs T g m z × (skips p.line ≡ false) × (h ≡ at_line p.number (text z (whose t) (begun [])))
-ShowsIn T (stage.Skip k) p g m h = (z : Loading) × LoadsAs T g m z × Skipped z k p h
+ShowsIn T (stage.Skip k) p g m h = (z : Loading) × LoadsAs T g m z × Unheld p × Skipped z k p.number h
 ShowsIn T stage.Calls p g m h = (z : Served) × T.Serves m z × (h ≡ line_in p (calls z))
 ShowsIn T stage.Over p g m h = h.left ≡ over
 
@@ -91,3 +94,6 @@ day T answer_bytes =
       Quiet = Quiet;
       answer_bytes = answer_bytes;
     }
+
+abbrev pub Turned : {M : Type 0} → Shown M → ℕ → Day → ℕ → Bytes → M → Bytes → Day → Bytes → M → Bytes → Type 0
+Turned T answer_bytes s got buffer m d₀ r buffer' m' d = TurnOf (day T answer_bytes) s got buffer m d₀ r buffer' m' d

@@ -47,7 +47,13 @@ abbrev pub skipped_text : Answer PlaceLine → Bytes
 skipped_text None = []
 skipped_text (Some p) = at_text p.place ++ refusal_text 9 0
 
--- ---- the end
+-- ---- the start and the end
+-- before the first byte of the input
+pub record Started (r : Day) : Type 0 where
+  pub stage : r.stage ≡ stage.First
+  pub place : r.place ≡ record { line = Begun; at = 0; held = 0; number = 1 }
+  pub printed : r.length ≡ 0
+
 abbrev pub no_place : Place
 no_place = record { line = Next; at = 0; held = 0; number = 0 }
 
