@@ -77,7 +77,7 @@ not_37 (keep_card n size) = not_among 37 (22 ∷ 34 ∷ 21 ∷ []) refl
 not_37 (one ls) = not_among 37 (22 ∷ 7 ∷ 20 ∷ 3 ∷ 5 ∷ 6 ∷ []) refl
 not_37 (closest n size on off) = not_among 37 (22 ∷ 8 ∷ 34 ∷ 21 ∷ 35 ∷ []) refl
 
-stopped_number : (r : Reply) → refusal_of r ≡ some 34 → refusal_of (stopped_as 37 r) ≡ some 37
+pub stopped_number : (r : Reply) → refusal_of r ≡ some 34 → refusal_of (stopped_as 37 r) ≡ some 37
 stopped_number done e = absurd (let z : ◌≡◌ {A = ℕ} 0 1 = cc in omega arith)
 stopped_number (refused n) e = let q : n ≡ 34 = cc in ap (λ (k : ℕ). some (stop_as 37 k)) q
 stopped_number swap e = absurd (let z : ◌≡◌ {A = ℕ} 0 1 = cc in omega arith)
