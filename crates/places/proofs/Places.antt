@@ -36,16 +36,16 @@ use Rattle.places.proofs.Parts.{lent_at, put_beside, put_at, beside_other}
 
 -- ---- what a function gives for each place
 module _ {A : Type 0} where
-  get_from : (n i j : ℕ) (f : ℕ → A) (d : A) → j < n → get_or (from_on i n f) j d ≡ f (i + j)
+  pub get_from : (n i j : ℕ) (f : ℕ → A) (d : A) → j < n → get_or (from_on i n f) j d ≡ f (i + j)
   get_from zero i j f d h = absurd (not-suc-le-zero h)
   get_from (suc n) i zero f d h = let e : i ≡ i + 0 = omega arith in ap f e
   get_from (suc n) i (suc j) f d h = let e : suc i + j ≡ i + suc j = omega arith in get_from n (suc i) j f d (le_of_suc-le-suc h) ∙ ap f e
 
-  same_from : (n i : ℕ) (f g : ℕ → A) → ((k : ℕ) → i ≤ k → g k ≡ f k) → from_on i n g ≡ from_on i n f
+  pub same_from : (n i : ℕ) (f g : ℕ → A) → ((k : ℕ) → i ≤ k → g k ≡ f k) → from_on i n g ≡ from_on i n f
   same_from zero i f g s = refl
   same_from (suc n) i f g s = ap (λ (x : A). x ∷ from_on (suc i) n g) (s i (omega arith)) ∙ ap (λ (l : List A). f i ∷ l) (same_from n (suc i) f g (λ k h. s k (omega (arith, h))))
 
-  set_from : (n i j p : ℕ) (f g : ℕ → A) → p ≡ i + j → j < n → ((k : ℕ) → i ≤ k → (k ≡ p → ⊥) → g k ≡ f k) → from_on i n g ≡ set (from_on i n f) j (g p)
+  pub set_from : (n i j p : ℕ) (f g : ℕ → A) → p ≡ i + j → j < n → ((k : ℕ) → i ≤ k → (k ≡ p → ⊥) → g k ≡ f k) → from_on i n g ≡ set (from_on i n f) j (g p)
   set_from zero i j p f g e h s = absurd (not-suc-le-zero h)
   set_from (suc n) i zero p f g e h s =
       let q : i ≡ p = omega (arith, e) in
@@ -62,7 +62,7 @@ pub record Shared (T : ℕ) (us : List ℕ) (place : ℕ) (book : Bool) (m : ℕ
   pub stands : book ≡ true
   pub share : share_of T us place true ≡ Ok m
 
-shared : (T : ℕ) (us : List ℕ) (place : ℕ) (book : Bool) (m : ℕ) → share_of T us place book ≡ Ok m → Shared T us place book m
+pub shared : (T : ℕ) (us : List ℕ) (place : ℕ) (book : Bool) (m : ℕ) → share_of T us place book ≡ Ok m → Shared T us place book m
 shared T us place book m e = by book (outside place) refl e
   where
     accounted : Result ℕ Refusal
@@ -85,19 +85,19 @@ module _ (R : Rooms) (a : Accounts) (cells : List ℕ) (literals : List ℤ) (p 
   abbrev held : Held Lists
   held = held_in R a cells literals
 
-  below : p.place - 1 < books
+  pub below : p.place - 1 < books
   below = omega (arith, to_eight p.place inside, from_one p.place inside)
 
-  first : 1 + (p.place - 1) ≡ p.place
+  pub first : 1 + (p.place - 1) ≡ p.place
   first = omega (arith, from_one p.place inside)
 
   -- its tables
-  tables_here : get_or held.places (p.place - 1) none ≡ tables_at R a.books cells literals p.place
+  pub tables_here : get_or held.places (p.place - 1) none ≡ tables_at R a.books cells literals p.place
   tables_here = get_from books 1 (p.place - 1) (tables_at R a.books cells literals) none below ∙ ap (tables_at R a.books cells literals) first
 
   -- with its parts written, and other visits used
   module _ (us : List ℕ) (cells' : List ℕ) (literals' : List ℤ) (c : Beside R.cells p.place cells cells') (l : Beside R.literals p.place literals literals') where
-    held_after : held_in R (with_used a us) cells' literals' ≡ record { total = a.total; used = us; places = set held.places (p.place - 1) (tables_at R a.books cells' literals' p.place) }
+    pub held_after : held_in R (with_used a us) cells' literals' ≡ record { total = a.total; used = us; places = set held.places (p.place - 1) (tables_at R a.books cells' literals' p.place) }
     held_after =
         ap (λ (ps : List (Option Lists)). record { total = a.total; used = us; places = ps })
         (set_from books 1 (p.place - 1) p.place (tables_at R a.books cells literals) (tables_at R a.books cells' literals') (sym first) below other)
@@ -119,7 +119,7 @@ module _ (R : Rooms) (a : Accounts) (cells : List ℕ) (literals : List ℤ) (p 
   day = day_in R a cells literals
 
   -- whether the place has a book, as the definitions' day has it
-  told : outside i ≡ false → booked a.books i ≡ stands (get_or day.places (i - 1) none)
+  pub told : outside i ≡ false → booked a.books i ≡ stands (get_or day.places (i - 1) none)
   told inside = sym (ap stands (booked_in (tables_here R a cells literals p inside)) ∙ seen (booked a.books i))
     where
       booked_in : get_or (held_in R a cells literals).places (i - 1) none ≡ tables_at R a.books cells literals i → get_or day.places (i - 1) none ≡ book_in read_lists (tables_at R a.books cells literals i)

@@ -47,7 +47,7 @@ said_shared (some own) m (card_refused n tb) v = refl
 said_shared (some own) m (found ls tb r) v = refl
 
 -- ---- the places
-map_set : {A B : Type 0} (f : A → B) (l : List A) (i : ℕ) (y : A) → map f (set l i y) ≡ set (map f l) i (f y)
+pub map_set : {A B : Type 0} (f : A → B) (l : List A) (i : ℕ) (y : A) → map f (set l i y) ≡ set (map f l) i (f y)
 map_set f [] i y = refl
 map_set f (x ∷ l) zero y = refl
 map_set f (x ∷ l) (suc i) y = ap (λ (t : List _). f x ∷ t) (map_set f l i y)
@@ -57,7 +57,7 @@ map_get_or f [] i z = refl
 map_get_or f (x ∷ l) zero z = refl
 map_get_or f (x ∷ l) (suc i) z = map_get_or f l i z
 
-said_visits : (r : Reply) (v : ℕ) → (said_reply r v).visits ≡ v
+pub said_visits : (r : Reply) (v : ℕ) → (said_reply r v).visits ≡ v
 said_visits done v = refl
 said_visits (refused n) v = refl
 said_visits swap v = refl
