@@ -5,10 +5,12 @@
 #include <string.h>
 #include <time.h>
 
-enum { NUMBERS = 40, RULES = 255, LITERALS = 16, READINGS = 1000 };
+enum { NUMBERS = 40, RULES = 255, LITERALS = 16, READINGS = 1000, TEXT = 65536 };
 enum { FLAG, EXISTS, FORALL };
 
 struct book {
+    char text[TEXT]; // through its line `(end)`
+    int length_of_text;
     int n, flags, m, readings;
     int16_t number[NUMBERS]; // of each place
     uint8_t kind[NUMBERS];
@@ -62,9 +64,19 @@ static int starts(const char *line, const char *word)
     return !strncmp(line, word, strlen(word));
 }
 
+static void keep_text(struct book *b, const char *line)
+{
+    int n = strlen(line);
+    if (b->length_of_text + n > TEXT)
+        exit(1);
+    memcpy(b->text + b->length_of_text, line, n);
+    b->length_of_text += n;
+}
+
 static void read_book(const char *path, struct book *b)
 {
-    static char line[65536];
+    static char line[TEXT];
+    int ended = 0;
     FILE *f = fopen(path, "r");
     if (!f) {
         perror(path);
@@ -72,6 +84,9 @@ static void read_book(const char *path, struct book *b)
     }
     memset(b, 0, sizeof *b);
     while (fgets(line, sizeof line, f)) {
+        if (!ended)
+            keep_text(b, line);
+        ended |= starts(line, "(end)");
         if (starts(line, "(flags")) declare(b, line + 6, FLAG);
         if (starts(line, "(exists")) declare(b, line + 7, EXISTS);
         if (starts(line, "(forall")) declare(b, line + 7, FORALL);

@@ -5,14 +5,17 @@
 //     gcc -O2 -I../include others.c ../target/staticlib/libbullacetop.a -lqdpll -lbdd -lm -o others      Debian's packages depqbf and libbdd-dev
 //     others BOOK..      BOOK as `bench --books FOLDER` writes them
 //
-// All three have to give the same card, byte for byte, and the same verdicts. Time of the thread: the shortest of several runs, but one run of a card by DepQBF. What an open
-// book is made of (a state, a formula, a diagram's table) is counted for all of them.
-#include "book.h"
+// All three have to give the same card, byte for byte, and the same verdicts. Time of the thread, the shortest of three runs, or of one that takes a second; a way that takes more than
+// a minute is stopped. What an open book is made of is counted for all of them: the library opens the text, DepQBF is given a formula, and the diagrams begin with an empty table.
+#include "library.h"
 #include <bdd.h>
-#include <bullacetop.h>
 #include <qdpll/qdpll.h>
+#include <sys/mman.h>
+#include <sys/resource.h>
+#include <sys/wait.h>
+#include <unistd.h>
 
-enum { TABLE = 65536, OPEN = BULLACETOP_OPEN, OFF = BULLACETOP_OFF, ON = BULLACETOP_ON };
+enum { OPEN = BULLACETOP_OPEN, OFF = BULLACETOP_OFF, ON = BULLACETOP_ON };
 
 // The card of one way: its lines, place by place, and the verdict of each reading of the list.
 struct found {
@@ -22,38 +25,19 @@ struct found {
 };
 
 // ---- the library
-static struct bullacetop_workspace work;
-
-static void fill(struct bullacetop_state *x, const struct book *b)
-{
-    memset(x, 0, sizeof *x);
-    x->numbers[0] = b->n;
-    for (int i = 0, level = 0; i < b->n; i++) {
-        if (b->kind[i] != x->kinds[level])
-            x->kinds[++level] = b->kind[i];
-        x->numbers[i + 1] = b->number[i];
-        x->levels[i + 1] = level;
-    }
-    x->rule_sizes[0] = b->m;
-    for (int i = 0; i < b->m; i++) {
-        x->rule_sizes[i + 1] = b->length[i];
-        memcpy(x->rules + i * LITERALS, b->rule[i], sizeof b->rule[i]);
-    }
-}
+static struct state state;
 
 static void library_card(const struct book *b, struct found *f)
 {
-    static struct bullacetop_state x;
-    fill(&x, b);
-    f->lines = bullacetop_card_at(&x, &work, f->table, TABLE, BULLACETOP_HIGHEST_CEILING).lines;
+    open_book(&state, b);
+    f->lines = make_card(&state, f->table).lines;
 }
 
 static void library_queries(const struct book *b, struct found *f)
 {
-    static struct bullacetop_state x;
-    fill(&x, b);
+    open_book(&state, b);
     for (int i = 0; i < b->readings; i++)
-        f->verdict[i] = bullacetop_query_at(&x, &work, b->on[i], b->on_length[i], b->off[i], b->off_length[i], BULLACETOP_HIGHEST_CEILING).verdict == BULLACETOP_SWAP;
+        f->verdict[i] = ask(&state, b, i).verdict == BULLACETOP_SWAP;
 }
 
 // ---- lines from what is known of every reading, in the order of the library: off before on
@@ -92,12 +76,13 @@ static BDD clause_of(const struct book *b, int k)
     return c;
 }
 
-// The last place that a diagram depends on, or -1.
-static int last_place(BDD f)
+// The last place that a diagram depends on, or -1. (The package's own support of a diagram fails once its tables were made anew.)
+static int last_place(const struct book *b, BDD f)
 {
-    int last = -1;
-    for (BDD s = bdd_support(f); s != bdd_true(); s = bdd_high(s))
-        last = bdd_var(s);
+    int *nodes = bdd_varprofile(f), last = b->n - 1;
+    while (last >= 0 && !nodes[last])
+        last--;
+    free(nodes);
     return last;
 }
 
@@ -116,7 +101,7 @@ static BDD diagram(const struct book *b)
     int last[RULES], m = b->m;
     for (int i = 0; i < m; i++) {
         part[i] = clause_of(b, i);
-        last[i] = last_place(part[i]);
+        last[i] = last_place(b, part[i]);
     }
     for (int p = b->n - 1; p >= b->flags; p--) {
         BDD at = bdd_true(), v = bdd_ithvar(p);
@@ -140,7 +125,7 @@ static BDD diagram(const struct book *b)
             at = f;
         }
         part[left] = at;
-        last[left++] = last_place(at);
+        last[left++] = last_place(b, at);
         m = left;
     }
     BDD all = bdd_true();
@@ -167,7 +152,7 @@ static void diagram_lines(struct walk *w, BDD f, int place)
 
 static void begin_diagrams(const struct book *b)
 {
-    bdd_init(200000, 50000);
+    bdd_init(20000, 5000);
     bdd_setmaxincrease(1000000);
     bdd_gbc_hook(NULL);
     bdd_setvarnum(b->n);
@@ -287,21 +272,57 @@ static void solver_queries(const struct book *b, struct found *f)
 // ---- one table
 typedef void way(const struct book *, struct found *);
 
-static double shortest(way *run, const struct book *b, struct found *f, int runs)
+enum { SECONDS = 60, MEMORY = 4000 }; // that a way may take for one card or one list; megabytes
+
+// The shortest of three runs in milliseconds, or of one that takes a second.
+static double shortest(way *run, const struct book *b, struct found *f)
 {
-    double best = 1e300;
-    for (int i = 0; i < runs; i++) {
+    double best = 1e300, spent = 0;
+    for (int i = 0; i < 3 && spent < 1000; i++) {
         double began = thread_time();
         run(b, f);
-        double took = thread_time() - began;
+        double took = (thread_time() - began) / 1e6;
         best = took < best ? took : best;
+        spent += took;
     }
-    return best / 1e6;
+    return best;
 }
 
-static void same(const struct book *b, const struct found *f, const struct found *g, const char *name, const char *by)
+// In a process of its own, which is stopped where it takes too long; then there is no time.
+static double apart(way *run, const struct book *b, struct found *f)
 {
-    if (f->lines != g->lines || memcmp(f->table, g->table, TABLE) || memcmp(f->verdict, g->verdict, b->readings)) {
+    struct told {
+        double time;
+        struct found found;
+    } *told = mmap(NULL, sizeof *told, PROT_READ | PROT_WRITE, MAP_SHARED | MAP_ANONYMOUS, -1, 0);
+    told->time = -1;
+    told->found = *f;
+    fflush(stdout);
+    pid_t child = fork();
+    if (child == 0) {
+        setrlimit(RLIMIT_CPU, &(struct rlimit){SECONDS, SECONDS});
+        setrlimit(RLIMIT_AS, &(struct rlimit){MEMORY * 1000000ull, MEMORY * 1000000ull});
+        told->time = shortest(run, b, &told->found);
+        _exit(0);
+    }
+    waitpid(child, NULL, 0);
+    double time = told->time;
+    *f = told->found;
+    munmap(told, sizeof *told);
+    return time;
+}
+
+static void print_time(double time)
+{
+    if (time < 0)
+        printf(" not in %d s |", SECONDS);
+    else
+        printf(time < 10 ? " %.3f ms |" : time < 1000 ? " %.1f ms |" : " %.0f ms |", time);
+}
+
+static void compare(const char *name, const char *by, int differs)
+{
+    if (differs) {
         printf("%s: %s differs\n", name, by);
         exit(1);
     }
@@ -309,18 +330,29 @@ static void same(const struct book *b, const struct found *f, const struct found
 
 int main(int count, char **words)
 {
+    static const struct {
+        const char *name;
+        way *card, *queries;
+    } ways[] = {{"library", library_card, library_queries}, {"diagrams", diagram_card, diagram_queries}, {"DepQBF", solver_card, solver_queries}};
     static struct book b;
-    static struct found library, diagrams, depqbf;
+    static struct found found[3];
+    state = lend();
     puts("| Book | Lines | Card: library | diagrams | DepQBF | 200 queries: library | diagrams | DepQBF |\n|---|---|---|---|---|---|---|---|");
     for (int k = 1; k < count; k++) {
-        read_book(words[k], &b);
+        double card[3], queries[3];
         char *name = strrchr(words[k], '/') ? strrchr(words[k], '/') + 1 : words[k];
-        double card = shortest(library_card, &b, &library, 5), queries = shortest(library_queries, &b, &library, 5);
-        double card_d = shortest(diagram_card, &b, &diagrams, 3), queries_d = shortest(diagram_queries, &b, &diagrams, 3);
-        double card_q = shortest(solver_card, &b, &depqbf, 1), queries_q = shortest(solver_queries, &b, &depqbf, 3);
-        same(&b, &library, &diagrams, name, "the diagram");
-        same(&b, &library, &depqbf, name, "DepQBF");
-        printf("| %.*s | %zu | %.3f ms | %.3f ms | %.1f ms | %.3f ms | %.3f ms | %.3f ms |\n", (int)strcspn(name, "."), name, library.lines, card, card_d, card_q, queries, queries_d, queries_q);
-        fflush(stdout);
+        read_book(words[k], &b);
+        for (int i = 0; i < 3; i++) {
+            card[i] = apart(ways[i].card, &b, &found[i]);
+            queries[i] = apart(ways[i].queries, &b, &found[i]);
+            compare(name, ways[i].name, card[i] >= 0 && (found[i].lines != found[0].lines || memcmp(found[i].table, found[0].table, TABLE)));
+            compare(name, ways[i].name, queries[i] >= 0 && memcmp(found[i].verdict, found[0].verdict, b.readings));
+        }
+        printf("| %.*s | %zu |", (int)strcspn(name, "."), name, found[0].lines);
+        for (int i = 0; i < 3; i++)
+            print_time(card[i]);
+        for (int i = 0; i < 3; i++)
+            print_time(queries[i]);
+        putchar('\n');
     }
 }
