@@ -8,7 +8,8 @@ A book says which faults and loads explain which log readings. Its card lists th
     >>> book.query(on=[1], off=[2])
     Answer(verdict='keep', visits=1)
 
-A literal is a variable's number for on, negated for off. What is refused raises Refused, with the number that docs/FORMAT.md
+A literal is a variable's number for on, negated for off. A book is opened under limits, 40 numbers and 255 rules where none are given, and
+at most 1,000 and 4,000: Book.open(text, Limits(1000, 4000)). What is refused raises Refused, with the number that docs/FORMAT.md
 lists; the book is then as it was, but for what a search that ran has learned (21, 34, 35).
 
 The functions are those of include/bullacetop.h, called through ctypes; libbullacetop.so is made from the static library:
@@ -25,7 +26,10 @@ import threading
 from collections import namedtuple
 from ctypes import POINTER, c_char, c_char_p, c_int16, c_size_t, c_uint8, c_uint16, c_uint32, c_uint64
 
-__all__ = ["Answer", "Book", "Card", "Closest", "HIGHEST_CEILING", "MEANINGS", "Refused", "Session", "page", "print_card", "tag", "untag"]
+__all__ = [
+    "Answer", "Book", "Card", "Closest", "HIGHEST_CEILING", "HIGHEST_LIMITS", "Limits", "MEANINGS", "Refused", "Session", "USUAL_LIMITS",
+    "page", "print_card", "tag", "untag",
+]
 
 HIGHEST_CEILING = 4294967295
 """The highest ceiling on the visits of a call."""
@@ -33,14 +37,14 @@ HIGHEST_CEILING = 4294967295
 MEANINGS = {
     1: "not in the layout, or a line where it may not stand",
     2: "the edition is not one that is read, or converted from",
-    3: "a number that is not 1 to 40",
+    3: "a number that is not 1 to the limit for numbers",
     4: "a variable declared twice",
     5: "a variable that is not declared",
     6: "a variable twice in one rule",
     7: "a rule without a literal, an exactly-one form with fewer than two, or either with more than 16",
     8: "a reading names a variable that is no flag, or one twice; a closest reading leaves a flag open",
     9: "a text over 65,536 bytes",
-    20: "more than 255 rules",
+    20: "more rules than the limit for rules",
     21: "the card has more lines than its table holds",
     22: "the state is malformed",
     30: "a QDIMACS text has not as many clauses as its header says",
@@ -57,7 +61,6 @@ MEANINGS = {
 
 _CARD_TABLE = 65536
 _LONGEST_TEXT = 65536
-_TEXT_ROOM = 34928
 _PAGE_BYTES = 24 * 72
 _FLAGS = 40
 _VERDICTS = {1: "keep", 2: "swap", 3: "unsettled"}
@@ -111,23 +114,6 @@ def _literals(flags, line):
     return [signs[byte] * flag for flag, byte in zip(flags, line) if byte in signs]
 
 
-class _State(ctypes.Structure):
-    _fields_ = [
-        ("numbers", c_uint16 * 41),
-        ("levels", c_uint16 * 41),
-        ("kinds", c_uint16 * 41),
-        ("rules", c_int16 * (255 * 16)),
-        ("rule_sizes", c_uint16 * 256),
-        ("bars", c_int16 * (64 * 40)),
-        ("bar_sizes", c_uint16 * 129),
-        ("passes", c_int16 * (64 * 40)),
-        ("pass_sizes", c_uint16 * 65),
-    ]
-
-    def tables(self):
-        return [getattr(self, name) for name, _ in self._fields_]
-
-
 _NUMBERS, _RULES = 1000, 4000
 _CODES, _ROW_WORDS = (_NUMBERS + 1) * 2, (_RULES // 256 + 1) * 4
 
@@ -179,42 +165,47 @@ class _Converted(ctypes.Structure):
 
 
 class _Opened(ctypes.Structure):
-    _fields_ = [("refusal", c_uint16), ("line", c_size_t), ("state", _State)]
+    _fields_ = [("refusal", c_uint16), ("line", c_size_t)]
 
 
 class _Shown(ctypes.Structure):
     _fields_ = [("refusal", c_uint16), ("size", c_size_t), ("lines", c_size_t), ("flags", c_size_t)]
 
 
-class _Turn(ctypes.Structure):
-    _fields_ = [("refusal", c_uint16), ("length", c_size_t), ("state", _State), ("shown", _Shown)]
+class _Spoken(ctypes.Structure):
+    _fields_ = [("refusal", c_uint16), ("length", c_size_t), ("shown", _Shown)]
 
 
 _LIST = [POINTER(c_int16), c_size_t]
 _TEXT = [c_char_p, c_size_t]
 _TABLE = [POINTER(c_char), c_size_t]
-_TABLES = [POINTER(table._type_) for _, table in _State._fields_]
+_TABLES = [POINTER(c_uint16), c_size_t, POINTER(c_int16), c_size_t]
 _WORK = [POINTER(_Workspace)]
+# A text, its limits, and the tables that it is read onto.
+_READ = _TEXT + [c_size_t, c_size_t] + _TABLES
 
 _FUNCTIONS = {
-    "rule_in_place": (_Reply, _TABLES + _LIST),
-    "one_in_place": (_Reply, _TABLES + _LIST),
-    "withdraw_in_place": (_Reply, _TABLES),
-    "forget_in_place": (_Reply, _TABLES),
-    "query_in_place": (_Reply, _TABLES + _WORK + _LIST + _LIST + [c_uint32]),
-    "card_in_place": (_Reply, _TABLES + _WORK + _TABLE + [c_uint32]),
-    "keep_card_in_place": (_Reply, _TABLES + _WORK + _TABLE + [c_uint32]),
-    "closest_in_place": (_Nearest, _TABLES + _WORK + _LIST + _LIST + _TABLE + [POINTER(c_uint8), c_uint32]),
-    "write_in_place": (_Written, _TABLES + _TABLE),
+    "book_cells": (c_size_t, [c_size_t, c_size_t]),
+    "book_literals": (c_size_t, [c_size_t, c_size_t]),
+    "book_room": (c_size_t, [POINTER(c_uint16), c_size_t]),
+    "book_open": (_Opened, _READ),
+    "book_open_qdimacs": (_Opened, _READ),
+    "book_tag": (_Converted, _READ + _TABLE),
+    "book_untag": (_Converted, _READ + _TABLE),
+    "book_print": (_Written, _READ + _WORK + _TABLE),
+    "book_write": (_Written, _TABLES + _TABLE),
+    "book_rule": (_Reply, _TABLES + _LIST),
+    "book_one": (_Reply, _TABLES + _LIST),
+    "book_withdraw": (_Reply, _TABLES),
+    "book_forget": (_Reply, _TABLES),
+    "book_query": (_Reply, _TABLES + _WORK + _LIST + _LIST + [c_uint32]),
+    "book_card": (_Reply, _TABLES + _WORK + _TABLE + [c_uint32]),
+    "book_keep_card": (_Reply, _TABLES + _WORK + _TABLE + [c_uint32]),
+    "book_closest": (_Nearest, _TABLES + _WORK + _LIST + _LIST + _TABLE + [POINTER(c_uint8), c_uint32]),
+    "book_line": (_Spoken, _TABLES + _WORK + _TEXT + [c_uint64, _Shown, POINTER(c_char)] + _TABLE),
     "page": (c_uint16, _TEXT + [c_size_t, c_size_t, c_size_t] + _TABLE),
     "no_card": (_Shown, []),
     "room": (c_size_t, []),
-    "print": (_Written, _TEXT + _WORK + _TABLE),
-    "line": (_Turn, [_State] + _TEXT + [c_uint64, _Shown, POINTER(c_char)] + _WORK + _TABLE),
-    "open": (_Opened, _TEXT),
-    "open_qdimacs": (_Opened, _TEXT),
-    "tag": (_Converted, _TEXT + _TABLE),
-    "untag": (_Converted, _TEXT + _TABLE),
 }
 
 
@@ -251,7 +242,7 @@ def _text(text):
 
 
 def _list(numbers):
-    """Numbers as the library takes them. One that has no 16 bits becomes the nearest that has: neither is 1 to 40, nor a flag's."""
+    """Numbers as the library takes them. One that has no 16 bits becomes the nearest that has: neither is 1 to 1,000, nor a flag's."""
     numbers = [max(-32768, min(32767, operator.index(number))) for number in numbers]
     return (c_int16 * len(numbers))(*numbers), len(numbers)
 
@@ -267,6 +258,11 @@ def _ceiling(number):
     return _within(number, HIGHEST_CEILING, "ceiling")
 
 
+def _count(number):
+    # More than 64 bits are as little a limit, a count of lines or a page as the highest number of them.
+    return _within(min(number, 2**64 - 1), 2**64 - 1, "count")
+
+
 def _table(size):
     return (c_char * size)(), size
 
@@ -276,83 +272,138 @@ def _unless_refused(told, line=0):
         raise Refused(told.refusal, line, getattr(told, "visits", 0))
 
 
+Limits = namedtuple("Limits", "numbers rules")
+Limits.__doc__ = """The limits under which a book is opened: the highest number of a variable, and the most rules.
+
+They stay with the book, which refuses with 3 and 20 by them. Higher ones than HIGHEST_LIMITS are taken as those."""
+
+USUAL_LIMITS = Limits(40, 255)
+"""Where none are given."""
+
+HIGHEST_LIMITS = Limits(1000, 4000)
+"""The highest."""
+
+
+class _Tables:
+    """The two tables of a book, as long as its limits ask."""
+
+    def __init__(self, limits):
+        self.limits = [_count(limit) for limit in limits]
+        numbers, rules = self.limits
+        self.cells = (c_uint16 * _call("book_cells", numbers, rules))()
+        self.literals = (c_int16 * _call("book_literals", numbers, rules))()
+
+    def lent(self):
+        return self.cells, len(self.cells), self.literals, len(self.literals)
+
+    def read(self, name, text, *arguments):
+        """Reads a text onto them."""
+        return _call(name, *_text(text), *self.limits, *self.lent(), *arguments)
+
+    def copy(self):
+        copy = type(self)(self.limits)
+        ctypes.memmove(copy.cells, self.cells, ctypes.sizeof(self.cells))
+        ctypes.memmove(copy.literals, self.literals, ctypes.sizeof(self.literals))
+        return copy
+
+    def parts(self):
+        """Where the numbers of the variables, their levels and the lengths of the rules begin."""
+        length = self.cells[0] + 1
+        return 2, 2 + length, 2 + 3 * length
+
+
 class Book:
     """A book, and what was learned on it, which makes later calls cheaper and changes no answer.
 
-    It comes from a text: Book.open or Book.open_qdimacs. Calls on one book wait for one another, and calls on different books may
-    run at once, each in a thread of its own.
+    It comes from a text: Book.open or Book.open_qdimacs, under limits for the numbers of its variables and for its rules. Calls on one
+    book wait for one another, and calls on different books may run at once, each in a thread of its own.
+
+    >>> text = "(book 1)\\n(flags 1)\\n(exists 700)\\n(rule 1 700)\\n(end)\\n"
+    >>> Book.open(text)
+    Traceback (most recent call last):
+        ..
+    bullacetop.Refused: refused with 3: a number that is not 1 to the limit for numbers (line 3)
+    >>> Book.open(text, Limits(numbers=700, rules=10)).card().lines
+    [[]]
     """
 
-    def __init__(self, text):
+    def __init__(self, text, limits=USUAL_LIMITS):
         """As Book.open."""
-        self._take(_call("open", *_text(text)))
+        self._read("book_open", text, limits)
 
     @classmethod
-    def open(cls, text):
-        """Opens a text of edition 1 or 2. Refusals 9, then line by line 1, 2, and as the calls; 39 after 20."""
-        return cls(text)
+    def open(cls, text, limits=USUAL_LIMITS):
+        """Opens a text of edition 1 or 2. Refusals 9, then line by line 1, 2, and as the calls; 33 for a 41st flag; 39 after 20."""
+        return cls(text, limits)
 
     @classmethod
-    def open_qdimacs(cls, text):
+    def open_qdimacs(cls, text, limits=USUAL_LIMITS):
         """Opens a QDIMACS 1.1 text: variables that stand in no quantifier line are the flags."""
         book = cls.__new__(cls)
-        book._take(_call("open_qdimacs", *_text(text)))
+        book._read("book_open_qdimacs", text, limits)
         return book
 
-    def _take(self, opened):
+    def _read(self, name, text, limits):
+        tables = _Tables(limits)
+        opened = tables.read(name, text)
         _unless_refused(opened, opened.line)
-        self._keep(opened.state)
+        self._keep(tables)
 
-    def _keep(self, state):
-        self._state, self._lock = _State.from_buffer_copy(state), threading.Lock()
+    def _keep(self, tables):
+        self._tables, self._lock = tables, threading.Lock()
         self._work = _Workspace()
 
     def copy(self):
         """Another book with the same rules and the same learned."""
         book = type(self).__new__(type(self))
         with self._lock:
-            book._keep(self._state)
+            book._keep(self._tables.copy())
         return book
 
     def __repr__(self):
         return f"<Book of flags {self.flags} with {self.rules} rules>"
 
     @property
+    def limits(self):
+        """The limits that it was opened under, lowered to the highest."""
+        return Limits(*self._tables.cells[:2])
+
+    @property
     def flags(self):
         """The numbers of the flags in place order."""
-        numbers, levels = self._state.numbers, self._state.levels
-        return [numbers[place] for place in range(1, numbers[0] + 1) if levels[place] == 0]
+        cells, (numbers, levels, _) = self._tables.cells, self._tables.parts()
+        return [cells[numbers + place] for place in range(1, cells[numbers] + 1) if cells[levels + place] == 0]
 
     @property
     def rules(self):
         """How many rules stand."""
-        return self._state.rule_sizes[0]
+        return self._tables.cells[self._tables.parts()[2]]
 
-    def _in_place(self, name, *arguments):
+    def _on(self, name, *arguments):
         with self._lock:
-            told = _call(name + "_in_place", *self._state.tables(), *arguments)
+            told = _call("book_" + name, *self._tables.lent(), *arguments)
         _unless_refused(told)
         return told
 
     def rule(self, literals):
         """Adds a rule of 1 to 16 literals, in any order. Refusals 20, 7, then from the left 3, 5, 6."""
-        self._in_place("rule", *_list(literals))
+        self._on("rule", *_list(literals))
 
     def one(self, literals):
         """Adds the rules of `exactly one of these 2 to 16 literals`, all or none. Refusals 7, 20, then from the left 3, 5, 6."""
-        self._in_place("one", *_list(literals))
+        self._on("one", *_list(literals))
 
     def withdraw(self):
         """Takes the rule back that was added last. Refusal 32."""
-        self._in_place("withdraw")
+        self._on("withdraw")
 
     def forget(self):
         """Forgets what was learned."""
-        self._in_place("forget")
+        self._on("forget")
 
     def query(self, on=(), off=(), ceiling=HIGHEST_CEILING):
         """What the rules say where these flags are on, those off, and the others open. Refusals 8, 34."""
-        told = self._in_place("query", self._work, *_list(on), *_list(off), _ceiling(ceiling))
+        told = self._on("query", self._work, *_list(on), *_list(off), _ceiling(ceiling))
         return Answer(_VERDICTS[told.verdict], told.visits)
 
     def card(self, ceiling=HIGHEST_CEILING, size=_CARD_TABLE):
@@ -365,30 +416,38 @@ class Book:
 
     def _card(self, name, ceiling, size):
         table, size = _table(size)
-        told = self._in_place(name, self._work, table, size, _ceiling(ceiling))
+        told = self._on(name, self._work, table, size, _ceiling(ceiling))
         return Card(table, told.lines, self.flags, told.visits)
 
     def closest(self, on=(), off=(), ceiling=HIGHEST_CEILING, size=_CARD_TABLE):
         """The reading on the card that differs from the given one in the fewest flags; each flag is on or off. Refusals 8, 34, 21, 35."""
         table, size = _table(size)
         reading = (c_uint8 * _FLAGS)()
-        told = self._in_place("closest", self._work, *_list(on), *_list(off), table, size, reading, _ceiling(ceiling))
+        told = self._on("closest", self._work, *_list(on), *_list(off), table, size, reading, _ceiling(ceiling))
         card = Card(table, told.lines, self.flags, told.visits)
         return Closest(_literals(self.flags, bytes(reading)), told.differs, card)
 
-    def write(self, size=_TEXT_ROOM):
-        """The book as text; `size` is the bytes of its table. Refusal 31. Opening the text gives the same book, with nothing learned."""
-        table, size = _table(size)
-        return _string(table, self._in_place("write", table, size).length)
+    def write(self, size=None):
+        """The book as text; `size` is the bytes of its table, which is long enough if not told. Refusal 31.
+
+        Opening the text under the same limits gives the same book, with nothing learned."""
+        cells = self._tables.cells
+        table, size = _table(_call("book_room", cells, len(cells)) if size is None else size)
+        return _string(table, self._on("write", table, size).length)
 
 
 class Session:
-    """A book that is asked by lines, as the program `session` is: each is answered in text, refused ones too."""
+    """A book that is asked by lines, as the program `session` is: each is answered in text, refused ones too.
 
-    def __init__(self, text):
+    >>> session = Session("(book 1)\\n(flags 1 2)\\n(rule 1 2)\\n(end)\\n")
+    >>> session.line("(query 1 (no 2))")
+    '(swap (visits 1))\\n'
+    """
+
+    def __init__(self, text, limits=USUAL_LIMITS):
         """Opens a text of edition 1 or 2; lines are counted from its first."""
         text = _bytes(text)
-        self._book, self._lines = Book(text), text.count(b"\n")
+        self._book, self._lines = Book(text, limits), text.count(b"\n")
         self._shown, self._cards = _call("no_card"), _table(_CARD_TABLE)[0]
         self._out = _table(_call("room"))
         self._lock = threading.Lock()
@@ -397,10 +456,10 @@ class Session:
         """Serves one line, without its newline."""
         with self._lock:
             self._lines += 1
-            book = self._book
-            turn = _call("line", book._state, *_text(line), self._lines, self._shown, self._cards, book._work, *self._out)
-            book._state, self._shown = _State.from_buffer_copy(turn.state), _Shown.from_buffer_copy(turn.shown)
-            return _string(self._out[0], turn.length)
+            work, tables = self._book._work, self._book._tables.lent()
+            spoken = _call("book_line", *tables, work, *_text(line), self._lines, self._shown, self._cards, *self._out)
+            self._shown = _Shown.from_buffer_copy(spoken.shown)
+            return _string(self._out[0], spoken.length)
 
     def book(self):
         """The book as it now stands: a copy, which the session does not see."""
@@ -415,32 +474,30 @@ def _string(table, length):
 def page(table, lines, flags, number):
     """Page `number` of a card of so many lines in these bytes, one for each flag of a line. Refusal 36; Card.page is shorter."""
     out, size = _table(_PAGE_BYTES)
-    # More than 64 bits are as little a count of lines, or a page, as the highest number of them.
-    counts = [_within(min(count, 2**64 - 1), 2**64 - 1, "count") for count in (lines, flags, number)]
-    refusal = _call("page", *_text(table), *counts, out, size)
+    refusal = _call("page", *_text(table), _count(lines), _count(flags), _count(number), out, size)
     if refusal:
         raise Refused(refusal)
     return _string(out, size)
 
 
-def print_card(text):
+def print_card(text, limits=USUAL_LIMITS):
     """What the program `card` prints for a text; a refused text prints its refusal."""
     out, size = _table(_call("room"))
-    return _string(out, _call("print", *_text(text), _Workspace(), out, size).length)
+    return _string(out, _Tables(limits).read("book_print", text, _Workspace(), out, size).length)
 
 
-def tag(text):
+def tag(text, limits=USUAL_LIMITS):
     """A text of edition 1 in edition 2: its rules are tagged 1, 2, 3 and so on. Refusals as opening, with 2 for another edition."""
-    return _converted("tag", text)
+    return _converted("book_tag", text, limits)
 
 
-def untag(text):
+def untag(text, limits=USUAL_LIMITS):
     """A text of edition 2 in edition 1, where its tags are 1, 2, 3 and so on. Refusals as opening, with 2 for another edition; 40."""
-    return _converted("untag", text)
+    return _converted("book_untag", text, limits)
 
 
-def _converted(name, text):
+def _converted(name, text, limits):
     table, size = _table(_LONGEST_TEXT)
-    told = _call(name, *_text(text), table, size)
+    told = _Tables(limits).read(name, text, table, size)
     _unless_refused(told, told.line)
     return _string(table, told.length)

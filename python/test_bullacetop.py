@@ -9,7 +9,7 @@ import threading
 import unittest
 
 import bullacetop
-from bullacetop import Answer, Book, Refused, Session
+from bullacetop import Answer, Book, HIGHEST_LIMITS, Limits, Refused, Session, USUAL_LIMITS
 
 ROOT = os.path.dirname(os.path.dirname(os.path.abspath(__file__)))
 
@@ -35,6 +35,19 @@ def rows(page):
     """The rows of a page that are not blank."""
     assert len(page) == 24 * 72
     return [row.rstrip() for row in page.splitlines() if row.strip()]
+
+
+def tables(book):
+    """All that the library holds of a book."""
+    return bytes(book._tables.cells), bytes(book._tables.literals)
+
+
+def chain(last):
+    """Flags 1 and 2, and variables 3 to the last, each equal to the one before it; 3 is the `or` of the flags. And limits that just hold it."""
+    links = "".join(f"(rule {n - 1} (no {n}))\n(rule (no {n - 1}) {n})\n" for n in range(4, last + 1))
+    variables = "".join(f" {n}" for n in range(3, last + 1))
+    text = f"(book 1)\n(flags 1 2)\n(exists{variables})\n(rule 1 2 (no 3))\n(rule (no 1) 3)\n(rule (no 2) 3)\n{links}(rule {last})\n(end)\n"
+    return text, Limits(last, 2 * last - 2)
 
 
 def printed(card):
@@ -87,7 +100,7 @@ class Refusals(unittest.TestCase):
 
     def test_the_header_has_the_same_numbers(self):
         header = read("include/bullacetop.h")
-        listed = header[header.index("/* Refusals; 0 is none. */"):header.index("/* The highest ceiling")]
+        listed = header[header.index("/* Refusals; 0 is none. */"):header.index("/* ---- the workspace */")]
         self.assertEqual([int(n) for n in re.findall(r"#define \S+ (\d+)", listed)], list(bullacetop.MEANINGS))
 
     def test_texts(self):
@@ -112,7 +125,7 @@ class Refusals(unittest.TestCase):
     def test_calls_leave_the_book_as_it_was(self):
         book = Book.open(A)
         book.query(on=[1, 2])
-        before = bytes(book._state)
+        before = tables(book)
         self.assert_refused(7, book.rule, [])
         self.assert_refused(3, book.rule, [1, -32768])
         self.assert_refused(5, book.rule, [1, 5])
@@ -123,7 +136,7 @@ class Refusals(unittest.TestCase):
         self.assert_refused(34, book.query, on=[1, 2], ceiling=0)
         self.assert_refused(8, book.closest, on=[1])
         self.assert_refused(31, book.write, 22)
-        self.assertEqual(bytes(book._state), before)
+        self.assertEqual(tables(book), before)
 
     def test_a_number_is_never_taken_for_another(self):
         """65,537 has the same lowest 16 bits as 1, and 2 ** 32 as 0."""
@@ -163,9 +176,10 @@ class Refusals(unittest.TestCase):
         self.assertEqual(session.line("(" * 65537), "(refused 1 11)\n")
 
     def test_a_spoiled_state_is_refused(self):
-        """A state can be reached from Python, whatever its name: the library does not trust it."""
+        """A book's tables can be reached from Python, whatever their name: the library does not trust them."""
         book = Book.open(A)
-        book._state.numbers[2] = 1
+        numbers = book._tables.parts()[0]
+        book._tables.cells[numbers + 2] = 1
         for call in [book.rule, book.one, book.query]:
             self.assert_refused(22, call, [1])
         for call in [book.withdraw, book.forget, book.card, book.keep_card, book.closest, book.write]:
@@ -191,8 +205,46 @@ class Examples(unittest.TestCase):
     def test_the_docstring(self):
         self.assertEqual(doctest.testmod(bullacetop).failed, 0)
 
-    def test_the_state_has_the_header_s_size(self):
-        self.assertIn(f"== {ctypes.sizeof(bullacetop._State)} ?", read("include/bullacetop.h"))
+    def test_the_workspace_has_the_header_s_size(self):
+        self.assertIn(f"== {ctypes.sizeof(bullacetop._Workspace)} ?", read("include/bullacetop.h"))
+
+
+class OwnLimits(unittest.TestCase):
+    assert_refused = Refusals.assert_refused
+
+    def test_a_chain_under_limits_that_just_hold_it(self):
+        for last in [4, 60, 400]:
+            text, limits = chain(last)
+            book = Book.open(text, limits)
+            self.assertEqual((book.limits, book.rules, book.flags), (limits, limits.rules, [1, 2]))
+            self.assertEqual(book.card().lines, [[-1, 2], [1]])
+            self.assertEqual(book.query(off=[1, 2]).verdict, "keep")
+            self.assertEqual((book.closest(off=[1, 2]).reading, book.copy().card().lines), ([-1, 2], [[-1, 2], [1]]))
+            self.assert_refused(20, book.rule, [1])
+            book.withdraw()
+            self.assert_refused(3, book.rule, [last + 1])
+            book.rule([last])
+            self.assertEqual(book.write(), text)
+            self.assertEqual(Session(text, limits).line("(query (no 1) (no 2))")[:5], "(keep")
+            self.assertEqual(bullacetop.untag(bullacetop.tag(text, limits), limits), text)
+            self.assertEqual(bullacetop.print_card(text, limits), printed(Book.open(text, limits).card()))
+
+    def test_limits_that_do_not_hold_it(self):
+        text, limits = chain(60)
+        last = text.count("\n") - 1
+        few, short = Limits(59, limits.rules), Limits(60, limits.rules - 1)
+        for call in [Book.open, Session, bullacetop.tag]:
+            self.assert_refused(3, call, text, line=3)
+            self.assert_refused(3, call, text, few, line=3)
+            self.assert_refused(20, call, text, short, line=last)
+        self.assert_refused(33, Book.open_qdimacs, "p cnf 41 0\n", Limits(41, 0), line=2)
+
+    def test_limits_above_the_highest_are_those(self):
+        self.assertEqual(Book.open(A).limits, USUAL_LIMITS)
+        self.assertEqual(Book.open(A, (2**64 + 1, 4001)).limits, HIGHEST_LIMITS)
+        self.assertEqual(Book.open("(book 1)\n(flags)\n(end)\n", (0, 0)).limits, (0, 0))
+        with self.assertRaises(ValueError):
+            Book.open(A, (-1, 9))
 
 
 def any_call(book, numbers):

@@ -2,8 +2,8 @@
  * A book of 60 variables under limits of its own: opened from a text onto two tables, asked, changed and written back.
  *
  * From the repository's root:
- *   tools/build bullacetop book_calls
- *   gcc -std=c99 -Wall -Wextra -pedantic -O2 -Iinclude examples/c/limits.c target/staticlib/libbullacetop.a target/staticlib/libbook_calls.a -o target/limits_c
+ *   tools/build bullacetop
+ *   gcc -std=c99 -Wall -Wextra -pedantic -O2 -Iinclude examples/c/limits.c target/staticlib/libbullacetop.a -o target/limits_c
  *   target/limits_c
  */
 #include <inttypes.h>

@@ -1,5 +1,6 @@
 /*
- * A book as text, then calls as lines, each answered in text; a page of the card; the book written back; a refused text, and a table that is too short.
+ * A book as text, then calls as lines, each answered in text; a page of the card; the book written back; the same book from QDIMACS, and in the other edition;
+ * a refused text, and a table that is too short.
  *
  * From the repository's root:
  *   tools/build bullacetop
@@ -7,7 +8,6 @@
  *   target/session_c
  */
 #include <stdio.h>
-#include <stdlib.h>
 #include <string.h>
 
 #include "bullacetop.h"
@@ -26,6 +26,15 @@ static const char *const calls[] = {
     "(card)", "(page 1)", "(page 2)", "(query 1 (no 2))", "(query 2)", "(query)", "(rule 3)", "(page 1)", "(card)", "(card 3)", "(query 3)", "(query)x",
 };
 
+/* The book without its last rule. */
+static const char problem[] =
+    "c heat sink\n"
+    "p cnf 4 2\n"
+    "e 3 0\n"
+    "a 4 0\n"
+    "3 4 -1 0\n"
+    "-3 -4 2 0\n";
+
 /* Variable 3 is not declared. */
 static const char faulty[] =
     "(book 1)\n"
@@ -33,62 +42,91 @@ static const char faulty[] =
     "(rule 1 3)\n"
     "(end)\n";
 
+/* A book under the limits that the program has; nothing here is allocated. */
+#define CELLS BULLACETOP_BOOK_CELLS(BULLACETOP_NUMBERS, BULLACETOP_RULES)
+#define LITERALS BULLACETOP_BOOK_LITERALS(BULLACETOP_NUMBERS, BULLACETOP_RULES)
+
+static uint16_t cells[CELLS];
+static int16_t literals[LITERALS];
 /* What a card is searched in. Too large for a stack; one serves any number of books. */
 static struct bullacetop_workspace work;
+/* The lines of the card answered last, and the answer's text. */
+static uint8_t cards[BULLACETOP_CARD_TABLE], out[BULLACETOP_ANSWER_ROOM];
 
 static const uint8_t *bytes(const char *text)
 {
     return (const uint8_t *)text;
 }
 
-/* The lines of a session on an opened book, which has so many lines. */
-static void serve(struct bullacetop_state x, uint64_t lines, uint8_t *cards, uint8_t *out, size_t room)
+static struct bullacetop_book_opened open_book(const char *text)
 {
-    struct bullacetop_turn turn;
-    struct bullacetop_written text;
+    return bullacetop_book_open(
+        bytes(text), strlen(text), BULLACETOP_NUMBERS, BULLACETOP_RULES, cells, CELLS, literals, LITERALS);
+}
 
-    turn.state = x;
-    turn.shown = bullacetop_no_card();
-    for (size_t i = 0; i < sizeof calls / sizeof *calls; i++) {
-        printf("%s\n", calls[i]);
-        turn = bullacetop_line(turn.state, bytes(calls[i]), strlen(calls[i]), lines + 1 + i, turn.shown, cards, &work, out, room);
-        fwrite(out, 1, turn.length, stdout);
-    }
+/* The book's text in a table of so many bytes. */
+static void write_book(size_t size)
+{
+    struct bullacetop_written text = bullacetop_book_write(cells, CELLS, literals, LITERALS, out, size);
 
-    /* The book with the rule that was added, and a table that is too short for it. */
-    text = bullacetop_write_at(&turn.state, out, BULLACETOP_TEXT_ROOM);
+    if (text.refusal)
+        printf("refused with %u, length %zu, first byte %u\n", (unsigned)text.refusal, text.length, (unsigned)out[0]);
     fwrite(out, 1, text.length, stdout);
-    text = bullacetop_write_at(&turn.state, out, 22);
-    printf("refused with %u, length %zu, first byte %u\n", (unsigned)text.refusal, text.length, (unsigned)out[0]);
+}
+
+/* One line of a session; the card answered last after it. */
+static struct bullacetop_shown serve(const char *line, uint64_t number, struct bullacetop_shown shown)
+{
+    struct bullacetop_spoken spoken = bullacetop_book_line(
+        cells, CELLS, literals, LITERALS, &work, bytes(line), strlen(line), number, shown, cards, out, sizeof out);
+
+    fwrite(out, 1, spoken.length, stdout);
+    return spoken.shown;
+}
+
+/* What the program `card` prints, in a table of so many bytes. */
+static void print(size_t size)
+{
+    struct bullacetop_written card = bullacetop_book_print(
+        bytes(book), strlen(book), BULLACETOP_NUMBERS, BULLACETOP_RULES, cells, CELLS, literals, LITERALS, &work, out, size);
+
+    if (card.refusal)
+        printf("refused with %u, length %zu, first byte %u\n", (unsigned)card.refusal, card.length, (unsigned)out[0]);
+    fwrite(out, 1, card.length, stdout);
 }
 
 int main(void)
 {
-    size_t room = bullacetop_room();
-    uint8_t *out = malloc(room);
-    uint8_t *cards = calloc(BULLACETOP_CARD_TABLE, 1);
-    struct bullacetop_opened opened;
-    struct bullacetop_turn turn;
-    struct bullacetop_written card;
+    struct bullacetop_shown shown = bullacetop_no_card();
+    struct bullacetop_book_opened opened = open_book(book);
+    struct bullacetop_converted tagged;
 
-    if (!out || !cards)
+    if (opened.refusal || bullacetop_room() != sizeof out)
         return 1;
-    opened = bullacetop_open(bytes(book), strlen(book));
-    if (!opened.refusal)
-        serve(opened.state, 8, cards, out, room);
+    /* The book has 8 lines. */
+    for (size_t i = 0; i < sizeof calls / sizeof *calls; i++) {
+        printf("%s\n", calls[i]);
+        shown = serve(calls[i], 9 + i, shown);
+    }
+    /* The book with the rule that was added, and a table that is too short for it. */
+    write_book(bullacetop_book_room(cells, CELLS));
+    write_book(22);
 
-    /* A refused text leaves a state that is no book: every call refuses it. */
-    opened = bullacetop_open(bytes(faulty), strlen(faulty));
+    opened = bullacetop_book_open_qdimacs(
+        bytes(problem), strlen(problem), BULLACETOP_NUMBERS, BULLACETOP_RULES, cells, CELLS, literals, LITERALS);
+    if (!opened.refusal)
+        write_book(BULLACETOP_TEXT_ROOM);
+    tagged = bullacetop_book_tag(
+        bytes(book), strlen(book), BULLACETOP_NUMBERS, BULLACETOP_RULES, cells, CELLS, literals, LITERALS, out, sizeof out);
+    fwrite(out, 1, tagged.length, stdout);
+
+    /* A refused text leaves tables that hold no book: every call refuses them. */
+    opened = open_book(faulty);
     printf("refused with %u at line %zu\n", (unsigned)opened.refusal, opened.line);
-    turn = bullacetop_line(opened.state, bytes(calls[0]), strlen(calls[0]), 5, bullacetop_no_card(), cards, &work, out, room);
-    fwrite(out, 1, turn.length, stdout);
+    serve(calls[0], 5, bullacetop_no_card());
 
     /* What the program `card` prints, and a table that is one byte too short. */
-    card = bullacetop_print(bytes(book), strlen(book), &work, out, room);
-    fwrite(out, 1, card.length, stdout);
-    card = bullacetop_print(bytes(book), strlen(book), &work, out, room - 1);
-    printf("refused with %u, length %zu, first byte %u\n", (unsigned)card.refusal, card.length, (unsigned)out[0]);
-    free(cards);
-    free(out);
+    print(sizeof out);
+    print(sizeof out - 1);
     return 0;
 }

@@ -1,20 +1,16 @@
-//! A book and the calls on it.
+//! A book on the heap and the calls on it.
 
-use crate::card::{first, Card, Lines, OFF, ON};
-use crate::ffi;
+use crate::card::{Card, Lines};
+use crate::ffi::{self, Tables, Workspace};
+use crate::lent::{self, Answer, Closest, LentBook};
+use crate::limits::Limits;
 use crate::refusal::Refused;
 use std::fmt;
 
-/// The highest ceiling on the visits of a call.
-pub const HIGHEST_CEILING: u32 = u32::MAX;
-
-/// A table of so many bytes holds the text of every book.
-pub const TEXT_ROOM: usize = 34_928;
-
 /// A book, and what was learned on it.
 ///
-/// It comes from a text alone, and only the calls change it: so its state is one that the library wrote,
-/// and no call is refused with 22. What was learned makes later calls cheaper and changes no answer.
+/// It comes from a text alone, and only the calls change it: so its tables are what the library wrote, and no
+/// call is refused with 22. What was learned makes later calls cheaper and changes no answer.
 ///
 /// A literal is a variable's number for on, negated for off.
 ///
@@ -31,67 +27,32 @@ pub const TEXT_ROOM: usize = 34_928;
 /// # }
 /// ```
 ///
-/// There is no other way to a state:
+/// There is no other way to its tables:
 ///
 /// ```compile_fail
-/// let book = bullacetop::Book { state: Default::default() };
+/// let book = bullacetop::Book { cells: Default::default() };
 /// ```
 /// ```compile_fail
-/// let state = bullacetop::ffi::open(b"");
+/// let room = bullacetop::ffi::room();
 /// ```
 pub struct Book {
-    // On the heap: it has 19 KiB.
-    state: Box<ffi::State>,
+    // As long as its limits ask.
+    cells: Box<[u16]>,
+    literals: Box<[i16]>,
     // For its searches; nothing in it is kept from one call to the next.
-    work: Box<ffi::Workspace>,
+    work: Box<Workspace>,
 }
 
 impl Clone for Book {
     fn clone(&self) -> Book {
-        Book { state: self.state.clone(), work: ffi::Workspace::new() }
-    }
-}
-
-/// What a query says of a board.
-#[derive(Clone, Copy, Debug, PartialEq, Eq, Hash)]
-pub enum Verdict {
-    /// No completion of the reading condemns it.
-    Keep,
-    /// Every completion of the reading condemns it.
-    Swap,
-    /// The flags that are open decide.
-    Unsettled,
-}
-
-/// The answer of a query.
-#[derive(Clone, Copy, Debug, PartialEq, Eq, Hash)]
-pub struct Answer {
-    /// What it says.
-    pub verdict: Verdict,
-    /// The visits that it took.
-    pub visits: u64,
-}
-
-/// The reading on the card that differs from a given one in the fewest flags, the first among equals.
-#[derive(Clone, Copy, Debug)]
-pub struct Closest<'t> {
-    reading: [u8; ffi::FLAGS],
-    flags: usize,
-    /// In how many flags it differs.
-    pub differs: usize,
-    /// The card, which was made on the way.
-    pub card: Card<'t>,
-}
-
-impl Closest<'_> {
-    /// [`OFF`] or [`ON`] for each flag in place order.
-    pub fn reading(&self) -> &[u8] {
-        first(&self.reading, self.flags)
+        let (cells, literals) = (self.cells.clone(), self.literals.clone());
+        Book { cells, literals, work: Workspace::boxed() }
     }
 }
 
 impl Book {
-    /// Opens a text of edition 1 or 2. Refusals 9, then line by line 1, 2, and as the calls; 39 after 20.
+    /// Opens a text of edition 1 or 2 under the usual limits, 40 and 255. Refusals 9, then line by line 1, 2,
+    /// and as the calls; 33 for a 41st flag; 39 after 20.
     ///
     /// ```
     /// use bullacetop::{Book, Refusal};
@@ -101,76 +62,91 @@ impl Book {
     /// assert_eq!(refused.refusal.number(), 5);
     /// ```
     pub fn open(text: &[u8]) -> Result<Book, Refused> {
-        Book::of(ffi::open(text))
+        Book::open_under(Limits::USUAL, text)
     }
 
-    /// Opens a QDIMACS 1.1 text: variables that stand in no quantifier line are the flags.
+    /// .. under limits of its own.
+    pub fn open_under(limits: Limits, text: &[u8]) -> Result<Book, Refused> {
+        Book::read(limits, |pair, tables| ffi::open(text, pair, tables))
+    }
+
+    /// Opens a QDIMACS 1.1 text under the usual limits: variables that stand in no quantifier line are the
+    /// flags.
     pub fn open_qdimacs(text: &[u8]) -> Result<Book, Refused> {
-        Book::of(ffi::open_qdimacs(text))
+        Book::open_qdimacs_under(Limits::USUAL, text)
     }
 
-    fn of(opened: ffi::Opened) -> Result<Book, Refused> {
+    /// .. under limits of its own.
+    pub fn open_qdimacs_under(limits: Limits, text: &[u8]) -> Result<Book, Refused> {
+        Book::read(limits, |pair, tables| ffi::open_qdimacs(text, pair, tables))
+    }
+
+    fn read(
+        limits: Limits,
+        open: impl FnOnce((usize, usize), Tables) -> ffi::Opened,
+    ) -> Result<Book, Refused> {
+        let mut book = Book {
+            cells: vec![0; limits.cells()].into_boxed_slice(),
+            literals: vec![0; limits.literals()].into_boxed_slice(),
+            work: Workspace::boxed(),
+        };
+        let tables = Tables { cells: &mut book.cells, literals: &mut book.literals };
+        let opened = open(limits.pair(), tables);
         Refused::unless_none(opened.refusal, opened.line, 0)?;
-        Ok(Book { state: Box::new(opened.state), work: ffi::Workspace::new() })
+        Ok(book)
     }
 
-    pub(crate) fn parts_mut(&mut self) -> (&mut ffi::State, &mut ffi::Workspace) {
-        (&mut self.state, &mut self.work)
+    /// Its tables, lent: every call is made so. They do not leave this crate, so that it stays a book.
+    pub(crate) fn lend(&mut self) -> LentBook<'_> {
+        let tables = Tables { cells: &mut self.cells, literals: &mut self.literals };
+        LentBook::left_in(tables, &mut self.work)
+    }
+
+    /// The limits that it was opened under, lowered to the highest.
+    pub fn limits(&self) -> Limits {
+        let limit = |index: usize| self.cells.get(index).map_or(0, |&limit| usize::from(limit));
+        Limits { numbers: limit(0), rules: limit(1) }
     }
 
     /// The numbers of the flags in place order.
     pub fn flags(&self) -> impl Iterator<Item = i16> + '_ {
-        // They are 1 to 40.
-        self.state.flags().iter().map(|&number| number as i16)
+        lent::flags(&self.cells)
     }
 
     /// How many rules stand.
     pub fn rules(&self) -> usize {
-        self.state.rules()
+        lent::rules(&self.cells)
     }
 
     /// A line of this book's card, or a reading, as literals; open flags are left out.
     pub fn literals(&self, line: &[u8]) -> Vec<i16> {
-        let named = self.flags().zip(line).filter_map(|(flag, &byte)| match byte {
-            OFF => Some(-flag),
-            ON => Some(flag),
-            _ => None,
-        });
-        named.collect()
+        lent::literals(&self.cells, line).collect()
     }
 
     /// Adds a rule of 1 to 16 literals, in any order. Refusals 20, 7, then from the left 3, 5, 6.
     pub fn rule(&mut self, literals: &[i16]) -> Result<(), Refused> {
-        changed(ffi::rule(&mut self.state, literals))
+        self.lend().rule(literals)
     }
 
     /// Adds the rules of `exactly one of these 2 to 16 literals`: all of them, or none. Refusals 7, 20, then
     /// from the left 3, 5, 6.
     pub fn one(&mut self, literals: &[i16]) -> Result<(), Refused> {
-        changed(ffi::one(&mut self.state, literals))
+        self.lend().one(literals)
     }
 
     /// Takes the rule back that was added last. Refusal 32.
     pub fn withdraw(&mut self) -> Result<(), Refused> {
-        changed(ffi::withdraw(&mut self.state))
+        self.lend().withdraw()
     }
 
     /// Forgets what was learned.
     pub fn forget(&mut self) -> Result<(), Refused> {
-        changed(ffi::forget(&mut self.state))
+        self.lend().forget()
     }
 
     /// What the rules say where these flags are on, those off, and the others open. Refusals 8, 34.
     pub fn query(&mut self, on: &[i16], off: &[i16], ceiling: u32) -> Result<Answer, Refused> {
-        let reply = ffi::query(&mut self.state, &mut self.work, on, off, ceiling);
-        Refused::unless_none(reply.refusal, 0, reply.visits)?;
-        let verdict = match reply.verdict {
-            1 => Verdict::Keep,
-            2 => Verdict::Swap,
-            // 3: a query that is not refused has one of the three.
-            _ => Verdict::Unsettled,
-        };
-        Ok(Answer { verdict, visits: reply.visits })
+        self.lend().query(on, off, ceiling)
     }
 
     /// The readings that condemn a board, in a lent table. Refusals 34, 21.
@@ -186,8 +162,7 @@ impl Book {
     /// # }
     /// ```
     pub fn card<'t>(&mut self, table: &'t mut [u8], ceiling: u32) -> Result<Card<'t>, Refused> {
-        let reply = ffi::card(&mut self.state, &mut self.work, table, ceiling);
-        self.listed(reply, table)
+        self.lend().card(table, ceiling)
     }
 
     /// The readings that clear a board, in the same way.
@@ -196,13 +171,7 @@ impl Book {
         table: &'t mut [u8],
         ceiling: u32,
     ) -> Result<Card<'t>, Refused> {
-        let reply = ffi::keep_card(&mut self.state, &mut self.work, table, ceiling);
-        self.listed(reply, table)
-    }
-
-    fn listed<'t>(&self, reply: ffi::Reply, table: &'t [u8]) -> Result<Card<'t>, Refused> {
-        Refused::unless_none(reply.refusal, 0, reply.visits)?;
-        Ok(Card::new(table, reply.lines, self.state.flags().len(), reply.visits))
+        self.lend().keep_card(table, ceiling)
     }
 
     /// [`Book::card`] with a table of 65,536 bytes, as a session has, and its lines as literals.
@@ -233,33 +202,26 @@ impl Book {
         table: &'t mut [u8],
         ceiling: u32,
     ) -> Result<Closest<'t>, Refused> {
-        let mut reading = [0; ffi::FLAGS];
-        let (state, work) = self.parts_mut();
-        let told = ffi::closest(state, work, on, off, table, &mut reading, ceiling);
-        Refused::unless_none(told.refusal, 0, told.visits)?;
-        let flags = self.state.flags().len();
-        let card = Card::new(table, told.lines, flags, told.visits);
-        Ok(Closest { reading, flags, differs: told.differs, card })
+        self.lend().closest(on, off, table, ceiling)
     }
 
-    /// Writes the book as text into a lent table; [`TEXT_ROOM`] bytes hold every book. Refusal 31.
+    /// Writes the book as text into a lent table; [`Book::room`] bytes hold it. Refusal 31.
     ///
-    /// Opening the text gives the same book, with nothing learned; two books have equal texts exactly if
-    /// they have the same variables, quantifiers and places, and the same rules in order.
+    /// Opening the text under the same limits gives the same book, with nothing learned; two books have equal
+    /// texts exactly if they have the same variables, quantifiers and places, and the same rules in order.
     pub fn write<'t>(&self, table: &'t mut [u8]) -> Result<&'t [u8], Refused> {
-        let told = ffi::write(&self.state, table);
-        Refused::unless_none(told.refusal, 0, 0)?;
-        Ok(first(table, told.length))
+        lent::write(&self.cells, &self.literals, table)
+    }
+
+    /// A table of so many bytes holds the text of every book under this one's limits.
+    pub fn room(&self) -> usize {
+        ffi::book_room(&self.cells)
     }
 
     /// The same text on its own.
     pub fn text(&self) -> Result<Vec<u8>, Refused> {
-        Ok(self.write(&mut vec![0; TEXT_ROOM])?.to_vec())
+        Ok(self.write(&mut vec![0; self.room()])?.to_vec())
     }
-}
-
-fn changed(reply: ffi::Reply) -> Result<(), Refused> {
-    Refused::unless_none(reply.refusal, 0, reply.visits)
 }
 
 impl fmt::Debug for Book {

@@ -2,61 +2,23 @@
 //!
 //! What the library asks of a caller is that pointers can be read, or written, for the lengths told,
 //! and that nothing overlaps what a call writes. References and slices have that from the language:
-//! each function here takes a state by reference and hands on pointers that it got from it or from a
-//! slice, with the slice's own length. The library keeps no pointer.
-
-/// A count or nothing in cell 0, then one cell for each of 40 places.
-const BY_PLACE: usize = 41;
-const RULES: usize = 255;
-const LITERALS: usize = 16;
-const ENTRIES: usize = 64;
-/// The count of the bars, the length of each and the record of each.
-const BAR_SIZES: usize = 2 * ENTRIES + 1;
-/// Cells of all bars, and of all passes.
-const LEARNED: usize = ENTRIES * (BY_PLACE - 1);
-/// Bytes of a closest reading.
-pub const FLAGS: usize = 40;
-
-/// `struct bullacetop_state`. Every bit pattern is a value of it.
-#[repr(C)]
-#[derive(Clone)]
-pub struct State {
-    numbers: [u16; BY_PLACE],
-    levels: [u16; BY_PLACE],
-    kinds: [u16; BY_PLACE],
-    rules: [i16; RULES * LITERALS],
-    rule_sizes: [u16; RULES + 1],
-    bars: [i16; LEARNED],
-    bar_sizes: [u16; BAR_SIZES],
-    passes: [i16; LEARNED],
-    pass_sizes: [u16; ENTRIES + 1],
-}
-
-// As at the end of the header; and a length there is a `size_t`, which has 64 bits.
-const _: () = assert!(std::mem::size_of::<State>() == 19_546);
-const _: () = assert!(std::mem::size_of::<Workspace>() == 5_005_912);
-const _: () = assert!(usize::BITS == 64);
-
-impl State {
-    /// The numbers of the flags in place order: they stand first, at level 0.
-    pub fn flags(&self) -> &[u16] {
-        let count = usize::from(self.numbers[0]).min(BY_PLACE - 1);
-        let flags = self.levels[1..=count].iter().take_while(|&&level| level == 0).count();
-        &self.numbers[1..=flags]
-    }
-
-    /// How many rules stand.
-    pub fn rules(&self) -> usize {
-        usize::from(self.rule_sizes[0])
-    }
-}
+//! each function here hands on pointers that it got from them, with the slice's own length. The library
+//! checks what stands in the tables itself, and keeps no pointer.
 
 const HIGHEST_NUMBERS: usize = 1_000;
 const HIGHEST_RULES: usize = 4_000;
+const LITERALS: usize = 16;
+const ENTRIES: usize = 64;
+/// Bytes of a closest reading.
+pub const FLAGS: usize = 40;
 /// The codes of literals, two for each place, none included.
 const CODES: usize = (HIGHEST_NUMBERS + 1) * 2;
 /// The words of a set of rules.
 const ROW_WORDS: usize = (HIGHEST_RULES / 256 + 1) * 4;
+
+// As at the end of the header; and a length there is a `size_t`, which has 64 bits.
+const _: () = assert!(std::mem::size_of::<Workspace>() == 5_005_912);
+const _: () = assert!(usize::BITS == 64);
 
 /// `rules` of `struct bullacetop_workspace`.
 #[repr(C)]
@@ -75,7 +37,10 @@ struct Trail {
     joined: [u16; HIGHEST_NUMBERS * 2],
 }
 
-/// `struct bullacetop_workspace`. Every bit pattern is a value of it.
+/// What a search works in, whatever the limits of its book: some five million bytes, too many for most
+/// stacks. Nothing in it is kept from one call to the next, so that one workspace serves any number of
+/// books.
+// `struct bullacetop_workspace`. Every bit pattern is a value of it.
 #[repr(C)]
 pub struct Workspace {
     rules: Matrix,
@@ -92,8 +57,22 @@ pub struct Workspace {
 }
 
 impl Workspace {
-    /// One on the heap, where it is made: it has some five million bytes.
-    pub fn new() -> Box<Workspace> {
+    /// One for a `static`, where it takes no heap and no stack:
+    ///
+    /// ```
+    /// use bullacetop::Workspace;
+    /// use std::sync::Mutex;
+    ///
+    /// static WORK: Mutex<Workspace> = Mutex::new(Workspace::zeroed());
+    /// assert!(WORK.lock().is_ok());
+    /// ```
+    pub const fn zeroed() -> Workspace {
+        // Zeros are a value of it.
+        unsafe { std::mem::zeroed() }
+    }
+
+    /// One on the heap, where it is made.
+    pub fn boxed() -> Box<Workspace> {
         let layout = std::alloc::Layout::new::<Workspace>();
         // Zeros are a value of it, and it is not empty.
         unsafe {
@@ -103,6 +82,23 @@ impl Workspace {
             }
             Box::from_raw(made)
         }
+    }
+}
+
+/// The two tables of a book, lent: of as many cells and literals as [`Limits`](crate::Limits) say, or
+/// more. What stands in them before a book is opened means nothing.
+#[derive(Debug)]
+pub struct Tables<'a> {
+    /// The limits, the variables, and how many rules and learned entries stand, with their lengths.
+    pub cells: &'a mut [u16],
+    /// The literals of the rules and of what was learned.
+    pub literals: &'a mut [i16],
+}
+
+impl Tables<'_> {
+    /// The same tables, lent on.
+    pub fn lend(&mut self) -> Tables<'_> {
+        Tables { cells: self.cells, literals: self.literals }
     }
 }
 
@@ -141,7 +137,7 @@ pub struct Converted {
 
 /// `struct bullacetop_shown`.
 #[repr(C)]
-#[derive(Clone, Copy)]
+#[derive(Clone, Copy, Debug)]
 pub struct Shown {
     refusal: u16,
     size: usize,
@@ -149,38 +145,31 @@ pub struct Shown {
     flags: usize,
 }
 
-/// `struct bullacetop_opened`.
+/// `struct bullacetop_spoken`.
+#[repr(C)]
+struct Spoken {
+    refusal: u16,
+    length: usize,
+    shown: Shown,
+}
+
+/// `struct bullacetop_book_opened`.
 #[repr(C)]
 pub struct Opened {
     pub refusal: u16,
     pub line: usize,
-    pub state: State,
 }
 
-/// `struct bullacetop_turn`.
-#[repr(C)]
-struct Turn {
-    refusal: u16,
-    length: usize,
-    state: State,
-    shown: Shown,
-}
-
-/// Declares calls on the nine tables of a state. Which of them a call writes is in the header; here
-/// all are lent to be written, but to the one call that writes none.
+/// Declares calls on the two tables of a book. What of them a call writes is in the header; here both are
+/// lent to be written, but to the one call that writes neither.
 macro_rules! on_tables {
     ($(fn $name:ident($($argument:ident: $type:ty),*) -> $reply:ty;)*) => {
         extern "C" {
             $(fn $name(
-                numbers: *const u16,
-                levels: *const u16,
-                kinds: *const u16,
-                rules: *mut i16,
-                rule_sizes: *mut u16,
-                bars: *mut i16,
-                bar_sizes: *mut u16,
-                passes: *mut i16,
-                pass_sizes: *mut u16,
+                cells: *mut u16,
+                cell_count: usize,
+                literals: *mut i16,
+                literal_count: usize,
                 $($argument: $type),*
             ) -> $reply;)*
         }
@@ -188,38 +177,70 @@ macro_rules! on_tables {
 }
 
 on_tables! {
-    fn bullacetop_rule_in_place(literals: *const i16, count: usize) -> Reply;
-    fn bullacetop_one_in_place(literals: *const i16, count: usize) -> Reply;
-    fn bullacetop_withdraw_in_place() -> Reply;
-    fn bullacetop_forget_in_place() -> Reply;
-    fn bullacetop_query_in_place(
+    fn bullacetop_book_rule(list: *const i16, count: usize) -> Reply;
+    fn bullacetop_book_one(list: *const i16, count: usize) -> Reply;
+    fn bullacetop_book_withdraw() -> Reply;
+    fn bullacetop_book_forget() -> Reply;
+    fn bullacetop_book_query(
         work: *mut Workspace,
         on: *const i16, on_count: usize, off: *const i16, off_count: usize, ceiling: u32
     ) -> Reply;
-    fn bullacetop_card_in_place(
+    fn bullacetop_book_card(
         work: *mut Workspace, table: *mut u8, length: usize, ceiling: u32
     ) -> Reply;
-    fn bullacetop_keep_card_in_place(
+    fn bullacetop_book_keep_card(
         work: *mut Workspace, table: *mut u8, length: usize, ceiling: u32
     ) -> Reply;
-    fn bullacetop_closest_in_place(
+    fn bullacetop_book_closest(
         work: *mut Workspace,
         on: *const i16, on_count: usize, off: *const i16, off_count: usize,
         table: *mut u8, length: usize, reading: *mut u8, ceiling: u32
     ) -> Nearest;
+    fn bullacetop_book_line(
+        work: *mut Workspace,
+        line: *const u8, count: usize, number: u64,
+        shown: Shown, cards: *mut u8, out: *mut u8, room: usize
+    ) -> Spoken;
+}
+
+/// Declares what reads a text under limits, onto the two tables of a book.
+macro_rules! of_texts {
+    ($(fn $name:ident($($argument:ident: $type:ty),*) -> $reply:ty;)*) => {
+        extern "C" {
+            $(fn $name(
+                text: *const u8,
+                count: usize,
+                numbers: usize,
+                rules: usize,
+                cells: *mut u16,
+                cell_count: usize,
+                literals: *mut i16,
+                literal_count: usize,
+                $($argument: $type),*
+            ) -> $reply;)*
+        }
+    };
+}
+
+of_texts! {
+    fn bullacetop_book_open() -> Opened;
+    fn bullacetop_book_open_qdimacs() -> Opened;
+    fn bullacetop_book_tag(table: *mut u8, size: usize) -> Converted;
+    fn bullacetop_book_untag(table: *mut u8, size: usize) -> Converted;
+    fn bullacetop_book_print(work: *mut Workspace, out: *mut u8, room: usize) -> Written;
 }
 
 extern "C" {
-    fn bullacetop_write_in_place(
-        numbers: *const u16,
-        levels: *const u16,
-        kinds: *const u16,
-        rules: *const i16,
-        rule_sizes: *const u16,
-        bars: *const i16,
-        bar_sizes: *const u16,
-        passes: *const i16,
-        pass_sizes: *const u16,
+    #[cfg(test)]
+    fn bullacetop_book_cells(numbers: usize, rules: usize) -> usize;
+    #[cfg(test)]
+    fn bullacetop_book_literals(numbers: usize, rules: usize) -> usize;
+    fn bullacetop_book_room(cells: *const u16, cell_count: usize) -> usize;
+    fn bullacetop_book_write(
+        cells: *const u16,
+        cell_count: usize,
+        literals: *const i16,
+        literal_count: usize,
         table: *mut u8,
         length: usize,
     ) -> Written;
@@ -234,89 +255,113 @@ extern "C" {
     ) -> u16;
     fn bullacetop_no_card() -> Shown;
     fn bullacetop_room() -> usize;
-    fn bullacetop_print(
-        text: *const u8,
-        count: usize,
-        work: *mut Workspace,
-        out: *mut u8,
-        room: usize,
-    ) -> Written;
-    fn bullacetop_line(
-        state: State,
-        line: *const u8,
-        count: usize,
-        number: u64,
-        shown: Shown,
-        cards: *mut u8,
-        work: *mut Workspace,
-        out: *mut u8,
-        room: usize,
-    ) -> Turn;
-    fn bullacetop_open(text: *const u8, count: usize) -> Opened;
-    fn bullacetop_open_qdimacs(text: *const u8, count: usize) -> Opened;
-    fn bullacetop_tag(text: *const u8, count: usize, table: *mut u8, size: usize) -> Converted;
-    fn bullacetop_untag(text: *const u8, count: usize, table: *mut u8, size: usize) -> Converted;
 }
 
-/// Makes a call on the tables of a state that is lent to be written.
+/// Makes a call on two tables that are lent to be written.
 macro_rules! lend {
-    ($call:ident, $state:ident $(, $argument:expr)*) => {
-        // The tables are fields of one struct, which the caller has alone; so none overlaps another or
-        // a slice. Each has the header's length by its type.
+    ($call:ident, $tables:ident $(, $argument:expr)*) => {{
+        let (cells, literals) = (&mut *$tables.cells, &mut *$tables.literals);
+        // Both are lent alone, so that neither overlaps the other or an argument.
         unsafe {
             $call(
-                $state.numbers.as_ptr(),
-                $state.levels.as_ptr(),
-                $state.kinds.as_ptr(),
-                $state.rules.as_mut_ptr(),
-                $state.rule_sizes.as_mut_ptr(),
-                $state.bars.as_mut_ptr(),
-                $state.bar_sizes.as_mut_ptr(),
-                $state.passes.as_mut_ptr(),
-                $state.pass_sizes.as_mut_ptr(),
+                cells.as_mut_ptr(),
+                cells.len(),
+                literals.as_mut_ptr(),
+                literals.len(),
                 $($argument),*
             )
         }
-    };
+    }};
 }
 
-pub fn rule(state: &mut State, literals: &[i16]) -> Reply {
-    lend!(bullacetop_rule_in_place, state, literals.as_ptr(), literals.len())
+/// Reads a text onto two tables that are lent to be written.
+macro_rules! read {
+    ($call:ident, $text:ident, $limits:ident, $tables:ident $(, $argument:expr)*) => {{
+        let (cells, literals) = (&mut *$tables.cells, &mut *$tables.literals);
+        // As above.
+        unsafe {
+            $call(
+                $text.as_ptr(),
+                $text.len(),
+                $limits.0,
+                $limits.1,
+                cells.as_mut_ptr(),
+                cells.len(),
+                literals.as_mut_ptr(),
+                literals.len(),
+                $($argument),*
+            )
+        }
+    }};
 }
 
-pub fn one(state: &mut State, literals: &[i16]) -> Reply {
-    lend!(bullacetop_one_in_place, state, literals.as_ptr(), literals.len())
+/// Cells and literals of a book under limits, as the library counts them.
+#[cfg(test)]
+pub fn lengths((numbers, rules): (usize, usize)) -> (usize, usize) {
+    unsafe { (bullacetop_book_cells(numbers, rules), bullacetop_book_literals(numbers, rules)) }
 }
 
-pub fn withdraw(state: &mut State) -> Reply {
-    lend!(bullacetop_withdraw_in_place, state)
+pub fn book_room(cells: &[u16]) -> usize {
+    unsafe { bullacetop_book_room(cells.as_ptr(), cells.len()) }
 }
 
-pub fn forget(state: &mut State) -> Reply {
-    lend!(bullacetop_forget_in_place, state)
+pub fn open(text: &[u8], limits: (usize, usize), tables: Tables) -> Opened {
+    read!(bullacetop_book_open, text, limits, tables)
 }
 
-pub fn query(
-    state: &mut State,
+pub fn open_qdimacs(text: &[u8], limits: (usize, usize), tables: Tables) -> Opened {
+    read!(bullacetop_book_open_qdimacs, text, limits, tables)
+}
+
+pub fn tag(text: &[u8], limits: (usize, usize), tables: Tables, table: &mut [u8]) -> Converted {
+    read!(bullacetop_book_tag, text, limits, tables, table.as_mut_ptr(), table.len())
+}
+
+pub fn untag(text: &[u8], limits: (usize, usize), tables: Tables, table: &mut [u8]) -> Converted {
+    read!(bullacetop_book_untag, text, limits, tables, table.as_mut_ptr(), table.len())
+}
+
+pub fn print(
+    text: &[u8],
+    limits: (usize, usize),
+    tables: Tables,
     work: &mut Workspace,
-    on: &[i16],
-    off: &[i16],
-    ceiling: u32,
-) -> Reply {
+    out: &mut [u8],
+) -> Written {
+    read!(bullacetop_book_print, text, limits, tables, work, out.as_mut_ptr(), out.len())
+}
+
+pub fn rule(tables: Tables, list: &[i16]) -> Reply {
+    lend!(bullacetop_book_rule, tables, list.as_ptr(), list.len())
+}
+
+pub fn one(tables: Tables, list: &[i16]) -> Reply {
+    lend!(bullacetop_book_one, tables, list.as_ptr(), list.len())
+}
+
+pub fn withdraw(tables: Tables) -> Reply {
+    lend!(bullacetop_book_withdraw, tables)
+}
+
+pub fn forget(tables: Tables) -> Reply {
+    lend!(bullacetop_book_forget, tables)
+}
+
+pub fn query(tables: Tables, work: &mut Workspace, on: &[i16], off: &[i16], ceiling: u32) -> Reply {
     let (first, second) = (on.as_ptr(), off.as_ptr());
-    lend!(bullacetop_query_in_place, state, work, first, on.len(), second, off.len(), ceiling)
+    lend!(bullacetop_book_query, tables, work, first, on.len(), second, off.len(), ceiling)
 }
 
-pub fn card(state: &mut State, work: &mut Workspace, table: &mut [u8], ceiling: u32) -> Reply {
-    lend!(bullacetop_card_in_place, state, work, table.as_mut_ptr(), table.len(), ceiling)
+pub fn card(tables: Tables, work: &mut Workspace, table: &mut [u8], ceiling: u32) -> Reply {
+    lend!(bullacetop_book_card, tables, work, table.as_mut_ptr(), table.len(), ceiling)
 }
 
-pub fn keep_card(state: &mut State, work: &mut Workspace, table: &mut [u8], ceiling: u32) -> Reply {
-    lend!(bullacetop_keep_card_in_place, state, work, table.as_mut_ptr(), table.len(), ceiling)
+pub fn keep_card(tables: Tables, work: &mut Workspace, table: &mut [u8], ceiling: u32) -> Reply {
+    lend!(bullacetop_book_keep_card, tables, work, table.as_mut_ptr(), table.len(), ceiling)
 }
 
 pub fn closest(
-    state: &mut State,
+    tables: Tables,
     work: &mut Workspace,
     on: &[i16],
     off: &[i16],
@@ -325,8 +370,8 @@ pub fn closest(
     ceiling: u32,
 ) -> Nearest {
     lend!(
-        bullacetop_closest_in_place,
-        state,
+        bullacetop_book_closest,
+        tables,
         work,
         on.as_ptr(),
         on.len(),
@@ -339,19 +384,14 @@ pub fn closest(
     )
 }
 
-pub fn write(state: &State, table: &mut [u8]) -> Written {
-    // Of the state nothing is written.
+pub fn write(cells: &[u16], literals: &[i16], table: &mut [u8]) -> Written {
+    // Of the book nothing is written.
     unsafe {
-        bullacetop_write_in_place(
-            state.numbers.as_ptr(),
-            state.levels.as_ptr(),
-            state.kinds.as_ptr(),
-            state.rules.as_ptr(),
-            state.rule_sizes.as_ptr(),
-            state.bars.as_ptr(),
-            state.bar_sizes.as_ptr(),
-            state.passes.as_ptr(),
-            state.pass_sizes.as_ptr(),
+        bullacetop_book_write(
+            cells.as_ptr(),
+            cells.len(),
+            literals.as_ptr(),
+            literals.len(),
             table.as_mut_ptr(),
             table.len(),
         )
@@ -372,45 +412,23 @@ pub fn room() -> usize {
     unsafe { bullacetop_room() }
 }
 
-pub fn print(text: &[u8], work: &mut Workspace, out: &mut [u8]) -> Written {
-    unsafe { bullacetop_print(text.as_ptr(), text.len(), work, out.as_mut_ptr(), out.len()) }
-}
-
-pub fn open(text: &[u8]) -> Opened {
-    unsafe { bullacetop_open(text.as_ptr(), text.len()) }
-}
-
-pub fn open_qdimacs(text: &[u8]) -> Opened {
-    unsafe { bullacetop_open_qdimacs(text.as_ptr(), text.len()) }
-}
-
-pub fn tag(text: &[u8], table: &mut [u8]) -> Converted {
-    unsafe { bullacetop_tag(text.as_ptr(), text.len(), table.as_mut_ptr(), table.len()) }
-}
-
-pub fn untag(text: &[u8], table: &mut [u8]) -> Converted {
-    unsafe { bullacetop_untag(text.as_ptr(), text.len(), table.as_mut_ptr(), table.len()) }
-}
-
 /// The bytes of a session's table of cards.
 pub const CARD_TABLE: usize = 65_536;
 
-/// One line of a session. The next state and the card answered last are written where the given ones
-/// stand.
+/// One line of a session. The card answered last is written where the given one stands.
 pub fn line(
-    state: &mut State,
+    tables: Tables,
+    work: &mut Workspace,
     line: &[u8],
     number: u64,
     shown: &mut Shown,
     cards: &mut [u8; CARD_TABLE],
-    work: &mut Workspace,
     out: &mut [u8],
 ) -> Written {
     let (text, count) = (line.as_ptr(), line.len());
     let (cards, room, out) = (cards.as_mut_ptr(), out.len(), out.as_mut_ptr());
-    let given = state.clone();
-    let turn =
-        unsafe { bullacetop_line(given, text, count, number, *shown, cards, work, out, room) };
-    (*state, *shown) = (turn.state, turn.shown);
-    Written { refusal: turn.refusal, length: turn.length }
+    let spoken =
+        lend!(bullacetop_book_line, tables, work, text, count, number, *shown, cards, out, room);
+    *shown = spoken.shown;
+    Written { refusal: spoken.refusal, length: spoken.length }
 }

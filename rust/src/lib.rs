@@ -6,8 +6,12 @@
 //!
 //! The library behind these calls is proved: for every state and argument each answer is what the
 //! definitions say. This crate adds types to it. It has no `unsafe` outside one private module, panics on no
-//! input, and keeps on the heap what is large. A call wants 128 KiB of stack, a text or a line of a session
-//! 512 KiB; threads have more unless they are told otherwise.
+//! input, and keeps on the heap what is large: a [`LentBook`] has the calls in tables that the caller lends,
+//! and allocates nothing. A search, a printed card or a line of a session wants 512 KiB of stack, any other
+//! call 32 KiB; threads have more unless they are told otherwise.
+//!
+//! A book is opened under limits, which are 40 numbers and 255 rules where none are given, and at most those of
+//! [`Limits::HIGHEST`].
 //!
 //! ```
 //! use bullacetop::{Book, Refusal, Verdict, HIGHEST_CEILING};
@@ -32,12 +36,20 @@ mod book;
 mod card;
 #[allow(unsafe_code)]
 mod ffi;
+mod lent;
+mod limits;
 mod refusal;
 mod session;
 mod text;
 
-pub use book::{Answer, Book, Closest, Verdict, HIGHEST_CEILING, TEXT_ROOM};
+pub use book::Book;
 pub use card::{Card, Lines, OFF, ON, OPEN, PAGE_BYTES};
+pub use ffi::{Tables, Workspace};
+pub use lent::{Answer, Closest, LastCard, LentBook, Verdict, HIGHEST_CEILING, TEXT_ROOM};
+pub use limits::Limits;
 pub use refusal::{Refusal, Refused};
 pub use session::Session;
-pub use text::{print, room, tag, tagged, untag, untagged, LONGEST_TEXT};
+pub use text::{
+    print, printed, printed_under, room, tag, tagged, tagged_under, untag, untagged,
+    untagged_under, LONGEST_TEXT,
+};

@@ -1,8 +1,9 @@
 //! A session: a book, then call lines, each answered in text.
 
 use crate::book::Book;
-use crate::card::first;
 use crate::ffi::{self, CARD_TABLE};
+use crate::lent::LastCard;
+use crate::limits::Limits;
 use crate::refusal::Refused;
 use std::fmt;
 
@@ -29,10 +30,15 @@ pub struct Session {
 }
 
 impl Session {
-    /// Opens a text of edition 1 or 2; lines are counted from its first.
+    /// Opens a text of edition 1 or 2 under the usual limits; lines are counted from its first.
     pub fn open(text: &[u8]) -> Result<Session, Refused> {
+        Session::open_under(Limits::USUAL, text)
+    }
+
+    /// .. under limits of its own.
+    pub fn open_under(limits: Limits, text: &[u8]) -> Result<Session, Refused> {
         let lines = text.iter().filter(|&&byte| byte == b'\n').count();
-        Ok(Session::new(Book::open(text)?, lines as u64))
+        Ok(Session::new(Book::open_under(limits, text)?, lines as u64))
     }
 
     /// A session on a book, after so many lines.
@@ -45,11 +51,11 @@ impl Session {
     /// number and its line, and the session goes on; `docs/FORMAT.md` has every form.
     pub fn line(&mut self, line: &[u8]) -> &[u8] {
         self.lines = self.lines.saturating_add(1);
-        let (shown, cards) = (&mut self.shown, &mut self.cards);
-        let (state, work) = self.book.parts_mut();
+        let mut last = LastCard { shown: self.shown, cards: &mut self.cards };
+        let told = self.book.lend().line(line, self.lines, &mut last, &mut self.answer);
+        self.shown = last.shown;
         // The table has the room that every answer needs, so that none is refused.
-        let told = ffi::line(state, line, self.lines, shown, cards, work, &mut self.answer);
-        first(&self.answer, told.length)
+        told.unwrap_or_default()
     }
 
     /// The book as it now stands. It is only lent: a rule added beside the session would leave it with a

@@ -1,6 +1,8 @@
 //! The cards of the examples: by the calls, by a session's line, and as the program prints them.
 
-use bullacetop::{print, room, tagged, untagged, Book, Lines, Session, HIGHEST_CEILING};
+use bullacetop::{
+    printed, printed_under, tagged, untagged, Book, Limits, Lines, Session, HIGHEST_CEILING,
+};
 use std::fs;
 use std::path::Path;
 
@@ -25,7 +27,7 @@ fn item(literal: &i16) -> String {
 }
 
 /// A card as it is printed.
-fn printed(card: &Lines) -> String {
+fn as_printed(card: &Lines) -> String {
     let line = |literals: &Vec<i16>| {
         let items: String = literals.iter().map(item).collect();
         format!("(line{items})\n")
@@ -38,16 +40,16 @@ fn printed(card: &Lines) -> String {
 fn by_the_calls() {
     for (text, card) in examples() {
         let mut book = Book::open(&text).unwrap();
-        assert_eq!(printed(&book.card_lines(HIGHEST_CEILING).unwrap()), card);
+        assert_eq!(as_printed(&book.card_lines(HIGHEST_CEILING).unwrap()), card);
     }
 }
 
 #[test]
 fn by_a_line_and_as_printed() {
-    let mut table = vec![0; room()];
     for (text, card) in examples() {
         assert_eq!(Session::open(&text).unwrap().line(b"(card)"), card.as_bytes());
-        assert_eq!(print(&text, &mut table).unwrap(), card.as_bytes());
+        assert_eq!(printed(&text), card.as_bytes());
+        assert_eq!(printed_under(Limits::HIGHEST, &text), card.as_bytes());
     }
 }
 
@@ -71,7 +73,7 @@ fn in_both_editions_and_written_back() {
         let mut book = Book::open(&converted).unwrap();
         let written = book.text().unwrap();
         assert_eq!(Book::open(&written).unwrap().text().unwrap(), written);
-        assert_eq!(printed(&book.card_lines(HIGHEST_CEILING).unwrap()), card);
+        assert_eq!(as_printed(&book.card_lines(HIGHEST_CEILING).unwrap()), card);
     }
 }
 
@@ -80,5 +82,5 @@ fn a_book_that_comes_as_qdimacs() {
     let text = b"p cnf 4 3\ne 3 0\na 4 0\n3 4 -1 0\n-3 -4 2 0\n1 2 0\n";
     let mut book = Book::open_qdimacs(text).unwrap();
     let card = book.card_lines(HIGHEST_CEILING).unwrap();
-    assert_eq!(printed(&card), include_str!("../../examples/a.card"));
+    assert_eq!(as_printed(&card), include_str!("../../examples/a.card"));
 }

@@ -1,6 +1,8 @@
 //! Refusals with their numbers; the book is as it was, and a search that ran keeps what it learned.
 
-use bullacetop::{tag, tagged, untagged, Book, Refusal, Refused, Session, HIGHEST_CEILING};
+use bullacetop::{
+    tag, tagged, untagged, Book, Limits, Refusal, Refused, Session, Tables, HIGHEST_CEILING,
+};
 
 const A: &[u8] = include_bytes!("../../examples/a.book");
 const NUMBERS: [u16; 21] =
@@ -50,9 +52,11 @@ fn in_capitals(refusal: Refusal) -> String {
 fn the_header_has_the_same_numbers_and_names() {
     let header = include_str!("../../include/bullacetop.h");
     let from = header.find("/* Refusals; 0 is none. */").unwrap();
-    let until = header.find("/* The highest ceiling").unwrap();
+    let until = header.find("/* ---- the workspace */").unwrap();
+    let defined = header[from..until].lines().filter(|line| line.starts_with('#'));
+    // Behind each stands what it means.
     let there: Vec<&str> =
-        header[from..until].lines().filter(|line| line.starts_with('#')).collect();
+        defined.map(|line| line.split("/*").next().unwrap().trim_end()).collect();
     let define =
         |number| format!("#define BULLACETOP_{} {number}", in_capitals(Refusal::of(number)));
     assert_eq!(there, NUMBERS.map(define));
@@ -78,9 +82,14 @@ fn conversions() {
     assert_refused(tagged(b"(book 2)\n(flags)\n(end)\n"), 2, 0);
     let lost = untagged(b"(book 2)\n(flags 1)\n(rule (tag 2) 1)\n(end)\n").unwrap_err();
     assert_eq!((lost.refusal, lost.line), (Refusal::TagLost, 3));
+    let (mut cells, mut literals) = ([9; Limits::USUAL.cells()], [9; Limits::USUAL.literals()]);
+    let mut tables = Tables { cells: &mut cells, literals: &mut literals };
     let mut table = [9; 20];
-    assert_refused(tag(A, &mut table), 31, 0);
+    assert_refused(tag(A, Limits::USUAL, tables.lend(), &mut table), 31, 0);
     assert_eq!(table, [0; 20]);
+    // A cell too few for a book, whatever the text is.
+    let short = Tables { cells: &mut tables.cells[1..], literals: tables.literals };
+    assert_refused(tag(b"", Limits::USUAL, short, &mut table), 22, 0);
 }
 
 /// What a book answers and how much it takes to: with equal visits it has learned as much.

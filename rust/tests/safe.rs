@@ -1,6 +1,6 @@
 //! Whatever is called, no state comes out that the library refuses, and nothing panics.
 
-use bullacetop::{print, room, tag, untag, Book, Refusal, Refused, Session};
+use bullacetop::{printed, tagged, untagged, Book, Limits, Refusal, Refused, Session};
 use std::thread;
 
 const BOOK: &[u8] = include_bytes!("../../examples/fan_board.book");
@@ -78,15 +78,15 @@ fn no_call_leaves_a_malformed_state() {
 fn any_bytes_are_answered() {
     let mut numbers = Numbers(2);
     let mut session = Session::open(BOOK).unwrap();
-    let mut table = [0; 500];
     for _ in 0..2_000 {
         let mut text = BOOK.to_vec();
         for _ in 0..1 + numbers.below(3) {
             let at = numbers.below(text.len());
             text[at] = numbers.below(256) as u8;
         }
-        let _ = (Book::open(&text), Book::open_qdimacs(&text));
-        let _ = (tag(&text, &mut table).is_ok(), untag(&text, &mut table).is_ok());
+        let limits = Limits { numbers: numbers.below(12), rules: numbers.below(20) };
+        let _ = (Book::open_under(limits, &text), Book::open_qdimacs_under(limits, &text));
+        let _ = (tagged(&text).is_ok(), untagged(&text).is_ok());
         let start = numbers.below(text.len());
         assert!(session.line(&text[start..]).ends_with(b"\n"));
     }
@@ -109,14 +109,23 @@ fn on_stack<T: Send + 'static>(size: usize, call: impl FnOnce() -> T + Send + 's
     thread::Builder::new().stack_size(size * 1024).spawn(call).unwrap().join().unwrap()
 }
 
-/// The header asks for 128 KiB for a call and 512 for a text or a line; the types take no more.
+/// The header asks for 512 KiB for a search, a line or a printed card, and for 32 for any other call; the types take
+/// no more.
 #[test]
 fn on_the_stack_that_the_header_asks_for() {
     const LARGEST: &[u8] = include_bytes!("../../examples/parlour_board.book");
     const CARD: &[u8] = include_bytes!("../../examples/parlour_board.card");
-    let mut session = on_stack(512, || Session::open(LARGEST).unwrap());
+    let mut session = on_stack(512, || Session::open_under(Limits::HIGHEST, LARGEST).unwrap());
     let mut book = session.book().clone();
     assert_eq!(on_stack(512, move || session.line(b"(card)").to_vec()), CARD);
-    assert_eq!(on_stack(512, || print(LARGEST, &mut vec![0; room()]).unwrap().to_vec()), CARD);
-    assert_eq!(on_stack(128, move || book.card_lines(u32::MAX).unwrap().lines.len()), 161);
+    assert_eq!(on_stack(512, || printed(LARGEST)), CARD);
+    let lines = |told: bullacetop::Lines| told.lines.len();
+    assert_eq!(on_stack(512, move || lines(book.card_lines(u32::MAX).unwrap())), 161);
+    let mut other = on_stack(32, || Book::open(LARGEST).unwrap());
+    let text = on_stack(32, move || {
+        other.rule(&[1]).unwrap();
+        other.withdraw().unwrap();
+        other.text().unwrap()
+    });
+    assert_eq!(Book::open(&text).unwrap().text().unwrap(), text);
 }

@@ -9,11 +9,9 @@ fn main() {
     println!("cargo:rustc-link-search=native={}", folder.display());
     println!("cargo:rustc-link-lib=static=bullacetop");
     println!("cargo:rerun-if-changed={}", library.display());
-    // What `tests/finder` and `tests/book` link, and nothing else needs.
-    for name in ["search_finder", "book_calls"] {
-        let other = folder.join(format!("lib{name}.a"));
-        if other.exists() {
-            println!("cargo:rerun-if-changed={}", other.display());
-        }
+    // What `tests/finder` links, and nothing else needs.
+    let finder = folder.join("libsearch_finder.a");
+    if finder.exists() {
+        println!("cargo:rerun-if-changed={}", finder.display());
     }
 }

@@ -3,6 +3,8 @@
 #![tactic(auto)]
 
 pub mod changes; // the calls that ask for no search
-pub mod searches; // those that search
+pub mod lines; // a line of a session
+pub mod print; // a text's card, and a page of a card
+pub mod searches; // the calls that search
 pub mod sizes; // how long the tables have to be
-pub mod text; // a book opened and written
+pub mod text; // a book opened and written, and a text converted

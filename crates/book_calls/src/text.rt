@@ -1,12 +1,16 @@
-// A text opened onto the two tables of a state, under limits of its own, and a state's book written as text.
+// A text opened onto the two tables of a state, under limits of its own; a state's book written as text; and a text converted from one edition into the
+// other.
 ghost use Rattle.std.specs.Prelude.{length};
 ghost use Rattle.qbf.specs.Formula.{capped};
 ghost use Rattle.editions.specs.Opening.{both, open_editions};
+ghost use Rattle.qdimacs_form.specs.Opening.{open_qdimacs};
 ghost use Rattle.book_writer.specs.Writes.{WritesAt};
+ghost use Rattle.edition_conversion_at.specs.Converting.{TaggedUnder, UntaggedUnder};
 ghost use Rattle.book_calls.specs.Opened.{OpenedIn, ToldOf};
 
 use book_writer::Written;
 use book_writer::at::write_at;
+use edition_conversion::Converted;
 use edition_opening::Editions;
 use edition_opening_at::open;
 use opening::NONE;
@@ -59,10 +63,72 @@ pub fn bullacetop_book_open(
     Opened::from(read)
 }
 
+// A QDIMACS text likewise, to the state that our own text would give.
+pub fn bullacetop_book_open_qdimacs(
+    text: &[u8],
+    limits: Limits,
+    cells: &mut [u16],
+    literals: &mut [i16],
+) -> Opened
+    ensures { OpenedIn
+        (capped limits.numbers limits.clauses)
+        (open_qdimacs (capped limits.numbers limits.clauses) text.now)
+        cells.old
+        literals.old
+        result
+        cells.new
+        literals.new }
+{
+    let read = qdimacs_opening_at::open(text, limits, cells, literals);
+    Opened::from(read)
+}
+
 // The book's text. Nothing of the state is written.
 pub fn bullacetop_book_write(cells: &[u16], literals: &[i16], table: &mut [u8]) -> Written
     ensures { WritesAt cells.now literals.now (length table.old) result.refusal result.length table.new }
 {
     let written = write_at(cells, literals, table);
     written
+}
+
+// A text of edition 1 in edition 2: its rule forms are tagged 1, 2, 3 and so on. It is judged onto the two tables, which have the book then, or are malformed.
+// stays (C): one function for each export; this and `bullacetop_book_untag` are one call each
+pub fn bullacetop_book_tag(
+    text: &[u8],
+    limits: Limits,
+    cells: &mut [u16],
+    literals: &mut [i16],
+    table: &mut [u8],
+) -> Converted
+    ensures { TaggedUnder
+        (capped limits.numbers limits.clauses)
+        cells.old
+        literals.old
+        text.now
+        (length table.old)
+        result
+        table.new }
+{
+    edition_conversion_at::tag(text, limits, cells, literals, table)
+}
+
+// A text of edition 2 in edition 1, where its tags are those.
+// stays (C): one function for each export, as `bullacetop_book_tag`
+pub fn bullacetop_book_untag(
+    text: &[u8],
+    limits: Limits,
+    cells: &mut [u16],
+    literals: &mut [i16],
+    table: &mut [u8],
+) -> Converted
+    ensures { UntaggedUnder
+        (capped limits.numbers limits.clauses)
+        cells.old
+        literals.old
+        text.now
+        (length table.old)
+        result
+        table.new }
+{
+    edition_conversion_at::untag(text, limits, cells, literals, table)
 }

@@ -1,7 +1,10 @@
-// What `bullacetop` has for programs in other languages, as a static library: each export calls the function of its name, and promises the
-// same of what it is handed: where that function takes a struct, as of the tables of a state, the parameters and the clauses here are of its fields.
+// What `book_calls` has for programs in other languages, as a static library: each export calls the function of its name, and promises the same of what it
+// is handed: where that function takes a struct the parameters and the clauses here are of its fields.
 #![tactic(auto)]
 
-pub mod in_place; // the calls
-pub mod print; // a page of a card
-pub mod text; // books and call lines
+pub mod changes; // the calls that ask for no search
+pub mod lines; // a line of a session
+pub mod print; // a text's card, and a page of a card
+pub mod searches; // the calls that search
+pub mod sizes; // how long the tables have to be
+pub mod text; // a book opened and written, and a text converted

@@ -1,95 +1,128 @@
-// Books and call lines as text. A text is written into a lent table of at least as many bytes as `bullacetop_room` says; a shorter one is zeroed
-// and refused with 31.
+// A text opened onto the two tables of a state, under limits of its own; a state's book written as text; and a text converted from one edition into the
+// other.
 ghost use Rattle.std.specs.Prelude.{◌≡◌, length};
-ghost use Rattle.qbf.specs.Formula.{paper};
+ghost use Rattle.qbf.specs.Formula.{capped};
 ghost use Rattle.editions.specs.Opening.{both, open_editions};
-ghost use Rattle.editions.specs.Converting.{to_tagged, to_untagged};
-ghost use Rattle.opening.specs.Opened.{OpenedAs};
-ghost use Rattle.edition_conversion.specs.Converted.{ConvertedAs};
 ghost use Rattle.qdimacs_form.specs.Opening.{open_qdimacs};
-ghost use Rattle.answer_text.specs.Room.{answer_bytes};
-ghost use Rattle.answer_text.specs.Shown.{no_card};
-ghost use Rattle.serve.specs.Books.{PrintsCard};
-ghost use Rattle.session_line.specs.Line.{ServesLine};
+ghost use Rattle.book_writer.specs.Writes.{WritesAt};
+ghost use Rattle.edition_conversion_at.specs.Converting.{TaggedUnder, UntaggedUnder};
+ghost use Rattle.book_calls.specs.Opened.{OpenedIn};
 
-use answer_text::shown::{Held, Shown};
+use book_calls::text::Opened;
 use book_writer::Written;
 use edition_conversion::Converted;
-use opening::Opened;
-use reader::call::TABLE;
-use search_entry::workspace::Workspace;
-use session_line::Spoken;
-use state::State;
+use state::parts::Limits;
 
-#[unsafe(no_mangle)]
-pub extern "C" fn bullacetop_room() -> usize
-    ensures { result ≡ answer_bytes }
+// As C has them: the limit for rules is that for clauses.
+fn limits_of(numbers: usize, rules: usize) -> Limits
+    ensures { result ≡ record { numbers = numbers; clauses = rules } }
 {
-    bullacetop::text::bullacetop_room()
+    Limits {
+        numbers,
+        clauses: rules,
+    }
 }
 
-// What the program `card` prints for a text.
+// A text of edition 1 or 2. Where it is refused what stands in the tables is malformed.
 #[unsafe(no_mangle)]
-pub extern "C" fn bullacetop_print(text: &[u8], work: &mut Workspace, out: &mut [u8]) -> Written
-    ensures { PrintsCard text.now out.old result out.new }
+pub extern "C" fn bullacetop_book_open(
+    text: &[u8],
+    numbers: usize,
+    rules: usize,
+    cells: &mut [u16],
+    literals: &mut [i16],
+) -> Opened
+    ensures { OpenedIn
+        (capped numbers rules)
+        (open_editions both (capped numbers rules) text.now)
+        cells.old
+        literals.old
+        result
+        cells.new
+        literals.new }
 {
-    bullacetop::text::bullacetop_print(text, work, out)
+    let limits = limits_of(numbers, rules);
+    book_calls::text::bullacetop_book_open(text, limits, cells, literals)
 }
 
-// A text opened: its state; or the refusal, its line, and a state on which every call is refused with 22.
+// A QDIMACS text likewise, to the state that our own text would give.
 #[unsafe(no_mangle)]
-pub extern "C" fn bullacetop_open(text: &[u8]) -> Opened
-    ensures { OpenedAs (open_editions both paper text.now) result }
+pub extern "C" fn bullacetop_book_open_qdimacs(
+    text: &[u8],
+    numbers: usize,
+    rules: usize,
+    cells: &mut [u16],
+    literals: &mut [i16],
+) -> Opened
+    ensures { OpenedIn
+        (capped numbers rules)
+        (open_qdimacs (capped numbers rules) text.now)
+        cells.old
+        literals.old
+        result
+        cells.new
+        literals.new }
 {
-    bullacetop::text::bullacetop_open(text)
+    let limits = limits_of(numbers, rules);
+    book_calls::text::bullacetop_book_open_qdimacs(text, limits, cells, literals)
 }
 
-// A QDIMACS text opened likewise, to the state that our own text would give.
+// The book's text. Nothing of the state is written.
 #[unsafe(no_mangle)]
-pub extern "C" fn bullacetop_open_qdimacs(text: &[u8]) -> Opened
-    ensures { OpenedAs (open_qdimacs paper text.now) result }
+pub extern "C" fn bullacetop_book_write(
+    cells: &[u16],
+    literals: &[i16],
+    table: &mut [u8],
+) -> Written
+    ensures { WritesAt cells.now literals.now (length table.old) result.refusal result.length table.new }
 {
-    bullacetop::text::bullacetop_open_qdimacs(text)
+    book_calls::text::bullacetop_book_write(cells, literals, table)
 }
 
 // A text of edition 1 in edition 2: its rule forms are tagged 1, 2, 3 and so on.
+// stays (C): the header declares these parameters
 #[unsafe(no_mangle)]
-pub extern "C" fn bullacetop_tag(text: &[u8], table: &mut [u8]) -> Converted
-    ensures { ConvertedAs (length table.old) (to_tagged paper (length table.old) text.now) result table.new }
+pub extern "C" fn bullacetop_book_tag(
+    text: &[u8],
+    numbers: usize,
+    rules: usize,
+    cells: &mut [u16],
+    literals: &mut [i16],
+    table: &mut [u8],
+) -> Converted
+    ensures { TaggedUnder
+        (capped numbers rules)
+        cells.old
+        literals.old
+        text.now
+        (length table.old)
+        result
+        table.new }
 {
-    bullacetop::text::bullacetop_tag(text, table)
+    let limits = limits_of(numbers, rules);
+    book_calls::text::bullacetop_book_tag(text, limits, cells, literals, table)
 }
 
 // A text of edition 2 in edition 1, where its tags are those.
-#[unsafe(no_mangle)]
-pub extern "C" fn bullacetop_untag(text: &[u8], table: &mut [u8]) -> Converted
-    ensures { ConvertedAs (length table.old) (to_untagged paper (length table.old) text.now) result table.new }
-{
-    bullacetop::text::bullacetop_untag(text, table)
-}
-
-// No card has been answered yet: what a session begins with.
-#[unsafe(no_mangle)]
-pub extern "C" fn bullacetop_no_card() -> Shown
-    ensures { result ≡ no_card }
-{
-    bullacetop::text::bullacetop_no_card()
-}
-
-// One line of a session, without its byte 10, and its number in the input. The lines of the card answered last stand in the lent table of cards.
 // stays (C): the header declares these parameters
 #[unsafe(no_mangle)]
-pub extern "C" fn bullacetop_line(
-    x: State,
-    line: &[u8],
-    number: u64,
-    shown: Shown,
-    cards: &mut [u8; TABLE],
-    work: &mut Workspace,
-    out: &mut [u8],
-) -> Spoken
-    ensures { ServesLine x line.now number shown cards.old out.old result cards.new out.new }
+pub extern "C" fn bullacetop_book_untag(
+    text: &[u8],
+    numbers: usize,
+    rules: usize,
+    cells: &mut [u16],
+    literals: &mut [i16],
+    table: &mut [u8],
+) -> Converted
+    ensures { UntaggedUnder
+        (capped numbers rules)
+        cells.old
+        literals.old
+        text.now
+        (length table.old)
+        result
+        table.new }
 {
-    let held = Held { state: x, shown };
-    bullacetop::text::bullacetop_line(held, line, number, cards, work, out)
+    let limits = limits_of(numbers, rules);
+    book_calls::text::bullacetop_book_untag(text, limits, cells, literals, table)
 }

@@ -15,8 +15,8 @@ pub struct Opened {
     pub line: usize,
 }
 
-// Made by `tools/build book_calls`.
-#[link(name = "book_calls", kind = "static")]
+// Made by `tools/build bullacetop`.
+#[link(name = "bullacetop", kind = "static")]
 extern "C" {
     fn bullacetop_book_cells(numbers: usize, rules: usize) -> usize;
     fn bullacetop_book_literals(numbers: usize, rules: usize) -> usize;

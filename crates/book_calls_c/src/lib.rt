@@ -1,8 +1,0 @@
-// What `book_calls` has for programs in other languages, as a static library: each export calls the function of its name, and promises the same of what
-// it is handed: where that function takes a struct the parameters and the clauses here are of its fields.
-#![tactic(auto)]
-
-pub mod changes; // the calls that ask for no search
-pub mod searches; // those that search
-pub mod sizes; // how long the tables have to be
-pub mod text; // a book opened and written
