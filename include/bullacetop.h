@@ -222,8 +222,8 @@ struct bullacetop_written bullacetop_book_write(
 size_t bullacetop_book_room(const uint16_t *cells, size_t cell_count);
 
 /*
- * A text converted from one edition into the other, into a table of m bytes. It is read as opening does, under limits and onto two tables, which have the
- * book then, or are malformed where the text is refused. Converted: refusal and line are 0, the text is the first `length` bytes, and the rest of the table
+ * A text converted from one edition into the other, into a table of m bytes. It is read as opening does, under limits and onto the two tables of a book,
+ * whose content is free before and means nothing after. Converted: refusal and line are 0, the text is the first `length` bytes, and the rest of the table
  * is zero. Refused: the number, the line from 1 (0 for 9, 22 and 31), no length, and the whole table zero.
  */
 struct bullacetop_converted {
@@ -397,7 +397,7 @@ uint16_t bullacetop_page(const uint8_t *table, size_t n, size_t lines, size_t fl
  */
 size_t bullacetop_room(void);
 
-/* What the program `card` prints for a text of n bytes under limits. The text is opened onto the two tables, and its card's search learns there. */
+/* What the program `card` prints for a text of n bytes under limits: its card, or its refusal. It is read onto the two tables of a book likewise. */
 struct bullacetop_written bullacetop_book_print(
     const uint8_t *text,
     size_t n,
