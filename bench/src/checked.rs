@@ -2,9 +2,9 @@
 //! number are, whether clauses and entries are declared, in place order and reduced, and whether records
 //! are at most the clauses standing.
 
+use crate::raw::{Raw, BY_PLACE, CLAUSES, CLAUSE_WIDTH, ENTRIES, ENTRY_WIDTH, RECORDS};
+use crate::raw::{EXISTS, FORALL, FREE};
 use compare::Quantifier;
-use native::raw::{Raw, BY_PLACE, CLAUSES, CLAUSE_WIDTH, ENTRIES, ENTRY_WIDTH, RECORDS};
-use native::raw::{EXISTS, FORALL, FREE};
 
 /// A prefix by variable number.
 pub struct Prefix {

@@ -8,6 +8,7 @@ use crate::plot::grouped;
 use crate::report::milliseconds;
 use compare::slices::Slices;
 use compare::{Limits, Reading, State, Store};
+use native::exports::{self, bare, SWAP};
 use std::time::Duration;
 
 const TABLE: usize = 65_536;
@@ -23,12 +24,24 @@ pub struct Side {
     pub query: fn(&mut Slices, &Reading, u32) -> Reply,
 }
 
-/// The library's calls on two slices are one more side, once they are there.
-pub const SIDES: [Side; 1] = [Side {
-    name: "Rust",
-    card: large::card,
-    query: |slices, reading, ceiling| large::query(slices, &reading.on, ceiling),
-}];
+pub const SIDES: [Side; 2] = [
+    Side {
+        name: "Library",
+        card: |slices, table, ceiling| told(bare::card(slices, table, ceiling)),
+        query: |slices, reading, ceiling| told(bare::query(slices, reading, ceiling)),
+    },
+    Side {
+        name: "Rust",
+        card: large::card,
+        query: |slices, reading, ceiling| large::query(slices, &reading.on, ceiling),
+    },
+];
+
+/// The library's reply.
+fn told(reply: exports::Reply) -> Reply {
+    let exports::Reply { refusal, verdict, lines, visits } = reply;
+    Reply { refusal, yes: verdict == SWAP, lines, visits }
+}
 
 #[derive(Clone, Copy, Debug, PartialEq, Eq)]
 enum Task {

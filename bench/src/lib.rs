@@ -11,5 +11,6 @@ mod large_check;
 pub mod large_measure;
 pub mod measure;
 pub mod plot;
+pub mod raw;
 pub mod report;
 pub mod search;

@@ -1,18 +1,19 @@
 //! `bench`: measures and writes docs/BENCHMARKS.md and docs/benchmarks.svg. `bench --card NAME`
 //! makes one card of an example by the library alone, `bench --card NAME scan` or `index` by a design
 //! in Rust alone, for a tool that counts instructions. `bench --calls` measures calls by themselves and
-//! writes nothing; `bench --large` measures books of up to 1,000 variables, in Rust so far. `bench --books FOLDER` writes the books, each with its list of queries, for other programs.
+//! writes nothing; `bench --large` measures books of up to 1,000 variables. `bench --books FOLDER` writes the books, each with its list of queries, for other programs.
 
 use bench::books::{self, formula, Book, Order, Plan};
 use bench::large_books;
 use bench::large_measure;
 use bench::measure::{call_times, measure, readings, Task, Times};
 use bench::plot::{svg, Panel, Series};
+use bench::raw;
 use bench::report::{self, HEADS};
 use bench::search::{card, Design};
-use compare::{write, Options, State, Store};
-use native::library::bare;
-use native::reading;
+use compare::slices::Slices;
+use compare::{write, Limits, Options, State, Store, HIGHEST_CEILING};
+use native::exports::bare;
 use std::path::Path;
 use std::{fs, io};
 
@@ -46,14 +47,15 @@ fn one_card(name: &str, rust: Option<Design>) -> io::Result<()> {
     let book = books::examples()?.into_iter().find(|book| book.name.contains(name));
     let formula = book.ok_or(io::Error::other("no such example"))?.formula;
     let mut table = [0; 65_536];
-    let mut raw = reading::write(&State { formula, store: Store::default() });
+    let state = State { formula, store: Store::default() };
     let (lines, visits) = match rust {
         Some(design) => {
-            let (lines, visits) = card(&mut raw, &mut table, design);
+            let (lines, visits) = card(&mut raw::write(&state), &mut table, design);
             (lines.unwrap_or(0), visits)
         }
         None => {
-            let reply = bare::card(&mut raw, &mut table);
+            let mut slices = Slices::written(&state, &Limits::PAPER, || 0);
+            let reply = bare::card(&mut slices, &mut table, HIGHEST_CEILING);
             (reply.lines, reply.visits)
         }
     };

@@ -1,13 +1,13 @@
 //! Times of one book: the three sides by turns, the shortest run of each.
 
+use crate::raw::{self, Raw};
 use crate::search::{card, query, Design};
 use compare::random::Random;
+use compare::slices::Slices;
 use compare::solver::start_node;
-use compare::{Formula, Reading, State, Store};
+use compare::{Formula, Limits, Reading, State, Store, HIGHEST_CEILING};
 use native::budget::{self, Walk};
-use native::library::bare;
-use native::raw::{Raw, Reply, SWAP};
-use native::reading;
+use native::exports::{bare, Reply, SWAP};
 use std::time::Duration;
 
 /// "The program's card table has 65,536 bytes".
@@ -73,8 +73,14 @@ struct Found {
     verdicts: Vec<bool>,
 }
 
+/// A freshly opened formula, as the calls in Rust have it and as the library does, under 40 and 255.
+fn states(formula: &Formula) -> (Box<Raw>, Slices) {
+    let state = State { formula: formula.clone(), store: Store::default() };
+    (raw::write(&state), Slices::written(&state, &Limits::PAPER, || 0))
+}
+
 pub fn measure(formula: &Formula, task: Task) -> Times {
-    let raw = reading::write(&State { formula: formula.clone(), store: Store::default() });
+    let (raw, slices) = states(formula);
     let readings = readings(formula);
     let (mut library, mut scan, mut index) = (Duration::MAX, Duration::MAX, Duration::MAX);
     let mut spent = Duration::ZERO;
@@ -86,7 +92,7 @@ pub fn measure(formula: &Formula, task: Task) -> Times {
         let (same, time) = run_rust(&raw, task, &readings, Design::Index);
         index = index.min(time);
         spent += time;
-        let (found, time) = run_library(&raw, task, &readings);
+        let (found, time) = run_library(&slices, task, &readings);
         library = library.min(time);
         spent += time;
         runs += 1;
@@ -119,19 +125,19 @@ fn run_rust(raw: &Raw, task: Task, readings: &[Reading], design: Design) -> (Fou
     (found, cpu_time() - start)
 }
 
-fn run_library(raw: &Raw, task: Task, readings: &[Reading]) -> (Found, Duration) {
-    let mut raw = Box::new(*raw);
+fn run_library(slices: &Slices, task: Task, readings: &[Reading]) -> (Found, Duration) {
+    let mut slices = slices.clone();
     let mut found = Found { lines: 0, visits: 0, table: vec![9; TABLE], verdicts: vec![] };
     let start = cpu_time();
     match task {
         Task::Card => {
-            let reply = bare::card(&mut raw, &mut found.table);
+            let reply = bare::card(&mut slices, &mut found.table, HIGHEST_CEILING);
             assert_eq!(reply.refusal, 0, "the table is large enough");
             (found.lines, found.visits) = (reply.lines, reply.visits);
         }
         Task::Queries => {
             for reading in readings {
-                let reply = bare::query(&mut raw, reading);
+                let reply = bare::query(&mut slices, reading, HIGHEST_CEILING);
                 found.verdicts.push(reply.verdict == SWAP);
                 found.visits += reply.visits;
             }
@@ -149,24 +155,25 @@ pub struct CallTimes {
 }
 
 pub fn call_times(formula: &Formula) -> CallTimes {
-    let raw = reading::write(&State { formula: formula.clone(), store: Store::default() });
+    let (_, slices) = states(formula);
     let readings = readings(formula);
-    let decided = |reading: &&Reading| bare::query(&mut raw.clone(), reading).visits == 1;
+    let decided =
+        |reading: &&Reading| bare::query(&mut slices.clone(), reading, HIGHEST_CEILING).visits == 1;
     let decided = readings.iter().find(decided).expect("a reading that the start node decides");
     CallTimes {
-        query: call_time(&raw, |raw| bare::query(raw, decided)),
-        forget: call_time(&raw, bare::forget),
+        query: call_time(&slices, |slices| bare::query(slices, decided, HIGHEST_CEILING)),
+        forget: call_time(&slices, bare::forget),
     }
 }
 
-fn call_time(raw: &Raw, call: impl Fn(&mut Raw) -> Reply) -> Duration {
+fn call_time(slices: &Slices, call: impl Fn(&mut Slices) -> Reply) -> Duration {
     const CALLS: u32 = 1_000;
-    let mut raw = Box::new(*raw);
+    let mut slices = slices.clone();
     let mut least = Duration::MAX;
     for _ in 0..20 {
         let start = cpu_time();
         for _ in 0..CALLS {
-            assert_eq!(call(&mut raw).refusal, 0, "nothing is refused");
+            assert_eq!(call(&mut slices).refusal, 0, "nothing is refused");
         }
         least = least.min((cpu_time() - start) / CALLS);
     }

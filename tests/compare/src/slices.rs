@@ -169,7 +169,7 @@ impl Slices {
     }
 
     /// The cells that a state's counts tell; all others stay.
-    fn write(&mut self, state: &State) {
+    pub fn write(&mut self, state: &State) {
         let limits = self.limits().expect("a state that is read has its limits");
         let (at, rows) = (Cells::of(&limits), Rows::of(&limits, self.slip));
         self.cells.resize(self.cells.len().max(at.count), 0);

@@ -61,7 +61,7 @@ impl InPlace for Wrong {
         call: &Call,
         ceiling: u32,
         table: &mut [u8],
-    ) -> (compare::Said, u64) {
+    ) -> Result<(compare::Said, u64), String> {
         let told = None.call(cells, literals, call, ceiling, table);
         let cell: *mut u16 = cells.as_mut_ptr();
         // The guards are part of one allocation with what is lent.

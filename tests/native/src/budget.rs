@@ -1,7 +1,10 @@
 //! How many nodes a search can visit, counted up to a limit: inputs are kept affordable by it.
 
 use compare::solver::start_node;
-use compare::{refusal, Call, Formula, Options, Quantifier, Reading};
+use compare::{refusal, Call, Formula, Limits, Options, Quantifier, Reading};
+
+/// Numbers of variables, of which a formula has up to 63.
+const HIGHEST_NUMBER: usize = Limits::HIGHEST.numbers as usize;
 
 /// Which nodes are counted.
 #[derive(Clone, Copy, Debug, PartialEq, Eq)]
@@ -71,7 +74,7 @@ enum Found {
 
 impl<'a> Count<'a> {
     fn new(formula: &'a Formula, walk: Walk, limit: u64) -> Count<'a> {
-        let mut bit = [0u64; 1 << 6];
+        let mut bit = [0u64; 1 + HIGHEST_NUMBER];
         let mut hope = 0;
         for (index, variable) in formula.prefix.iter().enumerate() {
             bit[usize::from(variable.number.unsigned_abs())] = 1 << index;

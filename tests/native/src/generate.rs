@@ -1,9 +1,11 @@
-//! Random formulas, stores and calls at the paper's limits.
+//! Random formulas, stores and calls, at the limits of 40 and 255 and at a book's own.
 
 use crate::budget::{self, Walk};
 use compare::constraint::{Constraint, Polarity};
 use compare::random::Random;
-use compare::{refusal, Call, Formula, Literal, Options, Quantifier, Reading, Store, Variable};
+use compare::{
+    refusal, Call, Formula, Limits, Literal, Options, Quantifier, Reading, Store, Variable,
+};
 
 /// How large a formula and its searches may be.
 #[derive(Clone, Copy, Debug)]
@@ -42,15 +44,52 @@ pub const SHAPES: [Shape; 12] = [
     shape((3, 40), (246, 255), (1, 4), 400, 24),
 ];
 
+/// A formula and the limits of its book.
+#[derive(Clone, Debug)]
+pub struct Book {
+    pub formula: Formula,
+    pub limits: Limits,
+}
+
+impl Book {
+    /// Under limits that hold it: in half of the books 40 and 255, as they are usual; else just what it needs, some more,
+    /// or more than is usual.
+    pub fn draw(shape: Shape, walk: Walk, random: &mut Random) -> Book {
+        if random.one_in(2) {
+            let limits = Limits::PAPER;
+            return Book { formula: shape.formula(&limits, walk, random), limits };
+        }
+        let wide = random.one_in(12);
+        let numbers = if wide { 1_000 } else { random.pick(&[40, 41, 47, 64, 100]) };
+        let drawn = Limits::own(numbers, random.pick(&[255, 255, 256, 300]));
+        let formula = shape.formula(&drawn, walk, random);
+        let limits = Book::limits(&formula, &drawn, random);
+        Book { formula, limits }
+    }
+
+    /// Limits that hold a formula, up to those under which it was drawn.
+    pub fn limits(formula: &Formula, drawn: &Limits, random: &mut Random) -> Limits {
+        let highest = formula.prefix.iter().map(|v| v.number as usize).max().unwrap_or(0);
+        let (most, rules) = (drawn.numbers as usize, formula.clauses.len());
+        let more = |least: usize, most: usize, random: &mut Random| match random.below(4) {
+            0 => least,
+            1 => most.max(least),
+            _ => least + random.below(6),
+        };
+        Limits::own(more(highest, most, random), more(rules, drawn.clauses, random))
+    }
+}
+
 impl Shape {
-    pub fn formula(&self, walk: Walk, random: &mut Random) -> Formula {
+    pub fn formula(&self, limits: &Limits, walk: Walk, random: &mut Random) -> Formula {
         let count = random.between(self.variables.0, self.variables.1);
-        let mut formula = Formula { prefix: prefix(count, random), clauses: vec![] };
+        let mut formula = Formula { prefix: prefix(count, limits, random), clauses: vec![] };
         if count == 0 {
             return formula;
         }
         let style = Style::any(random);
-        for _ in 0..random.between(self.clauses.0, self.clauses.1) {
+        let most = self.clauses.1.min(limits.clauses);
+        for _ in 0..random.between(self.clauses.0.min(most), most) {
             let again = random.one_in(12) && !formula.clauses.is_empty();
             if again {
                 let index = random.below(formula.clauses.len());
@@ -60,13 +99,13 @@ impl Shape {
                 formula.add(&literals);
             }
         }
-        self.tame(&mut formula, walk, random);
+        self.tame(&mut formula, limits, walk, random);
         formula
     }
 
     /// Short clauses on early places, until a card is affordable. At times one call in a list can
     /// still be too long; it is left out then.
-    fn tame(&self, formula: &mut Formula, walk: Walk, random: &mut Random) {
+    fn tame(&self, formula: &mut Formula, limits: &Limits, walk: Walk, random: &mut Random) {
         let mut place = 0;
         while place < formula.prefix.len() && !budget::within(formula, &[], walk, self.visits) {
             place += random.between(0, 2);
@@ -84,8 +123,8 @@ impl Shape {
             if partner != index && random.one_in(2) {
                 clause.push(literal(partner, random));
             }
-            if formula.clauses.len() == 255 {
-                let replaced = random.below(255);
+            if formula.clauses.len() == limits.clauses {
+                let replaced = random.below(limits.clauses);
                 formula.clauses.remove(replaced);
             }
             formula.add(&clause);
@@ -109,9 +148,9 @@ impl Shape {
         literals
     }
 
-    /// A list of calls on a formula, refused ones among them. Every search is affordable.
-    pub fn calls(&self, formula: &Formula, walk: Walk, random: &mut Random) -> Vec<Call> {
-        let mut formula = formula.clone();
+    /// A list of calls on a book, refused ones among them. Every search is affordable.
+    pub fn calls(&self, book: &Book, walk: Walk, random: &mut Random) -> Vec<Call> {
+        let Book { mut formula, limits } = book.clone();
         let style = Style::any(random);
         let favourite = random.below(3);
         let mut calls = vec![];
@@ -121,58 +160,86 @@ impl Shape {
                 _ if random.one_in(16) => Call::Forget,
                 _ if random.one_in(8) => Call::Withdraw,
                 _ if random.one_in(12) => write(&formula, random),
-                _ if random.one_in(10) => self.one(&formula, random),
+                _ if random.one_in(10) => one(&formula, &limits, random),
                 0 if random.one_in(4) => closest(&formula, random),
                 0 => card(&formula, random),
                 1 => Call::Query(query(&formula, random)),
-                _ => self.rule(&formula, style, random),
+                _ => self.rule(&formula, &limits, style, random),
             };
             if !budget::affords(&formula, &call, walk, self.visits) {
                 continue;
             }
-            follow(&mut formula, &call);
+            follow(&mut formula, &limits, &call);
             calls.push(call);
         }
         calls
     }
 
-    /// An exactly-one form, mostly of few literals; at times with a fault.
-    fn one(&self, formula: &Formula, random: &mut Random) -> Call {
-        let mut literals: Vec<Literal> = formula.prefix.iter().map(|v| v.number).collect();
-        random.shuffle(&mut literals);
-        literals.truncate(random.pick(&[1, 2, 2, 3, 3, 4, 5, 8, 15, 16, 17]));
-        literals.iter_mut().for_each(|literal| *literal *= random.pick(&[1, 1, -1]));
-        if random.one_in(4) {
-            spoil_rule(&mut literals, formula, random);
+    /// A long list that mixes all calls, its rules taken back about as often as they are added, so that they do not settle
+    /// everything. Every search is affordable.
+    pub fn long(&self, book: &Book, random: &mut Random) -> Vec<Call> {
+        let Book { mut formula, limits } = book.clone();
+        let style = Style::any(random);
+        let (mut calls, usual) = (vec![], formula.clauses.len());
+        for _ in 0..random.between(self.calls / 4, self.calls) {
+            let more = formula.clauses.len() > usual + random.below(3);
+            let call = match random.below(40) {
+                _ if more && random.one_in(2) => Call::Withdraw,
+                0..=7 => self.rule(&formula, &limits, style, random),
+                8 | 9 => one(&formula, &limits, random),
+                10..=12 => Call::Withdraw,
+                13 => Call::Forget,
+                14..=29 => Call::Query(query(&formula, random)),
+                30..=36 => card(&formula, random),
+                37 | 38 => closest(&formula, random),
+                _ => write(&formula, random),
+            };
+            if budget::affords(&formula, &call, Walk::Plain, self.visits) {
+                follow(&mut formula, &limits, &call);
+                calls.push(call);
+            }
         }
-        Call::One(literals)
+        calls
     }
 
-    fn rule(&self, formula: &Formula, style: Style, random: &mut Random) -> Call {
+    fn rule(&self, formula: &Formula, limits: &Limits, style: Style, random: &mut Random) -> Call {
         let mut literals = match formula.prefix.is_empty() {
             true => vec![],
             false => self.literals(formula, style, random),
         };
         if random.one_in(3) {
-            spoil_rule(&mut literals, formula, random);
+            spoil_rule(&mut literals, formula, limits, random);
         }
         Call::Rule(literals)
     }
 }
 
+/// An exactly-one form, mostly of few literals; at times with a fault.
+fn one(formula: &Formula, limits: &Limits, random: &mut Random) -> Call {
+    let mut literals: Vec<Literal> = formula.prefix.iter().map(|v| v.number).collect();
+    random.shuffle(&mut literals);
+    literals.truncate(random.pick(&[1, 2, 2, 3, 3, 4, 5, 8, 15, 16, 17]));
+    literals.iter_mut().for_each(|literal| *literal *= random.pick(&[1, 1, -1]));
+    if random.one_in(4) {
+        spoil_rule(&mut literals, formula, limits, random);
+    }
+    Call::One(literals)
+}
+
 /// The formula after a call.
-pub fn follow(formula: &mut Formula, call: &Call) {
+pub fn follow(formula: &mut Formula, limits: &Limits, call: &Call) {
+    let options = Options::with(*limits);
     match call {
         Call::Rule(literals) => {
             let wide: Vec<i32> = literals.iter().map(|&literal| literal.into()).collect();
-            if refusal::of_rule(formula, &wide, &Options::paper()).is_none() {
+            if refusal::of_rule(formula, &wide, &options).is_none() {
                 formula.add(literals);
             }
         }
         Call::One(literals) => {
             let wide: Vec<i32> = literals.iter().map(|&literal| literal.into()).collect();
-            if refusal::of_one(formula, &wide, &Options::paper()).is_none() {
-                let rules = compare::one::rules(literals, &Options::paper());
+            if refusal::of_one(formula, &wide, &options).is_none() {
+                let rules = compare::one::rules(literals, &options);
                 rules.iter().for_each(|rule| formula.add(rule));
             }
         }
@@ -197,8 +264,8 @@ impl Style {
 }
 
 /// Numbers and places are unrelated; every order of quantifiers can come.
-fn prefix(count: usize, random: &mut Random) -> Vec<Variable> {
-    let mut numbers: Vec<i16> = (1..=40).collect();
+fn prefix(count: usize, limits: &Limits, random: &mut Random) -> Vec<Variable> {
+    let mut numbers: Vec<i16> = (1..=limits.numbers).collect();
     match random.below(4) {
         0 => {}
         1 => numbers.reverse(),
@@ -229,11 +296,11 @@ fn prefix(count: usize, random: &mut Random) -> Vec<Variable> {
 
 /// Flags, then forall, then exists variables that can satisfy most clauses: much is learned, of
 /// both polarities.
-pub fn covering(random: &mut Random) -> Formula {
+pub fn covering(limits: &Limits, random: &mut Random) -> Formula {
     let (free, forall, exists) = (random.between(6, 9), random.between(3, 5), random.between(5, 8));
     let outer = free + forall;
     let count = outer + exists;
-    let mut prefix = prefix(count, random);
+    let mut prefix = prefix(count, limits, random);
     for (index, variable) in prefix.iter_mut().enumerate() {
         variable.quantifier = match index {
             _ if index < free => Quantifier::Free,
@@ -270,12 +337,17 @@ pub fn again(formula: &Formula, random: &mut Random) -> Vec<Literal> {
     clause
 }
 
-const OTHER_NUMBERS: [i16; 12] =
-    [0, 1, 40, 41, -41, -1, -40, 99, 255, i16::MAX, -i16::MAX, i16::MIN];
+const OTHER_NUMBERS: [i16; 15] =
+    [0, 1, 40, 41, -41, -1, -40, 99, 255, 1_000, 1_001, -1_001, i16::MAX, -i16::MAX, i16::MIN];
 
 /// One to three faults: a number that no variable has, one that is not declared, a variable
 /// twice, no literal, over 16 literals.
-fn spoil_rule(literals: &mut Vec<Literal>, formula: &Formula, random: &mut Random) {
+fn spoil_rule(
+    literals: &mut Vec<Literal>,
+    formula: &Formula,
+    limits: &Limits,
+    random: &mut Random,
+) {
     for _ in 0..random.pick(&[1, 1, 2, 3]) {
         match random.below(7) {
             0 => literals.clear(),
@@ -299,7 +371,11 @@ fn spoil_rule(literals: &mut Vec<Literal>, formula: &Formula, random: &mut Rando
                 insert(literals, repeated.saturating_mul(sign), random);
             }
             4 => insert(literals, any_declared(formula, random), random),
-            5 => insert(literals, random.between(1, 40) as i16, random),
+            5 => {
+                // Up to just above the own limit.
+                let number = random.between(1, limits.numbers as usize + 1) as i16;
+                insert(literals, random.pick(&[number, limits.numbers + 1]), random)
+            }
             _ => insert(literals, random.pick(&OTHER_NUMBERS), random),
         }
     }

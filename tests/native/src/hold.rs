@@ -1,15 +1,14 @@
 //! A list of calls, answered by the library and by the independent implementation.
 
 use crate::library::Native;
-use crate::raw::Raw;
-use crate::reading;
 use crate::tally::{asks_open, Tally};
 use compare::bounded::{Bounded, CeilingSlip};
+use compare::slices::Slices;
 use compare::solver::settled;
 use compare::truth::{self, Verdict};
 use compare::{
-    table, Answer, Call, Formula, Limits, Options, PlainRun, Said, Solver, State, Subject,
-    HIGHEST_CEILING,
+    table, Answer, Call, Formula, Limits, Options, PlainRun, Said, Slip, Solver, State, Store,
+    Subject, HIGHEST_CEILING,
 };
 use std::fmt;
 
@@ -26,9 +25,10 @@ impl From<Call> for Asked {
     }
 }
 
+/// A state in two slices, its limits in the first two cells, and calls on it.
 #[derive(Clone)]
 pub struct Case {
-    pub raw: Box<Raw>,
+    pub slices: Slices,
     pub calls: Vec<Asked>,
     /// A freshly opened formula: the plain run and truth are owed too.
     pub opened: bool,
@@ -36,8 +36,33 @@ pub struct Case {
 
 impl Case {
     /// Every call under the highest ceiling.
-    pub fn new(raw: Box<Raw>, calls: Vec<Call>, opened: bool) -> Case {
-        Case { raw, calls: calls.into_iter().map(Asked::from).collect(), opened }
+    pub fn new(slices: Slices, calls: Vec<Call>, opened: bool) -> Case {
+        Case { slices, calls: calls.into_iter().map(Asked::from).collect(), opened }
+    }
+
+    /// Calls on a freshly opened formula, whose cells outside the counts hold what is given.
+    pub fn opened(
+        formula: Formula,
+        limits: &Limits,
+        cell: impl FnMut() -> u16,
+        calls: Vec<Call>,
+    ) -> Case {
+        let state = State { formula, store: Store::default() };
+        Case::new(Slices::written(&state, limits, cell), calls, true)
+    }
+}
+
+/// A slip of the independent implementation: it has to show.
+#[derive(Clone, Copy, Debug, Default)]
+pub struct Slips {
+    pub call: Option<Slip>,
+    pub ceiling: Option<CeilingSlip>,
+}
+
+impl Slips {
+    fn options(&self, limits: Limits) -> Options {
+        let judges_state = self.call.is_none_or(Slip::judges_state);
+        Options { slip: self.call, judges_state, ..Options::with(limits) }
     }
 }
 
@@ -52,20 +77,15 @@ const EVALUATED: usize = 9;
 
 /// Makes every call on both sides, and compares the answer, the table and the next state.
 pub fn hold(case: &Case, tally: &mut Tally) -> Result<(), Disagreement> {
-    hold_with(case, Options::paper(), None, tally)
+    hold_with(case, Slips::default(), tally)
 }
 
-/// The same with what the independent implementation is run with: a slip in it has to show.
-pub fn hold_with(
-    case: &Case,
-    options: Options,
-    slip: Option<CeilingSlip>,
-    tally: &mut Tally,
-) -> Result<(), Disagreement> {
-    let mut sides = Sides::new(case, options, slip);
+/// The same with a slip in the independent implementation.
+pub fn hold_with(case: &Case, slips: Slips, tally: &mut Tally) -> Result<(), Disagreement> {
+    let mut sides = Sides::new(case, slips);
     tally.lists += 1;
     if let Some(Bounded { solver, .. }) = &sides.bounded {
-        tally.given(&solver.state.formula);
+        tally.given(&solver.state.formula, &solver.options.limits);
     }
     for (at, asked) in case.calls.iter().enumerate() {
         sides.call(asked, tally).map_err(|words| Disagreement { at, words })?;
@@ -75,25 +95,28 @@ pub fn hold_with(
 
 struct Sides {
     native: Native,
-    /// None where a count, a length or a level's code is out of range.
+    /// None where a slice is too short, or a count, a length or a level's code is out of range.
     bounded: Option<Bounded>,
     plain: Option<PlainRun>,
 }
 
 impl Sides {
-    fn new(case: &Case, options: Options, slip: Option<CeilingSlip>) -> Sides {
-        let state = reading::read(&case.raw);
+    fn new(case: &Case, slips: Slips) -> Sides {
+        let state = case.slices.read().zip(case.slices.limits());
         let plain = state.as_ref().filter(|_| case.opened);
         Sides {
-            native: Native::new(case.raw.clone()),
-            plain: plain.map(|state| PlainRun::new(state.formula.clone(), Limits::PAPER)),
-            bounded: state.map(|state| Bounded { solver: Solver::new(state, options), slip }),
+            native: Native::new(case.slices.clone()),
+            plain: plain.map(|(state, limits)| PlainRun::new(state.formula.clone(), *limits)),
+            bounded: state.map(|(state, limits)| Bounded {
+                solver: Solver::new(state, slips.options(limits)),
+                slip: slips.ceiling,
+            }),
         }
     }
 
     fn call(&mut self, asked: &Asked, tally: &mut Tally) -> Result<(), String> {
         let Asked { call, ceiling } = asked;
-        let before = self.native.state.clone();
+        let before = self.native.slices.clone();
         let answer = self.native.answer(call, *ceiling)?;
         tally.call(call, &answer);
         let expected = match &mut self.bounded {
@@ -138,52 +161,52 @@ impl Sides {
             return Err(format!("{answer}; plain run: {plain_answer}"));
         }
         if plain.formula.prefix.len() <= EVALUATED {
-            tally.truths += u64::from(true_answer(&plain.formula, call, answer)?);
+            let limits = self.native.slices.limits().unwrap_or(Limits::PAPER);
+            tally.truths += u64::from(true_answer(&plain.formula, &limits, call, answer)?);
         }
         Ok(())
     }
 
-    /// The library beside itself: a search that the ceiling does not stop is the full one, byte for byte, and one
+    /// The library beside itself: a search that the ceiling does not stop is the full one, cell for cell, and one
     /// that it stops needs more visits.
     fn against_the_full_search(
         &self,
         Asked { call, ceiling }: &Asked,
-        before: &Raw,
+        before: &Slices,
         answer: &Answer,
         tally: &mut Tally,
     ) -> Result<(), String> {
-        let mut full = Native::new(Box::new(*before));
+        let mut full = Native::new(before.clone());
         let whole = full.answer(call, HIGHEST_CEILING)?;
         let ceiling = u64::from(*ceiling);
         tally.under_ceiling(ceiling, whole.visits);
         match answer.said {
             Said::Refused(34) if whole.visits > ceiling => Ok(()),
             Said::Refused(34) => Err(format!("stopped, and {} visits are needed", whole.visits)),
-            _ if (answer, &self.native.state) == (&whole, &full.state) => Ok(()),
+            _ if (answer, &self.native.slices) == (&whole, &full.slices) => Ok(()),
             _ => Err(format!("{answer}; under the highest ceiling {whole}, or another state")),
         }
     }
 
-    /// After a refusal, and after a search that made no visit, the state as given, byte for byte; else, and after
-    /// 21 and 34, what the tables hold.
-    fn next_state(&self, call: &Call, before: &Raw, answer: &Answer) -> Result<(), String> {
+    /// The state cell for cell: after a refusal in no visit the one that was given; else what the other side says, and what
+    /// was given in the cells that its counts do not tell, of which no call writes any.
+    fn next_state(&self, call: &Call, before: &Slices, answer: &Answer) -> Result<(), String> {
         let kept = matches!(answer.said, Said::Refused(_)) && answer.visits == 0;
-        if kept && *self.native.state != *before {
+        if kept && self.native.slices != *before {
             return Err(format!("{answer}, and the state is not the one that was given"));
         }
         let Some(Bounded { solver, .. }) = &self.bounded else { return Ok(()) };
         // "It neither reads nor adds to the store".
-        if asks_open(&solver.state.formula, call) && *self.native.state != *before {
+        if asks_open(&solver.state.formula, call) && self.native.slices != *before {
             return Err(format!("{answer}, and a query with an open flag writes to the state"));
         }
-        let next = reading::read(&self.native.state);
+        let next = self.native.slices.read();
         if next.as_ref() != Some(&solver.state) {
             return Err(format!("next state {next:?}; expected {:?}", solver.state));
         }
-        // Of the cells outside the counts, which may hold anything, a search writes none.
-        let mut expected = *before;
-        reading::write_over(&solver.state, &mut expected);
-        if call.searches() && !kept && *self.native.state != expected {
+        let mut expected = before.clone();
+        expected.write(&solver.state);
+        if !kept && self.native.slices != expected {
             return Err(format!("{answer}, and a cell outside the counts is written"));
         }
         Ok(())
@@ -205,8 +228,13 @@ fn wanted(call: &Call) -> Verdict {
 }
 
 /// Whether there was something to evaluate.
-fn true_answer(formula: &Formula, call: &Call, answer: &Answer) -> Result<bool, String> {
-    let options = Options::paper();
+fn true_answer(
+    formula: &Formula,
+    limits: &Limits,
+    call: &Call,
+    answer: &Answer,
+) -> Result<bool, String> {
+    let options = Options::with(*limits);
     match (call, answer.said) {
         (Call::Query(reading), Said::Swap | Said::Keep | Said::Unsettled) => {
             let said = settled(truth::of_reading(formula, reading));
@@ -258,13 +286,14 @@ fn true_answer(formula: &Formula, call: &Call, answer: &Answer) -> Result<bool, 
 
 impl fmt::Display for Case {
     fn fmt(&self, f: &mut fmt::Formatter) -> fmt::Result {
-        match reading::read(&self.raw) {
-            Some(state) => {
+        match self.slices.read().zip(self.slices.limits()) {
+            Some((state, limits)) => {
+                writeln!(f, "{} numbers, {} rules", limits.numbers, limits.clauses)?;
                 writeln!(f, "prefix {:?}", state.formula.prefix)?;
                 writeln!(f, "clauses {:?}", state.formula.clauses)?;
                 writeln!(f, "store {:?}", state.store)?;
             }
-            None => writeln!(f, "state {:?}", self.raw)?,
+            None => writeln!(f, "state {:?}", self.slices)?,
         }
         let mut calls = self.calls.iter();
         calls.try_for_each(|Asked { call, ceiling }| writeln!(f, "  {call}, ceiling {ceiling}"))

@@ -1,18 +1,15 @@
-//! The compiled calls of the proved solver against the independent implementation of paper 01.
+//! The compiled calls of the proved solver against the independent implementation of papers 01 and 02.
 //!
-//! `library` makes a call, `in_place` lends it the tables of a state, `reading` tells what they hold,
-//! `input` draws states and lists of calls from a seed, `hold` makes the calls on both sides and
-//! compares.
+//! `exports` are the library's calls on a book in two slices, `library` makes them between guards, `input` draws states
+//! and lists of calls from a seed, `hold` makes the calls on both sides and compares.
 
 pub mod budget;
+pub mod exports;
 pub mod generate;
 pub mod hold;
-pub mod in_place;
 pub mod input;
 pub mod library;
-pub mod page;
-pub mod raw;
-pub mod reading;
+pub mod rounds;
 pub mod run;
 pub mod shrink;
 pub mod spoil;

@@ -1,9 +1,7 @@
 //! Runs over many inputs: so many of each source, or as many as a time allows.
 
-use crate::hold::hold;
-use crate::input::{self, Source};
-use crate::reading;
-use crate::shrink;
+use crate::input::Source;
+use crate::rounds::lists;
 use crate::tally::Tally;
 use std::time::{Duration, Instant};
 
@@ -49,21 +47,18 @@ pub fn run(source: Source, seed: u64, first: u64, amount: Amount) -> Tally {
         if ended {
             break;
         }
-        one(source, seed, index, &mut tally);
+        lists::round(source, seed, index, &mut tally).unwrap_or_else(|error| panic!("{error}"));
     }
     tally
 }
 
-pub fn one(source: Source, seed: u64, index: u64, tally: &mut Tally) {
-    let input = input::draw(source, seed, index);
-    if let Some(fault) = input.fault {
-        let well_formed = reading::read_well_formed(&input.case.raw).is_some();
-        tally.faults.entry(format!("{fault:?}")).or_default()[usize::from(well_formed)] += 1;
-    }
-    let Err(first) = hold(&input.case, tally) else { return };
-    let words = format!("{source:?}, seed {seed}, index {index}, call {}", first.at);
-    eprintln!("{words}: {}\nmaking it smaller", first.words);
-    let smallest = shrink::smallest(input.case);
-    let said = hold(&smallest, &mut Tally::default()).err().map_or(String::new(), |d| d.words);
-    panic!("{words}\n{smallest}{said}");
+/// As many rounds as usual or as the environment asks for, each by its index.
+pub fn rounds(usual: u64, mut round: impl FnMut(u64)) {
+    let start = Instant::now();
+    let amount = amount(usual);
+    let more = |index: u64| match amount {
+        Amount::Inputs(count) => index < count,
+        Amount::Time(time) => start.elapsed() < time,
+    };
+    (0..).take_while(|index| more(*index)).for_each(&mut round);
 }

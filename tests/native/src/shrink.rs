@@ -3,8 +3,8 @@
 use crate::budget::{self, Walk};
 use crate::generate;
 use crate::hold::{hold, Asked, Case};
-use crate::reading;
 use crate::tally::Tally;
+use compare::slices::Slices;
 use compare::{Formula, State};
 
 /// Takes the first smaller case that still shows a disagreement, until there is none. A state
@@ -21,13 +21,12 @@ fn disagrees(case: &Case) -> bool {
 }
 
 fn affordable(case: &Case) -> bool {
-    let Some(State { mut formula, .. }) = reading::read_well_formed(&case.raw) else {
-        return true;
-    };
+    let state = case.slices.read_well_formed().zip(case.slices.limits());
+    let Some((State { mut formula, .. }, limits)) = state else { return true };
     let walk = if case.opened { Walk::Plain } else { Walk::Whole };
     case.calls.iter().all(|Asked { call, .. }| {
         let within = budget::affords(&formula, call, walk, 50_000);
-        generate::follow(&mut formula, call);
+        generate::follow(&mut formula, &limits, call);
         within
     })
 }
@@ -57,9 +56,11 @@ fn smaller(case: &Case) -> Vec<Case> {
             }
         }
     }
-    let Some(state) = reading::read(&case.raw) else { return found };
+    let Some((state, limits)) = case.slices.read().zip(case.slices.limits()) else {
+        return found;
+    };
     let mut with = |state: State| {
-        found.push(Case { raw: reading::write(&state), ..case.clone() });
+        found.push(Case { slices: Slices::written(&state, &limits, || 0), ..case.clone() });
     };
     for which in 0..3 {
         for row in 0..lists(&mut state.clone())[which].len() {

@@ -1,12 +1,15 @@
 //! What a run has covered.
 
-use compare::{Answer, Call, Formula, Said, Store};
+use crate::rounds;
+use compare::{Answer, Call, Formula, Limits, Said, Store};
 use std::collections::BTreeMap;
 use std::fmt;
 
 #[derive(Clone, Debug, Default)]
 pub struct Tally {
     pub lists: u64,
+    /// Calls by their kind.
+    pub asked: BTreeMap<&'static str, u64>,
     pub rules: u64,
     pub withdrawals: u64,
     pub forgets: u64,
@@ -38,6 +41,9 @@ pub struct Tally {
     pub one_short: u64,
     /// Calls that learned and left a full store: of clauses, then of cubes.
     pub filled: [u64; 2],
+    /// Lists under 40 and 255, and under other limits.
+    pub usual_limits: u64,
+    pub own_limits: u64,
     pub most_variables: usize,
     pub most_clauses: usize,
     pub longest_clause: usize,
@@ -51,7 +57,10 @@ pub fn asks_open(formula: &Formula, call: &Call) -> bool {
 }
 
 impl Tally {
-    pub fn given(&mut self, formula: &Formula) {
+    pub fn given(&mut self, formula: &Formula, limits: &Limits) {
+        let usual = *limits == Limits::PAPER;
+        self.usual_limits += u64::from(usual);
+        self.own_limits += u64::from(!usual);
         self.most_variables = self.most_variables.max(formula.prefix.len());
         self.formula(formula);
     }
@@ -63,6 +72,7 @@ impl Tally {
     }
 
     pub fn call(&mut self, call: &Call, answer: &Answer) {
+        *self.asked.entry(rounds::kind(call)).or_default() += 1;
         match answer.said {
             Said::Refused(number) => *self.refusals.entry(number).or_default() += 1,
             Said::Added => self.rules += 1,
@@ -134,10 +144,15 @@ impl Tally {
             (&mut self.tables_with_a_tail, other.tables_with_a_tail),
             (&mut self.exact, other.exact),
             (&mut self.one_short, other.one_short),
+            (&mut self.usual_limits, other.usual_limits),
+            (&mut self.own_limits, other.own_limits),
         ];
         sums.into_iter().for_each(|(sum, more)| *sum += more);
         for (sum, more) in self.filled.iter_mut().zip(other.filled) {
             *sum += more;
+        }
+        for (kind, more) in &other.asked {
+            *self.asked.entry(kind).or_default() += more;
         }
         for (number, more) in &other.refusals {
             *self.refusals.entry(*number).or_default() += more;
@@ -181,6 +196,8 @@ impl fmt::Display for Tally {
         writeln!(f, "  ceilings of just what a search needs {exact}, of one less {short}")?;
         writeln!(f, "  visits {}, most of one call {}", self.visits, self.most_visits)?;
         writeln!(f, "  also plain {}, also by truth {}", self.plain, self.truths)?;
+        let (usual, own) = (self.usual_limits, self.own_limits);
+        writeln!(f, "  lists under 40 and 255 {usual}, under other limits {own}")?;
         let most = (self.most_variables, self.most_clauses, self.longest_clause);
         write!(f, "  most variables, clauses, literals of a clause {most:?}")?;
         for (fault, [malformed, well_formed]) in &self.faults {

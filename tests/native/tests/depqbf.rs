@@ -6,12 +6,12 @@
 
 use compare::qdimacs::{by_place, lines};
 use compare::random::Random;
-use compare::{Call, Formula, Reading, Said, Subject};
+use compare::{Call, Formula, Limits, Reading, Said, Subject};
 use native::budget::Walk;
 use native::generate::Shape;
 use native::library::Native;
 use native::run::seed;
-use native::text::open_qdimacs;
+use native::text::{open_qdimacs, Room};
 use std::io::Write;
 use std::process::{Command, Stdio};
 
@@ -53,11 +53,12 @@ fn single_readings() {
     let random = &mut Random::new(seed ^ 0xDE9);
     let mut told = [0; 2];
     for index in 0..300 {
-        let book = by_place(&SHAPES[index % 3].formula(Walk::Plain, random));
+        let book = by_place(&SHAPES[index % 3].formula(&Limits::PAPER, Walk::Plain, random));
         let text = lines(&book, || random.one_in(3)).join("\n") + "\n";
-        let opened = open_qdimacs(text.as_bytes()).expect("the text is kept");
+        let opened =
+            open_qdimacs(text.as_bytes(), &Room::of(&Limits::PAPER)).expect("the text is kept");
         assert_eq!((opened.refusal, opened.line), (0, 0), "{text}");
-        let mut native = Native::new(opened.state);
+        let mut native = Native::new(opened.slices);
         for _ in 0..4 {
             let flags = 1..=book.free_count() as i16;
             let on: Vec<i16> = flags.filter(|_| random.one_in(2)).collect();

@@ -4,8 +4,8 @@
 use compare::bounded::{self, CeilingSlip};
 use compare::check::Check;
 use compare::slip::{Slip, ALL};
-use compare::{Call, Options};
-use native::hold::hold_with;
+use compare::Call;
+use native::hold::{hold_with, Slips};
 use native::input::{draw, Source};
 use native::run::seed;
 use native::tally::Tally;
@@ -37,9 +37,8 @@ fn told_apart(slip: Slip, source: Source, seed: u64, index: u64) -> bool {
         // A search on a malformed state means nothing.
         case.calls.retain(|asked| asked.call == Call::Forget);
     }
-    let judges_state = slip.judges_state();
-    let options = Options { slip: Some(slip), judges_state, ..Options::paper() };
-    hold_with(&case, options, None, &mut Tally::default()).is_err()
+    let slips = Slips { call: Some(slip), ..Slips::default() };
+    hold_with(&case, slips, &mut Tally::default()).is_err()
 }
 
 /// How many inputs of a source are tried for a slip: most show within a few hundred.
@@ -71,7 +70,8 @@ fn every_slip_of_a_ceiling_is_told_apart() {
         let differs = |index: &u64| {
             let mut case = draw(Source::Ceilings, seed, *index).case;
             case.opened = false;
-            hold_with(&case, Options::paper(), Some(*slip), &mut Tally::default()).is_err()
+            let slips = Slips { ceiling: Some(*slip), ..Slips::default() };
+            hold_with(&case, slips, &mut Tally::default()).is_err()
         };
         let index = (0..INPUTS).find(differs);
         println!("{slip:?}: {index:?}");

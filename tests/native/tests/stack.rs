@@ -1,62 +1,54 @@
-//! The calls run on a stack of 128 KiB and the functions on texts on one of 512 KiB, as the C header
-//! says.
+//! The functions on texts run on the stack that the C header asks for.
+#![cfg(feature = "text")]
 
-use compare::{Formula, Quantifier, Reading, State, Store, Variable};
-use native::library::bare;
-use native::raw::{Reply, SWAP};
-use native::reading;
+use compare::random::Random;
+use compare::{write, Formula, Limits, Options, Quantifier, Variable};
+use native::text::{open, open_qdimacs, room, tag, Cards, Page, Room};
+use native::texts;
 use std::thread;
 
-/// 40 variables of which the search sets every one.
-fn deepest() -> Formula {
+/// Variables of which the search sets every one.
+fn deepest(variables: i16) -> Formula {
     let variable = |number| Variable { number, quantifier: Quantifier::Exists };
-    let prefix = (1..=40).map(variable).collect();
-    Formula { prefix, clauses: vec![vec![40], vec![-39]] }
+    let prefix = (1..=variables).map(variable).collect();
+    Formula { prefix, clauses: vec![vec![variables], vec![1 - variables]] }
 }
 
-fn on_a_stack_of(size: usize, run: impl FnOnce() + Send + 'static) {
-    let thread = thread::Builder::new().stack_size(size).spawn(run);
+fn on_a_stack_of(kib: usize, run: impl FnOnce() + Send + 'static) {
+    let thread = thread::Builder::new().stack_size(kib << 10).spawn(run);
     thread.expect("a thread can be started").join().expect("the calls return");
 }
 
-#[test]
-fn a_call_needs_less_than_128_kib() {
-    let mut state = reading::write(&State { formula: deepest(), store: Store::default() });
-    let mut table = vec![0; 65_536];
-    on_a_stack_of(128 << 10, move || {
-        let card = bare::card(&mut state, &mut table);
-        assert_eq!(card, Reply { refusal: 0, verdict: 0, lines: 1, visits: 42 });
-        let query = bare::query(&mut state, &Reading::default());
-        assert_eq!(query, Reply { refusal: 0, verdict: SWAP, lines: 0, visits: 42 });
-        let changed = Reply { refusal: 0, verdict: 0, lines: 0, visits: 0 };
-        assert_eq!(bare::rule(&mut state, &[1, -2, 3]), changed);
-        assert_eq!(bare::withdraw(&mut state), changed);
-        assert_eq!(bare::forget(&mut state), changed);
+fn texts_under(limits: Limits, kib: usize) {
+    let formula = deepest(limits.numbers);
+    let text = texts::book(&formula, &mut Random::new(1));
+    let qdimacs = texts::qdimacs(&formula, &mut Random::new(1));
+    let written = write::text(&formula, &Options::with(limits));
+    let visits = limits.numbers + 2;
+    let expected = format!("(card 1)\n(line)\n(visits {visits})\n(end)\n").into_bytes();
+    on_a_stack_of(kib, move || {
+        let (mut page, lent) = (Page::new(room()), Room::of(&limits));
+        assert_eq!(page.print(&text, &lent), Ok(Some(expected.clone())));
+        let opened = open(&text, &lent).expect("lent bytes are only read");
+        assert_eq!((opened.refusal, opened.line), (0, 0));
+        let same = open_qdimacs(&qdimacs, &lent).expect("lent bytes are only read");
+        assert_eq!((same.refusal, same.line), (0, 0));
+        assert!(same.slices.read() == opened.slices.read());
+        let (told, _) = tag(&text, &lent, 65_536).expect("lent bytes are only read");
+        assert_eq!((told.refusal, told.length), (0, text.len() + 2 * " (tag 1)".len()));
+        let (mut slices, cards) = (opened.slices, &mut Cards::none());
+        let mut answer = |line: &[u8]| {
+            let text = page.line(&mut slices, line, 1, cards).expect("lent bytes are only read");
+            text.expect("a table that is long enough")
+        };
+        assert_eq!(answer(b"(card)"), expected);
+        assert_eq!(answer(b"(page 1)").len(), 24 * 72);
+        assert_eq!(answer(b"(write)"), written.as_bytes());
     });
 }
 
 #[test]
-#[cfg(feature = "text")]
 fn a_text_needs_less_than_512_kib() {
-    use compare::random::Random;
-    use native::text::{open, open_qdimacs, room, Cards, Page};
-    use native::texts;
-
-    let text = texts::book(&deepest(), &mut Random::new(1));
-    let qdimacs = texts::qdimacs(&deepest(), &mut Random::new(1));
-    let expected = "(card 1)\n(line)\n(visits 42)\n(end)\n";
-    on_a_stack_of(512 << 10, move || {
-        let mut page = Page::new(room());
-        assert_eq!(page.print(&text), Ok(Some(expected.into())));
-        let opened = open(&text).expect("lent bytes are only read");
-        assert_eq!((opened.refusal, opened.line), (0, 0));
-        let same = open_qdimacs(&qdimacs).expect("lent bytes are only read");
-        assert!((same.refusal, same.line) == (0, 0) && same.state == opened.state);
-        let cards = &mut Cards::none();
-        let mut answer = |line: &[u8]| {
-            page.line(&opened.state, line, 1, cards).expect("lent bytes are only read").text
-        };
-        assert_eq!(answer(b"(card)"), Some(expected.into()));
-        assert_eq!(answer(b"(page 1)").map(|rows| rows.len()), Some(24 * 72));
-    });
+    texts_under(Limits::PAPER, 512);
+    texts_under(Limits::HIGHEST, 512);
 }

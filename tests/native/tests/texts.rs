@@ -1,162 +1,36 @@
 //! Texts, opened and printed, and call lines: the library against the independent implementation.
 #![cfg(feature = "text")]
 
-use compare::cases::{self, Program};
-use compare::last_card::LastCard;
+use compare::cases::{self, Program, StoredCase};
+use compare::last_card;
+use compare::limits::LimitSlip;
 use compare::page::Card;
 use compare::random::Random;
-use compare::session::{self, Request, LARGEST_LINE};
-use compare::text::{self, LARGEST_TEXT};
-use compare::{
-    Answer, Call, Formula, Options, Said, Solver, State, Store, Subject, HIGHEST_CEILING,
-};
-use native::budget::{self, Walk};
-use native::generate::{Shape, SHAPES};
-use native::input::{self, draw, Source};
-use native::library::Native;
-use native::raw::Raw;
-use native::reading;
-use native::run::{amount, seed, timed, Amount};
-use native::text::{self as library, room, Cards, Page, Shown};
-use native::texts;
-use std::time::Instant;
+use compare::text::LARGEST_TEXT;
+use compare::{Limits, Said};
+use native::input::{draw, Source};
+use native::rounds::books::{hold_text, with_page};
+use native::rounds::lines::Both;
+use native::rounds::{books, lines, shown, Counts};
+use native::run::{rounds, seed, timed};
+use native::text::{self as library, room, Cards, Page, Room, Shown};
 
-fn page() -> Page {
-    Page::new(room())
-}
-
-fn shown(bytes: &[u8]) -> String {
-    let end = bytes.len().min(4_000);
-    String::from_utf8_lossy(&bytes[..end]).into_owned()
-}
-
-/// As many rounds as the environment asks for.
-fn rounds(usual: u64, mut round: impl FnMut(u64)) {
-    let start = Instant::now();
-    let amount = amount(usual);
-    let more = |index: u64| match amount {
-        Amount::Inputs(count) => index < count,
-        Amount::Time(time) => start.elapsed() < time,
-    };
-    (0..).take_while(|index| more(*index)).for_each(&mut round);
-}
-
-/// A text on both sides: what is printed, and the state that it opens to.
-fn hold_text(input: &[u8], page: &mut Page) -> Option<Formula> {
-    let options = Options::paper();
-    let opened = text::open(input, &options);
-    if let Ok(formula) = &opened {
-        if !budget::within(formula, &[], Walk::Plain, 20_000) {
-            return None;
-        }
-    }
-    let printed = page.print(input).unwrap().expect("the page is large enough");
-    let expected = text::card_program(input, &options).into_bytes();
-    assert_eq!(shown(&printed), shown(&expected), "{}", shown(input));
-    assert_eq!(printed, expected);
-    let found = library::open(input).unwrap();
-    match opened {
-        Ok(formula) => {
-            assert_eq!((found.refusal, found.line), (0, 0), "{}", shown(input));
-            let expected = State { formula: formula.clone(), store: Store::default() };
-            let state = reading::read_well_formed(&found.state);
-            assert_eq!(state, Some(expected), "{}", shown(input));
-            Some(formula)
-        }
-        Err(refused) => {
-            let expected = (refused.number.into(), refused.line);
-            assert_eq!((found.refusal, found.line), expected, "{}", shown(input));
-            no_book(&found.state);
-            None
-        }
-    }
-}
-
-/// "22 the state is malformed", for every call.
-fn no_book(state: &Raw) {
-    let cards = [Call::Card(3), Call::KeepCard(3)];
-    let calls =
-        [Call::Rule(vec![1]), Call::Withdraw, Call::Query(Default::default()), Call::Forget];
-    for call in calls.iter().chain(&cards) {
-        let mut native = Native::new(Box::new(*state));
-        let answer = native.answer(call, HIGHEST_CEILING).unwrap();
-        let table = vec![0; if cards.contains(call) { 3 } else { 0 }];
-        assert_eq!(answer, Answer { said: Said::Refused(22), table, visits: 0 }, "{call}");
-        assert!(*native.state == *state, "{call}");
-    }
-}
-
-/// A session on both sides: the library's state and cards, and what they are compared with. Where
-/// the state does not read there is no solver.
-struct Both {
-    state: Box<Raw>,
-    cards: Cards,
-    solver: Option<Solver>,
-    last: LastCard,
-}
-
-impl Both {
-    fn new(state: Box<Raw>) -> Both {
-        let solver = reading::read(&state).map(|state| Solver::new(state, Options::paper()));
-        let flags = solver.as_ref().map_or(0, |solver| solver.state.formula.free_count());
-        Both { state, cards: Cards::none(), solver, last: LastCard::none(flags, None) }
-    }
-
-    /// The answer to a line, and its text.
-    fn expected(&mut self, line: &[u8], number: u64) -> (String, Answer) {
-        let formula = self.solver.as_ref().map_or(Formula::default(), |s| s.state.formula.clone());
-        let asked = (line.len() <= LARGEST_LINE).then(|| session::request(line)).flatten();
-        let (call, answer) = match (asked, &mut self.solver) {
-            (None, _) => (Call::Forget, Answer::new(Said::Refused(1))),
-            (Some(Request::Page(page)), _) => {
-                let printed = session::print_page(&mut self.last, page, number as usize);
-                let refused = printed.starts_with("(refused 36 ");
-                let said = if refused { Said::Refused(36) } else { Said::Written(printed.len()) };
-                return (printed, Answer::new(said));
-            }
-            (Some(Request::Call(call, ceiling)), solver) => {
-                let refused = || Answer::new(Said::Refused(22));
-                let within = |solver: &mut Solver| solver.call_within(&call, ceiling);
-                let answer = solver.as_mut().map_or_else(refused, within);
-                self.last.after(&call, &answer);
-                (call, answer)
-            }
-        };
-        (session::print(&call, &formula, &answer, number as usize), answer)
-    }
-
-    /// A line on both sides: the answer's text, a card's table and the next state.
-    fn hold(&mut self, line: &[u8], number: u64, page: &mut Page) -> Said {
-        let (expected, Answer { said, table, .. }) = self.expected(line, number);
-        let before = self.cards.clone();
-        let found = page.line(&self.state, line, number, &mut self.cards).unwrap();
-        let text = found.text.expect("the page is large enough");
-        assert_eq!(shown(&text), shown(expected.as_bytes()), "line {}", shown(line));
-        assert_eq!(text, expected.as_bytes());
-        if matches!(said, Said::Refused(number) if ![21, 34, 35].contains(&number)) {
-            assert!(found.state == self.state, "the state is not the given one: {}", shown(line));
-        }
-        let cards: [&[u8]; 3] = [b"(card", b"(keep-card", b"(closest"];
-        if cards.iter().any(|card| line.starts_with(card)) {
-            assert!(self.cards.table().starts_with(&table), "another table: {}", shown(line));
-        } else {
-            assert!(self.cards.table() == before.table(), "cards are written: {}", shown(line));
-        }
-        if let Some(solver) = &self.solver {
-            let read = reading::read(&found.state);
-            assert_eq!(read.as_ref(), Some(&solver.state), "{}", shown(line));
-        }
-        self.state = found.state;
-        said
-    }
+/// The cases of a program, without and with arguments, and the limits that these give.
+fn stored(program: Program) -> Vec<(StoredCase, Limits)> {
+    let stored = [cases::stored(program), cases::limited(program)];
+    let stored = stored.map(|cases| cases.expect("cases can be read")).concat();
+    let limits = |case: &StoredCase| case.given(None).map(|(n, rules)| Limits::own(n, rules));
+    let given = stored.into_iter().filter_map(|case| limits(&case).map(|limits| (case, limits)));
+    given.collect()
 }
 
 #[test]
 fn stored_books() {
-    let page = &mut page();
-    let stored = [cases::stored(Program::Card), cases::examples()].map(|cases| cases.unwrap());
-    for case in stored.concat() {
-        let printed = page.print(&case.input).unwrap().expect("the page is large enough");
+    let examples = cases::examples().expect("cases can be read");
+    let examples = examples.into_iter().map(|case| (case, Limits::PAPER));
+    for (case, limits) in stored(Program::Card).into_iter().chain(examples) {
+        let printed = with_page(|page| page.print(&case.input, &Room::of(&limits)));
+        let printed = printed.expect("guards").expect("the table is long enough");
         assert!(printed == case.expected, "{}: {}", case.name, shown(&printed));
     }
 }
@@ -175,12 +49,11 @@ fn split_book(input: &[u8]) -> (&[u8], &[u8]) {
 
 #[test]
 fn stored_sessions() {
-    let page = &mut page();
-    for case in cases::stored(Program::Session).unwrap() {
+    for (case, limits) in stored(Program::Session) {
         let (book, rest) = split_book(&case.input);
-        let opened = library::open(book).unwrap();
+        let opened = library::open(book, &Room::of(&limits)).expect("guards");
         let mut output = vec![];
-        let (mut state, mut cards) = (opened.state, Cards::none());
+        let (mut slices, mut cards) = (opened.slices, Cards::none());
         let mut number = book.iter().filter(|&&byte| byte == b'\n').count() as u64;
         if opened.refusal != 0 {
             output.extend(format!("(refused {} {})\n", opened.refusal, opened.line).bytes());
@@ -191,9 +64,8 @@ fn stored_sessions() {
                     output.extend(format!("(refused 1 {number})\n").bytes());
                     continue;
                 };
-                let answered = page.line(&state, line, number, &mut cards).unwrap();
-                output.extend(answered.text.expect("the page is large enough"));
-                state = answered.state;
+                let text = with_page(|page| page.line(&mut slices, line, number, &mut cards));
+                output.extend(text.expect("guards").expect("the table is long enough"));
             }
         }
         assert!(output == case.expected, "{}: {}", case.name, shown(&output));
@@ -202,29 +74,76 @@ fn stored_sessions() {
 
 #[test]
 fn random_books() {
-    let (seed, page) = (seed(), &mut page());
+    let (seed, mut counts) = (seed(), Counts::default());
     let (mut opened, mut refused) = (0u64, 0u64);
-    rounds(6_000, |index| {
-        let random = &mut Random::new(seed ^ index.wrapping_mul(0x9E37_79B9));
-        let shape = SHAPES[index as usize % SHAPES.len()];
-        let mut text = texts::book(&shape.formula(Walk::Plain, random), random);
-        let spoiled = !random.one_in(4);
-        if spoiled {
-            texts::spoil(&mut text, random);
-        }
-        match hold_text(&text, page) {
-            Some(_) => opened += 1,
-            None => refused += 1,
+    rounds(4_000, |index| {
+        match books::round(seed, index, &mut counts).unwrap_or_else(|error| panic!("{error}")) {
+            Some(true) => opened += 1,
+            Some(false) => refused += 1,
+            None => {}
         }
     });
-    println!("{opened} texts opened, {refused} refused");
+    println!("{opened} texts opened, {refused} refused: {counts}");
     assert!(timed() || opened > 500 && refused > 500);
+    assert!(timed() || counts.has(&[1, 2, 3, 4, 5, 6, 7, 20]), "{counts}");
+}
+
+/// Texts under limits that hold their book and limits that do not, onto slices that are long enough or too short.
+#[test]
+fn texts_onto_slices() {
+    let (seed, mut counts) = (seed(), Counts::default());
+    rounds(600, |index| {
+        books::onto_slices(seed, index, &mut counts).unwrap_or_else(|error| panic!("{error}"));
+    });
+    println!("{counts}");
+    let all = [1, 3, 20, 22, 33].iter().all(|number| counts.refusals.get(number) > Some(&4));
+    assert!(timed() || all && counts.all() - counts.refusals.values().sum::<u64>() > 100);
+}
+
+/// The comparison can fail: each slip of limits that a text can show is told apart.
+#[test]
+fn every_slip_of_limits_is_told_apart() {
+    let (seed, slips) = (
+        seed(),
+        [
+            LimitSlip::NumbersByTheCap,
+            LimitSlip::RulesByTheCap,
+            LimitSlip::NumbersByThePaper,
+            LimitSlip::RulesByThePaper,
+            LimitSlip::FlagsNotCounted,
+            LimitSlip::FlagsOneLess,
+            LimitSlip::FlagsBeforeRange,
+            LimitSlip::FlagsBeforeTwice,
+            LimitSlip::ShortCellsTaken,
+            LimitSlip::ShortLiteralsTaken,
+        ],
+    );
+    for slip in slips {
+        let differs = |index: u64| {
+            let drawn = books::drawn_onto_slices(seed, index);
+            books::held_onto_slices(&drawn, Some(slip)).is_err()
+        };
+        assert!((0..6_000).any(differs), "{slip:?}");
+    }
+}
+
+/// .. and so is each of the card answered last.
+#[test]
+fn every_slip_of_the_last_card_is_told_apart() {
+    let seed = seed();
+    for (slip, words) in last_card::ALL {
+        let differs = |index: u64| {
+            let held = lines::held(seed, index, Some(*slip), &mut Counts::default());
+            held.expect("a drawn book opens").1.error.is_some()
+        };
+        assert!((0..8_000).any(differs), "{slip:?}: {words}");
+    }
 }
 
 /// Texts near the longest, and lines near the longest, whatever they hold.
 #[test]
 fn long_texts() {
-    let (seed, page) = (seed(), &mut page());
+    let (seed, counts) = (seed(), &mut Counts::default());
     let mut random = Random::new(seed);
     for length in [65_535, 65_536, 65_537, 70_000, 200_000] {
         for filler in [&b" 1"[..], b"(", b"\n", b"(rule 1)\n", b" (no 40)", b"9", b" ", b"x"] {
@@ -235,63 +154,28 @@ fn long_texts() {
             text.truncate(length - 8);
             text.extend(b")\n(end)\n");
             text.resize(length, b'\n');
-            hold_text(&text, page);
+            for limits in [(40, 255), (1_000, 4_000)] {
+                hold_text(&text, limits).unwrap_or_else(|error| panic!("{length}: {error}"));
+            }
             let mut line = text.split_off(21);
             line.resize(length, b')');
             let case = draw(Source::Opened, seed, random.below(40) as u64).case;
-            Both::new(case.raw).hold(&line, u64::MAX, page);
+            let said = Both::new(case.slices).hold(&line, u64::MAX, counts);
+            said.unwrap_or_else(|error| panic!("{length}: {error}"));
         }
     }
 }
 
-/// Up to so many variables every line that comes of a fault is affordable.
-const SMALL: Shape =
-    Shape { variables: (0, 10), clauses: (0, 20), literals: (1, 5), visits: 4_000, calls: 16 };
-
 /// Sessions with faults in their lines, on opened books and on given and malformed states.
 #[test]
 fn random_lines() {
-    let (seed, page) = (seed(), &mut page());
-    let mut said = std::collections::BTreeMap::<String, u64>::new();
-    let mut paged = said.clone();
-    rounds(6_000, |index| {
-        let random = &mut Random::new(seed ^ index.wrapping_mul(0x9E37_79B9) ^ 1);
-        let (raw, calls, small) = match index % 4 {
-            0 | 1 => {
-                let formula = SMALL.formula(Walk::Plain, random);
-                let calls = SMALL.calls(&formula, Walk::Plain, random);
-                (library::open(&texts::book(&formula, random)).unwrap().state, calls, true)
-            }
-            2 => given(draw(Source::GivenStore, seed, index)),
-            _ => given(draw(Source::Malformed, seed, index)),
-        };
-        let mut both = Both::new(raw);
-        let mut number = random.pick(&[0, 1, 5, 250, 4_294_967_295, u64::MAX - 100]);
-        for call in calls {
-            let call = narrowed(call);
-            let ceiling = input::ceiling(&call, both.solver.as_ref(), random);
-            let takes = call.searches() || random.one_in(20);
-            let given = (takes && random.one_in(2)).then_some(ceiling);
-            let mut line = texts::line(&call, given);
-            if small && random.one_in(2) {
-                texts::spoil(&mut line, random);
-            }
-            number += 1;
-            let answer = both.hold(&line, number, page);
-            *said.entry(kind(answer)).or_default() += 1;
-            let asked = format!("(page {})", random.pick(&[1, 1, 1, 2, 0, 3, 99_999]));
-            let answer = both.hold(asked.as_bytes(), number, page);
-            *paged.entry(kind(answer)).or_default() += 1;
-        }
+    let (seed, mut counts) = (seed(), Counts::default());
+    rounds(2_000, |index| {
+        lines::round(seed, index, &mut counts).unwrap_or_else(|error| panic!("{error}"));
     });
-    println!("{said:?}, pages {paged:?}");
-    assert!(timed() || ["36", "written"].iter().all(|n| paged.contains_key(*n)));
-    assert!(
-        timed()
-            || ["1", "3", "5", "6", "7", "8", "21", "22", "31", "32", "34", "Withdrawn", "written"]
-                .iter()
-                .all(|n| said.contains_key(*n))
-    );
+    println!("{counts}");
+    assert!(timed() || counts.has(&[1, 3, 5, 6, 7, 8, 20, 21, 22, 31, 32, 34, 35, 36]), "{counts}");
+    assert!(timed() || counts.calls.len() == 11, "{counts}");
 }
 
 /// Calls that take a ceiling, calls that take none, and lines that are no call, each without its end.
@@ -315,46 +199,31 @@ const ENDS: &str = ")||) |))| )| 4)| (ceiling 11))|(ceiling 11))";
 fn lines_with_a_ceiling() {
     let book = b"(book 1)\n(flags 1 2)\n(exists 3)\n(forall 4)\n(rule 3 4 (no 1))\n\
         (rule (no 3) (no 4) 2)\n(rule 1 2)\n(end)\n";
-    let page = &mut page();
-    let mut said = std::collections::BTreeMap::<String, u64>::new();
+    let (mut said, counts) = (std::collections::BTreeSet::new(), &mut Counts::default());
     for head in HEADS.split('|') {
-        let mut both = Both::new(library::open(book).unwrap().state);
+        let opened = library::open(book, &Room::of(&Limits::PAPER)).expect("guards");
+        let mut both = Both::new(opened.slices);
+        let mut hold = |line: &[u8], number| {
+            both.hold(line, number, counts).unwrap_or_else(|error| panic!("{error}"))
+        };
         for number in NUMBERS.split('|') {
             for item in ITEMS.split('|').map(|item| item.replace('#', number)) {
                 for end in ENDS.split('|') {
                     let line = format!("{head}{item}{end}");
-                    let answer = both.hold(line.as_bytes(), 9, page);
-                    *said.entry(kind(answer)).or_default() += 1;
-                    let paged = both.hold(b"(page 1)", 10, page);
+                    let answer = hold(line.as_bytes(), 9);
+                    said.insert(kind(answer));
+                    let paged = hold(b"(page 1)", 10);
                     let stopped = answer == Said::Refused(34) && head.contains("card");
                     assert!(!stopped || paged == Said::Refused(36), "{line}");
                     // So that the next search needs as much.
-                    both.hold(b"(forget)", 11, page);
+                    hold(b"(forget)", 11);
                 }
             }
         }
     }
     println!("{said:?}");
     let told = ["1", "8", "21", "34", "Keep", "Swap", "lines"];
-    assert!(told.iter().all(|kind| said.contains_key(*kind)), "{said:?}");
-}
-
-fn given(input: native::input::Input) -> (Box<Raw>, Vec<Call>, bool) {
-    let calls = input.case.calls.into_iter().map(|asked| asked.call).collect();
-    (input.case.raw, calls, false)
-}
-
-/// A card's table in a line has up to 65,536 bytes.
-fn narrowed(call: Call) -> Call {
-    match call {
-        Call::Card(length) => Call::Card(length.min(65_536)),
-        Call::KeepCard(length) => Call::KeepCard(length.min(65_536)),
-        Call::Closest(reading, length) => Call::Closest(reading, length.min(65_536)),
-        // Now and then without a size: then the whole text is written.
-        Call::Write(length) if length % 3 == 0 => Call::Write(compare::write::WHOLE),
-        Call::Write(length) => Call::Write(length.min(65_536)),
-        call => call,
-    }
+    assert!(told.iter().all(|kind| said.contains(*kind)), "{said:?}");
 }
 
 fn kind(said: Said) -> String {
@@ -378,16 +247,16 @@ fn short_pages() {
     for length in [0, 1, 15, 1_000, room() - 1, room()] {
         let fits = length == room();
         for book in books {
-            let printed = Page::new(length).print(book).unwrap();
+            let printed = Page::new(length).print(book, &Room::of(&Limits::PAPER)).unwrap();
             assert_eq!(printed.is_some(), fits, "{length} bytes");
         }
         for line in lines {
             let mut cards = Cards::none();
             let before = cards.clone();
-            let answered = Page::new(length).line(&case.raw, line, 7, &mut cards).unwrap();
-            assert_eq!(answered.text.is_some(), fits, "{length} bytes");
-            let kept = (cards.shown, cards.table()) == (before.shown, before.table());
-            assert!(fits || answered.state == case.raw && kept, "{length} bytes");
+            let mut slices = case.slices.clone();
+            let text = Page::new(length).line(&mut slices, line, 7, &mut cards).unwrap();
+            assert_eq!(text.is_some(), fits, "{length} bytes");
+            assert!(fits || slices == case.slices && cards == before, "{length} bytes");
         }
     }
 }
@@ -395,7 +264,7 @@ fn short_pages() {
 /// Whatever is handed in as the card answered last, a page is one of what it tells, or 36.
 #[test]
 fn cards_of_any_bytes() {
-    let (page, state) = (&mut page(), draw(Source::Opened, seed(), 3).case.raw);
+    let given = draw(Source::Opened, seed(), 3).case.slices;
     let mut random = Random::new(seed());
     let mut printed = 0;
     rounds(3_000, |_| {
@@ -407,18 +276,18 @@ fn cards_of_any_bytes() {
         let mut table = vec![random.pick(&[0, 1, 2]); 65_536];
         table[random.below(65_536)] = random.pick(&[0, 1, 2, 3, 255]);
         let told = Shown { refusal, size, lines, flags };
-        let mut cards = Cards::of(told, &table);
+        let (mut slices, mut cards) = (given.clone(), Cards { shown: told, table });
+        let before = cards.clone();
         let asked = format!("(page {number})");
-        let answered = page.line(&state, asked.as_bytes(), 9, &mut cards).unwrap();
-        let held = Card { table: &table[..size.min(65_536)], lines, flags };
+        let text = with_page(|page| page.line(&mut slices, asked.as_bytes(), 9, &mut cards));
+        let held = Card { table: &cards.table[..size.min(65_536)], lines, flags };
         let expected = match held.page(number, None) {
             Ok(rows) if refusal == 0 => rows,
             _ => b"(refused 36 9)\n".to_vec(),
         };
         printed += u64::from(expected.len() > 20);
-        assert!(answered.text == Some(expected), "{told:?} {asked}");
-        assert!((cards.shown, cards.table()) == (told, &table[..]), "{told:?} {asked}");
-        assert!(answered.state == state);
+        assert!(text == Ok(Some(expected)), "{told:?} {asked}");
+        assert!(cards == before && slices == given, "{told:?} {asked}");
     });
     assert!(timed() || printed > 100, "only {printed} pages");
 }

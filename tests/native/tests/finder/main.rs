@@ -7,9 +7,8 @@ use compare::dead::dead_clause;
 use compare::rows::read_finder;
 use compare::slip::{Slip, ALL};
 use compare::Options;
-use native::raw::CLAUSE_WIDTH;
 use native::run::seed;
-use question::{answer, answer_outside, draw, Question};
+use question::{answer, answer_outside, draw, Question, CLAUSE_WIDTH};
 
 const QUESTIONS: u64 = 200_000;
 

@@ -2,9 +2,15 @@
 
 use compare::random::Random;
 use compare::{Formula, Literal, Quantifier, Variable};
-use native::raw::{CLAUSE_WIDTH, EXISTS, FORALL, FREE};
 
-/// Made by `tools/build search_finder`.
+/// Cells of a clause.
+pub const CLAUSE_WIDTH: usize = 16;
+
+const FREE: u16 = 0;
+const EXISTS: u16 = 1;
+const FORALL: u16 = 2;
+
+// Made by `tools/build search_finder`.
 #[link(name = "search_finder", kind = "static")]
 extern "C" {
     fn search_finder_lowest_dead(

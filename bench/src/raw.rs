@@ -1,4 +1,7 @@
-//! The state and the answers as the library has them: plain structs of numbers.
+//! A state under the limits of 40 and 255 in nine tables, for the calls in Rust: plain arrays of numbers.
+
+use compare::formula::Place;
+use compare::{Quantifier, State};
 
 /// A table by place: a count or nothing in cell 0, then one cell for each of 40 places.
 pub const BY_PLACE: usize = 41;
@@ -17,10 +20,6 @@ pub const RECORDED: usize = RECORDS + ENTRIES;
 pub const FREE: u16 = 0;
 pub const EXISTS: u16 = 1;
 pub const FORALL: u16 = 2;
-
-pub const KEEP: u16 = 1;
-pub const SWAP: u16 = 2;
-pub const UNSETTLED: u16 = 3;
 
 /// It has no padding, so that equal means equal byte for byte.
 #[repr(C)]
@@ -57,72 +56,39 @@ impl Raw {
     };
 }
 
-/// What a call says.
-#[repr(C)]
-#[derive(Clone, Copy, Debug, PartialEq, Eq)]
-pub struct Reply {
-    /// 0 is none.
-    pub refusal: u16,
-    /// 0 where the call is no query or is refused.
-    pub verdict: u16,
-    pub lines: usize,
-    pub visits: u64,
-}
-
-/// .. and the next state.
-#[repr(C)]
-#[derive(Clone, Copy)]
-pub struct Returned {
-    pub reply: Reply,
-    pub state: Raw,
-}
-
-/// A text in the first bytes of a lent table.
-#[repr(C)]
-#[derive(Clone, Copy, Debug, PartialEq, Eq)]
-pub struct Written {
-    /// 0 is none.
-    pub refusal: u16,
-    pub length: usize,
-}
-
-/// The closest reading, which stands in a lent table.
-#[repr(C)]
-#[derive(Clone, Copy, Debug, PartialEq, Eq)]
-pub struct Nearest {
-    /// 0 is none.
-    pub refusal: u16,
-    pub differs: usize,
-    pub lines: usize,
-    pub visits: u64,
-}
-
-/// How many cells each table of a state has, in the order of the state.
-pub const LENGTHS: [usize; 9] = [
-    BY_PLACE,
-    BY_PLACE,
-    BY_PLACE,
-    CLAUSES * CLAUSE_WIDTH,
-    CLAUSES + 1,
-    ENTRIES * ENTRY_WIDTH,
-    RECORDED,
-    ENTRIES * ENTRY_WIDTH,
-    ENTRIES + 1,
-];
-
-/// The cells of all tables.
-pub const CELLS: usize = 9_773;
-
-impl Raw {
-    /// The tables one after another.
-    pub fn cells(&self) -> &[u16; CELLS] {
-        // Every cell has 16 bits and every value of them is a number.
-        unsafe { &*(self as *const Raw).cast() }
-    }
-
-    pub fn cells_mut(&mut self) -> &mut [u16; CELLS] {
-        unsafe { &mut *(self as *mut Raw).cast() }
+fn code(quantifier: Quantifier) -> u16 {
+    match quantifier {
+        Quantifier::Free => FREE,
+        Quantifier::Exists => EXISTS,
+        Quantifier::Forall => FORALL,
     }
 }
 
-const _: () = assert!(std::mem::size_of::<Raw>() == 2 * CELLS);
+/// The tables of a state. The cells outside its counts are zero.
+pub fn write(State { formula, store }: &State) -> Box<Raw> {
+    let mut raw = Box::new(Raw::EMPTY);
+    raw.numbers[0] = formula.prefix.len() as u16;
+    for (index, variable) in formula.prefix.iter().enumerate() {
+        let level = formula.level(Place(index + 1)).0;
+        raw.numbers[index + 1] = variable.number as u16;
+        raw.levels[index + 1] = level as u16;
+        raw.kinds[level] = code(variable.quantifier);
+    }
+    write_rows(&formula.clauses, &mut raw.clauses, &mut raw.clause_sizes, CLAUSE_WIDTH);
+    let (cells, sizes) = (&mut raw.learned_clauses, &mut raw.learned_clause_sizes);
+    write_rows(&store.clauses, cells, sizes, ENTRY_WIDTH);
+    for (cell, &record) in sizes[RECORDS..].iter_mut().zip(&store.records) {
+        *cell = record as u16;
+    }
+    let (cells, sizes) = (&mut raw.learned_cubes, &mut raw.learned_cube_sizes);
+    write_rows(&store.cubes, cells, sizes, ENTRY_WIDTH);
+    raw
+}
+
+fn write_rows(rows: &[Vec<i16>], cells: &mut [i16], sizes: &mut [u16], width: usize) {
+    sizes[0] = rows.len() as u16;
+    for (index, row) in rows.iter().enumerate() {
+        sizes[1 + index] = row.len() as u16;
+        cells[index * width..][..row.len()].copy_from_slice(row);
+    }
+}
