@@ -6,7 +6,7 @@
 //     others BOOK..      BOOK as `bench --books FOLDER` writes them
 //
 // All three have to give the same card, byte for byte, and the same verdicts. Time of the thread, the shortest of three runs, or of one that takes a second; a way that takes more than
-// ten seconds is stopped. What an open book is made of is counted for all of them: the library opens the text, DepQBF is given a formula, and the diagrams begin with an empty table.
+// five seconds is stopped. What an open book is made of is counted for all of them: the library opens the text, DepQBF is given a formula, and the diagrams begin with an empty table.
 #include "library.h"
 #include <bdd.h>
 #include <qdpll/qdpll.h>
@@ -272,7 +272,7 @@ static void solver_queries(const struct book *b, struct found *f)
 // ---- one table
 typedef void way(const struct book *, struct found *);
 
-enum { SECONDS = 10, MEMORY = 4000 }; // that a way may take for one card or one list; megabytes
+enum { SECONDS = 5, MEMORY = 4000 }; // that a way may take for one card or one list; megabytes
 
 // The shortest of three runs in milliseconds, or of one that takes a second.
 static double shortest(way *run, const struct book *b, struct found *f)
