@@ -18,6 +18,7 @@ use shares::BOOKS;
 
 // The visits that it makes are charged to the place.
 // stays (no plainer): the state, the workspace and the tables of the cards and the answer are lent, as for `serve_day_line`; the share was found by who calls
+// stays (no plainer): `answer_bytes ≤ length [u8]` is of what is lent behind the place of the answer, and a slice keeps no fact; `Answer` keeps it once it is lent on
 pub fn serve_book(
     kept: &mut Kept,
     request: Request<'_>,
