@@ -36,12 +36,12 @@ pub struct Written {
 /// The closest reading, which stands in a lent table.
 #[repr(C)]
 #[derive(Clone, Copy, Debug, PartialEq, Eq)]
-struct Nearest {
+pub(crate) struct Nearest {
     /// 0 is none.
-    refusal: u16,
-    differs: usize,
-    lines: usize,
-    visits: u64,
+    pub refusal: u16,
+    pub differs: usize,
+    pub lines: usize,
+    pub visits: u64,
 }
 
 #[repr(C)]
@@ -210,15 +210,15 @@ pub fn open(text: &[u8], limits: (usize, usize), cells: &mut [u16], rows: &mut [
 }
 
 /// Numbers that are only read, in a list of its own length, so that a tool that watches memory sees a read past its end.
-struct List(Box<[i16]>);
+pub(crate) struct List(Box<[i16]>);
 
 impl List {
-    fn new(numbers: &[i16]) -> List {
+    pub(crate) fn new(numbers: &[i16]) -> List {
         List(numbers.into())
     }
 
     /// An empty list has no address.
-    fn at(&self) -> *const i16 {
+    pub(crate) fn at(&self) -> *const i16 {
         if self.0.is_empty() {
             std::ptr::null()
         } else {
@@ -226,7 +226,7 @@ impl List {
         }
     }
 
-    fn kept(&self, numbers: &[i16]) -> Result<(), String> {
+    pub(crate) fn kept(&self, numbers: &[i16]) -> Result<(), String> {
         (*self.0 == *numbers).then_some(()).ok_or("a list of numbers is written".into())
     }
 }
@@ -376,11 +376,11 @@ pub mod bare {
 }
 
 /// The length of a text in the place of the count of lines.
-fn as_reply(Written { refusal, length }: Written) -> Reply {
+pub(crate) fn as_reply(Written { refusal, length }: Written) -> Reply {
     Reply { refusal, verdict: 0, lines: length, visits: 0 }
 }
 
-fn said(call: &Call, reply: &Reply) -> Result<Said, String> {
+pub(crate) fn said(call: &Call, reply: &Reply) -> Result<Said, String> {
     let Reply { refusal, verdict, lines, visits } = *reply;
     let said = match (call, refusal, verdict, lines, visits) {
         (Call::Card(_) | Call::KeepCard(_), 21, 0, 0, _) => Some(Said::Refused(21)),
@@ -401,7 +401,7 @@ fn said(call: &Call, reply: &Reply) -> Result<Said, String> {
 }
 
 /// The numbers of a closest reading, and the bytes of the lent one.
-fn said_of_nearest(nearest: &Nearest, values: [u8; MOST_FLAGS]) -> Result<Said, String> {
+pub(crate) fn said_of_nearest(nearest: &Nearest, values: [u8; MOST_FLAGS]) -> Result<Said, String> {
     match *nearest {
         Nearest { refusal: 0, differs, lines, .. } => {
             Ok(Said::Closest(Closest { reading: values, differs, lines }))

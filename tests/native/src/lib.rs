@@ -4,8 +4,11 @@
 //! and lists of calls from a seed, `hold` makes the calls on both sides and compares.
 
 pub mod budget;
+#[cfg(feature = "day")]
+pub mod day;
 pub mod exports;
 pub mod generate;
+mod guarded;
 pub mod hold;
 pub mod input;
 pub mod library;

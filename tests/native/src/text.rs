@@ -2,6 +2,7 @@
 //! guards.
 
 use crate::exports::{workspace, workspace_kept, Written};
+use crate::guarded::Guarded;
 use compare::answer::LENT_BYTE;
 use compare::page::Card;
 use compare::slices::{Cells, Rows, Slices};
@@ -156,35 +157,6 @@ extern "C" {
 const TOO_SHORT: u16 = 31;
 
 const GUARD: u8 = 0x5C;
-const GUARDS: usize = 95;
-
-/// Something between guards. An odd number of them, so that tables stand at addresses that no wider number may have.
-struct Guarded<T> {
-    all: Vec<T>,
-    guard: T,
-}
-
-impl<T: Copy + PartialEq> Guarded<T> {
-    fn new(inner: &[T], guard: T) -> Guarded<T> {
-        let guards = [guard; GUARDS];
-        Guarded { all: [&guards[..], inner, &guards[..]].concat(), guard }
-    }
-
-    fn at(&mut self) -> *mut T {
-        self.all[GUARDS..].as_mut_ptr()
-    }
-
-    fn inner(&self) -> &[T] {
-        &self.all[GUARDS..self.all.len() - GUARDS]
-    }
-
-    fn kept(&self) -> Result<(), String> {
-        let (before, rest) = self.all.split_at(GUARDS);
-        let after = &rest[rest.len() - GUARDS..];
-        let kept = before.iter().chain(after).all(|cell| *cell == self.guard);
-        kept.then_some(()).ok_or("a guard is written".into())
-    }
-}
 
 /// The two tables of a state, between guards.
 struct Tables {

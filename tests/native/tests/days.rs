@@ -1,7 +1,7 @@
 //! Calls at the places of a day, by random days.
 
 use compare::day::{DaySlip, ALL};
-use native::rounds::days::{drawn, round};
+use native::rounds::days::{self, drawn, round, AtPlaces};
 use native::rounds::Counts;
 use native::run::{rounds, seed, timed};
 
@@ -14,11 +14,33 @@ const OF_THE_PROGRAM: [DaySlip; 5] = [
     DaySlip::CardOfAnotherPlace,
 ];
 
+/// The compiled calls, once the library has them: until then the independent implementation on the same tables.
+#[cfg(feature = "day")]
+fn subject() -> impl AtPlaces {
+    native::day::Exports
+}
+#[cfg(not(feature = "day"))]
+fn subject() -> impl AtPlaces {
+    None
+}
+
+/// Texts opened at places of days that begin.
+#[test]
+fn openings() {
+    let (seed, mut counts) = (seed(), Counts::default());
+    rounds(300, |index| {
+        let opened = days::openings(&mut subject(), seed, index, &mut counts);
+        opened.unwrap_or_else(|error| panic!("{error}"));
+    });
+    println!("{counts}");
+    assert!(timed() || counts.has(&[1, 3, 20, 22, 38]), "{counts}");
+}
+
 #[test]
 fn random_days() {
     let (seed, mut counts) = (seed(), Counts::default());
     rounds(2_000, |index| {
-        round(&mut None, seed, index, &mut counts).unwrap_or_else(|error| panic!("{error}"));
+        round(&mut subject(), seed, index, &mut counts).unwrap_or_else(|error| panic!("{error}"));
     });
     println!("{counts}");
     assert!(timed() || counts.has(&[8, 21, 22, 31, 34, 35, 37, 38]), "{counts}");
@@ -30,7 +52,7 @@ fn every_slip_is_told_apart() {
     let seed = seed();
     for (slip, words) in ALL.iter().filter(|(slip, _)| !OF_THE_PROGRAM.contains(slip)) {
         let differs = |index| {
-            drawn(seed, index).held(&mut None, Some(*slip), &mut Counts::default()).is_err()
+            drawn(seed, index).held(&mut subject(), Some(*slip), &mut Counts::default()).is_err()
         };
         assert!((0..4_000).any(differs), "{slip:?}: {words}");
     }

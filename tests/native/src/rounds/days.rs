@@ -6,9 +6,10 @@ use crate::spoil::{self, FAULTS};
 use compare::answer::LENT_BYTE;
 use compare::day::{Accounts, Day, DaySlip, PLACES};
 use compare::draw::days;
+use compare::draw::states::{opening, Opening};
 use compare::random::Random;
-use compare::slices::Slices;
-use compare::{Answer, Call, Options, Said, Solver, State, Store};
+use compare::slices::{self, Slices};
+use compare::{Answer, Call, Limits, Options, Said, Solver, State, Store};
 
 /// The tables of a day: those of its places one behind another.
 #[derive(Clone, Debug, PartialEq, Eq)]
@@ -42,6 +43,10 @@ impl Tables {
         tables
     }
 
+    fn accounts(&self) -> Accounts {
+        Accounts { total: self.total, used: self.used }
+    }
+
     /// What stands at a place.
     fn slices(&self, index: usize) -> Slices {
         let before = |of: fn(&(usize, usize)) -> usize| self.rooms[..index].iter().map(of).sum();
@@ -59,9 +64,23 @@ impl Tables {
     }
 }
 
-/// Calls at places, which a compared library has to offer; an error where something is written that is only read, or a
-/// number is no answer.
+/// What a compared library has to offer; an error where something is written that is only read, or a number is no answer.
 pub trait AtPlaces {
+    /// A day starts: no book, nothing used.
+    fn begin(&mut self, tables: &mut Tables, total: u32) -> Result<(), String>;
+
+    /// A text opened at a place: its refusal, 0 for none, and its line.
+    fn open(
+        &mut self,
+        tables: &mut Tables,
+        place: usize,
+        text: &[u8],
+        limits: (usize, usize),
+    ) -> Result<(u16, usize), String>;
+
+    /// What a call at a place may still use, or a refusal.
+    fn share(&mut self, tables: &Tables, place: usize) -> Result<(u16, u32), String>;
+
     fn call(
         &mut self,
         tables: &mut Tables,
@@ -74,6 +93,42 @@ pub trait AtPlaces {
 
 /// The independent implementation itself, to show that the comparison can succeed and fail.
 impl AtPlaces for Option<DaySlip> {
+    fn begin(&mut self, tables: &mut Tables, total: u32) -> Result<(), String> {
+        (tables.total, tables.used, tables.books) = (total, [0; PLACES], [0; PLACES]);
+        Ok(())
+    }
+
+    fn open(
+        &mut self,
+        tables: &mut Tables,
+        place: usize,
+        text: &[u8],
+        limits: (usize, usize),
+    ) -> Result<(u16, usize), String> {
+        let Some(index) = index(place) else { return Ok((38, 0)) };
+        let mut slices = tables.slices(index);
+        let told = match slices::open(text, limits, tables.rooms[index], None) {
+            Ok(state) => {
+                let own = Limits::own(limits.0, limits.1);
+                slices.cells[0] = own.numbers as u16;
+                slices.cells[1] = own.clauses as u16;
+                slices.write(&state);
+                (0, 0)
+            }
+            Err(refused) => {
+                slices.cells.iter_mut().for_each(|cell| *cell = u16::MAX);
+                (refused.number.into(), refused.line)
+            }
+        };
+        tables.books[index] = u8::from(told.0 == 0);
+        tables.write(index, &slices);
+        Ok(told)
+    }
+
+    fn share(&mut self, tables: &Tables, place: usize) -> Result<(u16, u32), String> {
+        Ok(share(&tables.accounts(), place))
+    }
+
     fn call(
         &mut self,
         tables: &mut Tables,
@@ -82,8 +137,7 @@ impl AtPlaces for Option<DaySlip> {
         ceiling: u32,
         table: &mut [u8],
     ) -> Result<(Said, u64), String> {
-        let accounts = Accounts { total: tables.total, used: tables.used };
-        let mut day = Day { accounts, slip: *self, ..Day::new(0) };
+        let mut day = Day { accounts: tables.accounts(), slip: *self, ..Day::new(0) };
         for index in 0..PLACES {
             let has_book = tables.books[index] != 0;
             day.books[index] = has_book.then(|| book(&tables.slices(index)));
@@ -97,6 +151,19 @@ impl AtPlaces for Option<DaySlip> {
         }
         table.copy_from_slice(&answer.table);
         Ok((answer.said, answer.visits))
+    }
+}
+
+fn index(place: usize) -> Option<usize> {
+    place.checked_sub(1).filter(|index| *index < PLACES)
+}
+
+/// "Each place, with a book or not, has a floor": a share is told of any of them.
+fn share(accounts: &Accounts, place: usize) -> (u16, u32) {
+    match index(place) {
+        None => (38, 0),
+        Some(_) if accounts.malformed(None) => (22, 0),
+        Some(index) => (0, accounts.left(index, None)),
     }
 }
 
@@ -178,6 +245,13 @@ impl Drawn {
             let refusal = if let Said::Refused(number) = answer.said { number.into() } else { 0 };
             counts.call(at_a_place(call), refusal);
             counts.visits += answer.visits;
+            for place in [*place, 0, 1, 8, 9] {
+                let (found, wanted) = (subject.share(&tables, place)?, share(&day.accounts, place));
+                if slip.is_none() && found != wanted {
+                    return Err(words(format!("share at {place}: {found:?}, not {wanted:?}")));
+                }
+                counts.call("share", found.0);
+            }
         }
         Ok(())
     }
@@ -228,6 +302,69 @@ fn hold(
         }
         false => Err("a cell of some place is not as it should be".into()),
     }
+}
+
+/// A day that begins, and texts opened at its places, one at times again; slices that are too short among them.
+pub fn openings(
+    subject: &mut impl AtPlaces,
+    seed: u64,
+    index: u64,
+    counts: &mut Counts,
+) -> Result<(), String> {
+    counts.input("days opened");
+    let random = &mut numbers(!seed, 7, index);
+    let drawn: Vec<Opening> = (0..PLACES).map(|_| opening(random)).collect();
+    let place = |drawn: &Opening| {
+        let (m, n) = drawn.lengths;
+        (true, Slices { cells: vec![3; m], literals: vec![3; n], slip: None })
+    };
+    let places = drawn.iter().map(place).collect();
+    let accounts = Accounts { total: 7, used: [u32::MAX; PLACES] };
+    let mut tables = Tables::of(&Drawn { accounts, places, calls: vec![] });
+    let total = random.pick(&[0, 7, 8, 90, u32::MAX]);
+    let mut expected = tables.clone();
+    subject.begin(&mut tables, total)?;
+    None.begin(&mut expected, total)?;
+    if tables != expected {
+        return Err(format!("days opened {index} of seed {seed}: another beginning"));
+    }
+    for _ in 0..random.between(1, 9) {
+        let at = random.between(0, PLACES + 1);
+        let Opening { text, limits, .. } = &drawn[at.saturating_sub(1).min(PLACES - 1)];
+        opened(subject, &mut tables, at, text, *limits, counts)
+            .map_err(|error| format!("days opened {index} of seed {seed}, at {at}: {error}"))?;
+    }
+    Ok(())
+}
+
+/// A text at a place: its refusal, the book that stands there then, and no cell of another place.
+fn opened(
+    subject: &mut impl AtPlaces,
+    tables: &mut Tables,
+    place: usize,
+    text: &[u8],
+    limits: (usize, usize),
+    counts: &mut Counts,
+) -> Result<(), String> {
+    let mut expected = tables.clone();
+    let found = subject.open(tables, place, text, limits)?;
+    let wanted = None.open(&mut expected, place, text, limits)?;
+    counts.call("open at a place", found.0);
+    if found != wanted {
+        return Err(format!("{found:?}, not {wanted:?}"));
+    }
+    if let Some(index) = index(place) {
+        let (book, other) = (tables.slices(index), expected.slices(index));
+        if book.read_well_formed() != other.read_well_formed() {
+            return Err("another book".into());
+        }
+        if (tables.books[index] == 0) != (expected.books[index] == 0) {
+            return Err("another byte that tells the book".into());
+        }
+        expected.books[index] = tables.books[index];
+        expected.write(index, &book);
+    }
+    (*tables == expected).then_some(()).ok_or("a cell of another place is written".into())
 }
 
 pub fn round(
