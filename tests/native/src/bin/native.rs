@@ -1,5 +1,5 @@
 //! `native [SEED [CALLS [SECONDS]]]`: all sources by turns, from index 0 of a seed, until so many calls are made or the time is
-//! over, with what was covered at the end and every ten minutes on the way. It ends with 1 at the first difference, which it prints,
+//! over, with what was covered at the end and every two minutes on the way. It ends with 1 at the first difference, which it prints,
 //! made smaller.
 
 use compare::draw::on_a_large_stack;
@@ -29,7 +29,7 @@ fn run(seed: u64, calls: u64, time: Duration) -> Result<(), String> {
             break;
         }
         turn(seed, index, &mut lists, &mut others)?;
-        if start.elapsed() >= told + Duration::from_secs(600) {
+        if start.elapsed() >= told + Duration::from_secs(120) {
             told = start.elapsed();
             println!("after {} seconds {index} turns: {}", told.as_secs(), all(&lists, &others));
         }
