@@ -1,10 +1,12 @@
--- What is printed for a text, from the contract of the conversion.
+-- What is printed for a text, from the contract of the conversion, for tables that are whole and for others.
 use Prim.Native.Nat.{ℕ}
 use native.Mathlib.Omega.{arith}
-use mathlib.Core.Path.{◌≡◌, refl, subst, ◌∙◌}
+use mathlib.Core.Path.{◌≡◌, ap, subst, ◌∙◌}
+use mathlib.Core.List.{List}
+use lib.IntN.{ℤ}
 use lib.ListN.{length}
-use Rattle.std.specs.Prelude.{Result, Ok, Err}
-use Rattle.qbf.specs.Formula.{paper}
+use Rattle.std.specs.Prelude.{Ok, Err}
+use Rattle.qbf.specs.Formula.{Limits}
 use Rattle.refusal.specs.Refusal.{number_of}
 use Rattle.layout.specs.Words.{Bytes}
 use Rattle.layout.specs.Output.{refusal_text}
@@ -15,7 +17,8 @@ use Rattle.opening.specs.declared.text.RefusedAt.{RefusedAt}
 use Rattle.edition_reader.specs.declared.Edition.{Edition}
 use Rattle.edition_reader.specs.declared.Edition.TheVariants.{First, Second}
 use Rattle.edition_conversion.specs.Converted.{conversion, WrittenAs}
-use Rattle.edition_printer.specs.Printing.{converted_text, converting_program, tag_program, untag_program}
+use Rattle.edition_conversion_at.specs.Converting.{WrittenUnder}
+use Rattle.edition_printer.specs.Printing.{ConversionWritten, converted_text, converting_program, tag_program, untag_program}
 
 -- a table at whose start a text stands, after one of its size
 module _ (d₀ d₁ : Bytes) (same : length d₁ ≡ length d₀) where
@@ -28,20 +31,19 @@ module _ (d₀ d₁ : Bytes) (same : length d₁ ≡ length d₀) where
   text_stands (refused k l) n h = absurd h
 
 -- ---- the programs, by what the conversion answers
-program_is : (to : Edition) (s : Bytes) → converted_text (conversion to paper text_bytes s) ≡ converting_program to paper s
+program_is : (e : Edition) (L : Limits) (s : Bytes) (n : ℕ) → n ≡ text_bytes → converted_text (conversion e L n s) ≡ converting_program e L s
 unfolding tag_program untag_program
-program_is First s = refl
-program_is Second s = refl
+program_is First L s n i = ap (λ (m : ℕ). converted_text (conversion First L m s)) i
+program_is Second L s n i = ap (λ (m : ℕ). converted_text (conversion Second L m s)) i
 
-module _ (to : Edition) (s d₀ d₁ : Bytes) (room : length d₀ ≡ text_bytes) (same : length d₁ ≡ length d₀) where
-  fits : (r : Result ℕ RefusedAt) → WrittenAs (conversion to paper (length d₀) s) r d₁ → WrittenAs (conversion to paper text_bytes s) r d₁
-  fits r told = subst (λ (n : ℕ). WrittenAs (conversion to paper n s) r d₁) room told
+module _ (e : Edition) (L : Limits) (cells : List ℕ) (literals : List ℤ) (s d₀ d₁ : Bytes) (room : length d₀ ≡ text_bytes) (same : length d₁ ≡ length d₀) where
+  printed : {d : Bytes} {r : ℕ} → Wrote d₀ 0 (converted_text (conversion e L (length d₀) s)) d r → Wrote d₀ 0 (converting_program e L s) d r
+  printed {d} {r} w = subst (λ (t : Bytes). Wrote d₀ 0 t d r) (program_is e L s (length d₀) room) w
 
-  printed : {d : Bytes} {r : ℕ} → Wrote d₀ 0 (converted_text (conversion to paper text_bytes s)) d r → Wrote d₀ 0 (converting_program to paper s) d r
-  printed {d} {r} w = subst (λ (t : Bytes). Wrote d₀ 0 t d r) (program_is to s) w
+  pub converted_printed : (n : ℕ) → WrittenUnder e L cells literals s (length d₀) (Ok n) d₁ → ConversionWritten e L cells literals s d₀ d₁ n
+  converted_printed n told =
+      record { whole = λ w. printed (text_stands d₀ d₁ same (conversion e L (length d₀) s) n (told.whole w)); short = λ w. absurd (told.short w) }
 
-  pub converted_printed : (n : ℕ) → WrittenAs (conversion to paper (length d₀) s) (Ok n) d₁ → Wrote d₀ 0 (converting_program to paper s) d₁ n
-  converted_printed n told = printed (text_stands d₀ d₁ same (conversion to paper text_bytes s) n (fits (Ok n) told))
-
-  pub refused_printed : (q : RefusedAt) → WrittenAs (conversion to paper (length d₀) s) (Err q) d₁ → {k : ℕ} → k ≡ number_of q.refusal → {d : Bytes} {r : ℕ} → Wrote d₁ 0 (refusal_text k q.line) d r → Wrote d₀ 0 (converting_program to paper s) d r
-  refused_printed q told e w = printed (refusal_put d₀ d₁ same (conversion to paper text_bytes s) q (fits (Err q) told) e w)
+  pub refused_printed : (q : RefusedAt) → WrittenUnder e L cells literals s (length d₀) (Err q) d₁ → {k : ℕ} → k ≡ number_of q.refusal → {d : Bytes} {r : ℕ} → Wrote d₁ 0 (refusal_text k q.line) d r → ConversionWritten e L cells literals s d₀ d r
+  refused_printed q told is w =
+      record { whole = λ h. printed (refusal_put d₀ d₁ same (conversion e L (length d₀) s) q (told.whole h) is w); short = λ h. refusal_put d₀ d₁ same (refused 22 0) q (told.short h) is w }

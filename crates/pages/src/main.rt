@@ -1,6 +1,7 @@
 // The program `pages`: a book on standard input, all pages of its card on standard output.
 #![tactic(auto)]
 
+use answer_text::refused::write_refusal;
 use opening::text::RefusedAt;
 use page::Card;
 use search_entry::workspace::Workspace;
@@ -12,7 +13,7 @@ fn print_refusal(
     refused: RefusedAt,
     out: &mut [u8; page::lent::BYTES],
 ) -> io::Result<()> {
-    let length = printer::put_refusal(out, refused.refusal.number(), refused.line);
+    let length = write_refusal(out, refused.refusal.number(), refused.line as u64);
     rt.write_all(&out[..length])
 }
 

@@ -4,5 +4,5 @@
 use std::io;
 
 fn main(rt: HostRuntime) -> io::Result<()> {
-    program::print_text(&rt, b"tag", edition_printer_at::print_tagged)
+    program::print_text(&rt, b"tag", edition_printer::print_tagged)
 }

@@ -4,5 +4,5 @@
 use std::io;
 
 fn main(rt: HostRuntime) -> io::Result<()> {
-    program::print_text(&rt, b"untag", edition_printer_at::print_untagged)
+    program::print_text(&rt, b"untag", edition_printer::print_untagged)
 }

@@ -1,3 +1,0 @@
-pub mod Requests
-pub mod Turns
-pub mod Runs
