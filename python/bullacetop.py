@@ -136,9 +136,9 @@ class _Workspace(ctypes.Structure):
     _fields_ = [
         ("rules", _Matrix),
         ("bar_cells", c_uint16 * (64 * (_NUMBERS + 1))),
-        ("bar_links", c_uint64 * (_CODES + 1 + 64)),
+        ("bar_links", c_uint64 * (_CODES + 2 + 64)),
         ("pass_cells", c_uint16 * (64 * (_NUMBERS + 1))),
-        ("pass_links", c_uint64 * (_CODES + 1 + 64)),
+        ("pass_links", c_uint64 * (_CODES + 2 + 64)),
         ("trail", _Trail),
         ("statuses", c_uint8 * _CODES),
         ("aside", c_uint16 * (_NUMBERS * _NUMBERS)),

@@ -45,9 +45,9 @@ struct Trail {
 pub struct Workspace {
     rules: Matrix,
     bar_cells: [u16; ENTRIES * (HIGHEST_NUMBERS + 1)],
-    bar_links: [u64; CODES + 1 + ENTRIES],
+    bar_links: [u64; CODES + 2 + ENTRIES],
     pass_cells: [u16; ENTRIES * (HIGHEST_NUMBERS + 1)],
-    pass_links: [u64; CODES + 1 + ENTRIES],
+    pass_links: [u64; CODES + 2 + ENTRIES],
     trail: Trail,
     statuses: [u8; CODES],
     aside: [u16; HIGHEST_NUMBERS * HIGHEST_NUMBERS],

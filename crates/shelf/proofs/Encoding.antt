@@ -13,7 +13,7 @@ use Rattle.std.proofs.lemmas.Slice.{put_mid-paste}
 use Rattle.qbf.specs.Formula.{highest, Prefix}
 use Rattle.tables.specs.Views.{Places}
 use Rattle.tables.specs.Codes.{codes, last_code}
-use Rattle.tables.specs.Shelves.{code_count, newest_of, Shelf}
+use Rattle.tables.specs.Shelves.{code_count, mark_of, newest_of, Shelf}
 use Rattle.shelf.specs.Coded.{row_behind, RowCoded}
 use Rattle.shelf.proofs.Linking.{relinked}
 use Rattle.shelf.proofs.Pushing.{Pushed, pushing}
@@ -64,10 +64,10 @@ module _ {stride slots : ℕ} {cells links : List ℕ} (shelf : Shelf stride slo
   abbrev made : List ℕ
   made = row_behind lits at cells₁
 
-  pub coded_pushed : {code : ℕ} → code ≡ last_code (take m (drop (at + 1) cells₁)) → links₁ ≡ relinked links code s (newest_of links) → Pushed shelf some made s cells₁ links₁
-  coded_pushed {code} code_is links_are =
+  pub coded_pushed : {code : ℕ} → code ≡ last_code (take m (drop (at + 1) cells₁)) → code < mark_of links → links₁ ≡ relinked links code s (newest_of links) → Pushed shelf some made s cells₁ links₁
+  coded_pushed {code} code_is above links_are =
       let last : code ≡ last_code made =
       code_is ∙ ap (λ (n : ℕ). last_code (take n (drop (at + 1) cells₁))) is ∙ ap (λ (a : ℕ). last_code (take (length lits) (drop a cells₁))) (add-one at)
       in
-      pushing shelf some made s code cells₁ links₁ slot_is last (omega (arith, last, new.low)) (omega (arith, new.long))
+      pushing shelf some made s code cells₁ links₁ slot_is last (omega (arith, last, new.low)) above (omega (arith, new.long))
       (new.written ∙ ap (λ (n : ℕ). paste (set cells at n) (suc at) made n) (sym new.long)) links_are

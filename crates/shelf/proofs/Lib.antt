@@ -4,6 +4,7 @@ pub mod Slots
 pub mod Finding
 pub mod Writing
 pub mod Linking
+pub mod Marking
 pub mod Pushing
 pub mod Empty
 pub mod Encoding

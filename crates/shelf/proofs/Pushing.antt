@@ -4,19 +4,16 @@ use native.Mathlib.Omega.{arith}
 use native.Mathlib.Nat.{mod-lt}
 use mathlib.Core.Path.{◌≡◌, refl, sym, ap, subst, ◌∙◌}
 use mathlib.Core.Logic.{◌⊎◌, inl, inr}
-use mathlib.Core.Bool.{true, false}
 use mathlib.Core.List.{List, [], ◌∷◌, ◌++◌}
-use borrow.Author.Tests.{eqb-true, eqb-false}
-use lib.Dec.{eqb}
 use lib.ListN.{length, take, drop, set}
 use lib.Seq.{paste}
-use Rattle.theory.proofs.Basics.{le_or_lt, dichotomy}
+use Rattle.theory.proofs.Basics.{le_or_lt}
 use Rattle.qbf.specs.Learning.{push}
 use Rattle.tables.specs.Codes.{last_code}
-use Rattle.tables.specs.Shelves.{code_count, length_at, row_at, ring_rows, newest_of, base_of, shelf_rows, Shelf}
+use Rattle.tables.specs.Shelves.{code_count, row_at, ring_rows, mark_of, newest_of, base_of, shelf_rows, Shelf}
 use Rattle.shelf.proofs.Ring.{ring_length, ring_suc, ring_same, ring_cons, ring_row}
 use Rattle.shelf.proofs.Slots.{slots_differ}
-use Rattle.shelf.proofs.Writing.{written_long, written_length, written_row, other_length, other_row}
+use Rattle.shelf.proofs.Writing.{written_long, written_length, written_row, other_row}
 use Rattle.shelf.proofs.Linking.{Linked, linked_same, shelf_linked, linked_shelf, linked_drop, relinked, relinked_long, relinked_newest, linked_push}
 
 module _ {stride slots : ℕ} {cells links : List ℕ} (shelf : Shelf stride slots cells links) (some : 0 < slots) where
@@ -90,7 +87,7 @@ module _ {stride slots : ℕ} {cells links : List ℕ} (shelf : Shelf stride slo
       pick (inr h) = not_full h
 
   -- ---- the tables after the row was written
-  module _ (row : List ℕ) (s : ℕ) (slot_is : s ≡ n % slots) (fits : length row ≤ stride) (low : last_code row < code_count) where
+  module _ (row : List ℕ) (s : ℕ) (slot_is : s ≡ n % slots) (fits : length row ≤ stride) (low : last_code row < code_count) (above : last_code row < mark_of links) where
     abbrev cells' : List ℕ
     cells' = paste (set cells (s * suc stride) (length row)) (suc (s * suc stride)) row (length row)
 
@@ -100,12 +97,12 @@ module _ {stride slots : ℕ} {cells links : List ℕ} (shelf : Shelf stride slo
     s_low : s < slots
     s_low = rw slot_is (mod-lt n some)
 
-    s_within : suc code_count + s < length links
+    s_within : suc (suc code_count) + s < length links
     s_within = omega (arith, s_low, shelf.linked)
 
     -- the newest number is one more
     pub pushed_newest : newest_of links' ≡ suc n
-    pushed_newest = relinked_newest links (last_code row) s n low s_within
+    pushed_newest = relinked_newest links (last_code row) s n low above s_within
 
     base_is : base_of slots links' ≡ base
     base_is = ap (λ (k : ℕ). k - slots) pushed_newest
@@ -119,7 +116,6 @@ module _ {stride slots : ℕ} {cells links : List ℕ} (shelf : Shelf stride slo
     same_row : (i : ℕ) → i < count → ring_row stride slots cells' base i ≡ ring_row stride slots cells base i
     same_row i h =
         other_row stride slots cells row s shelf.room s_low fits ((base + i) % slots)
-        (shelf.short ((base + i) % slots) (mod-lt (base + i) some))
         (λ e. slots_differ slots base i count h (omega arith) (e ∙ sym last_slot))
 
     rows_are : shelf_rows stride slots cells' links' ≡ kept ++ (row ∷ [])
@@ -141,26 +137,17 @@ module _ {stride slots : ℕ} {cells links : List ℕ} (shelf : Shelf stride slo
     pub pushed_rows : shelf_rows stride slots cells' links' ≡ push slots row all
     pushed_rows = rows_are ∙ ap (λ (xs : List (List ℕ)). xs ++ (row ∷ [])) keeping.is
 
-    short_at : (j : ℕ) → j < slots → (eqb j s ≡ true) ⊎ (eqb j s ≡ false) → length_at stride cells' j ≤ stride
-    short_at j h (inl e) =
-        let z : j ≡ s = eqb-true j s e in
-        subst (λ (k : ℕ). length_at stride cells' k ≤ stride) (sym z)
-        (rw (written_length stride slots cells row s shelf.room s_low fits) fits)
-    short_at j h (inr e) =
-        rw (other_length stride slots cells row s shelf.room s_low fits j (shelf.short j h) (eqb-false j s e)) (shelf.short j h)
-
     -- they stand on a shelf
     pub pushed_shelf : Shelf stride slots cells' links'
     pushed_shelf =
         linked_shelf stride slots cells' links'
         (written_long stride slots cells row s shelf.room s_low fits ∙ shelf.room)
-        (relinked_long links (last_code row) s n low s_within ∙ shelf.linked)
-        (λ j h. short_at j h (dichotomy (eqb j s)))
+        (relinked_long links (last_code row) s n low above s_within ∙ shelf.linked)
         base
         (kept ++ (row ∷ []))
         base_is
         rows_are
-        (linked_push slots links base kept row s n keeping.linked low s_within kept_low number slot_is)
+        (linked_push slots links base kept row s n keeping.linked low above s_within kept_low number slot_is)
 
   -- ---- as the code writes them
   pub record Pushed (row : List ℕ) (s : ℕ) (cells₁ links₁ : List ℕ) : Type 0 where
@@ -170,21 +157,22 @@ module _ {stride slots : ℕ} {cells links : List ℕ} (shelf : Shelf stride slo
     pub low : s < slots
     pub kept : take (length row) (drop (suc (s * suc stride)) cells₁) ≡ row
 
-  pub pushing : (row : List ℕ) (s code : ℕ) (cells₁ links₁ : List ℕ) → s ≡ n % slots → code ≡ last_code row → code < code_count → length row ≤ stride
+  pub pushing : (row : List ℕ) (s code : ℕ) (cells₁ links₁ : List ℕ) → s ≡ n % slots → code ≡ last_code row → code < code_count → code < mark_of links → length row ≤ stride
       → cells₁ ≡ paste (set cells (s * (stride + 1)) (length row)) (suc (s * (stride + 1))) row (length row)
       → links₁ ≡ relinked links code s n
       → Pushed row s cells₁ links₁
-  pushing row s code cells₁ links₁ slot_is code_is low fits cells_are links_are =
+  pushing row s code cells₁ links₁ slot_is code_is low above fits cells_are links_are =
       let at : s * (stride + 1) ≡ s * suc stride = omega arith in
       let low' : last_code row < code_count = omega arith in
-      let e : cells₁ ≡ cells' row s slot_is fits low' = cells_are ∙ ap (λ (a : ℕ). paste (set cells a (length row)) (suc a) row (length row)) at in
-      let e' : links₁ ≡ links' row s slot_is fits low' = links_are ∙ ap (λ (k : ℕ). relinked links k s n) code_is in
+      let above' : last_code row < mark_of links = omega arith in
+      let e : cells₁ ≡ cells' row s slot_is fits low' above' = cells_are ∙ ap (λ (a : ℕ). paste (set cells a (length row)) (suc a) row (length row)) at in
+      let e' : links₁ ≡ links' row s slot_is fits low' above' = links_are ∙ ap (λ (k : ℕ). relinked links k s n) code_is in
       subst (λ (x : List ℕ). Pushed row s x links₁) (sym e)
-      (subst (λ (y : List ℕ). Pushed row s (cells' row s slot_is fits low') y) (sym e')
+      (subst (λ (y : List ℕ). Pushed row s (cells' row s slot_is fits low' above') y) (sym e')
       (record {
-        stands = pushed_shelf row s slot_is fits low';
-        rows = pushed_rows row s slot_is fits low';
-        newest = pushed_newest row s slot_is fits low';
-        low = s_low row s slot_is fits low';
-        kept = pushed_row row s slot_is fits low';
+        stands = pushed_shelf row s slot_is fits low' above';
+        rows = pushed_rows row s slot_is fits low' above';
+        newest = pushed_newest row s slot_is fits low' above';
+        low = s_low row s slot_is fits low' above';
+        kept = pushed_row row s slot_is fits low' above';
       }))

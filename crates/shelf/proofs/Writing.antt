@@ -1,8 +1,8 @@
 -- The cells after a row was written into a slot: that slot has the row, the others have what they had.
-use Prim.Native.Nat.{ℕ, zero, suc, ◌+◌, ◌-◌, ◌*◌, ◌≤◌, ◌<◌}
+use Prim.Native.Nat.{ℕ, zero, suc, ◌+◌, ◌-◌, ◌*◌, ◌≤◌, ◌<◌, min}
 use native.Mathlib.Omega.{arith}
 use native.Mathlib.Numerals.{add-one}
-use native.Mathlib.Nat.{zero-add, suc-add}
+use native.Mathlib.Nat.{zero-add, suc-add, min-eq_left}
 use mathlib.Core.Path.{◌≡◌, sym, ap, ◌∙◌}
 use mathlib.Core.Logic.{◌⊎◌, inl, inr, ⊎_elim}
 use mathlib.Core.List.{List, [], ◌∷◌, ◌++◌, append_assoc}
@@ -10,7 +10,7 @@ use lib.ListN.{length, get_or, take, drop, set, length-set}
 use lib.Seq.{paste, length-paste, drop-paste, length-take-le, take_all, take_at, drop_at, take-take, take-nil, drop-drop, drop-set-lt, take-set-le, get_or-take, get_or-drop, get_or-set_same}
 use Rattle.theory.proofs.Basics.{le_or_lt}
 use Rattle.tables.specs.Shelves.{length_at, row_at}
-use Rattle.shelf.proofs.Slots.{slot_end}
+use Rattle.shelf.proofs.Slots.{slot_end, length_short}
 
 -- ---- parts of a list in which elements were written
 -- a part of a list is the end of a front
@@ -97,8 +97,10 @@ module _ (stride slots : ℕ) (cells row : List ℕ) (s : ℕ) (room : length ce
 
   pub written_length : length_at stride written s ≡ length row
   written_length =
-      front_at sized written (suc at) (paste_before sized (suc at) row holds) at (omega arith)
-      ∙ get_or-set_same cells at (length row) 0 (omega (arith, ends))
+      ap (λ (n : ℕ). min n stride)
+      (front_at sized written (suc at) (paste_before sized (suc at) row holds) at (omega arith)
+      ∙ get_or-set_same cells at (length row) 0 (omega (arith, ends)))
+      ∙ min-eq_left fits
 
   pub written_row : row_at stride written s ≡ row
   written_row =
@@ -116,17 +118,20 @@ module _ (stride slots : ℕ) (cells row : List ℕ) (s : ℕ) (room : length ce
   back_same : drop (suc at + length row) written ≡ drop (suc at + length row) cells
   back_same = paste_after sized (suc at) row holds ∙ drop-set-lt (suc at + length row) cells at (length row) (omega arith)
 
-  module _ (j : ℕ) (short : length_at stride cells j ≤ stride) where
+  module _ (j : ℕ) where
+    short : length_at stride cells j ≤ stride
+    short = length_short stride cells j
+
     earlier_length : j < s → length_at stride written j ≡ length_at stride cells j
-    earlier_length h = front_at cells written at front_same (j * suc stride) (omega (arith, slot_end (suc stride) j s h))
+    earlier_length h = ap (λ (n : ℕ). min n stride) (front_at cells written at front_same (j * suc stride) (omega (arith, slot_end (suc stride) j s h)))
 
     earlier_row : j < s → row_at stride written j ≡ row_at stride cells j
     earlier_row h =
         ap (λ (n : ℕ). take n (drop (suc (j * suc stride)) written)) (earlier_length h)
-        ∙ front_part cells written at front_same (suc (j * suc stride)) (length_at stride cells j) (omega (arith, slot_end (suc stride) j s h))
+        ∙ front_part cells written at front_same (suc (j * suc stride)) (length_at stride cells j) (omega (arith, short, slot_end (suc stride) j s h))
 
     later_length : s < j → length_at stride written j ≡ length_at stride cells j
-    later_length h = back_at cells written (suc at + length row) back_same (j * suc stride) (omega (arith, slot_end (suc stride) s j h))
+    later_length h = ap (λ (n : ℕ). min n stride) (back_at cells written (suc at + length row) back_same (j * suc stride) (omega (arith, slot_end (suc stride) s j h)))
 
     later_row : s < j → row_at stride written j ≡ row_at stride cells j
     later_row h =
@@ -143,9 +148,6 @@ module _ (stride slots : ℕ) (cells row : List ℕ) (s : ℕ) (room : length ce
         pick (inl k) (inl i) = absurd (h (omega arith))
 
     -- another slot has what it had
-    pub other_length : (j ≡ s → ⊥) → length_at stride written j ≡ length_at stride cells j
-    other_length h = ⊎_elim earlier_length later_length (apart h)
-
     pub other_row : (j ≡ s → ⊥) → row_at stride written j ≡ row_at stride cells j
     other_row h = ⊎_elim earlier_row later_row (apart h)
 

@@ -1,26 +1,16 @@
-// A shelf without a row, in tables whose content before is free: what is looked up before it is written is cleared, and nothing else.
-ghost use Rattle.std.specs.Prelude.{◌≡◌, [], ℕ, suc, ◌*◌, ◌<◌, length, get_or};
-ghost use Rattle.qbf.specs.Formula.{paper, highest};
-ghost use Rattle.tables.specs.Shelves.{code_count};
+// A shelf without a row, in tables whose content before is free: nothing is cleared but the newest row's number and the mark.
+ghost use Rattle.std.specs.Prelude.{◌≡◌, [], ◌*◌, length, get_or, suc};
+ghost use Rattle.tables.specs.Shelves.{code_count, newest_of, mark_of};
 ghost use Rattle.shelf.specs.Standing.{rows, newest};
 
 use crate::Shelf;
 
-// No code has a newest row, and the number of the newest of all is 0. What follows in the links is written before it is read.
-fn clear_heads(links: &mut [u64; tables::CONSTRAINT_LINKS])
-    ensures { (c : ℕ) → c < suc code_count → get_or links.new c 0 ≡ 0 }
+// The number of the newest row is 0, and no code has a newest row. What stands in the other cells is written before it is read.
+fn clear_marks(links: &mut [u64; tables::CONSTRAINT_LINKS])
+    ensures { (newest_of links.new ≡ 0) × (mark_of links.new ≡ 0) }
 {
-    links[..tables::CODES + 1].fill(0);
-}
-
-// The row in each slot has no codes, so that each lies within its slot.
-fn clear_lengths(cells: &mut [u16; tables::CONSTRAINT_CODES])
-    ensures { (j : ℕ) → j < paper.constraints → get_or cells.new (j * suc highest.numbers) 0 ≡ 0 }
-{
-    // stays (no plainer): a chain is `cells.iter_mut().step_by(..)`, which names neither the slot nor how many there are
-    for slot in 0..tables::CONSTRAINTS {
-        cells[slot * tables::HIGHEST_BY_NUMBER] = 0;
-    }
+    links[tables::CODES] = 0;
+    links[tables::CODES + 1] = 0;
 }
 
 impl<'a> Shelf<'a> {
@@ -32,8 +22,7 @@ impl<'a> Shelf<'a> {
     ) -> Shelf<'a>
         ensures { (newest result ≡ 0) × (rows result ≡ []) }
     {
-        clear_lengths(&mut *cells);
-        clear_heads(&mut *links);
+        clear_marks(&mut *links);
         Shelf { cells, links }
     }
 }

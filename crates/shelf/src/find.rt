@@ -2,7 +2,7 @@
 // oldest; the last one that matches on the way is the oldest.
 ghost use Rattle.std.specs.Prelude.{◌≡◌, suc, ◌-◌, ◌*◌, ◌%◌, ◌≤◌, ◌<◌, length};
 ghost use Rattle.qbf.specs.Formula.{paper, highest};
-ghost use Rattle.tables.specs.Shelves.{code_count, shelf_rows, row_at, first_match};
+ghost use Rattle.tables.specs.Shelves.{code_count, head_of, shelf_rows, row_at, first_match};
 ghost use Rattle.shelf.specs.Standing.{rows, newest, Found, FoundIn};
 
 use crate::row::all_are;
@@ -16,6 +16,16 @@ fn before_oldest(newest: u64, slots: usize) -> u64
 }
 
 impl<'a> LentShelf<'a> {
+    // The number of the newest row that ends in a code; 0 from the mark on, where the links have any content.
+    // stays (no plainer): `u16 < code_count`, as in `find`
+    fn head(self, code: u16) -> u64
+        requires { code < code_count }
+        ensures { result ≡ head_of self.entry.links.now code }
+    {
+        let known = (code as u64) < self.links[tables::CODES + 1];
+        if known { self.links[code as usize] } else { 0 }
+    }
+
     // The slot of a row's number.
     fn slot_of(self, number: u64) -> usize
         requires { 0 < number }
@@ -30,7 +40,7 @@ impl<'a> LentShelf<'a> {
         ensures { (result.now ≡ row_at self.entry.stride self.entry.cells.now slot) × (length result.now ≤ self.entry.stride) }
     {
         let from = slot * (self.stride + 1);
-        let len = self.cells[from] as usize;
+        let len = (self.cells[from] as usize).min(self.stride);
         &self.cells[from + 1..from + 1 + len]
     }
 
@@ -47,14 +57,14 @@ impl<'a> LentShelf<'a> {
     {
         let base = before_oldest(self.links[tables::CODES], self.slots);
         let mut found = None;
-        let mut number = self.links[code as usize];
+        let mut number = self.head(code);
         // stays (no plainer): the rows are those that the links lead to, and no list's
         while base < number {
             let slot = self.slot_of(number);
             let row = self.row_in(slot);
             let hit = all_are(row, statuses, want);
             found = if hit { Some(slot) } else { found };
-            number = self.links[tables::CODES + 1 + slot];
+            number = self.links[tables::CODES + 2 + slot];
         }
         found
     }

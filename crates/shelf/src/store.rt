@@ -7,6 +7,7 @@ ghost use Rattle.tables.specs.Views.{Places};
 ghost use Rattle.tables.specs.Codes.{codes, last_code};
 ghost use Rattle.tables.specs.Shelves.{shelf_rows, newest_of, code_count};
 ghost use Rattle.shelf.specs.Linked.{Agree};
+ghost use Rattle.shelf.specs.Marked.{PartCleared, Marked};
 ghost use Rattle.shelf.specs.Coded.{RowCoded};
 ghost use Rattle.shelf.specs.Standing.{rows, newest, Room};
 
@@ -44,16 +45,37 @@ fn encode_row<'a>(cells: &mut [u16], at: usize, literals: &'a [i16], places: &'a
 }
 
 // stays (no plainer): `u16 < code_count` is of a number that is made of a place or read from a row's cell, and is an index of a table: a type of it would be made at each of those, and opened at each index
+// The cells of a part are 0.
+fn clear_part(links: &mut [u64], from: usize, to: usize)
+    requires { (from ≤ to) × (to ≤ length links.old) }
+    ensures { PartCleared from to links.old links.new }
+{
+    links[from..to].fill(0);
+}
+
+// The numbers by last code stand up to a code: those from the mark on are cleared, and the mark is behind it.
+// stays (no plainer): `u16 < code_count`, as in `write_links`
+fn mark_up_to(links: &mut [u64], code: u16)
+    requires { (suc (suc code_count) ≤ length links.old) × (code < code_count) }
+    ensures { Marked code links.old links.new }
+{
+    let marked = links[tables::CODES + 1];
+    if marked <= code as u64 {
+        clear_part(links, marked as usize, code as usize + 1);
+        links[tables::CODES + 1] = code as u64 + 1;
+    }
+}
+
 // The new row is the newest of all and of those that end in its last code; the one that was is the next older.
 fn write_links(links: &mut [u64], code: u16, slot: usize, newest: u64)
-    requires { (suc code_count + slot < length links.old) × (slot < 65536) × (newest < 2 ^ 63) × (code < code_count) }
+    requires { (suc (suc code_count) + slot < length links.old) × (slot < 65536) × (newest < 2 ^ 63) × (code < code_count) }
     ensures { links.new
         ≡ set
-        (set (set links.old (suc code_count + slot) (get_or links.old code 0)) code (suc newest))
+        (set (set links.old (suc (suc code_count) + slot) (get_or links.old code 0)) code (suc newest))
         code_count
         (suc newest) }
 {
-    links[tables::CODES + 1 + slot] = links[code as usize];
+    links[tables::CODES + 2 + slot] = links[code as usize];
     links[code as usize] = newest + 1;
     links[tables::CODES] = newest + 1;
 }
@@ -80,6 +102,7 @@ pub fn push(cells: &mut [u16], links: &mut [u64], stride: usize, slots: usize, r
     let slot = next_slot(newest, slots);
     let code = last_code(row);
     write_row(cells, slot * (stride + 1), row);
+    mark_up_to(links, code);
     write_links(links, code, slot, newest);
     slot
 }
@@ -112,6 +135,7 @@ fn push_literals<'a>(
     let at = slot * (stride + 1);
     encode_row(cells, at, literals, places);
     let code = last_code(&cells[at + 1..at + 1 + literals.len()]);
+    mark_up_to(links, code);
     write_links(links, code, slot, newest);
 }
 

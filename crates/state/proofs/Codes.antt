@@ -5,21 +5,22 @@ use native.Mathlib.Nat.{not-suc-le-zero}
 use native.Mathlib.Omega.{arith}
 use mathlib.Core.Path.{◌≡◌, refl, sym, ap, ◌∙◌}
 use mathlib.Core.Logic.{◌⊎◌, inl, inr}
-use mathlib.Core.List.{List, ◌∷◌}
+use mathlib.Core.List.{List, [], ◌∷◌}
 use lib.ListN.{length, get_or, set, drop, length-set, length-map, get_or-eq_default}
 use lib.Seq.{drop-cons, get_or-set_same, get_or-set_other}
 use lib.IntN.{pos}
 use mathlib.Core.Bool.{true}
-use borrow.Author.Count.{below_more}
 use borrow.Author.Tests.{le-leb}
-use Rattle.qbf.specs.Formula.{most_free, Quantifier, free, exists, forall, Prefix, quantifiers, quantifier_at, place_of}
+use Rattle.qbf.specs.Formula.{Limits, most_free, Quantifier, free, exists, forall, Prefix, quantifiers, quantifier_at, place_of}
 use Rattle.qbf.specs.Truth.{free_count, free_variables}
-use Rattle.qbf.specs.Calls.{free_is_ok}
+use Rattle.qbf.specs.Calls.{free_is_ok, numbers_are_ok}
 use Rattle.theory.proofs.Basics.{le_or_lt}
 use Rattle.theory.proofs.WellFormed.{inside}
+use Rattle.theory.proofs.Prefixes.{number_at, place_of_number}
 use Rattle.theory.proofs.Starting.{free_fit}
-use Rattle.tables.specs.Views.{quantifier_code, Numbers, Places, Kinds}
-use Rattle.state.specs.Derived.{Quantified, code_for}
+use Rattle.tables.specs.Views.{quantifier_code, Numbers, Places}
+use Rattle.state.specs.Reading.{entry_at}
+use Rattle.state.specs.Derived.{Cleared, KindsFilled, Quantified, code_for}
 
 pub code_at_lem : (ls ks : List ℕ) (p : ℕ) → (p ≡ 0 → ⊥) → get_or ks (get_or ls p 0) 0 ≡ code_for ls ks p
 code_at_lem ls ks zero n = absurd (n refl)
@@ -28,39 +29,67 @@ code_at_lem ls ks (suc i) n = refl
 kinds_long : (D : Prefix) → length (quantifiers D) ≡ length D
 kinds_long D = length-map D (λ d. d.quantifier)
 
--- ---- by number: the cells below n are filled
-pub record Coded (ls ks places table : List ℕ) (n : ℕ) : Type 0 where
-  pub room : length table ≡ length places
-  pub passed : (m : ℕ) → m < n → get_or table m 0 ≡ code_for ls ks (get_or places m 0)
+-- ---- by number: the numbers of the first i places are filled
+pub record Coded (ns ls ks old table : List ℕ) (count i : ℕ) : Type 0 where
+  pub whole : count ≡ get_or ns 0 0
+  pub room : length table ≡ length old
+  pub passed : (L : Limits) (D : Prefix) (places : List ℕ) → Numbers D ns → numbers_are_ok L [] D ≡ true → Places D places → length places ≡ length old
+      → (n : ℕ) → place_of D n ≤ i → get_or table n 0 ≡ code_for ls ks (place_of D n)
 
-module _ (ls ks places : List ℕ) where
-  module _ {table : List ℕ} {n : ℕ} (w : Coded ls ks places table n) where
-    pub coded_more : n < length table → {p v : ℕ} → p ≡ get_or places n 0 → v ≡ code_for ls ks p → Coded ls ks places (set table n v) (n + 1)
-    coded_more h {p} {v} is reads =
-        record {
-          room = length-set table n v ∙ w.room;
-          passed =
-              below_more
-              (λ m. get_or (set table n v) m 0 ≡ code_for ls ks (get_or places m 0))
-              n
-              (λ m b. get_or-set_other table n m v 0 (λ e. omega (arith, b, e)) ∙ w.passed m b)
-              (get_or-set_same table n v 0 h ∙ reads ∙ ap (code_for ls ks) is);
-        }
+module _ {ns ls ks old : List ℕ} {count : ℕ} where
+  -- none is declared where the place is 0
+  pub coded_none : {table : List ℕ} → count ≡ get_or ns 0 0 → Cleared (length old) table → Coded ns ls ks old table count 0
+  coded_none {table} e cleared = record {
+    whole = e;
+    room = cleared.room;
+    passed = λ L D places s ok p long n h. cleared.zero n ∙ ap (code_for ls ks) (let z : 0 ≡ place_of D n = omega arith in z);
+  }
 
-    all_cells : length table ≤ n → (m : ℕ) → get_or table m 0 ≡ code_for ls ks (get_or places m 0)
-    all_cells h m = by (le_or_lt (length table) m)
+  module _ {table : List ℕ} {i : ℕ} (w : Coded ns ls ks old table count i) where
+    -- a place more: its number has it, and the others have theirs
+    pub coded_more : i < count → {n v : ℕ} → n ≡ entry_at ns i → v ≡ code_for ls ks (i + 1) → Coded ns ls ks old (set table n v) count (i + 1)
+    coded_more h {n} {v} is reads = record {
+      whole = w.whole;
+      room = length-set table n v ∙ w.room;
+      passed = λ L D places s ok p long m k. by L D places s ok p long m (le_or_lt (suc i) (place_of D m)) k;
+    }
       where
-        by : (length table ≤ m) ⊎ (m < length table) → get_or table m 0 ≡ code_for ls ks (get_or places m 0)
-        by (inl b) = get_or-eq_default table 0 b ∙ sym (ap (code_for ls ks) (get_or-eq_default places 0 (omega (arith, b, w.room))))
-        by (inr b) = w.passed m (omega (arith, b, h))
+        by : (L : Limits) (D : Prefix) (places : List ℕ) → Numbers D ns → numbers_are_ok L [] D ≡ true → Places D places → length places ≡ length old
+            → (m : ℕ) → (suc i ≤ place_of D m) ⊎ (place_of D m < suc i) → place_of D m ≤ i + 1 → get_or (set table n v) m 0 ≡ code_for ls ks (place_of D m)
+        by L D places s ok p long m (inl b) k =
+            let z : place_of D m ≡ suc i = omega arith in
+            let at = number_at D m i z in
+            let e : n ≡ m = is ∙ s.at i at.0 ∙ at.1 in
+            let inside : m < length table = inside_of (le_or_lt (length places) m) in
+            ap (λ (x : ℕ). get_or (set table x v) m 0) e
+            ∙ get_or-set_same table m v 0 inside
+            ∙ reads
+            ∙ ap (code_for ls ks) (let q : i + 1 ≡ place_of D m = omega arith in q)
+          where
+            inside_of : (length places ≤ m) ⊎ (m < length places) → m < length table
+            inside_of (inl far) = absurd (omega (arith, b, p.at m, get_or-eq_default places 0 far))
+            inside_of (inr near) = omega (arith, near, long, w.room)
+        by L D places s ok p long m (inr b) k =
+            let low : i < length D = omega (arith, h, w.whole, s.count) in
+            get_or-set_other table n m v 0
+            (λ e. omega (arith, b, ap (place_of D) (e ∙ is ∙ s.at i low), place_of_number L D ok i low))
+            ∙ w.passed L D places s ok p long m (omega (arith, b))
 
-    pub coded_end : length table ≤ n → (D : Prefix) → Places D places → Quantified D ls ks → Kinds D table
-    coded_end h D shown kinds =
-        record { at = λ m. all_cells h m ∙ ap (code_for ls ks) (shown.at m) ∙ by (place_of D m) (omega (arith, inside D (pos m), kinds_long D)) }
+    pub coded_end : count ≤ i → KindsFilled ns ls ks old table
+    coded_end h = record {
+      room = w.room;
+      shown = λ L D places s ok p long kinds.
+          let few : length D ≤ i = omega (arith, h, w.whole, s.count) in
+          record {
+            at = λ m.
+                w.passed L D places s ok p long m (omega (arith, few, inside D (pos m), kinds_long D))
+                ∙ by D kinds (place_of D m) (omega (arith, inside D (pos m), kinds_long D));
+          };
+    }
       where
-        by : (p : ℕ) → p ≤ length D → code_for ls ks p ≡ quantifier_code (quantifier_at D p)
-        by zero b = refl
-        by (suc i) b = kinds.at i b
+        by : (D : Prefix) → Quantified D ls ks → (p : ℕ) → p ≤ length D → code_for ls ks p ≡ quantifier_code (quantifier_at D p)
+        by D kinds zero b = refl
+        by D kinds (suc i) b = kinds.at i b
 
 -- ---- the free variables at the front
 pub record Freed (ns ls ks : List ℕ) (count i : ℕ) : Type 0 where

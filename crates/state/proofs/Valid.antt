@@ -18,7 +18,7 @@ use Rattle.tables.specs.Views.{quantifier_code, Numbers, Places, Kinds, Table, r
 use Rattle.tables.proofs.Laws.{rows_length}
 use Rattle.state.specs.declared.State.{State}
 use Rattle.state.specs.Reading.{listing, at_most, quantifier_of, entry_at, entries, code_at, variable_at, prefix_of, levels_fit, prefix_fits, rows_fit, own, fits_under, record_at, records_of, prefix_in, store_under, state_under, state_in, read_under, read_state, well_formed_read, valid_under, valid, roomy}
-use Rattle.state.specs.Derived.{numbered, Placing, Quantified, levels_are_ok, Shown, clauses_fine, constraints_fine, records_fine, rows_fine, Sized, CheckedUnder, Checked}
+use Rattle.state.specs.Derived.{numbered, Placing, KindsFilled, Quantified, levels_are_ok, Shown, clauses_fine, constraints_fine, records_fine, rows_fine, Sized, CheckedUnder, Checked}
 use Rattle.state.proofs.Rooms.{sized_room, room_is}
 use Rattle.state.proofs.Listing.{listing_length, listing_at, listing_map, listing_all, listing_most}
 
@@ -73,13 +73,15 @@ module _ (ns ls ks : List ℕ) where
           kinds_shown = λ q. absurd (false≢true q);
         }
 
-    pub shown_end : ok ≡ true → ((D : Prefix) → Places D places → Quantified D ls ks → Kinds D kinds) → {r : Bool} → r ≡ levels_are_ok L ns ls ks → Shown L ns ls ks r places kinds
-    shown_end e coded s =
-        let P : Places (prefix_of ns ls ks) places = placed.shown e (prefix_of ns ls ks) prefix_numbers in
+    pub shown_end : ok ≡ true → {old : List ℕ} → length places ≡ length old → KindsFilled ns ls ks old kinds → {r : Bool} → r ≡ levels_are_ok L ns ls ks → Shown L ns ls ks r places kinds
+    shown_end e long coded s =
+        let D : Prefix = prefix_of ns ls ks in
+        let P : Places D places = placed.shown e D prefix_numbers in
+        let ok_numbers : numbers_are_ok L [] D ≡ true = and_right (leb (length D) L.numbers) (numbers_are_ok L [] D) (sym (placed.said D prefix_numbers) ∙ e) in
         record {
           said = s ∙ sym (ap (λ (q : Bool). q && levels_are_ok L ns ls ks) (sym (placed.said (prefix_of ns ls ks) prefix_numbers) ∙ e));
           places_shown = λ q. P;
-          kinds_shown = λ q. coded (prefix_of ns ls ks) P (prefix_quantified L (and_left (prefix_fits L ns ls ks) (free_first (quantifiers (prefix_of ns ls ks))) (sym s ∙ q)));
+          kinds_shown = λ q. coded.shown L D places prefix_numbers ok_numbers P long (prefix_quantified L (and_left (prefix_fits L ns ls ks) (free_first (quantifiers (prefix_of ns ls ks))) (sym s ∙ q)));
         }
 
 -- ---- a flat table

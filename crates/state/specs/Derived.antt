@@ -28,6 +28,11 @@ pub record Placing (L : Limits) (ns : List ℕ) (ok : Bool) (places : List ℕ) 
 pub record Quantified (D : Prefix) (ls ks : List ℕ) : Type 0 where
   pub at : (i : ℕ) → i < length D → code_at ls ks i ≡ quantifier_code (quantifier_at D (suc i))
 
+-- a table as long as before has the quantifier of each number
+pub record KindsFilled (ns ls ks old new : List ℕ) : Type 0 where
+  pub room : length new ≡ length old
+  pub shown : (L : Limits) (D : Prefix) (places : List ℕ) → Numbers D ns → numbers_are_ok L [] D ≡ true → Places D places → length places ≡ length old → Quantified D ls ks → Kinds D new
+
 -- n is how many variables are free
 abbrev pub FreeCounted : State → ℕ → Type 0
 FreeCounted x n = (D : Prefix) → Numbers D x.numbers → Quantified D x.levels x.kinds → n ≡ free_variables D

@@ -3,8 +3,8 @@ ghost use Rattle.std.specs.Prelude.{◌≡◌, length};
 ghost use Rattle.qbf.specs.Formula.{Prefix};
 ghost use Rattle.qbf.specs.Truth.{free_variables};
 ghost use Rattle.qbf.specs.Calls.{free_is_ok};
-ghost use Rattle.tables.specs.Views.{Numbers, Places, Kinds};
-ghost use Rattle.state.specs.Derived.{Quantified, FreeCounted, code_for};
+ghost use Rattle.tables.specs.Views.{Numbers};
+ghost use Rattle.state.specs.Derived.{Quantified, FreeCounted, KindsFilled, code_for};
 
 use crate::State;
 use crate::prefix::Variables;
@@ -22,20 +22,22 @@ pub fn kind_at(levels: &[u16], kinds: &[u16], place: Place) -> u16
     literal::cell_at(kinds, level)
 }
 
-// By number, in a table as long as that of the places; its content before is free.
-pub fn kinds_of(places: &[u16], levels: &[u16], kinds: &[u16], table: &mut [u16])
-    requires { length table.old ≡ length places.now }
-    ensures { (length table.new ≡ length table.old)
-        × ((D : Prefix) →
-        Places D places.now →
-        Quantified D levels.now kinds.now →
-        Kinds D table.new) }
+// By number, in a table whose content before is free: a number that is not declared counts as free, and of the others each is written at its place's turn.
+pub fn kinds_of(variables: Variables<'_>, table: &mut [u16])
+    ensures { KindsFilled
+        variables.entry.numbers.now
+        variables.entry.levels.now
+        variables.entry.kinds.now
+        table.old
+        table.new }
 {
-    // stays (proof): with `table.iter_mut().zip(places)` the goal `returns` stays open: an invariant of that loop has what the iterator gave, and no cell that
-    // was written through it
-    for (n, kind) in table.iter_mut().enumerate() {
-        let place = literal::cell_at(places, n) as usize;
-        *kind = kind_at(levels, kinds, Place(place));
+    crate::cells::clear(table);
+    let count = crate::cells::count(variables.numbers);
+    // stays (no plainer): `numbers.iter().enumerate().skip(1).take(count)` is three steps and a pair for a range and an accessor by place
+    for i in 0..count {
+        let n = crate::cells::entry(variables.numbers, i);
+        let kind = kind_at(variables.levels, variables.kinds, Place(i + 1));
+        literal::put(table, n, kind);
     }
 }
 

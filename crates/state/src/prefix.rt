@@ -31,8 +31,8 @@ pub fn read_prefix(
         by_number.new }
 {
     let placed = crate::numbers::place_numbers(variables.numbers, limit, places);
-    crate::kinds::kinds_of(places, variables.levels, variables.kinds, by_number);
     if placed {
+        crate::kinds::kinds_of(variables, by_number);
         return crate::levels::levels_ok(variables, limit);
     }
     false

@@ -1,7 +1,8 @@
 -- A shelf: constraints as codes in a ring of slots, each found by its last code. Rows are numbered from 1 as they are put in; the newest
 -- row's number says which slots hold the rows that stand. Of each last code the shelf has the number of the newest row, and of each row
--- the number of the next older one with the same last code; a number that is not above `base` is that of no row that stands.
-use Rattle.std.specs.Prelude.{ℕ, zero, suc, ◌+◌, ◌-◌, ◌*◌, ◌%◌, ◌≤◌, ◌<◌, ◌≡◌, Bool, cond, ◌&&◌, List, [], ◌∷◌, ◌++◌, map, length, get_or, take, drop, eqb}
+-- the number of the next older one with the same last code; a number that is not above `base` is that of no row that stands. What no row
+-- has been written to has any content: a length is read as no more than the stride, and the numbers by last code are those below a mark.
+use Rattle.std.specs.Prelude.{ℕ, zero, suc, ◌+◌, ◌-◌, ◌*◌, ◌%◌, ◌≤◌, ◌<◌, ◌≡◌, min, Bool, cond, ◌&&◌, List, [], ◌∷◌, ◌++◌, map, length, get_or, take, drop, eqb, ltb}
 use Rattle.std.proofs.Math.Option.{Option}
 use Rattle.qbf.specs.Formula.{paper, highest, Prefix}
 use Rattle.qbf.specs.Learning.{Store, first}
@@ -13,7 +14,7 @@ code_count = suc highest.numbers * 2
 
 -- ---- the cells: in each slot a row's length, then its codes
 abbrev pub length_at : ℕ → List ℕ → ℕ → ℕ
-length_at stride cells j = get_or cells (j * suc stride) 0
+length_at stride cells j = min (get_or cells (j * suc stride) 0) stride
 
 abbrev pub row_at : ℕ → List ℕ → ℕ → List ℕ
 row_at stride cells j = take (length_at stride cells j) (drop (suc (j * suc stride)) cells)
@@ -23,15 +24,19 @@ unfoldable pub ring_rows : ℕ → ℕ → List ℕ → ℕ → ℕ → List (Li
 ring_rows stride slots cells base zero = []
 ring_rows stride slots cells base (suc n) = ring_rows stride slots cells base n ++ (row_at stride cells ((base + n) % slots) ∷ [])
 
--- ---- the links: for each code the newest row that ends in it; the newest row's number; for each slot the next older row
-abbrev pub head_of : List ℕ → ℕ → ℕ
-head_of links c = get_or links c 0
-
+-- ---- the links: for each code the newest row that ends in it; the newest row's number; the mark, below which these numbers stand; for each
+-- slot the next older row
 abbrev pub newest_of : List ℕ → ℕ
 newest_of links = get_or links code_count 0
 
+abbrev pub mark_of : List ℕ → ℕ
+mark_of links = get_or links (suc code_count) 0
+
+abbrev pub head_of : List ℕ → ℕ → ℕ
+head_of links c = cond (ltb c (mark_of links)) (get_or links c 0) 0
+
 abbrev pub link_of : List ℕ → ℕ → ℕ
-link_of links j = get_or links (suc code_count + j) 0
+link_of links j = get_or links (suc (suc code_count) + j) 0
 
 -- the number before that of the oldest row that stands
 abbrev pub base_of : ℕ → List ℕ → ℕ
@@ -60,8 +65,7 @@ Points base (suc n) h = h ≡ base + suc n
 
 pub record Shelf (stride slots : ℕ) (cells links : List ℕ) : Type 0 where
   pub room : length cells ≡ slots * suc stride
-  pub linked : length links ≡ suc code_count + slots
-  pub short : (j : ℕ) → j < slots → length_at stride cells j ≤ stride
+  pub linked : length links ≡ suc (suc code_count) + slots
   pub head : (c : ℕ) → c < code_count → Points (base_of slots links) (newest (ends_in c) (shelf_rows stride slots cells links)) (head_of links c)
   pub link : (i : ℕ) → i < length (shelf_rows stride slots cells links)
       → Points

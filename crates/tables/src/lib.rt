@@ -45,7 +45,7 @@ pub const AREA: usize = NUMBERS * 2;
 pub const CODES_AREA: usize = HIGHEST_NUMBERS * 2;
 
 // Codes of literals inside a search: two for each place. In a shelf each slot has a row's length and its codes; its links have a cell for each
-// code, one for the newest row's number, and one for each slot.
+// code, one for the newest row's number, one for the mark below which the cells by code were written, and one for each slot.
 pub const CODES: usize = HIGHEST_BY_NUMBER * 2;
 
 // The clauses inside a search: of each how many codes universal reduction leaves, and its codes.
@@ -65,7 +65,7 @@ pub const SATISFIED: usize = HIGHEST_BY_NUMBER * ROW_WORDS;
 
 pub const CONSTRAINT_CODES: usize = CONSTRAINTS * HIGHEST_BY_NUMBER;
 
-pub const CONSTRAINT_LINKS: usize = CODES + 1 + CONSTRAINTS;
+pub const CONSTRAINT_LINKS: usize = CODES + 2 + CONSTRAINTS;
 
 // "any unsigned 32-bit number": the highest ceiling on visits, which a call has where none is given.
 pub const HIGHEST_CEILING: u32 = 4294967295;

@@ -1,7 +1,7 @@
 -- What the loops that write back have done: after i literals of a row, and after k rows.
 use Prim.Native.Nat.{ℕ, zero, suc, ◌+◌, ◌*◌, ◌-◌, ◌%◌, ◌≤◌, ◌<◌}
 use native.Mathlib.Omega.{arith}
-use native.Mathlib.Nat.{le_of_suc-le-suc, not-suc-le-zero, mod-lt}
+use native.Mathlib.Nat.{le_of_suc-le-suc, not-suc-le-zero}
 use native.Mathlib.Numerals.{add-one}
 use borrow.Author.Count.{below_more}
 use mathlib.Core.Path.{◌≡◌, refl, sym, ap, subst, ◌∙◌}
@@ -25,6 +25,7 @@ use Rattle.unloading.specs.Table.{Same}
 use Rattle.unloading.specs.Written.{Narrow, entry_at, Unloaded}
 use Rattle.theory.proofs.Game.{Rising}
 use Rattle.theory.proofs.Widths.{constraint_width}
+use Rattle.shelf.proofs.Slots.{length_short}
 use Rattle.shelf.proofs.Ring.{ring_length, ring_at}
 use Rattle.lent_rows.proofs.Rows.{before, rows_kept}
 
@@ -222,7 +223,7 @@ entries_narrow {cells} {links} s k h =
     omega (
       arith,
       length-take (length_at highest.numbers cells j) (drop (suc (j * suc highest.numbers)) cells),
-      s.short j (mod-lt (base_of paper.constraints links + k) {m = paper.constraints} (omega arith)),
+      length_short highest.numbers cells j,
     )
   where
     j : ℕ

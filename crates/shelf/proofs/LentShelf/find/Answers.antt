@@ -9,7 +9,7 @@ use Rattle.shelf.proofs.LentShelf.find.Goals as goal
 use Rattle.shelf.proofs.LentShelf.find.Goals.{then-hit, else-hit}
 
 pub loop-number-init : goal.loop-number-init
-loop-number-init c = find_start c.args.statuses.now c.args.code c.args.want c.args.self.agree c.before_oldest-base.result _ c.before_oldest-base.ensures (omega (arith, c.ranges.code)) refl
+loop-number-init c = find_start c.args.statuses.now c.args.code c.args.want c.args.self.agree c.before_oldest-base.result _ c.before_oldest-base.ensures (omega (arith, c.ranges.code)) c.head-number.ensures
 
 pub loop-number-smaller : goal.loop-number-smaller
 loop-number-smaller c = find_less c.args.statuses.now c.args.code c.args.want c.args.self.agree c.loop-number.invariant (omega arith) c.slot_of-slot.result c.all_are-hit.result _ _ c.slot_of-slot.ensures.0 c.slot_of-slot.ensures.1 (c.all_are-hit.ensures ∙ ap (all_are c.args.statuses.now c.args.want) c.row_in-row.ensures.0) refl refl

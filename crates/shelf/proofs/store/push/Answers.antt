@@ -1,8 +1,19 @@
 -- `push` meets its contract: the row takes the slot of its number, and the links name it the newest.
 use native.Mathlib.Omega.{arith}
+use Prim.Native.Nat.{suc}
+use mathlib.Core.Path.{ap, ◌∙◌}
+use Rattle.qbf.specs.Learning.{push}
+use Rattle.shelf.proofs.Marking.{marked_shelf, marked_rows, as_before, linked_before}
 use Rattle.shelf.proofs.Pushing.{pushing}
 use Rattle.shelf.proofs.store.push.Goals as goal
 
 pub returns : goal.returns
-returns c = let p = pushing c.requires.0 c.requires.1 c.args.row.now c.next_slot-slot.result c.last_code-code.result _ _ c.next_slot-slot.ensures.0 c.last_code-code.ensures (omega (arith, c.last_code-code.type_inv)) c.requires.3 c.write_row.ensures c.write_links.ensures in
-    (p.stands, p.rows, p.newest, p.low, p.kept)
+returns c =
+    let links' = c.mark_up_to.new.links in
+    let code = c.last_code-code.result in
+    let slot = c.next_slot-slot.result in
+    let m = c.mark_up_to.ensures in
+    let p = pushing (marked_shelf c.args.stride c.args.slots c.args.cells.now c.args.links.now links' code m c.requires.0) c.requires.1 c.args.row.now slot code _ _
+    (as_before slot c.args.slots c.args.links.now links' c.next_slot-slot.ensures.0 m.newest) c.last_code-code.ensures (omega (arith, c.last_code-code.type_inv)) m.above c.requires.3 c.write_row.ensures
+    (linked_before c.args.links.now links' _ code slot c.write_links.ensures m.newest) in
+    (p.stands, p.rows ∙ ap (push c.args.slots c.args.row.now) (marked_rows c.args.stride c.args.slots c.args.cells.now c.args.links.now links' code m), p.newest ∙ ap suc m.newest, p.low, p.kept)
