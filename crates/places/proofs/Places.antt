@@ -9,24 +9,26 @@ use mathlib.Core.Option.{Option, none, some}
 use lib.IntN.{ℤ}
 use lib.ListN.{length, get_or, set, take, drop}
 use borrow.Rule.Slice.PartMut.{put_mid, put_same}
-use lib.Seq.{get_or-set_same}
+use lib.Seq.{get_or-set_same, set-get_or}
 use Rattle.std.specs.Prelude.{Result, Ok, Err}
 use Rattle.refusal.specs.declared.Refusal.{Refusal}
 use Rattle.refusal.specs.declared.Refusal.TheVariants.{NoBook, Malformed}
 use Rattle.refusal.specs.Refusal.{number_of}
-use Rattle.qbf.specs.Calls.{answer, ceiling_of, refusal}
+use Rattle.qbf.specs.Calls.{Call, State as Read, answer, ceiling_of, refusal, step}
 use Rattle.qbf.specs.Demands.{AfterSearch, refusal_of}
 use Rattle.serving.specs.Serves.{Said, said_of, out_of, next_of}
-use Rattle.days.specs.Accounts.{books, overspent, allowance}
+use Rattle.days.specs.Accounts.{books, overspent, allowance, charged}
 use Rattle.days.specs.Day.{Day, DayStepped, Placed, day_step, limited, outside}
 use Rattle.days_laws.proofs.Days.{from_one, to_eight}
-use Rattle.shares.specs.Shares.{share_of, settled}
+use Rattle.days_laws.proofs.Limited.{limited_same, no_search}
+use Rattle.state_parts.specs.Parts.{read_at}
+use Rattle.shares.specs.Shares.{share_of, allows_of, settled}
 use Rattle.shares.proofs.Days.{ByShare, by_share, held as stands}
 use Rattle.rule_calls.specs.ServesAt.{ServesAt}
 use Rattle.rule_calls.specs.Served.{Lists, lists, read_lists}
 use Rattle.rule_calls.proofs.Lists.{serves_by}
 use Rattle.serving_days.specs.Serves.{Held, ServesDay, book_in, day_of, said_at}
-use Rattle.serving_days.proofs.Places.{place_serves, place_next, map_get_or}
+use Rattle.serving_days.proofs.Places.{place_serves, place_next, map_get_or, said_visits}
 use Rattle.places.specs.declared.rooms.Rooms.{Rooms}
 use Rattle.places.specs.declared.rooms.Bounds.{Bounds}
 use Rattle.places.specs.declared.accounts.Accounts.{Accounts}
@@ -79,6 +81,21 @@ shared T us place book m e = by book (outside place) refl e
     by true true q z = absurd (no_share z)
     by true false q z = record { inside = q; stands = refl; share = ap (λ (o : Bool). cond (not true || o) (Err NoBook) accounted) q ∙ z }
     by false o q z = absurd (no_share z)
+
+-- no visits are charged
+settled_none : (T : ℕ) (us : List ℕ) (place : ℕ) → settled T us place 0 ≡ us
+settled_none T us place = by (allows_of (share_of T us place true) 0)
+  where
+    same : set us (place - 1) (get_or us (place - 1) 0 + 0) ≡ us
+    same = let e : get_or us (place - 1) 0 + 0 ≡ get_or us (place - 1) 0 = omega arith in ap (set us (place - 1)) e ∙ set-get_or us (place - 1) 0
+
+    by : (o : Bool) → cond o (charged us (place - 1) 0) us ≡ us
+    by true = same
+    by false = refl
+
+unsearched : (o : Option Read) (c : Call) → ceiling_of c ≡ none → (said_of (out_of o c)).visits ≡ 0
+unsearched none c e = said_visits (refusal 22 c) 0
+unsearched (some y) c e = said_visits (step y c).out.reply (step y c).out.visits ∙ no_search y c e
 
 -- ---- a place of the day
 module _ (R : Rooms) (a : Accounts) (cells : List ℕ) (literals : List ℤ) (p : Placed) (inside : outside p.place ≡ false) where
@@ -233,3 +250,24 @@ module _ (R : Rooms) (a : Accounts) (cells : List ℕ) (literals : List ℤ) (p 
             written_as same =
                 let w : some (lists cs ls) ≡ some mine = sym (get_or-set_same (held_in R a cells literals).places (i - 1) (some (lists cs ls)) none long) ∙ ap (λ (h : Held Lists). at h.places) same ∙ here in
                 cc
+
+    -- a call without a search makes no visits: the accounts are as they were
+    pub served_still : (x : Said) → ceiling_of p.call ≡ none → ServesAt (take (cb.to - cb.from) (drop cb.from cells)) (take (lb.to - lb.from) (drop lb.from literals)) p.call x cs ls
+        → ServesAtPlace R a cells literals p x a cells' literals'
+    served_still x z v =
+        subst (λ (us : List ℕ). ServesAtPlace R a cells literals p x (with_used a us) cells' literals') (ap (settled T a.used i) none_made ∙ settled_none T a.used i)
+        (subst (λ (o : Option ℕ). ServesAtPlace R a cells literals p (said_at o m x) (with_used a (settled T a.used i x.visits)) cells' literals') z
+        (served_here x (subst (λ (k : Call). ServesAt (take (cb.to - cb.from) (drop cb.from cells)) (take (lb.to - lb.from) (drop lb.from literals)) k x cs ls) (sym (limited_same m p.call own)) v)))
+      where
+        own : (k : ℕ) → ceiling_of p.call ≡ some k → k ≤ m
+        own k e = absurd (no_ceiling (sym z ∙ e))
+          where
+            no_ceiling : none ≡ some k → ⊥
+            no_ceiling q = subst (λ (o : Option ℕ). nothing o) q tt
+              where
+                nothing : Option ℕ → Type 0
+                nothing none = Unit {0}
+                nothing (some n) = ⊥
+
+        none_made : x.visits ≡ 0
+        none_made = ap (λ (s : Said). s.visits) v.answered ∙ unsearched (read_at (take (cb.to - cb.from) (drop cb.from cells)) (take (lb.to - lb.from) (drop lb.from literals))) p.call z

@@ -1,5 +1,5 @@
 -- The day that two long slices, where the places lie in them and the accounts hold. Paper 02, wish 12.
-use Rattle.std.specs.Prelude.{ℕ, zero, suc, ◌-◌, ◌≡◌, Bool, not, cond, eqb, List, [], ◌∷◌, get_or, ℤ}
+use Rattle.std.specs.Prelude.{ℕ, zero, suc, ◌-◌, ◌≡◌, Bool, not, cond, eqb, List, [], ◌∷◌, get_or, set, ℤ}
 use Rattle.std.proofs.Math.Option.{Option, none, some}
 use Rattle.days.specs.Accounts.{books}
 use Rattle.days.specs.Day.{Day, Placed}
@@ -15,6 +15,13 @@ use Rattle.places.specs.Rooms.{part_at, Beside}
 -- "a place without a book": its byte is 0
 abbrev pub booked : List ℕ → ℕ → Bool
 booked bytes place = not (eqb (get_or bytes (place - 1) 0) 0)
+
+-- a place that is given a book, or loses it
+abbrev pub byte_of : Bool → ℕ
+byte_of book = cond book 1 0
+
+abbrev pub seated : Accounts → ℕ → Bool → Accounts
+seated a place book = record { total = a.total; used = a.used; books = set a.books (place - 1) (byte_of book) }
 
 abbrev pub with_used : Accounts → List ℕ → Accounts
 with_used a us = record { total = a.total; used = us; books = a.books }

@@ -1,7 +1,8 @@
 // The total of a day, the visits used at each place, and which places have a book.
-ghost use Rattle.std.specs.Prelude.{◌≡◌};
+ghost use Rattle.std.specs.Prelude.{◌≡◌, length};
+ghost use Rattle.days.specs.Accounts.{books};
 ghost use Rattle.shares.specs.Shares.{share_of, settled};
-ghost use Rattle.places.specs.Day.{booked, with_used};
+ghost use Rattle.places.specs.Day.{booked, byte_of, seated, with_used};
 
 use refusal::Refusal;
 use shares::BOOKS;
@@ -40,4 +41,24 @@ impl Accounts {
         shares::charge(&mut used, self.total, place, visits);
         self.used = used;
     }
+
+    // Whether a place has a book from now on; outside 1 to 8 there is none to be told of.
+    pub fn seat(&mut self, place: usize, book: bool)
+        ensures seats { self.new ≡ seated self.old place book }
+        ensures eight { length self.old.books ≡ books }
+    {
+        let mut bytes = self.books;
+        let i = place.saturating_sub(1);
+        if i < BOOKS {
+            bytes[i] = byte(book);
+        }
+        self.books = bytes;
+    }
+}
+
+// stays (C): other languages read and write a byte for each place
+fn byte(book: bool) -> u8
+    ensures { result ≡ byte_of book }
+{
+    if book { 1 } else { 0 }
 }

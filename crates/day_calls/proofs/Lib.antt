@@ -1,0 +1,2 @@
+pub mod Served
+pub mod Texts
