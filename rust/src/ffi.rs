@@ -17,7 +17,7 @@ const CODES: usize = (HIGHEST_NUMBERS + 1) * 2;
 const ROW_WORDS: usize = (HIGHEST_RULES / 256 + 1) * 4;
 
 // As at the end of the header; and a length there is a `size_t`, which has 64 bits.
-const _: () = assert!(std::mem::size_of::<Workspace>() == 5_005_912);
+const _: () = assert!(std::mem::size_of::<Workspace>() == 5_005_928);
 const _: () = assert!(usize::BITS == 64);
 
 /// `rules` of `struct bullacetop_workspace`.
