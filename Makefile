@@ -10,7 +10,7 @@ PREFIX ?= /usr/local
 DESTDIR ?=
 INSTALL ?= install
 
-PROGRAMS = card pages qdimacs session tag untag
+PROGRAMS = card day pages qdimacs session tag untag
 BIN = $(DESTDIR)$(PREFIX)/bin
 LIB = $(DESTDIR)$(PREFIX)/lib
 INCLUDE = $(DESTDIR)$(PREFIX)/include

@@ -28,6 +28,7 @@ use Rattle.day_turns.specs.declared.Day.{Day}
 use Rattle.day_turns.specs.Lent.{Shown}
 use Rattle.day_turns.specs.Turns.{Printed, free, FirstAnswered, PlaceAnswered, LoadingAnswered, CallAnswered, LineAnswered, LastAnswered}
 use Rattle.day_turns.specs.Turned.{view_of, line_in, whose, LoadsAs, ShowsIn, ShowsAs, Quiet}
+use Rattle.day_turns.proofs.Among.{Among, among_free, among_place}
 use Rattle.day_turns.proofs.LineSteps.{line_went, line_over, ended_finished, first_finished}
 
 nothing_printed : (n : ℕ) (d : Bytes) → n ≡ 0 → Printed [] n d
@@ -90,13 +91,13 @@ module _ {M : Type 0} (T : Shown M) (s r : Day) (text_ : Bytes) (at : s.place.at
       kept_m : m' ≡ m → (z' : Loading) (given : List Bool) → LoadsAs T given m z' → LoadsAs T given m' z'
       kept_m e z' given w = subst (λ (k : M). LoadsAs T given k z') (sym e) w
 
-      place : (o : Option lines.Place) → serve_day n (places z) (some (served l)) ≡ on_place n z o → PlaceAnswered o s (length l) r d → m' ≡ m → WentFrom (places z)
-      place none e w same =
+      place : (o : Option lines.Place) → Among o → serve_day n (places z) (some (served l)) ≡ on_place n z o → PlaceAnswered o s (length l) r d → m' ≡ m → WentFrom (places z)
+      place none among e w same =
           line_went T (places z) tt s.place r text_ at inside room d l short is (on_place n z none) (stage.Skip (record { told = None; seen = 0 })) s.given m' e w.stage w.place w.given w.printed
-          (z, kept_m same z s.given loads, λ y. absurd (true_false (sym y)), record { line = begun []; text = begun []; seen = nothing_seen; skips = tt; held = refl }) few
-      place (some q) e w same =
+          (z, kept_m same z s.given loads, λ y. absurd (true_false (sym y)), tt, record { line = begun []; text = begun []; seen = nothing_seen; skips = tt; held = refl }) few
+      place (some q) among e w same =
           line_went T (places z) tt s.place r text_ at inside room d l short is (on_place n z (some q)) (stage.Text w.line) (set s.given (q.place - 1) true) m' e w.stage w.place w.given (nothing_printed r.length d w.printed)
-          (with_place z q.place, (ap (λ (g : List Bool). set g (q.place - 1) true) loads.0, (kept_m same z s.given loads).1), refl, ap (λ (o : Option lines.Place). at_line (suc n) (text (with_place z q.place) o (begun []))) (sym w.is)) few
+          (with_place z q.place, (ap (λ (g : List Bool). set g (q.place - 1) true) loads.0, (kept_m same z s.given loads).1), refl, subst Among (sym w.is) among, ap (λ (o : Option lines.Place). at_line (suc n) (text (with_place z q.place) o (begun []))) (sym w.is)) few
 
       call : serve_day n (places z) (some (served l)) ≡ as_calls (serve_placed n (started z) (some (served l))) → CallAnswered T s (length l) (served l) m r m' d → WentFrom (places z)
       call e w =
@@ -105,7 +106,7 @@ module _ {M : Type 0} (T : Shown M) (s r : Day) (text_ : Bytes) (at : s.place.at
           ((serve_placed s.place.number (started z) (some (served l))).left, a.serves, refl) few
 
       by : (t : Bool) → is_place (served l) ≡ t → LoadingAnswered T t s (length l) (served l) m r m' d → WentFrom (places z)
-      by true e w = place (then (place_of (served l)) (free s.given)) (on e) w.0 w.1
+      by true e w = place (then (place_of (served l)) (free s.given)) (among_free (place_of (served l)) s.given (among_place (served l))) (on e) w.0 w.1
       by false e w = call (ap (λ (t : Bool). cond t (on_place n z (then (place_of (served l)) (not_given z))) (as_calls (serve_placed n (started z) (some (served l))))) e) w
 
   -- ---- the last line

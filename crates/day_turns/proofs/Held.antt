@@ -17,6 +17,7 @@ use Rattle.layout.specs.Opening.{text_bytes, Opened}
 use Rattle.layout.specs.Session.{parted}
 use Rattle.feeding.specs.Lines.{Step, after, fed, Part, begun, overlong, at_line}
 use Rattle.feeding.proofs.Lines.{fed_append, fed_lines, split_some, line_steps}
+use Rattle.days.specs.Day.{outside}
 use Rattle.day_text.specs.Lines as lines
 use Rattle.day_text.specs.Output.{at_text, opening_text}
 use Rattle.day_text.specs.Program.{Loading, kept, joined_parts, places, text, judged, with_book, serve_day}
@@ -40,7 +41,7 @@ use Rattle.day_turns.specs.declared.Stage.TheVariants as stage
 use Rattle.day_turns.specs.declared.Skipping.{Skipping}
 use Rattle.day_turns.specs.declared.Day.{Day}
 use Rattle.day_turns.specs.Lent.{Shown}
-use Rattle.day_turns.specs.Turns.{no_place, Printed, Ends, skipped_text, LineWaits, counted, behind, unheld, limits_of, opened_in, text_answer, Opens, seen_in, TextLong, books_left, SkipBehind, SkipWaits}
+use Rattle.day_turns.specs.Turns.{no_place, Printed, Ends, skipped_text, LineWaits, counted, behind, unheld, limits_of, opened_in, text_answer, Opens, seen_in, TextLong, books_left, Within, SkipBehind, SkipWaits}
 use Rattle.day_turns.specs.Turned.{view_of, whose, LoadsAs, ShowsAs, Quiet}
 use Rattle.day_turns.specs.Turned.{Skipped as SkippedIn}
 use Rattle.day_turns.proofs.Texts.{TextFed, text_fed, text_fed_from, text_ended}
@@ -170,9 +171,9 @@ module _ {M : Type 0} (T : Shown M) (t : PlaceLine) (z : Loading) (p : Place) (r
         ∙ ap (λ (o : Opened). at_text t.place ++ opening_text o) (open_kept (limits_of t) bytes)))
 
     -- it fills the buffer
-    pub text_long : (s : Day) (m : M) → s.place ≡ p → p.held - p.at ≡ length text_ → LoadsAs T s.given m z → TextLong t s bytes r → p.number + length bytes ≤ last_number
+    pub text_long : (s : Day) (m : M) → s.place ≡ p → p.held - p.at ≡ length text_ → LoadsAs T s.given m z → outside t.place ≡ false → TextLong t s bytes r → p.number + length bytes ≤ last_number
         → Went on_byte (ShowsAs T r m) Quiet p.number bytes text_ g (view_of r) text_ d
-    text_long s m where_is full loads w few =
+    text_long s m where_is full loads among w few =
         went_by T p.number bytes text_ g r m text_ d (stage.Skip (record { told = Some t; seen = seen_in (skip_from 0 0 bytes) })) (unheld (p.number + count_of_lines bytes)) s.given w.stage
         (w.place ∙ ap (λ (k : Place). unheld (counted k.number bytes)) where_is ∙ ap unheld number) w.given
         (record {
@@ -182,6 +183,7 @@ module _ {M : Type 0} (T : Shown M) (t : PlaceLine) (z : Loading) (p : Place) (r
             z,
             loads,
             λ w. refl,
+            among,
             record {
               line = f.0;
               text = f.1;
@@ -207,14 +209,14 @@ module _ {M : Type 0} (T : Shown M) (t : PlaceLine) (z : Loading) (p : Place) (r
         number = omega (arith, few, count_few bytes)
 
     -- more of it is to be read
-    pub text_waits : (s : Day) (m : M) → s.place ≡ p → s.stage ≡ stage.Text t → skips p.line ≡ false → eqb (p.held - p.at) (length text_) ≡ false → LoadsAs T s.given m z → (text' : Bytes) → LineWaits s text_ r text'
+    pub text_waits : (s : Day) (m : M) → s.place ≡ p → s.stage ≡ stage.Text t → skips p.line ≡ false → outside t.place ≡ false → eqb (p.held - p.at) (length text_) ≡ false → LoadsAs T s.given m z → (text' : Bytes) → LineWaits s text_ r text'
         → Went on_byte (ShowsAs T r m) Quiet p.number bytes text_ g (view_of r) text' d
-    text_waits s m where_is stage_is passed part loads text' w =
+    text_waits s m where_is stage_is passed among part loads text' w =
         went_by T p.number bytes text_ g r m text' d (stage.Text t) (kept_as false p.number (p.held - p.at)) s.given (w.stage ∙ stage_is) place w.given
         (record {
           left = record { at = omega arith; held = omega (arith, w.refilled.size, inside_); room = w.refilled.size; within = omega (arith, w.printed); few = omega (arith, ap length same) };
           next = g;
-          shows = (z, loads, refl, refl);
+          shows = (z, loads, refl, among, refl);
           fed = sym (λ i. after (take (w.printed i) d) (fed on_byte g (same i)));
           quiet = λ y. (ap (λ (u : Bytes). (parted (split newline u)).rest) same ∙ b, omega (arith, ap length same, not_full));
         })
@@ -238,7 +240,7 @@ module _ {M : Type 0} (T : Shown M) (t : PlaceLine) (z : Loading) (p : Place) (r
         not_full = omega (arith, count, room, inside_, ne)
 
 -- ---- a text that is skipped
-module _ {M : Type 0} (T : Shown M) (k : Skipping) (z : Loading) (p : Place) (r : Day) (text_ : Bytes) (at : p.at ≤ p.held) (inside_ : p.held ≤ length text_) (d : Bytes) (h : Held) (w : SkippedIn z k p.number h) where
+module _ {M : Type 0} (T : Shown M) (k : Skipping) (z : Loading) (p : Place) (r : Day) (text_ : Bytes) (at : p.at ≤ p.held) (inside_ : p.held ≤ length text_) (d : Bytes) (h : Held) (w : SkippedIn z k p.number h) (among : Within k.told) where
   abbrev q : Bytes
   q = drop p.at (take p.held text_)
 
@@ -279,7 +281,7 @@ module _ {M : Type 0} (T : Shown M) (k : Skipping) (z : Loading) (p : Place) (r 
               few = omega (arith, ap length same, sizes, count_few a);
             };
         next = next;
-        shows = (left, (loads.0, v.skips z.total z.books loads.1), refl);
+        shows = (left, (loads.0, v.skips among z.total z.books loads.1), refl);
         fed =
             ap (fed on_byte h) is
             ∙ fed_append on_byte h a b
@@ -320,7 +322,7 @@ module _ {M : Type 0} (T : Shown M) (k : Skipping) (z : Loading) (p : Place) (r 
       (record {
         left = record { at = omega arith; held = omega arith; room = refl; within = omega (arith, v.printed); few = omega (arith, ap length (none_used text_), count_few q) };
         next = next;
-        shows = (z, loads, λ y. refl, record { line = l; text = u; seen = seen_is; skips = skips; held = refl });
+        shows = (z, loads, λ y. refl, among, record { line = l; text = u; seen = seen_is; skips = skips; held = refl });
         fed =
             f
             ∙ ap (λ (n : ℕ). record { text = []; held = inside z (place_is k.told) (n + count_of_lines q) l u }) number_is

@@ -1,7 +1,12 @@
 pub mod Texts
 pub mod Shows
 pub mod LineSteps
+pub mod Among
 pub mod Answering
 pub mod Held
 pub mod Turns
 pub mod Runs
+pub mod Opening
+pub mod Skips
+pub mod Parts
+pub mod Ample

@@ -7,6 +7,7 @@ use native.Mathlib.Omega.{arith}
 use lib.Dec.{eqb}
 use lib.ListN.{length, take, drop, length-take, length-drop}
 use Rattle.layout.specs.Words.{Bytes, newline}
+use Rattle.writer.specs.Wrote.{Wrote}
 use Rattle.feeding.specs.Lines.{Step, after, fed, Part, begun, grown, line_of, Serving, Service, at_line, on_line_byte}
 use Rattle.day_text.specs.Program.{Phase, over, day_end}
 use Rattle.day_feeding.specs.Steps.{Held, on_byte, at_end}
@@ -107,3 +108,7 @@ module _ {M : Type 0} (T : Shown M) (n : ℕ) (q text : Bytes) (h : Held) (r : D
     finished_over p =
         subst (λ (g : Stage). FinishedIn g r.place) (sym o) (subst (λ (k : Place). FinishedIn stage.Over k) (sym e)
         (record { left = kept_over; over = refl; waits = refl; next = at_line 0 over; shows = refl; printed = p }))
+
+-- a text that was written from the table's start on
+pub written : (t d₀ d : Bytes) (n : ℕ) → Wrote d₀ 0 t d n → Printed t n d
+written t d₀ d n w = (omega (arith, w.next, ap length w.is, length-take n d), w.is)

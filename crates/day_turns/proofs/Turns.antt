@@ -217,15 +217,15 @@ module _ {M : Type 0} (T : Shown M) (room_for : ℕ) (s r : Day) (got : ℕ) (te
       text_goes : (waits s.place.line && eqb got 0) ≡ false → s.place.number + length q ≤ last_number → (b : Answer ℕ) → BookEnd q b → TextAt T b last t (with_more s got) text m r text' m' d → Goes before
       text_goes a few (Some b) is v =
           subst (λ (u : Bytes). Went on_byte (ShowsAs T r m') Quiet s.place.number q text before (view_of r) u d) (sym v.1)
-          (text_went T t w.0 (more s.place got) r text low_text f.held f.room d b is s.given m' w.1.0 v.0.stage v.0.place v.0.given (v.0.opens w.0.total w.0.books w.1.1) few)
+          (text_went T t w.0 (more s.place got) r text low_text f.held f.room d b is s.given m' w.1.0 v.0.stage v.0.place v.0.given (v.0.opens w.3 w.0.total w.0.books w.1.1) few)
       text_goes a few None is v = none last z v
         where
           waits_on : (b : Bool) → eqb (s.place.held + got - s.place.at) (length text) ≡ b → TextWaits b t (with_more s got) text r text' → m' ≡ m → Goes before
           waits_on true full v same =
               subst (λ (u : Bytes). Went on_byte (ShowsAs T r m') Quiet s.place.number q text before (view_of r) u d) (sym v.1)
-              (text_long T t w.0 (more s.place got) r text low_text f.held f.room d is (with_more s got) m' refl (eqb-true (s.place.held + got - s.place.at) (length text) full) (w.1.0, subst (λ (k : M). Loads T k w.0.total w.0.books) (sym same) w.1.1) v.0 few)
+              (text_long T t w.0 (more s.place got) r text low_text f.held f.room d is (with_more s got) m' refl (eqb-true (s.place.held + got - s.place.at) (length text) full) (w.1.0, subst (λ (k : M). Loads T k w.0.total w.0.books) (sym same) w.1.1) w.3 v.0 few)
           waits_on false part v same =
-              text_waits T t w.0 (more s.place got) r text low_text f.held f.room d is (with_more s got) m' refl e w.2 part (w.1.0, subst (λ (k : M). Loads T k w.0.total w.0.books) (sym same) w.1.1) text' v
+              text_waits T t w.0 (more s.place got) r text low_text f.held f.room d is (with_more s got) m' refl e w.2 w.3 part (w.1.0, subst (λ (k : M). Loads T k w.0.total w.0.books) (sym same) w.1.1) text' v
 
           none : (b : Bool) → b ≡ (waits s.place.line && eqb got 0) → TextNotEnded T b t (with_more s got) text m r text' m' d → Goes before
           none true y v = absurd (true_false (y ∙ a))
@@ -238,14 +238,14 @@ module _ {M : Type 0} (T : Shown M) (room_for : ℕ) (s r : Day) (got : ℕ) (te
           none : (b : Bool) → b ≡ (waits s.place.line && eqb got 0) → TextNotEnded T b t (with_more s got) text m r text' m' d → Finishes before
           none true y v =
               subst (λ (u : Bytes). Finished on_byte at_end (ShowsAs T r m') s.place.number q text before (view_of r) u d) (sym v.1)
-              (text_finished T t w.0 (more s.place got) r text low_text f.held f.room d is m' v.0.over v.0.place (v.0.opens w.0.total w.0.books w.1.1).printed)
+              (text_finished T t w.0 (more s.place got) r text low_text f.held f.room d is m' v.0.over v.0.place (v.0.opens w.3 w.0.total w.0.books w.1.1).printed)
           none false y v = absurd (true_false (sym a ∙ sym y))
 
     pub turned_text : Is
     turned_text =
         record {
-          goes = λ a f h w few. let v = shows_text h w in subst Goes (sym v.3) (text_goes h v f a few turned.0 turned.1 turned.2);
-          ends = λ a f h w quiet. let v = shows_text h w in subst Finishes (sym v.3) (text_ends h v f a (subst (λ (y : Held). Quiet y q) v.3 quiet).0 turned.0 turned.1 turned.2);
+          goes = λ a f h w few. let v = shows_text h w in subst Goes (sym v.4) (text_goes h v f a few turned.0 turned.1 turned.2);
+          ends = λ a f h w quiet. let v = shows_text h w in subst Finishes (sym v.4) (text_ends h v f a (subst (λ (y : Held). Quiet y q) v.4 quiet).0 turned.0 turned.1 turned.2);
         }
 
   -- ---- a text that is skipped
@@ -259,13 +259,13 @@ module _ {M : Type 0} (T : Shown M) (room_for : ℕ) (s r : Day) (got : ℕ) (te
 
       skip_goes : (waits s.place.line && eqb got 0) ≡ false → s.place.number + length q ≤ last_number → (y : Skipped) → SkipFed w.0 (place_is k.told) h 0 q y → SkipAt T y last k (with_more s got) q m r m' d
           → Went on_byte (ShowsAs T r m') Quiet s.place.number q text h (view_of r) text d
-      skip_goes a few (skipped.Ended b) is v = skip_went T k w.0 (more s.place got) r text low_skip f.held d h w.3 b is (with_more s got) m m' refl w.1 v few
+      skip_goes a few (skipped.Ended b) is v = skip_went T k w.0 (more s.place got) r text low_skip f.held d h w.4 w.3 b is (with_more s got) m m' refl w.1 v few
       skip_goes a few (skipped.Inside seen) is v = none last z v
         where
           none : (b : Bool) → b ≡ (waits s.place.line && eqb got 0) → SkipNotEnded T b k (with_more s got) seen q m r m' d → Went on_byte (ShowsAs T r m') Quiet s.place.number q text h (view_of r) text d
           none true y v = absurd (true_false (y ∙ a))
           none false y v =
-              skip_waits T k w.0 (more s.place got) r text low_skip f.held d h w.3 seen is (with_more s got) m' refl (w.1.0, subst (λ (k : M). Loads T k w.0.total w.0.books) (sym v.1) w.1.1) v.0 few
+              skip_waits T k w.0 (more s.place got) r text low_skip f.held d h w.4 w.3 seen is (with_more s got) m' refl (w.1.0, subst (λ (k : M). Loads T k w.0.total w.0.books) (sym v.1) w.1.1) v.0 few
 
       bare : (waits s.place.line && eqb got 0) ≡ true → q ≡ []
       bare a = by (waits s.place.line) refl (eqb got 0) refl a
@@ -276,7 +276,7 @@ module _ {M : Type 0} (T : Shown M) (room_for : ℕ) (s r : Day) (got : ℕ) (te
           by false p y g b = absurd (true_false (sym b))
 
       skip_ends : (waits s.place.line && eqb got 0) ≡ true → Finished on_byte at_end (ShowsAs T r m') s.place.number q text h (view_of r) text d
-      skip_ends a = skip_finished T k w.0 (more s.place got) r text low_skip f.held d h w.3 m' (bare a) (ended last z (subst (λ (y : Skipped). SkipAt T y last k (with_more s got) q m r m' d) (ap (skip_from 0 k.seen) (bare a) ∙ skip_none k.seen) turned))
+      skip_ends a = skip_finished T k w.0 (more s.place got) r text low_skip f.held d h w.4 w.3 m' (bare a) (ended last z (subst (λ (y : Skipped). SkipAt T y last k (with_more s got) q m r m' d) (ap (skip_from 0 k.seen) (bare a) ∙ skip_none k.seen) turned))
         where
           ended : (b : Bool) → b ≡ (waits s.place.line && eqb got 0) → SkipNotEnded T b k (with_more s got) k.seen q m r m' d → LastOf (skipped_text k.told) r d
           ended true y v = v
@@ -288,7 +288,7 @@ module _ {M : Type 0} (T : Shown M) (room_for : ℕ) (s r : Day) (got : ℕ) (te
           goes = λ a f h w few.
               let v = shows_skip h w in
               subst (λ (u : Bytes). Went on_byte (ShowsAs T r m') Quiet s.place.number q text h (view_of r) u d) (sym same)
-              (skip_goes h v f a few (skip_from 0 k.seen q) (skips_fed T k v.0 (more s.place got) r text (low_skip h v f) f.held d h v.3) turned);
+              (skip_goes h v f a few (skip_from 0 k.seen q) (skips_fed T k v.0 (more s.place got) r text (low_skip h v f) f.held d h v.4 v.3) turned);
           ends = λ a f h w quiet.
               let v = shows_skip h w in
               subst (λ (u : Bytes). Finished on_byte at_end (ShowsAs T r m') s.place.number q text h (view_of r) u d) (sym same) (skip_ends h v f a);

@@ -1,3 +1,4 @@
 pub mod Lent
 pub mod Turns
 pub mod Turned
+pub mod Tables

@@ -5,6 +5,7 @@ use Rattle.layout.specs.Words.{Bytes, newline, split}
 use Rattle.layout.specs.Opening.{text_bytes}
 use Rattle.layout.specs.Session.{parted}
 use Rattle.feeding.specs.Lines.{Part, begun, Serving, at_line}
+use Rattle.days.specs.Day.{outside}
 use Rattle.day_text.specs.Lines as lines
 use Rattle.day_text.specs.Program.{Loading, Served, Phase, first, places, text, calls, over}
 use Rattle.day_feeding.specs.Steps.{Held, on_byte, at_end}
@@ -21,6 +22,7 @@ use Rattle.day_turns.specs.declared.Stage.TheVariants as stage
 use Rattle.day_turns.specs.declared.Skipping.{Skipping}
 use Rattle.day_turns.specs.declared.Day.{Day}
 use Rattle.day_turns.specs.Lent.{Shown, Loads}
+use Rattle.day_turns.specs.Turns.{Within}
 
 -- ---- what a program keeps
 abbrev pub is_over : Stage → Bool
@@ -64,8 +66,8 @@ Unheld p = waits p.line ≡ true → p.held ≡ p.at
 abbrev pub ShowsIn : {M : Type 0} → Shown M → Stage → Place → List Bool → M → Held → Type 0
 ShowsIn T stage.First p g m h = T.Lent m × (h ≡ line_in p first)
 ShowsIn T stage.Places p g m h = (z : Loading) × LoadsAs T g m z × (h ≡ line_in p (places z))
-ShowsIn T (stage.Text t) p g m h = (z : Loading) × LoadsAs T g m z × (skips p.line ≡ false) × (h ≡ at_line p.number (text z (whose t) (begun [])))
-ShowsIn T (stage.Skip k) p g m h = (z : Loading) × LoadsAs T g m z × Unheld p × Skipped z k p.number h
+ShowsIn T (stage.Text t) p g m h = (z : Loading) × LoadsAs T g m z × (skips p.line ≡ false) × (outside t.place ≡ false) × (h ≡ at_line p.number (text z (whose t) (begun [])))
+ShowsIn T (stage.Skip k) p g m h = (z : Loading) × LoadsAs T g m z × Unheld p × Within k.told × Skipped z k p.number h
 ShowsIn T stage.Calls p g m h = (z : Served) × T.Serves m z × (h ≡ line_in p (calls z))
 ShowsIn T stage.Over p g m h = h.left ≡ over
 

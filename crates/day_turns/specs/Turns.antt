@@ -12,6 +12,7 @@ use Rattle.opening.specs.declared.text.RefusedAt.{RefusedAt}
 use Rattle.layout.specs.Forms.{then}
 use Rattle.feeding.specs.Lines.{Answered}
 use Rattle.days.specs.Accounts.{books}
+use Rattle.days.specs.Day.{outside}
 use Rattle.day_text.specs.Lines as lines
 use Rattle.day_text.specs.Lines.{total_of, is_place, place_of}
 use Rattle.day_text.specs.Output.{at_text, opened_text, opening_text}
@@ -194,7 +195,7 @@ pub record Opens {M : Type 0} (T : Shown M) (t : PlaceLine) (b : Bytes) (total :
   pub loads : Loads T m total (set bs (t.place - 1) (book_of (opened_in t b)))
 
 abbrev pub OpensFrom : {M : Type 0} → Shown M → PlaceLine → Bytes → M → ℕ → M → Bytes → Type 0
-OpensFrom T t b m n m' d = (total : ℕ) (bs : List (Option Formula)) → Loads T m total bs → Opens T t b total bs n m' d
+OpensFrom T t b m n m' d = outside t.place ≡ false → (total : ℕ) (bs : List (Option Formula)) → Loads T m total bs → Opens T t b total bs n m' d
 
 -- how much of its last line are bytes of the line `(end)`
 abbrev pub seen_in : Skipped → ℕ
@@ -243,8 +244,13 @@ abbrev pub books_left : Answer PlaceLine → List (Option Formula) → List (Opt
 books_left None bs = bs
 books_left (Some t) bs = set bs (t.place - 1) none
 
+-- it is one of the eight
+abbrev pub Within : Answer PlaceLine → Type 0
+Within None = Unit {0}
+Within (Some t) = outside t.place ≡ false
+
 abbrev pub SkipsFrom : {M : Type 0} → Shown M → Answer PlaceLine → M → M → Type 0
-SkipsFrom T o m m' = (total : ℕ) (bs : List (Option Formula)) → Loads T m total bs → Loads T m' total (books_left o bs)
+SkipsFrom T o m m' = Within o → (total : ℕ) (bs : List (Option Formula)) → Loads T m total bs → Loads T m' total (books_left o bs)
 
 pub record SkipBehind {M : Type 0} (T : Shown M) (k : Skipping) (s : Day) (b : Bytes) (m : M) (r : Day) (m' : M) (d : Bytes) : Type 0 where
   pub stage : r.stage ≡ stage.Places

@@ -6,6 +6,7 @@ ghost use Rattle.day_text.specs.Output.{at_text};
 ghost use Rattle.day_writer.specs.Room.{line_bytes};
 ghost use Rattle.day_turns.specs.Turns.{text_told, skipped_text};
 
+// stays (no plainer): `line_bytes ≤ length [u8]` is of a table that the day is lent whole; a type for it would be made for each of these calls, and taken off in each
 use day_reader::place::PlaceLine;
 use day_writer::lines::{write_opened, write_refused};
 use opening::text::RefusedAt;

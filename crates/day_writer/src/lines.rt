@@ -10,6 +10,7 @@ use crate::shares_line::put_shares;
 use shares::BOOKS;
 use writer::Output;
 
+// stays (no plainer): `line_bytes ≤ length [u8]` is of a table that a day is lent whole; a type for it would be made for each of these calls, and taken off in each
 // A table of so many bytes holds every line.
 pub const LINE: usize = SHARE * BOOKS + 38;
 
