@@ -22,8 +22,8 @@ fn opened_formulas() {
     assert!(tally.most_clauses > 255 && tally.own_limits > 2_000, "{tally}");
     assert!(tally.truths > 1_000 && tally.swaps > 100 && tally.keeps > 100, "{tally}");
     assert!(tally.written > 1_000 && tally.withdrawals > 1_000, "{tally}");
-    assert!(tally.unsettled > 200 && tally.open > 300, "{tally}");
-    assert!(tally.closest > 300 && tally.differing > 100, "{tally}");
+    assert!(tally.unsettled > 100 && tally.open > 300, "{tally}");
+    assert!(tally.closest > 200 && tally.differing > 100, "{tally}");
 }
 
 /// Lists of some hundred calls.
