@@ -17,7 +17,6 @@ pub enum Program {
     Qdimacs,
     Tag,
     Untag,
-    /// Only this implementation runs its cases for now.
     Day,
 }
 
