@@ -111,6 +111,8 @@ extern "C" {
 #define BULLACETOP_STOPPED 34               /* a search that needs more visits than its ceiling */
 #define BULLACETOP_NO_LINE 35               /* a closest reading whose card has no line */
 #define BULLACETOP_NO_PAGE 36               /* a page that the card does not have */
+#define BULLACETOP_STOPPED_BY_SHARE 37      /* a search at a place of a day that needs more visits than are left there, and has a higher ceiling */
+#define BULLACETOP_NO_BOOK 38               /* a place of a day without a book, or outside 1 to 8 */
 #define BULLACETOP_TAG_RANGE 39             /* a tag that is not 1 to 65,535 */
 #define BULLACETOP_TAG_LOST 40              /* a tag that a conversion would lose */
 
@@ -453,9 +455,176 @@ struct bullacetop_spoken bullacetop_book_line(
     uint8_t *out,
     size_t m);
 
+/* ---- a day of eight books */
+
+/*
+ * Up to eight books, at places 1 to 8, share one total of visits. Their tables are parts of two long ones, `cells` and `literals`, one place behind the
+ * other from the front; `rooms` says how many cells and literals each place has (bullacetop_book_cells and bullacetop_book_literals of its limits; 0 for a
+ * place that is not used). No call reads or writes a cell of another place. A part that would reach beyond the long table is shorter, so that its book is
+ * refused with 22.
+ */
+#define BULLACETOP_PLACES 8
+
+struct bullacetop_rooms {
+    size_t cells[BULLACETOP_PLACES];
+    size_t literals[BULLACETOP_PLACES];
+};
+
+/* The total, the visits used at each place, and a byte for each that is not 0 where it has a book. Set by the calls; any content is safe. */
+struct bullacetop_accounts {
+    uint32_t total;
+    uint32_t used[BULLACETOP_PLACES];
+    uint8_t books[BULLACETOP_PLACES];
+};
+
+/*
+ * A day begins with no book and nothing used; then each place is opened with a text, as by bullacetop_book_open. Where the text is refused the place has no
+ * book. Refusal 38 outside 1 to 8.
+ */
+void bullacetop_day_begin(struct bullacetop_accounts *accounts, uint32_t total);
+
+struct bullacetop_book_opened bullacetop_day_open(
+    struct bullacetop_accounts *accounts,
+    const struct bullacetop_rooms *rooms,
+    uint16_t *cells,
+    size_t cell_count,
+    int16_t *literals,
+    size_t literal_count,
+    size_t place,
+    const uint8_t *text,
+    size_t n,
+    size_t numbers,
+    size_t rules);
+
+/*
+ * Every call below is the one of a book, at a place. It is refused with 38, before all else, where the place has no book or is not 1 to 8; then with 22
+ * where the visits used, and those that the floors of all places still owe, together exceed the total; then as the book's own call is. A place has a floor
+ * of the total / 8, rounded down, and may use what is left of it, and what is neither used nor still owed to any floor. A search that would make more
+ * visits than its ceiling or these is stopped as by its ceiling: 37 where its own ceiling is the higher, otherwise 34. Its visits are charged to its place,
+ * also where it is refused.
+ */
+
+/* What a call at a place may still use; at any of the eight, with a book or not. Refusals 38 outside 1 to 8; 22. */
+struct bullacetop_share {
+    uint16_t refusal;
+    uint32_t visits;
+};
+struct bullacetop_share bullacetop_day_share(const struct bullacetop_accounts *accounts, size_t place);
+
+struct bullacetop_written bullacetop_day_write(
+    const struct bullacetop_accounts *accounts,
+    const struct bullacetop_rooms *rooms,
+    const uint16_t *cells,
+    size_t cell_count,
+    const int16_t *literals,
+    size_t literal_count,
+    size_t place,
+    uint8_t *table,
+    size_t n);
+
+struct bullacetop_reply bullacetop_day_rule(
+    const struct bullacetop_accounts *accounts,
+    const struct bullacetop_rooms *rooms,
+    uint16_t *cells,
+    size_t cell_count,
+    int16_t *literals,
+    size_t literal_count,
+    size_t place,
+    const int16_t *list,
+    size_t n);
+
+struct bullacetop_reply bullacetop_day_one(
+    const struct bullacetop_accounts *accounts,
+    const struct bullacetop_rooms *rooms,
+    uint16_t *cells,
+    size_t cell_count,
+    int16_t *literals,
+    size_t literal_count,
+    size_t place,
+    const int16_t *list,
+    size_t n);
+
+struct bullacetop_reply bullacetop_day_withdraw(
+    const struct bullacetop_accounts *accounts,
+    const struct bullacetop_rooms *rooms,
+    uint16_t *cells,
+    size_t cell_count,
+    int16_t *literals,
+    size_t literal_count,
+    size_t place);
+
+struct bullacetop_reply bullacetop_day_forget(
+    const struct bullacetop_accounts *accounts,
+    const struct bullacetop_rooms *rooms,
+    uint16_t *cells,
+    size_t cell_count,
+    const int16_t *literals,
+    size_t literal_count,
+    size_t place);
+
+struct bullacetop_reply bullacetop_day_query(
+    struct bullacetop_accounts *accounts,
+    const struct bullacetop_rooms *rooms,
+    uint16_t *cells,
+    size_t cell_count,
+    int16_t *literals,
+    size_t literal_count,
+    struct bullacetop_workspace *work,
+    size_t place,
+    const int16_t *on,
+    size_t n,
+    const int16_t *off,
+    size_t m,
+    uint32_t ceiling);
+
+struct bullacetop_reply bullacetop_day_card(
+    struct bullacetop_accounts *accounts,
+    const struct bullacetop_rooms *rooms,
+    uint16_t *cells,
+    size_t cell_count,
+    int16_t *literals,
+    size_t literal_count,
+    struct bullacetop_workspace *work,
+    size_t place,
+    uint8_t *table,
+    size_t n,
+    uint32_t ceiling);
+
+struct bullacetop_reply bullacetop_day_keep_card(
+    struct bullacetop_accounts *accounts,
+    const struct bullacetop_rooms *rooms,
+    uint16_t *cells,
+    size_t cell_count,
+    int16_t *literals,
+    size_t literal_count,
+    struct bullacetop_workspace *work,
+    size_t place,
+    uint8_t *table,
+    size_t n,
+    uint32_t ceiling);
+
+struct bullacetop_closest bullacetop_day_closest(
+    struct bullacetop_accounts *accounts,
+    const struct bullacetop_rooms *rooms,
+    uint16_t *cells,
+    size_t cell_count,
+    int16_t *literals,
+    size_t literal_count,
+    struct bullacetop_workspace *work,
+    size_t place,
+    const int16_t *on,
+    size_t n,
+    const int16_t *off,
+    size_t m,
+    uint8_t *table,
+    size_t size,
+    uint8_t reading[BULLACETOP_FLAGS],
+    uint32_t ceiling);
+
 /* The lengths above, and that the arrays of a workspace follow one another as the library has them. */
 typedef char bullacetop_usual_cells_are_as_here[BULLACETOP_BOOK_CELLS(BULLACETOP_NUMBERS, BULLACETOP_RULES) == 575 ? 1 : -1];
 typedef char bullacetop_usual_literals_are_as_here[BULLACETOP_BOOK_LITERALS(BULLACETOP_NUMBERS, BULLACETOP_RULES) == 9200 ? 1 : -1];
+typedef char bullacetop_accounts_are_as_here[sizeof(struct bullacetop_accounts) == 44 ? 1 : -1];
 typedef char bullacetop_workspace_is_as_here[sizeof(struct bullacetop_workspace) == 5005928 ? 1 : -1];
 
 #ifdef __cplusplus

@@ -27,7 +27,7 @@ from collections import namedtuple
 from ctypes import POINTER, c_char, c_char_p, c_int16, c_size_t, c_uint8, c_uint16, c_uint32, c_uint64
 
 __all__ = [
-    "Answer", "Book", "Card", "Closest", "HIGHEST_CEILING", "HIGHEST_LIMITS", "Limits", "MEANINGS", "Refused", "Session", "USUAL_LIMITS",
+    "Answer", "Book", "Card", "Closest", "Day", "HIGHEST_CEILING", "HIGHEST_LIMITS", "Limits", "MEANINGS", "Place", "Refused", "Session", "USUAL_LIMITS",
     "page", "print_card", "tag", "untag",
 ]
 
@@ -54,6 +54,8 @@ MEANINGS = {
     34: "the search needs more visits than its ceiling",
     35: "a closest reading's card has no line",
     36: "a page that the card does not have",
+    37: "the search needs more visits than are left at its place of a day",
+    38: "no book at this place of a day, or no such place",
     39: "a tag that is not 1 to 65,535",
     40: "a tag that would be lost: it is not its rule's number among the rules",
 }
@@ -176,6 +178,21 @@ class _Spoken(ctypes.Structure):
     _fields_ = [("refusal", c_uint16), ("length", c_size_t), ("shown", _Shown)]
 
 
+_PLACES = 8
+
+
+class _Rooms(ctypes.Structure):
+    _fields_ = [("cells", c_size_t * _PLACES), ("literals", c_size_t * _PLACES)]
+
+
+class _Accounts(ctypes.Structure):
+    _fields_ = [("total", c_uint32), ("used", c_uint32 * _PLACES), ("books", c_uint8 * _PLACES)]
+
+
+class _Share(ctypes.Structure):
+    _fields_ = [("refusal", c_uint16), ("visits", c_uint32)]
+
+
 _LIST = [POINTER(c_int16), c_size_t]
 _TEXT = [c_char_p, c_size_t]
 _TABLE = [POINTER(c_char), c_size_t]
@@ -183,6 +200,10 @@ _TABLES = [POINTER(c_uint16), c_size_t, POINTER(c_int16), c_size_t]
 _WORK = [POINTER(_Workspace)]
 # A text, its limits, and the tables that it is read onto.
 _READ = _TEXT + [c_size_t, c_size_t] + _TABLES
+# The accounts of a day, where its places lie, and their long tables; then the place, behind the workspace where a call searches.
+_DAY = [POINTER(_Accounts), POINTER(_Rooms)] + _TABLES
+_AT = _DAY + [c_size_t]
+_SEARCH_AT = _DAY + _WORK + [c_size_t]
 
 _FUNCTIONS = {
     "book_cells": (c_size_t, [c_size_t, c_size_t]),
@@ -203,6 +224,18 @@ _FUNCTIONS = {
     "book_keep_card": (_Reply, _TABLES + _WORK + _TABLE + [c_uint32]),
     "book_closest": (_Nearest, _TABLES + _WORK + _LIST + _LIST + _TABLE + [POINTER(c_uint8), c_uint32]),
     "book_line": (_Spoken, _TABLES + _WORK + _TEXT + [c_uint64, _Shown, POINTER(c_char)] + _TABLE),
+    "day_begin": (None, [POINTER(_Accounts), c_uint32]),
+    "day_share": (_Share, [POINTER(_Accounts), c_size_t]),
+    "day_open": (_Opened, _AT + _TEXT + [c_size_t, c_size_t]),
+    "day_write": (_Written, _AT + _TABLE),
+    "day_rule": (_Reply, _AT + _LIST),
+    "day_one": (_Reply, _AT + _LIST),
+    "day_withdraw": (_Reply, _AT),
+    "day_forget": (_Reply, _AT),
+    "day_query": (_Reply, _SEARCH_AT + _LIST + _LIST + [c_uint32]),
+    "day_card": (_Reply, _SEARCH_AT + _TABLE + [c_uint32]),
+    "day_keep_card": (_Reply, _SEARCH_AT + _TABLE + [c_uint32]),
+    "day_closest": (_Nearest, _SEARCH_AT + _LIST + _LIST + _TABLE + [POINTER(c_uint8), c_uint32]),
     "page": (c_uint16, _TEXT + [c_size_t, c_size_t, c_size_t] + _TABLE),
     "no_card": (_Shown, []),
     "room": (c_size_t, []),
@@ -434,6 +467,94 @@ class Book:
         cells = self._tables.cells
         table, size = _table(_call("book_room", cells, len(cells)) if size is None else size)
         return _string(table, self._on("write", table, size).length)
+
+
+class Place(Book):
+    """A book at a place of a day, from Day.at: the calls of a book, each under what the day leaves it. 37 and 38 too."""
+
+    def __init__(self, day, place):
+        """As Day.at."""
+        self._day, self._place = day, place
+        self._tables, self._work = _Part(day, place), day._work
+
+    def copy(self):
+        """A place is of its day alone."""
+        raise TypeError("a book at a place is not copied")
+
+    def _on(self, name, *arguments):
+        day = self._day
+        # The workspace comes before the place.
+        first = [argument for argument in arguments[:1] if argument is self._work]
+        told = day._call("day_" + name, *first, self._place, *arguments[len(first):])
+        _unless_refused(told)
+        return told
+
+
+class _Part:
+    """The part of a place in the long tables of a day: the same memory."""
+
+    def __init__(self, day, place):
+        index, self.cells = place - 1, (c_uint16 * 3)()
+        if 0 <= index < _PLACES:
+            start, size = sum(day._rooms.cells[:index]), day._rooms.cells[index]
+            self.cells = (c_uint16 * size).from_buffer(day._cells, start * 2)
+
+    parts = _Tables.parts
+
+
+class Day:
+    """Up to eight books, at places 1 to 8, that share one total of visits.
+
+    Each place has a floor of the total / 8, rounded down. A call may use what is left of its place's floor, and what is neither used nor
+    still owed to any floor: a search that would make more visits is refused with 37 where its own ceiling is higher, otherwise with 34.
+    A place without a book is refused with 38.
+
+    >>> day = Day(90)
+    >>> day.open(1, "(book 1)\\n(flags 1 2)\\n(rule 1 2)\\n(end)\\n")
+    >>> day.at(1).query([1], [2]).verdict
+    'swap'
+    >>> day.used(1), day.share(1), day.share(2)
+    (1, 12, 13)
+    >>> day.at(2).card()
+    Traceback (most recent call last):
+        ..
+    bullacetop.Refused: refused with 38: no book at this place of a day, or no such place
+    """
+
+    def __init__(self, total, limits=(USUAL_LIMITS,) * _PLACES):
+        """A day with no book yet and nothing used; `limits` are those of the eight places."""
+        self._accounts, self._rooms, self._lock, self._work = _Accounts(), _Rooms(), threading.Lock(), _Workspace()
+        self._limits = [[_count(limit) for limit in own] for own in limits]
+        for index, (numbers, rules) in enumerate(self._limits):
+            self._rooms.cells[index] = _call("book_cells", numbers, rules)
+            self._rooms.literals[index] = _call("book_literals", numbers, rules)
+        self._cells, self._literals = (c_uint16 * sum(self._rooms.cells))(), (c_int16 * sum(self._rooms.literals))()
+        _call("day_begin", self._accounts, _within(total, HIGHEST_CEILING, "total"))
+
+    def _call(self, name, *arguments):
+        with self._lock:
+            return _call(name, self._accounts, self._rooms, self._cells, len(self._cells), self._literals, len(self._literals), *arguments)
+
+    def open(self, place, text):
+        """Opens a text at a place, under the limits of the place; a refused one leaves it without a book. Refusals 38 outside 1 to 8, and a book's."""
+        place = _count(place)
+        limits = self._limits[place - 1] if 1 <= place <= _PLACES else (0, 0)
+        opened = self._call("day_open", place, *_text(text), *limits)
+        _unless_refused(opened, opened.line)
+
+    def at(self, place):
+        """The book at a place: its calls."""
+        return Place(self, _count(place))
+
+    def used(self, place):
+        """The visits used at a place, 1 to 8."""
+        return self._accounts.used[place - 1] if 1 <= place <= _PLACES else 0
+
+    def share(self, place):
+        """What a call at a place may still use, with a book or not. Refusal 38 outside 1 to 8."""
+        share = _call("day_share", self._accounts, _count(place))
+        _unless_refused(share)
+        return share.visits
 
 
 class Session:

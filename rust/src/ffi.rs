@@ -1,4 +1,4 @@
-//! The library's functions, as `include/bullacetop.h` declares them: the one module with `unsafe`.
+//! The library's functions, as `include/bullacetop.h` declares them: with `ffi_day` the modules with `unsafe`.
 //!
 //! What the library asks of a caller is that pointers can be read, or written, for the lengths told,
 //! and that nothing overlaps what a call writes. References and slices have that from the language:

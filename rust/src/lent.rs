@@ -42,6 +42,17 @@ pub struct Closest<'t> {
     pub card: Card<'t>,
 }
 
+impl<'t> Closest<'t> {
+    pub(crate) fn new(
+        reading: [u8; ffi::FLAGS],
+        flags: usize,
+        differs: usize,
+        card: Card<'t>,
+    ) -> Closest<'t> {
+        Closest { reading, flags, differs, card }
+    }
+}
+
 impl Closest<'_> {
     /// [`OFF`] or [`ON`] for each flag in place order.
     pub fn reading(&self) -> &[u8] {
@@ -170,15 +181,7 @@ impl<'a> LentBook<'a> {
 
     /// What the rules say where these flags are on, those off, and the others open. Refusals 8, 34.
     pub fn query(&mut self, on: &[i16], off: &[i16], ceiling: u32) -> Result<Answer, Refused> {
-        let reply = ffi::query(self.tables.lend(), self.work, on, off, ceiling);
-        Refused::unless_none(reply.refusal, 0, reply.visits)?;
-        let verdict = match reply.verdict {
-            1 => Verdict::Keep,
-            2 => Verdict::Swap,
-            // 3: a query that is not refused has one of the three.
-            _ => Verdict::Unsettled,
-        };
-        Ok(Answer { verdict, visits: reply.visits })
+        answered(ffi::query(self.tables.lend(), self.work, on, off, ceiling))
     }
 
     /// The readings that condemn a board, in a lent table. Refusals 34, 21.
@@ -217,7 +220,7 @@ impl<'a> LentBook<'a> {
         Refused::unless_none(told.refusal, 0, told.visits)?;
         let flags = self.flags().count();
         let card = Card::new(table, told.lines, flags, told.visits);
-        Ok(Closest { reading, flags, differs: told.differs, card })
+        Ok(Closest::new(reading, flags, told.differs, card))
     }
 
     /// Writes the book as text into a lent table; [`LentBook::room`] bytes hold it. Refusal 31.
@@ -248,6 +251,17 @@ impl<'a> LentBook<'a> {
         Refused::unless_none(told.refusal, 0, 0)?;
         Ok(first(out, told.length))
     }
+}
+
+pub(crate) fn answered(reply: ffi::Reply) -> Result<Answer, Refused> {
+    Refused::unless_none(reply.refusal, 0, reply.visits)?;
+    let verdict = match reply.verdict {
+        1 => Verdict::Keep,
+        2 => Verdict::Swap,
+        // 3: a query that is not refused has one of the three.
+        _ => Verdict::Unsettled,
+    };
+    Ok(Answer { verdict, visits: reply.visits })
 }
 
 fn changed(reply: ffi::Reply) -> Result<(), Refused> {

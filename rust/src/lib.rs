@@ -5,7 +5,7 @@
 //! the readings of the flags for which the rules are true, and a query asks about one reading.
 //!
 //! The library behind these calls is proved: for every state and argument each answer is what the
-//! definitions say. This crate adds types to it. It has no `unsafe` outside one private module, panics on no
+//! definitions say. This crate adds types to it. It has no `unsafe` outside two private modules, panics on no
 //! input, and keeps on the heap what is large: a [`LentBook`] has the calls in tables that the caller lends,
 //! and allocates nothing. A search, a printed card or a line of a session wants 512 KiB of stack, any other
 //! call 32 KiB; threads have more unless they are told otherwise.
@@ -34,8 +34,11 @@
 
 mod book;
 mod card;
+mod day;
 #[allow(unsafe_code)]
 mod ffi;
+#[allow(unsafe_code)]
+mod ffi_day;
 mod lent;
 mod limits;
 mod refusal;
@@ -44,6 +47,7 @@ mod text;
 
 pub use book::Book;
 pub use card::{Card, Lines, OFF, ON, OPEN, PAGE_BYTES};
+pub use day::{Day, PLACES};
 pub use ffi::{Tables, Workspace};
 pub use lent::{Answer, Closest, LastCard, LentBook, Verdict, HIGHEST_CEILING, TEXT_ROOM};
 pub use limits::Limits;

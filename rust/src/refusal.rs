@@ -63,19 +63,21 @@ refusals! {
     Stopped = 34: "the search needs more visits than its ceiling",
     NoLine = 35: "a closest reading's card has no line",
     NoPage = 36: "a page that the card does not have",
+    StoppedByShare = 37: "the search needs more visits than are left at its place of a day",
+    NoBook = 38: "no book at this place of a day, or no such place",
     TagRange = 39: "a tag that is not 1 to 65,535",
     TagLost = 40: "a tag that would be lost: it is not its rule's number among the rules",
 }
 
 /// A refused text or call. What was asked for did not happen, and the book is as it was; only after 21,
-/// 34 and 35, where a search ran, does it keep what was learned.
+/// 34, 35 and 37, where a search ran, does it keep what was learned.
 #[derive(Clone, Copy, Debug, PartialEq, Eq, Hash)]
 pub struct Refused {
     /// Why.
     pub refusal: Refusal,
     /// The line of a text, from 1; 0 where no line is at fault, and for a call.
     pub line: usize,
-    /// The visits of a search that ran: with 21, 34 and 35, else 0.
+    /// The visits of a search that ran: with 21, 34, 35 and 37, else 0.
     pub visits: u64,
 }
 

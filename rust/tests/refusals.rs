@@ -5,8 +5,8 @@ use bullacetop::{
 };
 
 const A: &[u8] = include_bytes!("../../examples/a.book");
-const NUMBERS: [u16; 21] =
-    [1, 2, 3, 4, 5, 6, 7, 8, 9, 20, 21, 22, 30, 31, 32, 33, 34, 35, 36, 39, 40];
+const NUMBERS: [u16; 23] =
+    [1, 2, 3, 4, 5, 6, 7, 8, 9, 20, 21, 22, 30, 31, 32, 33, 34, 35, 36, 37, 38, 39, 40];
 
 fn book() -> Book {
     Book::open(A).unwrap()
