@@ -36,6 +36,7 @@ fn drop_card(kept: &mut Kept, place: usize)
 }
 
 // Accounts that do not stand refuse every call with 22, whatever its book; the book's text and a page are no calls.
+// stays (no plainer): `answer_bytes ≤ length [u8]` is of what is lent behind the place of the answer, as for `serve_book`
 // stays (no plainer): the state, the workspace and the tables of the cards and the answer are lent, as for `serve_day_line`
 fn serve_overspent(
     kept: &mut Kept,
