@@ -14,7 +14,6 @@ use reader::call::TABLE;
 use refusal::Refusal;
 
 // The rows of a page, or 36.
-// stays (no plainer): `session_line` has it too, of a state in nine tables, which goes with them
 fn put_rows(out: &mut Answer<'_>, table: &[u8], shown: Shown, k: usize, line: u64) -> usize
     ensures { Answered out.old (page_rows table.now shown.lines shown.free line k) out.new result }
 {
@@ -32,7 +31,6 @@ fn put_rows(out: &mut Answer<'_>, table: &[u8], shown: Shown, k: usize, line: u6
     }
 }
 
-// stays (no plainer): `session_line` has it too, of a state in nine tables, which goes with them
 fn put_shown(out: &mut Answer<'_>, cards: &[u8], shown: Shown, k: usize, line: u64) -> usize
     ensures { Answered out.old (page_answer (card_in shown cards.now) line k) out.new result }
 {

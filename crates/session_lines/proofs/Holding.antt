@@ -13,7 +13,7 @@ use Rattle.theory.proofs.Runs.{Reached, fresh_reached, reached_formed, call_ok}
 use Rattle.theory.proofs.Cards.{card_owed}
 use Rattle.layout.specs.Words.{Bytes}
 use Rattle.sessions.specs.Session.{Request, call, write, page, request_of, Card, card_of, card_after_rule, card_after, turn_of}
-use Rattle.session_line.specs.Holds.{Holds, after}
+use Rattle.session_lines.specs.Holds.{Holds, after}
 
 -- ---- a call
 -- a rule that is accepted leaves no card, one that is refused changes no rule

@@ -1,3 +1,0 @@
-pub mod Session
-pub mod Turns
-pub mod Holding
