@@ -3,32 +3,24 @@
 
 ghost use Rattle.std.specs.Prelude.{◌≤◌};
 
-use answers::asked::Asked;
+use asking::asked::Asked;
+use lent_texts::{CELLS, LITERALS};
 use refusal::Refusal;
 use replies::Ruling;
-use rules::in_place;
-use rules::lent::{Adding, Emptying};
 use search_entry::workspace::Workspace;
-use state::State;
+use state::parts::Limits;
 
 mod print;
 
 use print::{number, text};
 
-// One variable more. The calls check the state, so nothing is asked here.
-fn with(x: State, variable: u16, level: u16, kind: u16) -> State {
-    let mut next = x;
-    let n = x.numbers[0] as usize;
-    let l = level as usize;
-    if n < tables::NUMBERS {
-        next.numbers[n + 1] = variable;
-        next.levels[n + 1] = level;
-        next.numbers[0] = (n + 1) as u16;
-    }
-    if l < tables::BY_NUMBER {
-        next.kinds[l] = kind;
-    }
-    next
+// The book of a text, under the limits of paper 01. Every text here opens but one; the calls on what that leaves tell it.
+fn open(cells: &mut [u16], literals: &mut [i16], book: &[u8]) {
+    let limits = Limits {
+        numbers: tables::NUMBERS,
+        clauses: tables::CLAUSES,
+    };
+    let _ = opening::open(book, limits, cells, literals);
 }
 
 fn refused(refusal: Refusal) {
@@ -44,54 +36,17 @@ fn change(c: Result<(), Refusal>) {
     text(b"\n");
 }
 
-fn add(x: State, lits: &[i16]) -> (State, Result<(), Refusal>) {
-    let mut next = x;
-    let mut tables = Adding {
-        numbers: &x.numbers,
-        levels: &x.levels,
-        kinds: &x.kinds,
-        clauses: &mut next.clauses,
-        clause_sizes: &mut next.clause_sizes,
-        learned_clauses: &x.learned_clauses,
-        learned_clause_sizes: &x.learned_clause_sizes,
-        learned_cubes: &x.learned_cubes,
-        learned_cube_sizes: &mut next.learned_cube_sizes,
-    };
-    let c = in_place::rule(&mut tables, lits);
-    (next, c)
-}
-
 // A rule added, with its answer.
-fn rule(x: State, lits: &[i16]) -> State {
-    let (next, c) = add(x, lits);
+fn rule(cells: &mut [u16], literals: &mut [i16], lits: &[i16]) {
+    let c = rule_calls::rule(cells, literals, lits);
     text(b"rule: ");
     change(c);
-    next
 }
 
-// A clause of the formula as it is opened.
-fn clause(x: State, lits: &[i16]) -> State {
-    let (next, _) = add(x, lits);
-    next
-}
-
-fn forget(x: State) -> State {
-    let mut next = x;
-    let mut tables = Emptying {
-        numbers: &x.numbers,
-        levels: &x.levels,
-        kinds: &x.kinds,
-        clauses: &x.clauses,
-        clause_sizes: &x.clause_sizes,
-        learned_clauses: &x.learned_clauses,
-        learned_clause_sizes: &mut next.learned_clause_sizes,
-        learned_cubes: &x.learned_cubes,
-        learned_cube_sizes: &mut next.learned_cube_sizes,
-    };
-    let c = in_place::forget(&mut tables);
+fn forget(cells: &mut [u16], literals: &[i16]) {
+    let c = rule_calls::forget(cells, literals);
     text(b"forget: ");
     change(c);
-    next
 }
 
 fn visits(n: u64) {
@@ -100,15 +55,14 @@ fn visits(n: u64) {
     text(b"\n");
 }
 
-fn query<'a>(x: State, work: &mut Workspace, on: &'a [i16], off: &'a [i16]) -> State {
+fn query(cells: &mut [u16], literals: &mut [i16], work: &mut Workspace, on: &[i16], off: &[i16]) {
     text(b"query: ");
-    let mut next = x;
     let asked = Asked {
         on,
         off,
         ceiling: tables::HIGHEST_CEILING,
     };
-    let r = answers::on_state::query(&mut next, work, asked);
+    let r = search_calls::query(cells, literals, work, asked);
     match r.ruling {
         Ok(Ruling::Swap) => text(b"swap"),
         Ok(Ruling::Keep) => text(b"keep"),
@@ -116,24 +70,29 @@ fn query<'a>(x: State, work: &mut Workspace, on: &'a [i16], off: &'a [i16]) -> S
         Err(refusal) => refused(refusal),
     }
     visits(r.visits);
-    next
 }
 
-fn cells(t: &[u8]) {
-    for cell in t {
+fn bytes(t: &[u8]) {
+    for byte in t {
         text(b" ");
-        print::byte(*cell);
+        print::byte(*byte);
     }
 }
 
 // The table is lent with a byte that is none of the card's in each of its N cells.
-fn card<const N: usize>(x: State, work: &mut Workspace) -> State
+fn card<const N: usize>(cells: &mut [u16], literals: &mut [i16], work: &mut Workspace)
     requires { N ≤ 4 }
 {
     let mut table = [9u8; N];
     text(b"card: ");
-    let mut next = x;
-    let r = answers::on_state::card_of(&mut next, work, &mut table, true, tables::HIGHEST_CEILING);
+    let r = search_calls::card_of(
+        cells,
+        literals,
+        work,
+        &mut table,
+        true,
+        tables::HIGHEST_CEILING,
+    );
     match r.lines {
         Ok(lines) => {
             text(b"lines ");
@@ -142,9 +101,8 @@ fn card<const N: usize>(x: State, work: &mut Workspace) -> State
         Err(refusal) => refused(refusal),
     }
     text(b", table");
-    cells(&table);
+    bytes(&table);
     visits(r.visits);
-    next
 }
 
 fn title(t: &[u8]) {
@@ -152,143 +110,166 @@ fn title(t: &[u8]) {
     text(b"\n");
 }
 
-fn a_clauses(x: State) -> State {
-    let y = clause(x, &[3, 4, -1]);
-    let z = clause(y, &[-3, -4, 2]);
-    clause(z, &[1, 2])
-}
-
-// With its flags, 1 and 2, in that order.
-fn book_a(first: u16, second: u16) -> State {
-    let x = with(state::empty(), first, 0, tables::FREE);
-    let y = with(x, second, 0, tables::FREE);
-    let z = with(y, 3, 1, tables::EXISTS);
-    a_clauses(with(z, 4, 2, tables::FORALL))
-}
-
-fn book_b() -> State {
-    let x = with(state::empty(), 1, 0, tables::FREE);
-    let y = with(x, 2, 1, tables::EXISTS);
-    clause(clause(y, &[2]), &[-2])
-}
-
-fn book_c() -> State {
-    let x = with(state::empty(), 1, 0, tables::FREE);
-    let y = with(x, 2, 0, tables::FREE);
-    let z = with(y, 3, 1, tables::EXISTS);
-    let w = with(z, 4, 2, tables::FORALL);
-    clause(clause(w, &[3, 4, 1]), &[-3, -4, 2])
-}
-
-fn d_clauses(x: State) -> State {
-    clause(clause(x, &[1, 2]), &[-1, -2])
-}
-
-fn bench(work: &mut Workspace) {
-    title(b"A");
-    card::<4>(book_a(1, 2), work);
-    title(b"A with (flags 2 1)");
-    card::<4>(book_a(2, 1), work);
-    title(b"A, query 1 on; again");
-    let a = query(book_a(1, 2), work, &[1], &[2]);
-    query(a, work, &[1], &[2]);
-    title(b"A, query 2 on");
-    query(book_a(1, 2), work, &[2], &[1]);
-    title(b"B, card twice, then no flag on");
-    let b = card::<0>(card::<0>(book_b(), work), work);
-    query(b, work, &[0; 0], &[1]);
-    title(b"C");
-    card::<4>(book_c(), work);
-    title(b"flags 1 2, no rule");
-    let x = with(state::empty(), 1, 0, tables::FREE);
-    card::<2>(with(x, 2, 0, tables::FREE), work);
-    title(b"forall 1, rule 1");
-    card::<0>(
-        clause(with(state::empty(), 1, 1, tables::FORALL), &[1]),
-        work,
+fn book_a(cells: &mut [u16], literals: &mut [i16]) {
+    open(
+        cells,
+        literals,
+        b"(book 1)\n(flags 1 2)\n(exists 3)\n(forall 4)\n(rule 3 4 (no 1))\n(rule (no 3) (no 4) 2)\n(rule 1 2)\n(end)\n",
     );
 }
 
-fn bench_d(work: &mut Workspace) {
+fn bench(cells: &mut [u16], literals: &mut [i16], work: &mut Workspace) {
+    title(b"A");
+    book_a(cells, literals);
+    card::<4>(cells, literals, work);
+    title(b"A with (flags 2 1)");
+    open(
+        cells,
+        literals,
+        b"(book 1)\n(flags 2 1)\n(exists 3)\n(forall 4)\n(rule 3 4 (no 1))\n(rule (no 3) (no 4) 2)\n(rule 1 2)\n(end)\n",
+    );
+    card::<4>(cells, literals, work);
+    title(b"A, query 1 on; again");
+    book_a(cells, literals);
+    query(cells, literals, work, &[1], &[2]);
+    query(cells, literals, work, &[1], &[2]);
+    title(b"A, query 2 on");
+    book_a(cells, literals);
+    query(cells, literals, work, &[2], &[1]);
+    title(b"B, card twice, then no flag on");
+    open(
+        cells,
+        literals,
+        b"(book 1)\n(flags 1)\n(exists 2)\n(rule 2)\n(rule (no 2))\n(end)\n",
+    );
+    card::<0>(cells, literals, work);
+    card::<0>(cells, literals, work);
+    query(cells, literals, work, &[0; 0], &[1]);
+    title(b"C");
+    open(
+        cells,
+        literals,
+        b"(book 1)\n(flags 1 2)\n(exists 3)\n(forall 4)\n(rule 3 4 1)\n(rule (no 3) (no 4) 2)\n(end)\n",
+    );
+    card::<4>(cells, literals, work);
+    title(b"flags 1 2, no rule");
+    open(cells, literals, b"(book 1)\n(flags 1 2)\n(end)\n");
+    card::<2>(cells, literals, work);
+    title(b"forall 1, rule 1");
+    open(
+        cells,
+        literals,
+        b"(book 1)\n(flags)\n(forall 1)\n(rule 1)\n(end)\n",
+    );
+    card::<0>(cells, literals, work);
+}
+
+fn bench_d(cells: &mut [u16], literals: &mut [i16], work: &mut Workspace) {
     title(b"D, then rule 2 added");
-    let x = with(state::empty(), 1, 1, tables::FORALL);
-    let d = card::<0>(d_clauses(with(x, 2, 2, tables::EXISTS)), work);
-    card::<0>(rule(d, &[2]), work);
+    open(
+        cells,
+        literals,
+        b"(book 1)\n(flags)\n(forall 1)\n(exists 2)\n(rule 1 2)\n(rule (no 1) (no 2))\n(end)\n",
+    );
+    card::<0>(cells, literals, work);
+    rule(cells, literals, &[2]);
+    card::<0>(cells, literals, work);
     title(b"exists 1, forall 2, D's rules");
-    let y = with(state::empty(), 1, 1, tables::EXISTS);
-    card::<0>(d_clauses(with(y, 2, 2, tables::FORALL)), work);
+    open(
+        cells,
+        literals,
+        b"(book 1)\n(flags)\n(exists 1)\n(forall 2)\n(rule 1 2)\n(rule (no 1) (no 2))\n(end)\n",
+    );
+    card::<0>(cells, literals, work);
 }
 
-fn forty() -> State {
-    let mut x = state::empty();
-    for n in 0..tables::NUMBERS {
-        x = with(x, n as u16 + 1, 1, tables::EXISTS);
-    }
-    x
-}
-
-fn almost_full() -> State {
-    let mut x = with(state::empty(), 1, 1, tables::EXISTS);
-    for _ in 1..tables::CLAUSES {
-        x = clause(x, &[1]);
-    }
-    x
-}
-
-fn limits() {
+fn limits(cells: &mut [u16], literals: &mut [i16]) {
     title(b"16 and 17 literals");
-    let x = rule(
-        forty(),
+    open(
+        cells,
+        literals,
+        b"(book 1)\n(flags)\n(exists 1 2 3 4 5 6 7 8 9 10 11 12 13 14 15 16 17 18 19 20 21 22 23 24 25 26 27 28 29 30 31 32 33 34 35 36 37 38 39 40)\n(end)\n",
+    );
+    rule(
+        cells,
+        literals,
         &[1, 2, 3, 4, 5, 6, 7, 8, 9, 10, 11, 12, 13, 14, 15, 16],
     );
-    let y = rule(
-        x,
+    rule(
+        cells,
+        literals,
         &[1, 2, 3, 4, 5, 6, 7, 8, 9, 10, 11, 12, 13, 14, 15, 16, 17],
     );
     title(b"number 40 and 41, 0 and -32768, not declared, twice, none");
-    let z = rule(rule(y, &[-40]), &[41]);
-    let w = rule(rule(z, &[0]), &[-32768]);
-    let v = rule(with(state::empty(), 1, 0, tables::FREE), &[2]);
-    rule(rule(v, &[1, -1]), &[0; 0]);
-    rule(w, &[1, 1]);
+    rule(cells, literals, &[-40]);
+    rule(cells, literals, &[41]);
+    rule(cells, literals, &[0]);
+    rule(cells, literals, &[-32768]);
+    open(cells, literals, b"(book 1)\n(flags 1)\n(end)\n");
+    rule(cells, literals, &[2]);
+    rule(cells, literals, &[1, -1]);
+    rule(cells, literals, &[0; 0]);
+    rule(cells, literals, &[1, 1]);
     title(b"rule 255 and 256");
-    rule(rule(almost_full(), &[1]), &[1]);
+    open(cells, literals, b"(book 1)\n(flags)\n(exists 1)\n(end)\n");
+    for _ in 1..tables::CLAUSES {
+        let _ = rule_calls::rule(cells, literals, &[1]);
+    }
+    rule(cells, literals, &[1]);
+    rule(cells, literals, &[1]);
 }
 
-fn others(work: &mut Workspace) {
+fn others(cells: &mut [u16], literals: &mut [i16], work: &mut Workspace) {
     title(b"A's card in 4 bytes, forgotten, in 3, in 4 again");
-    let a = forget(card::<4>(book_a(1, 2), work));
-    card::<4>(card::<3>(a, work), work);
+    book_a(cells, literals);
+    card::<4>(cells, literals, work);
+    forget(cells, literals);
+    card::<3>(cells, literals, work);
+    card::<4>(cells, literals, work);
     title(b"queries that are refused");
-    let x = query(query(book_a(1, 2), work, &[3], &[1]), work, &[1, 1], &[2]);
-    let y = query(query(x, work, &[-1], &[2]), work, &[-32768], &[0; 0]);
-    query(query(y, work, &[1], &[1]), work, &[0; 0], &[2, 2]);
+    book_a(cells, literals);
+    query(cells, literals, work, &[3], &[1]);
+    query(cells, literals, work, &[1, 1], &[2]);
+    query(cells, literals, work, &[-1], &[2]);
+    query(cells, literals, work, &[-32768], &[0; 0]);
+    query(cells, literals, work, &[1], &[1]);
+    query(cells, literals, work, &[0; 0], &[2, 2]);
     title(b"a malformed state");
-    let m = with(with(state::empty(), 1, 0, tables::FREE), 1, 0, tables::FREE);
-    forget(card::<3>(query(rule(m, &[1]), work, &[1], &[0; 0]), work));
+    open(cells, literals, b"(book 1)\n(flags 1 1)\n(end)\n");
+    rule(cells, literals, &[1]);
+    query(cells, literals, work, &[1], &[0; 0]);
+    card::<3>(cells, literals, work);
+    forget(cells, literals);
 }
 
 // Wish 5's figures: flags the logger did not record, on book A; an open query between two full ones.
-fn open_flags(work: &mut Workspace) {
+fn open_flags(cells: &mut [u16], literals: &mut [i16], work: &mut Workspace) {
     title(b"A, flag 1 or 2 recorded alone, or none");
-    let a = query(
-        query(book_a(1, 2), work, &[2], &[0; 0]),
-        work,
-        &[0; 0],
-        &[2],
-    );
-    let b = query(query(a, work, &[0; 0], &[0; 0]), work, &[1], &[0; 0]);
-    query(b, work, &[0; 0], &[1]);
+    book_a(cells, literals);
+    query(cells, literals, work, &[2], &[0; 0]);
+    query(cells, literals, work, &[0; 0], &[2]);
+    query(cells, literals, work, &[0; 0], &[0; 0]);
+    query(cells, literals, work, &[1], &[0; 0]);
+    query(cells, literals, work, &[0; 0], &[1]);
     title(b"A, query 1 on; 2 off alone; 1 on again");
-    let c = query(query(book_a(1, 2), work, &[1], &[2]), work, &[0; 0], &[2]);
-    query(c, work, &[1], &[2]);
+    book_a(cells, literals);
+    query(cells, literals, work, &[1], &[2]);
+    query(cells, literals, work, &[0; 0], &[2]);
+    query(cells, literals, work, &[1], &[2]);
+}
+
+// stays (proof): where the tables are made and lent in one function the check runs out of stack over their zeros
+fn print_rows(cells: &mut [u16; CELLS], literals: &mut [i16; LITERALS], work: &mut Workspace) {
+    bench(cells, literals, work);
+    bench_d(cells, literals, work);
+    limits(cells, literals);
+    others(cells, literals, work);
+    open_flags(cells, literals, work);
 }
 
 fn main() {
+    let mut cells = [0u16; CELLS];
+    let mut literals = [0i16; LITERALS];
     let mut work = Workspace::ZEROS;
-    bench(&mut work);
-    bench_d(&mut work);
-    limits();
-    others(&mut work);
-    open_flags(&mut work);
+    print_rows(&mut cells, &mut literals, &mut work);
 }

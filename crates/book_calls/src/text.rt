@@ -5,14 +5,13 @@ ghost use Rattle.qbf.specs.Formula.{capped};
 ghost use Rattle.editions.specs.Opening.{both, open_editions};
 ghost use Rattle.qdimacs_form.specs.Opening.{open_qdimacs};
 ghost use Rattle.book_writer.specs.Writes.{WritesAt};
-ghost use Rattle.edition_conversion_at.specs.Converting.{TaggedUnder, UntaggedUnder};
+ghost use Rattle.edition_conversion.specs.Converting.{TaggedUnder, UntaggedUnder};
 ghost use Rattle.book_calls.specs.Opened.{OpenedIn, ToldOf};
 
 use book_writer::Written;
 use book_writer::at::write_at;
 use edition_conversion::Converted;
-use edition_opening::Editions;
-use edition_opening_at::open;
+use edition_opening::{Editions, open};
 use opening::NONE;
 use opening::text::{NO_LINE, RefusedAt};
 use state::parts::Limits;
@@ -79,7 +78,7 @@ pub fn bullacetop_book_open_qdimacs(
         cells.new
         literals.new }
 {
-    let read = qdimacs_opening_at::open(text, limits, cells, literals);
+    let read = qdimacs_opening::open(text, limits, cells, literals);
     Opened::from(read)
 }
 
@@ -109,7 +108,7 @@ pub fn bullacetop_book_tag(
         result
         table.new }
 {
-    edition_conversion_at::tag(text, limits, cells, literals, table)
+    edition_conversion::tag(text, limits, cells, literals, table)
 }
 
 // A text of edition 2 in edition 1, where its tags are those.
@@ -130,5 +129,5 @@ pub fn bullacetop_book_untag(
         result
         table.new }
 {
-    edition_conversion_at::untag(text, limits, cells, literals, table)
+    edition_conversion::untag(text, limits, cells, literals, table)
 }

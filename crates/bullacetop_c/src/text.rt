@@ -5,7 +5,7 @@ ghost use Rattle.qbf.specs.Formula.{capped};
 ghost use Rattle.editions.specs.Opening.{both, open_editions};
 ghost use Rattle.qdimacs_form.specs.Opening.{open_qdimacs};
 ghost use Rattle.book_writer.specs.Writes.{WritesAt};
-ghost use Rattle.edition_conversion_at.specs.Converting.{TaggedUnder, UntaggedUnder};
+ghost use Rattle.edition_conversion.specs.Converting.{TaggedUnder, UntaggedUnder};
 ghost use Rattle.book_calls.specs.Opened.{OpenedIn};
 
 use book_calls::text::Opened;

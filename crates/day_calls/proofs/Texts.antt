@@ -22,7 +22,7 @@ use Rattle.days_laws.proofs.Days.{from_one}
 use Rattle.shares.proofs.Answers.{no_room}
 use Rattle.state_parts.specs.Parts.{Whole, valid_at}
 use Rattle.opening.specs.declared.text.RefusedAt.{RefusedAt}
-use Rattle.opening_at.specs.Opened.{AnsweredAt, OpenedAt}
+use Rattle.opening.specs.Opened.{AnsweredAt, OpenedAt}
 use Rattle.rule_calls.specs.Served.{Lists, lists, read_lists}
 use Rattle.serving_days.specs.Serves.{book_in, state_in}
 use Rattle.serving_days.proofs.Places.{map_set}

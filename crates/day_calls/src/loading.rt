@@ -13,7 +13,7 @@ use crate::entered::enter;
 use book_calls::text::{Opened, bullacetop_book_write};
 use book_writer::Written;
 use edition_opening::Editions;
-use edition_opening_at::open;
+use edition_opening::open;
 use opening::text::NO_LINE;
 use places::{Accounts, Rooms};
 use refusal::Refusal;

@@ -29,7 +29,7 @@ use Rattle.day_text.specs.Output.{opened_text, opening_text}
 use Rattle.day_text.specs.Program.{Served, book_of}
 use Rattle.state_parts.specs.Parts.{read_at, Whole, cell_count, literal_count, part}
 use Rattle.opening.specs.declared.text.RefusedAt.{RefusedAt}
-use Rattle.opening_at.specs.Opened.{AnsweredAt, OpenedAt}
+use Rattle.opening.specs.Opened.{AnsweredAt, OpenedAt}
 use Rattle.answer_text.specs.declared.shown.Shown.{Shown as CardShown}
 use Rattle.answer_text.specs.Shown.{card_in, no_card}
 use Rattle.rule_calls.specs.Served.{Lists, lists, read_lists}

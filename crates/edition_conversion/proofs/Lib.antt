@@ -1,2 +1,2 @@
-pub mod Converting
+pub mod Judging
 pub mod Undone

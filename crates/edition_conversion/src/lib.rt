@@ -1,19 +1,22 @@
-// A text converted from one edition into the other, on lent bytes. Paper 02, wish 13. It is judged first, as a reader of its own edition judges it;
-// then its lines are copied.
+// A text converted from one edition into the other, on lent bytes, under limits of the caller's. Paper 02, wishes 8 and 13: "A conversion reads under limits as
+// opening does". It is judged first, as a reader of its own edition judges it, onto two lent tables; then its lines are copied.
 #![tactic(auto)]
 
 ghost use Rattle.std.specs.Prelude.{length};
-ghost use Rattle.qbf.specs.Formula.{paper};
-ghost use Rattle.editions.specs.Converting.{fitted, to_tagged, to_untagged};
+ghost use Rattle.qbf.specs.Formula.{capped};
+ghost use Rattle.editions.specs.Converting.{fitted};
+ghost use Rattle.edition_reader.specs.declared.Edition.TheVariants.{First, Second};
 ghost use Rattle.edition_tags.specs.Appended.{text_to};
-ghost use Rattle.edition_conversion.specs.Converted.{conversion, ConvertedAs, WrittenAs};
+ghost use Rattle.edition_conversion.specs.Converted.{WrittenAs};
+ghost use Rattle.edition_conversion.specs.Converting.{WrittenUnder, ConvertedUnder, TaggedUnder, UntaggedUnder};
 
-use edition_opening::{Editions, read_editions};
+use edition_opening::{Editions, open};
 use edition_reader::Edition;
 use edition_tags::text::{Text, lost_line, put_text};
 use opening::NONE;
 use opening::text::{NO_LINE, RefusedAt, at};
 use refusal::Refusal;
+use state::parts::Limits;
 
 // No converted text is longer.
 const LONGEST: usize = reader::text::TEXT;
@@ -43,19 +46,47 @@ fn write(to: Edition, text: Text<'_>, table: &mut [u8]) -> Result<usize, Refused
 }
 
 // "Convert from 1 to 2 by tagging the rule forms 1, 2, 3 and so on": a text that was read is no longer than a text may be.
-fn write_tagged(text: &[u8], table: &mut [u8]) -> Result<usize, RefusedAt>
-    ensures { WrittenAs (to_tagged paper (length table.old) text.now) result table.new }
+fn write_tagged(
+    text: &[u8],
+    limits: Limits,
+    cells: &mut [u16],
+    literals: &mut [i16],
+    table: &mut [u8],
+) -> Result<usize, RefusedAt>
+    ensures { WrittenUnder
+        Second
+        (capped limits.numbers limits.clauses)
+        cells.old
+        literals.old
+        text.now
+        (length table.old)
+        result
+        table.new }
 {
-    read_editions(Editions::First, text)?;
+    open(Editions::First, text, limits, cells, literals)?;
     let read = Text { bytes: text };
     write(Edition::Second, read, table)
 }
 
 // "Convert from 2 to 1 only where the tags are those"; "a tag that would be lost in conversion is 40"
-fn write_untagged(text: &[u8], table: &mut [u8]) -> Result<usize, RefusedAt>
-    ensures { WrittenAs (to_untagged paper (length table.old) text.now) result table.new }
+fn write_untagged(
+    text: &[u8],
+    limits: Limits,
+    cells: &mut [u16],
+    literals: &mut [i16],
+    table: &mut [u8],
+) -> Result<usize, RefusedAt>
+    ensures { WrittenUnder
+        First
+        (capped limits.numbers limits.clauses)
+        cells.old
+        literals.old
+        text.now
+        (length table.old)
+        result
+        table.new }
 {
-    read_editions(Editions::Second, text)?;
+    open(Editions::Second, text, limits, cells, literals)?;
     let read = Text { bytes: text };
     if let Some(line) = lost_line(read) {
         return at(line, Err(Refusal::TagLost));
@@ -63,21 +94,53 @@ fn write_untagged(text: &[u8], table: &mut [u8]) -> Result<usize, RefusedAt>
     write(Edition::First, read, table)
 }
 
-// The length of the converted text, which stands in the first bytes of the table.
-pub fn convert(to: Edition, text: &[u8], table: &mut [u8]) -> Result<usize, RefusedAt>
-    ensures { WrittenAs (conversion to paper (length table.old) text.now) result table.new }
+// The length of the converted text, which stands in the first bytes of the table. What is left in the tables of the state is the book, or malformed.
+// stays (form): the two tables of a state are lent one by one, since no clause says what a struct of loans ends as
+pub fn convert(
+    to: Edition,
+    text: &[u8],
+    limits: Limits,
+    cells: &mut [u16],
+    literals: &mut [i16],
+    table: &mut [u8],
+) -> Result<usize, RefusedAt>
+    ensures { WrittenUnder
+        to
+        (capped limits.numbers limits.clauses)
+        cells.old
+        literals.old
+        text.now
+        (length table.old)
+        result
+        table.new }
 {
     match to {
-        Edition::First => write_untagged(text, table),
-        Edition::Second => write_tagged(text, table),
+        Edition::First => write_untagged(text, limits, cells, literals, table),
+        Edition::Second => write_tagged(text, limits, cells, literals, table),
     }
 }
 
 // "zeroes the rest of its table, all of it when refused"
-fn answer(to: Edition, text: &[u8], table: &mut [u8]) -> Converted
-    ensures { ConvertedAs (length table.old) (conversion to paper (length table.old) text.now) result table.new }
+// stays (form): the two tables of a state are lent one by one, since no clause says what a struct of loans ends as
+fn answer(
+    to: Edition,
+    text: &[u8],
+    limits: Limits,
+    cells: &mut [u16],
+    literals: &mut [i16],
+    table: &mut [u8],
+) -> Converted
+    ensures { ConvertedUnder
+        to
+        (capped limits.numbers limits.clauses)
+        cells.old
+        literals.old
+        text.now
+        (length table.old)
+        result
+        table.new }
 {
-    match convert(to, text, table) {
+    match convert(to, text, limits, cells, literals, table) {
         Ok(length) => {
             cover::clear(&mut table[length..]);
             Converted {
@@ -98,14 +161,40 @@ fn answer(to: Edition, text: &[u8], table: &mut [u8]) -> Converted
 }
 
 // stays (no plainer): this and `untag` are two public names of one call, each with its own clause, `to_tagged` and `to_untagged`.
-pub fn tag(text: &[u8], table: &mut [u8]) -> Converted
-    ensures { ConvertedAs (length table.old) (to_tagged paper (length table.old) text.now) result table.new }
+pub fn tag(
+    text: &[u8],
+    limits: Limits,
+    cells: &mut [u16],
+    literals: &mut [i16],
+    table: &mut [u8],
+) -> Converted
+    ensures { TaggedUnder
+        (capped limits.numbers limits.clauses)
+        cells.old
+        literals.old
+        text.now
+        (length table.old)
+        result
+        table.new }
 {
-    answer(Edition::Second, text, table)
+    answer(Edition::Second, text, limits, cells, literals, table)
 }
 
-pub fn untag(text: &[u8], table: &mut [u8]) -> Converted
-    ensures { ConvertedAs (length table.old) (to_untagged paper (length table.old) text.now) result table.new }
+pub fn untag(
+    text: &[u8],
+    limits: Limits,
+    cells: &mut [u16],
+    literals: &mut [i16],
+    table: &mut [u8],
+) -> Converted
+    ensures { UntaggedUnder
+        (capped limits.numbers limits.clauses)
+        cells.old
+        literals.old
+        text.now
+        (length table.old)
+        result
+        table.new }
 {
-    answer(Edition::First, text, table)
+    answer(Edition::First, text, limits, cells, literals, table)
 }

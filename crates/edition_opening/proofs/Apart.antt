@@ -1,41 +1,19 @@
--- No refusal of a text has the number 0, so that the number of what `open_editions` answers tells whether the text opens.
-use Prim.Native.Nat.{ℕ, zero, suc, ◌+◌}
-use native.Mathlib.Omega.{arith}
-use mathlib.Core.Path.{◌≡◌, refl}
+-- No refusal of a text of either edition has the number 0, so that a number tells whether the text opens.
+use Prim.Native.Nat.{ℕ, suc}
 use mathlib.Core.Bool.{Bool, true, false, cond, not, ◌||◌}
-use mathlib.Core.List.{List, [], ◌∷◌, ◌++◌}
+use mathlib.Core.List.{List, [], ◌∷◌}
 use mathlib.Core.Option.{Option, none, some}
 use lib.ListN.{length}
 use lib.Dec.{eqb, leb, ltb}
-use Rattle.qbf.specs.Formula.{Limits, paper, Quantifier, Prefix, Literal, Formula, number_of, any, place_of}
-use Rattle.qbf.specs.One.{one_count}
-use Rattle.qbf.specs.Calls.{given, literal_fault}
+use Rattle.qbf.specs.Formula.{Limits, Formula}
 use Rattle.layout.specs.Words.{Bytes, newline, split}
 use Rattle.layout.specs.Forms.{book, block, clause, end}
-use Rattle.layout.specs.Opening.{allowed, stage_after, variable, crowded, declare_fault, Opened, refused, opened, at_end, empty_formula, text_bytes}
+use Rattle.layout.specs.Opening.{allowed, stage_after, Opened, refused, at_end, empty_formula, text_bytes}
 use Rattle.serving.proofs.Numbered.{Numbered}
-use Rattle.opening.specs.declared.Opened.{Opened as Answer}
-use Rattle.opening.specs.Opened.{OpenedAs}
-use Rattle.opening.proofs.Numbered.{numbered_given, rule_numbered}
-use Rattle.opening.proofs.Apart.{NumberedText, fault_numbered}
+use Rattle.opening.proofs.Numbered.{numbered_given, rule_numbered, one_numbered}
+use Rattle.opening.proofs.Apart.{NumberedText, fault_numbered, declare_numbered, edition_given, end_numbered}
 use Rattle.editions.specs.Lines.{Line, says, tagged, one, line_of}
 use Rattle.editions.specs.Opening.{Editions, rank_of, tags_fit, said_fault, line_fault, with_line, edition_after, is_end, read_line, read_lines, read_editions, open_editions}
-
-declare_numbered : (L : Limits) (κ : Quantifier) (D : Prefix) (ns : List ℕ) → Numbered (declare_fault L κ D ns)
-declare_numbered L κ D [] = tt
-declare_numbered L κ D (n ∷ ns) =
-    numbered_given (eqb n 0 || ltb L.numbers n) 2 _
-    (numbered_given (not (eqb (place_of D n) 0)) 3 _ (numbered_given (crowded κ D) 32 _ (declare_numbered L κ (D ++ (variable κ n ∷ [])) ns)))
-
-literals_numbered : (L : Limits) (D : Prefix) (seen : List ℕ) (ls : List Literal) → Numbered (literal_fault L D seen ls)
-literals_numbered L D seen [] = tt
-literals_numbered L D seen (l ∷ ls) =
-    numbered_given (eqb (number_of l) 0 || ltb L.numbers (number_of l)) 2 _
-    (numbered_given (eqb (place_of D (number_of l)) 0) 4 _ (numbered_given (any (eqb (number_of l)) seen) 5 _ (literals_numbered L D (number_of l ∷ seen) ls)))
-
-edition_given : (t : Bool) → Numbered (given t 2)
-edition_given true = tt
-edition_given false = tt
 
 said_numbered : (a : Editions) (b : Formula) (f : Line) → Numbered (said_fault a b f)
 said_numbered a b (says (book e)) = edition_given (not (a e))
@@ -43,18 +21,10 @@ said_numbered a b (says (block κ ns)) = declare_numbered b.limits κ b.prefix n
 said_numbered a b (says (clause ls)) = rule_numbered b ls
 said_numbered a b (says end) = tt
 said_numbered a b (tagged k ls) = numbered_given (leb b.limits.clauses (length b.clauses)) 19 _ (numbered_given (eqb k 0 || ltb 65535 k) 38 _ (rule_numbered b ls))
-said_numbered a b (one ls) =
-    numbered_given (ltb (length ls) 2 || ltb b.limits.literals (length ls)) 6 _
-    (numbered_given (ltb b.limits.clauses (length b.clauses + one_count (length ls))) 19 _ (literals_numbered b.limits b.prefix [] ls))
+said_numbered a b (one ls) = one_numbered b ls
 
 line_numbered : (a : Editions) (e stage : ℕ) (b : Formula) (f : Line) → Numbered (line_fault a e stage b f)
 line_numbered a e stage b f = numbered_given (not (allowed stage (rank_of f))) 0 _ (numbered_given (not (tags_fit e f)) 0 _ (said_numbered a b f))
-
-end_numbered : (n : ℕ) (b : Formula) (ls : List Bytes) → NumberedText (at_end n b ls)
-end_numbered n b [] = tt
-end_numbered n b ([] ∷ []) = tt
-end_numbered n b ([] ∷ l ∷ ls) = tt
-end_numbered n b ((c ∷ l) ∷ ls) = tt
 
 lines_numbered : (a : Editions) (n e stage : ℕ) (b : Formula) (ls : List Bytes) → NumberedText (read_lines a n e stage b ls)
 unfolding read_lines
@@ -83,12 +53,3 @@ edition_numbered a L s = by (ltb text_bytes (length s))
     by : (t : Bool) → NumberedText (cond t (refused 9 0) (read_lines a 1 0 0 (empty_formula L) (split newline s)))
     by true = tt
     by false = lines_numbered a 1 0 0 (empty_formula L) (split newline s)
-
--- what has no number is an opened text
-pub edition_apart : (a : Editions) (s : Bytes) (r : Answer) → OpenedAs (open_editions a paper s) r → r.refusal ≡ 0 → (b : Formula) × (open_editions a paper s ≡ opened b)
-edition_apart a s r told h = by (open_editions a paper s) refl told (edition_numbered a paper s)
-  where
-    by : (o : Opened) → open_editions a paper s ≡ o → OpenedAs o r → NumberedText o → (b : Formula) × (open_editions a paper s ≡ opened b)
-    by (refused zero k) i t n = absurd n
-    by (refused (suc m) k) i (e, l, x) n = absurd (omega (arith, e, h))
-    by (opened b) i t n = (b, i)

@@ -1,7 +1,5 @@
 pub mod Taking
-pub mod Judged
-pub mod Adding
 pub mod Lines
 pub mod Turns
+pub mod Served
 pub mod Apart
-pub mod Books

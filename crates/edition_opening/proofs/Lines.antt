@@ -1,63 +1,90 @@
 -- A line by what was read of it: it is judged by the items that the table keeps.
-use Prim.Native.Nat.{ℕ, suc, min}
+use Prim.Native.Nat.{ℕ, suc, ◌≤◌, ◌<◌, min}
 use mathlib.Core.Path.{◌≡◌, refl, sym, ap, subst, ◌∙◌}
-use mathlib.Core.List.{List, [], ◌∷◌}
-use mathlib.Core.Option.{Option, some}
-use lib.IntN.{ℤ, pos}
-use lib.ListN.{length, get_or, take}
+use mathlib.Core.List.{List, [], map}
+use mathlib.Core.Option.{Option, none, some}
 use native.Mathlib.Omega.{arith}
-use Rattle.qbf.specs.Formula.{paper, number_of}
-use Rattle.state.specs.Reading.{formula_in}
-use Rattle.layout.specs.Forms.{book, block, clause}
-use Rattle.reader.specs.Items.{narrow, Kept}
-use Rattle.reader.proofs.Judged.{rule_cut, rule_cut_same}
-use Rattle.editions.specs.Lines.{says}
-use Rattle.editions.specs.Lines as form
-use Rattle.edition_reader.specs.Lines.{LineIs}
-use Rattle.edition_reader.specs.declared.line.Line.TheVariants as line
+use native.Mathlib.Decide.{dec_lt}
+use lib.IntN.{ℤ, pos}
+use lib.ListN.{length, get_or, take, length-map, length-take}
 use Rattle.std.specs.Prelude.{Result}
 use Rattle.refusal.specs.declared.Refusal.{Refusal}
-use Rattle.opening.specs.declared.book.Book.{Book}
+use Rattle.qbf.specs.Formula.{highest, Literal, Formula, number_of}
+use Rattle.qbf.specs.Calls.{one_fault}
+use Rattle.theory.proofs.OneAdded.{twenty}
+use Rattle.layout.specs.Forms.{book, block, clause}
+use Rattle.reader.specs.Items.{narrow, narrowed, Kept}
+use Rattle.reader.proofs.Judged.{literals_judged_under, literals_same_under, kept_all, cut_same, rule_cut_under, rule_cut_same_under}
+use Rattle.editions.specs.Lines.{says}
+use Rattle.editions.specs.Lines as form
+use Rattle.editions_laws.proofs.One.{one_judged, one_long}
+use Rattle.edition_reader.specs.Lines.{LineIs}
+use Rattle.edition_reader.specs.declared.line.Line.TheVariants as line
 use Rattle.opening.specs.Stages.{rank_of}
-use Rattle.opening.specs.Opened.{BlockTook}
-use Rattle.opening.proofs.Judging as own
-use Rattle.edition_opening.specs.declared.book.EditionBook.{EditionBook}
+use Rattle.opening.specs.declared.book.Book.{Book}
+use Rattle.opening.specs.Standing.{formula_at}
+use Rattle.opening.specs.Forms.{BlockTookAt}
+use Rattle.opening.proofs.Judging as first
 use Rattle.edition_opening.specs.Editions.{accepted, edition_of}
-use Rattle.edition_opening.specs.Lines.{kept_with, TookOn, Took, PlainTook, TaggedTook, OneTook}
-use Rattle.edition_opening.proofs.Taking.{block_kept}
-use Rattle.edition_opening.proofs.Judged.{one_cut, one_cut_same}
+use Rattle.edition_opening.specs.declared.book.EditionBook.{EditionBook}
+use Rattle.edition_opening.specs.Lines.{kept_with, TookOnAt, TookAt, PlainTookAt, TaggedTookAt, OneTookAt, edition_stands}
+use Rattle.edition_opening.proofs.Taking.{form_kept}
 
--- the first item of a table that keeps one
-first_kept : (out : List ℤ) (e : ℕ) → length out ≡ suc paper.numbers → Kept 1 out (pos e ∷ []) → get_or out 0 (pos 0) ≡ pos (narrow e)
-first_kept [] e room k = absurd (omega (arith, room))
-first_kept (z ∷ out) e room k = ap (λ (l : List ℤ). get_or l 0 (pos 0)) k.first
+-- ---- an exactly-one form
+module _ (b : Formula) (low : b.limits.numbers ≤ highest.numbers) (n : ℕ) (out : List ℤ) (ls : List Literal) (k : Kept n out ls) (wide : b.limits.literals < length out) where
+  judged : one_fault b (map narrowed ls) ≡ one_fault b ls
+  judged = one_judged b (map narrowed ls) ls (length-map ls narrowed) (literals_judged_under b.limits low b.prefix [] ls)
 
-abbrev pub TookHere : EditionBook → Option form.Line → Result EditionBook Refusal → Type 0
-TookHere z o r = Took (accepted z.accepts) (edition_of z.edition) (rank_of z.book.stage) (formula_in z.book.state) o r
+  one_cut : one_fault b (take (min n (length out)) out) ≡ one_fault b ls
+  one_cut = by (dec_lt (length out) n)
+    where
+      by : Dec (length out < n) → one_fault b (take (min n (length out)) out) ≡ one_fault b ls
+      by (no h) = ap (one_fault b) (cut_same n (length out) out refl ∙ kept_all n out ls k (omega (arith, h))) ∙ judged
+      by (yes h) =
+          one_long b (take (min n (length out)) out) (omega (arith, h, wide, length-take (min n (length out)) out))
+          ∙ sym (one_long b ls (omega (arith, h, wide, k.count)))
 
-module _ (z : EditionBook) {o : Option form.Line} where
-  line_some : (r : Result EditionBook Refusal) (f : form.Line) → o ≡ some f → TookOn z f r → TookHere z o r
-  line_some r f q h = subst (λ (p : Option form.Line). Took (accepted z.accepts) (edition_of z.edition) (rank_of z.book.stage) (formula_in z.book.state) p r) (sym q) h
+  one_cut_same : one_fault b ls ≡ none → take (min n (length out)) out ≡ ls
+  one_cut_same e = by (dec_lt (length out) n)
+    where
+      by : Dec (length out < n) → take (min n (length out)) out ≡ ls
+      by (no h) = cut_same n (length out) out refl ∙ kept_all n out ls k (omega (arith, h)) ∙ literals_same_under b.limits low b.prefix [] ls (twenty b ls e).1
+      by (yes h) = absurd (let z : some 7 ≡ none = sym (one_long b ls (omega (arith, h, wide, k.count))) ∙ e in let y : ◌≡◌ {A = ℕ} 0 1 = cc in omega (arith, y))
 
-  module _ (out : List ℤ) (room : length out ≡ suc paper.numbers) where
-    pub line_book : (r : Result EditionBook Refusal) → LineIs o line.Book out → {i : ℤ} → i ≡ get_or out 0 (pos 0) → {m : ℕ} → m ≡ number_of i → ((n : ℕ) → m ≡ narrow n → TookOn z (says (book n)) r) → TookHere z o r
-    line_book r (n, h, k) p q w = line_some r (says (book n)) h (w n (q ∙ ap number_of (p ∙ first_kept out n room k)))
+-- ---- lines
+module _ (z : EditionBook) {cells : List ℕ} {literals : List ℤ} (s : edition_stands z cells literals) (o : Option form.Line) where
+  abbrev b : Formula
+  b = formula_at cells literals
 
-    pub line_block : (t : Result Book Refusal) (κ n : ℕ) {m : ℕ} → m ≡ min n (suc paper.numbers) → LineIs o (line.Block κ n) out → BlockTook (rank_of z.book.stage) z.book.state κ (take m out) t → TookHere z o (kept_with z t)
-    line_block t κ n p (q, c, (ns, h, k)) w =
-        line_some (kept_with z t) (says (block q ns)) h (block_kept z (block q ns) t (own.line_block z.book.stands {o = some (block q ns)} {out = out} {r = t} room κ n p (q, c, (ns, refl, k)) w) refl refl)
+  abbrev TookHere : Option form.Line → Result EditionBook Refusal → List ℕ → List ℤ → Type 0
+  TookHere p r cells' literals' = TookAt (accepted z.accepts) (edition_of z.edition) (rank_of z.book.stage) b p r cells' literals'
 
-    pub line_rule : (r : Result EditionBook Refusal) (n : ℕ) {m : ℕ} → m ≡ min n (suc paper.numbers) → LineIs o (line.Rule n) out → PlainTook z (take m out) r → TookHere z o r
-    line_rule r n p (ls, h, k) w =
-        line_some r (says (clause ls)) h
-        (subst (λ (m : ℕ). PlainTook z (take m out) r) p w ls (rule_cut (formula_in z.book.state) refl n out ls room k) (rule_cut_same (formula_in z.book.state) refl n out ls room k))
+  line_some : (r : Result EditionBook Refusal) (f : form.Line) (cells' : List ℕ) (literals' : List ℤ) → o ≡ some f → TookOnAt z b f r cells' literals' → TookHere o r cells' literals'
+  line_some r f cells' literals' q h = subst (λ (p : Option form.Line). TookHere p r cells' literals') (sym q) h
 
-    pub line_tagged : (r : Result EditionBook Refusal) (j n : ℕ) {m : ℕ} → m ≡ min n (suc paper.numbers) → LineIs o (line.Tagged j n) out → TaggedTook z j (take m out) r → TookHere z o r
-    line_tagged r j n p (ls, h, k) w =
-        line_some r (form.tagged j ls) h
-        (subst (λ (m : ℕ). TaggedTook z j (take m out) r) p w ls (rule_cut (formula_in z.book.state) refl n out ls room k) (rule_cut_same (formula_in z.book.state) refl n out ls room k))
+  module _ (out : List ℤ) (room : length out ≡ suc highest.numbers) where
+    wide : b.limits.literals < length out
+    wide = omega (arith, room)
 
-    pub line_one : (r : Result EditionBook Refusal) (n : ℕ) {m : ℕ} → m ≡ min n (suc paper.numbers) → LineIs o (line.One n) out → OneTook z (take m out) r → TookHere z o r
-    line_one r n p (ls, h, k) w =
-        line_some r (form.one ls) h
-        (subst (λ (m : ℕ). OneTook z (take m out) r) p w ls (one_cut (formula_in z.book.state) refl n out ls room k) (one_cut_same (formula_in z.book.state) refl n out ls room k))
+    pub line_book : (r : Result EditionBook Refusal) (cells' : List ℕ) (literals' : List ℤ) → LineIs o line.Book out → {i : ℤ} → i ≡ get_or out 0 (pos 0) → {m : ℕ} → m ≡ number_of i → ((n : ℕ) → m ≡ narrow n → TookOnAt z b (says (book n)) r cells' literals') → TookHere o r cells' literals'
+    line_book r cells' literals' (n, h, k) p q w = line_some r (says (book n)) cells' literals' h (w n (q ∙ ap number_of (p ∙ first.first_kept out n room k)))
+
+    pub line_block : (t : Result Book Refusal) (κ n : ℕ) (cells' : List ℕ) (literals' : List ℤ) {lits : List ℤ} → lits ≡ take (min n (length out)) out → LineIs o (line.Block κ n) out → BlockTookAt (rank_of z.book.stage) b κ lits t cells' literals' → TookHere o (kept_with z t) cells' literals'
+    line_block t κ n cells' literals' p (q, c, (ns, h, k)) w =
+        line_some (kept_with z t) (says (block q ns)) cells' literals' h
+        (form_kept z b (block q ns) t cells' literals' (first.line_block s {o = some (block q ns)} {out = out} {r = t} room κ n p (q, c, (ns, refl, k)) w) refl refl)
+
+    pub line_rule : (r : Result EditionBook Refusal) (n : ℕ) (cells' : List ℕ) (literals' : List ℤ) {lits : List ℤ} → lits ≡ take (min n (length out)) out → LineIs o (line.Rule n) out → PlainTookAt z b lits r cells' literals' → TookHere o r cells' literals'
+    line_rule r n cells' literals' p (ls, h, k) w =
+        line_some r (says (clause ls)) cells' literals' h
+        (subst (λ (l : List ℤ). PlainTookAt z b l r cells' literals') p w ls (rule_cut_under b (first.few_numbers s) n out ls k refl wide) (rule_cut_same_under b (first.few_numbers s) n out ls k refl wide))
+
+    pub line_tagged : (r : Result EditionBook Refusal) (j n : ℕ) (cells' : List ℕ) (literals' : List ℤ) {lits : List ℤ} → lits ≡ take (min n (length out)) out → LineIs o (line.Tagged j n) out → TaggedTookAt z b j lits r cells' literals' → TookHere o r cells' literals'
+    line_tagged r j n cells' literals' p (ls, h, k) w =
+        line_some r (form.tagged j ls) cells' literals' h
+        (subst (λ (l : List ℤ). TaggedTookAt z b j l r cells' literals') p w ls (rule_cut_under b (first.few_numbers s) n out ls k refl wide) (rule_cut_same_under b (first.few_numbers s) n out ls k refl wide))
+
+    pub line_one : (r : Result EditionBook Refusal) (n : ℕ) (cells' : List ℕ) (literals' : List ℤ) {lits : List ℤ} → lits ≡ take (min n (length out)) out → LineIs o (line.One n) out → OneTookAt z b lits r cells' literals' → TookHere o r cells' literals'
+    line_one r n cells' literals' p (ls, h, k) w =
+        line_some r (form.one ls) cells' literals' h
+        (subst (λ (l : List ℤ). OneTookAt z b l r cells' literals') p w ls (one_cut b (first.few_numbers s) n out ls k wide) (one_cut_same b (first.few_numbers s) n out ls k wide))

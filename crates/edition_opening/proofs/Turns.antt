@@ -4,37 +4,47 @@ use mathlib.Core.Path.{◌≡◌, refl, sym, ap, subst, ◌∙◌}
 use mathlib.Core.Bool.{Bool, true, false, cond, not}
 use mathlib.Core.List.{List, [], ◌∷◌}
 use mathlib.Core.Option.{Option, none, some}
-use borrow.Author.Tests.{ne_eqb}
+use borrow.Author.Tests.{eq-eqb, ne_eqb}
 use lib.Dec.{eqb}
+use lib.IntN.{ℤ}
 use Rattle.std.specs.Prelude.{Result, Ok, Err}
-use Rattle.qbf.specs.Formula.{free, exists, forall, Formula, paper}
-use Rattle.state.specs.declared.State.{State}
-use Rattle.state.specs.Reading.{formula_in}
+use Rattle.qbf.specs.Formula.{Limits, free, exists, forall, Formula}
+use Rattle.qbf.specs.Calls.{limits_are_ok}
 use Rattle.refusal.specs.declared.Refusal.{Refusal}
 use Rattle.refusal.specs.declared.Refusal.TheVariants.{NotInLayout}
 use Rattle.refusal.specs.Refusal.{number_of}
+use Rattle.state_parts.specs.declared.limits.Layout.{Layout}
+use Rattle.state_parts.specs.Layout.{limits_in}
+use Rattle.state_parts.specs.Initial.{empty_under}
+use Rattle.state_parts.specs.Parts.{read_at}
 use Rattle.layout.specs.Words.{Bytes, newline, split}
 use Rattle.layout.specs.Forms.{book, block, clause, end}
-use Rattle.layout.specs.Opening.{stage_after, Opened, refused, refused_or, at_end}
+use Rattle.layout.specs.Opening.{stage_after, Opened, refused, refused_or, at_end, empty_formula}
 use Rattle.layout.specs.Opening as own
 use Rattle.editions.specs.Lines.{Line, says, tagged, one, line_of}
 use Rattle.editions.specs.Opening.{Editions, rank_of, with_line, edition_after, is_end, read_line, read_lines, read_editions, open_editions}
-use Rattle.opening.specs.Lines.{Takes, Ends, ReadAs, within_text}
+use Rattle.opening.specs.Lines.{within_text, TakesAt, EndsAt, ReadAt}
 use Rattle.opening.specs.Stages as stage_ranks
-use Rattle.opening.specs.Opened.{book_opens}
 use denote.Enum.Bare.{sameb}
 use Rattle.opening.specs.contracts.stage.Stage.{the_type}
 use Rattle.opening.specs.declared.stage.Stage.TheVariants as stages
-use Rattle.opening.proofs.Turns.{empty_formed, not_end}
+use Rattle.opening.proofs.Turns.{not_end, first_stands, is_end_stage}
+use Rattle.opening.specs.Standing.{formula_at}
+use Rattle.opening.specs.Forms.{book_opens_at}
+use Rattle.opening.proofs.Laws.{formula_is}
 use Rattle.edition_opening.specs.declared.Editions.{Editions as Accepts}
-use Rattle.edition_opening.specs.declared.book.EditionBook.{EditionBook}
 use Rattle.edition_opening.specs.Editions.{accepted, edition_of}
-use Rattle.edition_opening.specs.Lines.{Begun, Took, lines_open, edition_opens}
+use Rattle.edition_opening.specs.Lines.{lines_open, BegunAt, TookAt, edition_stands, edition_opens_at}
+use Rattle.edition_opening.specs.declared.book.EditionBook.{EditionBook}
 
 -- ---- before the first line
-pub begun_opens : {a : Accepts} {z : EditionBook} → Begun a z → (s : Bytes) → within_text s (edition_opens z 1 (split newline s)) ≡ open_editions (accepted a) paper s
-unfolding open_editions read_editions
-begun_opens e s = rw (e.accepts, e.edition, e.empty.first, empty_formed e.empty)
+module _ {a : Accepts} {l : Layout} {z : EditionBook} (g : BegunAt a l z) {L : Limits} (under : limits_in l ≡ L) (low : limits_are_ok L ≡ true) (cells : List ℕ) (literals : List ℤ) (e : read_at cells literals ≡ some (empty_under L)) where
+  pub begun_stands : edition_stands z cells literals
+  begun_stands = first_stands z.book g.first (g.limits ∙ under) low cells literals e
+
+  pub begun_opens : (s : Bytes) → within_text s (edition_opens_at z cells literals 1 (split newline s)) ≡ open_editions (accepted a) L s
+  unfolding open_editions read_editions
+  begun_opens s = rw (g.accepts, g.edition, g.first, formula_is cells literals (empty_formula L) e)
 
 -- ---- one line
 -- the rank of a line is the end's where its stage is
@@ -52,7 +62,7 @@ end_same (one ls) = refl
 onward : Editions → ℕ → ℕ → Bytes → List Bytes → Line → Formula → Opened
 onward a e n m ls f b = cond (is_end f) (at_end (suc n) b (m ∷ ls)) (read_lines a (suc n) (edition_after e f) (stage_after (rank_of f)) b (m ∷ ls))
 
-module _ (z : EditionBook) (going : stage_ranks.rank_of z.book.stage ≡ 4 → ⊥) (l : Bytes) where
+module _ (z : EditionBook) (cells : List ℕ) (literals : List ℤ) where
   abbrev a : Editions
   a = accepted z.accepts
 
@@ -60,50 +70,58 @@ module _ (z : EditionBook) (going : stage_ranks.rank_of z.book.stage ≡ 4 → �
   e = edition_of z.edition
 
   abbrev b : Formula
-  b = formula_in z.book.state
+  b = formula_at cells literals
 
-  line_opens : (n : ℕ) (m : Bytes) (ls : List Bytes) → edition_opens z n (l ∷ m ∷ ls) ≡ read_line a n e (stage_ranks.rank_of z.book.stage) b (line_of l) (onward a e n m ls)
-  unfolding read_lines onward
-  line_opens n m ls = rw (ne_eqb (stage_ranks.rank_of z.book.stage) 4 going)
+  module _ (going : stage_ranks.rank_of z.book.stage ≡ 4 → ⊥) (l : Bytes) where
+    line_opens : (n : ℕ) (m : Bytes) (ls : List Bytes) → edition_opens_at z cells literals n (l ∷ m ∷ ls) ≡ read_line a n e (stage_ranks.rank_of z.book.stage) b (line_of l) (onward a e n m ls)
+    unfolding read_lines onward
+    line_opens n m ls = rw (ne_eqb (stage_ranks.rank_of z.book.stage) 4 going)
 
-  pub line_takes : (r : Result EditionBook Refusal) → Took a e (stage_ranks.rank_of z.book.stage) b (line_of l) r → Takes edition_opens z l r
-  unfolding onward
-  line_takes r w = by (line_of l) refl r w
-    where
-      by : (o : Option Line) → line_of l ≡ o → (r : Result EditionBook Refusal) → Took a e (stage_ranks.rank_of z.book.stage) b o r → Takes edition_opens z l r
-      by none i (Ok y) w = cc
-      by none i (Err q) w = λ n m ls.
-          line_opens n m ls ∙ ap (λ (o : Option Line). read_line a n e (stage_ranks.rank_of z.book.stage) b o (onward a e n m ls)) i ∙ ap (λ (k : Refusal). refused (number_of k) n) (let v : NotInLayout ≡ q = cc in v)
-      by (some f) i (Err q) w = λ n m ls.
-          line_opens n m ls ∙ ap (λ (o : Option Line). read_line a n e (stage_ranks.rank_of z.book.stage) b o (onward a e n m ls)) i
-          ∙ ap (λ (o : Option ℕ). refused_or n o (onward a e n m ls f (with_line b f))) w.fault
-      by (some f) i (Ok y) w =
+    line_takes : (r : Result EditionBook Refusal) (cells' : List ℕ) (literals' : List ℤ) → TookAt a e (stage_ranks.rank_of z.book.stage) b (line_of l) r cells' literals' → TakesAt edition_stands edition_opens_at z cells literals l r cells' literals'
+    unfolding onward
+    line_takes r cells' literals' w = by (line_of l) refl r w
+      where
+        by : (o : Option Line) → line_of l ≡ o → (r : Result EditionBook Refusal) → TookAt a e (stage_ranks.rank_of z.book.stage) b o r cells' literals' → TakesAt edition_stands edition_opens_at z cells literals l r cells' literals'
+        by none i (Ok y) w = cc
+        by none i (Err q) w = λ n m ls.
+            line_opens n m ls ∙ ap (λ (o : Option Line). read_line a n e (stage_ranks.rank_of z.book.stage) b o (onward a e n m ls)) i ∙ ap (λ (k : Refusal). refused (number_of k) n) (let v : NotInLayout ≡ q = cc in v)
+        by (some f) i (Err q) w = λ n m ls.
+            line_opens n m ls ∙ ap (λ (o : Option Line). read_line a n e (stage_ranks.rank_of z.book.stage) b o (onward a e n m ls)) i
+            ∙ ap (λ (o : Option ℕ). refused_or n o (onward a e n m ls f (with_line b f))) w.fault
+        by (some f) i (Ok y) w = (
+          w.advanced.stands,
           λ n m ls.
-          line_opens n m ls ∙ ap (λ (o : Option Line). read_line a n e (stage_ranks.rank_of z.book.stage) b o (onward a e n m ls)) i
-          ∙ ap (λ (o : Option ℕ). refused_or n o (onward a e n m ls f (with_line b f))) w.fault
-          ∙ ap (onward a e n m ls f) (sym w.advanced.formula)
-          ∙ ap (λ (t : Bool). cond t (at_end (suc n) (formula_in y.book.state) (m ∷ ls)) (read_lines a (suc n) (edition_after e f) (stage_after (rank_of f)) (formula_in y.book.state) (m ∷ ls))) (end_same f)
-          ∙ ap (λ (k : ℕ). lines_open a (edition_after e f) k (formula_in y.book.state) (suc n) (m ∷ ls)) (sym w.advanced.stage)
-          ∙ ap (λ (k : ℕ). lines_open a k (stage_ranks.rank_of y.book.stage) (formula_in y.book.state) (suc n) (m ∷ ls)) (sym w.advanced.edition)
-          ∙ ap (λ (k : Editions). lines_open k (edition_of y.edition) (stage_ranks.rank_of y.book.stage) (formula_in y.book.state) (suc n) (m ∷ ls)) (sym w.advanced.accepts)
+              line_opens n m ls ∙ ap (λ (o : Option Line). read_line a n e (stage_ranks.rank_of z.book.stage) b o (onward a e n m ls)) i
+              ∙ ap (λ (o : Option ℕ). refused_or n o (onward a e n m ls f (with_line b f))) w.fault
+              ∙ ap (onward a e n m ls f) (sym w.advanced.formula)
+              ∙ ap (λ (t : Bool). cond t (at_end (suc n) (formula_at cells' literals') (m ∷ ls)) (read_lines a (suc n) (edition_after e f) (stage_after (rank_of f)) (formula_at cells' literals') (m ∷ ls))) (end_same f)
+              ∙ ap (λ (k : ℕ). lines_open a (edition_after e f) k (formula_at cells' literals') (suc n) (m ∷ ls)) (sym w.advanced.stage)
+              ∙ ap (λ (k : ℕ). lines_open a k (stage_ranks.rank_of y.book.stage) (formula_at cells' literals') (suc n) (m ∷ ls)) (sym w.advanced.edition)
+              ∙ ap (λ (k : Editions). lines_open k (edition_of y.edition) (stage_ranks.rank_of y.book.stage) (formula_at cells' literals') (suc n) (m ∷ ls)) (sym w.advanced.accepts),
+        )
 
--- ---- the end
-module _ (z : EditionBook) where
+  -- after the end's line nothing may stand
+  over_takes : stage_ranks.rank_of z.book.stage ≡ 4 → (l : Bytes) (cells' : List ℕ) (literals' : List ℤ) → TakesAt edition_stands edition_opens_at z cells literals l (Err NotInLayout) cells' literals'
+  over_takes k [] cells' literals' = λ n m ls. rw (eq-eqb (stage_ranks.rank_of z.book.stage) 4 k)
+  over_takes k (c ∷ l) cells' literals' = λ n m ls. rw (eq-eqb (stage_ranks.rank_of z.book.stage) 4 k)
+
   -- a line is missing, or the book is whole, in either edition alike
-  pub same_end : (n : ℕ) → edition_opens z n ([] ∷ []) ≡ book_opens z.book n ([] ∷ [])
+  same_end : (n : ℕ) → edition_opens_at z cells literals n ([] ∷ []) ≡ book_opens_at z.book cells literals n ([] ∷ [])
   unfolding read_lines own.read_lines
   same_end n = by (eqb (stage_ranks.rank_of z.book.stage) 4)
     where
-      by : (t : Bool) → cond t (at_end n (formula_in z.book.state) ([] ∷ [])) (read_lines (accepted z.accepts) n (edition_of z.edition) (stage_ranks.rank_of z.book.stage) (formula_in z.book.state) ([] ∷ []))
-          ≡ cond t (at_end n (formula_in z.book.state) ([] ∷ [])) (own.read_lines n (stage_ranks.rank_of z.book.stage) (formula_in z.book.state) ([] ∷ []))
+      by : (t : Bool) → cond t (at_end n b ([] ∷ [])) (read_lines a n e (stage_ranks.rank_of z.book.stage) b ([] ∷ []))
+          ≡ cond t (at_end n b ([] ∷ [])) (own.read_lines n (stage_ranks.rank_of z.book.stage) b ([] ∷ []))
       by true = refl
       by false = refl
 
-  pub ended : (r : Result State Refusal) → Ends (book_opens z.book) r → Ends (edition_opens z) r
-  ended (Ok x) w = λ n. subst (λ (o : Opened). ReadAs o (Ok x)) (sym (same_end n)) (w n)
-  ended (Err q) w = λ n. same_end n ∙ w n
+  pub ended_at : (r : Result (Unit {0}) Refusal) → EndsAt (book_opens_at z.book cells literals) cells literals r → EndsAt (edition_opens_at z cells literals) cells literals r
+  ended_at (Ok u) w = λ n. subst (λ (o : Opened). ReadAt o (Ok u) cells literals) (sym (same_end n)) (w n)
+  ended_at (Err q) w = λ n. same_end n ∙ w n
 
--- ---- by the test of the stage
-pub told_takes : (z : EditionBook) {t : Bool} → t ≡ sameb the_type z.book.stage stages.End → t ≡ false → (l : Bytes) (r : Result EditionBook Refusal)
-    → Took (accepted z.accepts) (edition_of z.edition) (stage_ranks.rank_of z.book.stage) (formula_in z.book.state) (line_of l) r → Takes edition_opens z l r
-told_takes z p q = line_takes z (not_end z.book.stage refl (sym (ap not p) ∙ ap not q))
+  -- ---- by the test of the stage
+  pub told_over : {t : Bool} → t ≡ sameb the_type z.book.stage stages.End → t ≡ true → (l : Bytes) (cells' : List ℕ) (literals' : List ℤ) → TakesAt edition_stands edition_opens_at z cells literals l (Err NotInLayout) cells' literals'
+  told_over p q = over_takes (is_end_stage z.book.stage (sym p ∙ q))
+
+  pub told_takes : {t : Bool} → t ≡ sameb the_type z.book.stage stages.End → t ≡ false → (l : Bytes) (r : Result EditionBook Refusal) (cells' : List ℕ) (literals' : List ℤ) → TookAt a e (stage_ranks.rank_of z.book.stage) b (line_of l) r cells' literals' → TakesAt edition_stands edition_opens_at z cells literals l r cells' literals'
+  told_takes p q = line_takes (not_end z.book.stage refl (sym (ap not p) ∙ ap not q))

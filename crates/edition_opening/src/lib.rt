@@ -1,22 +1,22 @@
-// Opening a text of either edition: the state that its lines build, or the refusal with its line. Paper 02, wishes 10 and 13.
+// Opening a text of either edition onto the two lent tables of a state, under limits of its own. Paper 02, wishes 8, 10 and 13.
 #![tactic(auto)]
 
 ghost use Rattle.std.specs.Prelude.{◌≡◌};
-ghost use Rattle.qbf.specs.Formula.{paper};
+ghost use Rattle.qbf.specs.Formula.{capped};
 ghost use Rattle.editions.specs.Opening.{open_editions};
-ghost use Rattle.opening.specs.Lines.{ReadAs};
-ghost use Rattle.opening.specs.Opened.{OpenedAs};
 ghost use Rattle.edition_opening.specs.Editions.{accepted, number_of, EditionRead};
-
-use book::EditionBook;
-use edition_reader::Edition;
-use opening::Opened;
-use opening::text::{RefusedAt, read_text};
-use refusal::Refusal;
-use state::State;
+ghost use Rattle.opening.specs.Opened.{OpenedAt};
 
 mod book;
 pub mod rule;
+
+use book::EditionBook;
+use edition_reader::Edition;
+use opening::TOO_SHORT;
+use opening::prepared::{closed, prepare};
+use opening::text::{RefusedAt, read_text};
+use refusal::Refusal;
+use state::parts::Limits;
 
 // The editions that a reader takes.
 #[derive(Clone, Copy)]
@@ -55,14 +55,26 @@ impl Editions {
     }
 }
 
-pub fn read_editions(accepts: Editions, text: &[u8]) -> Result<State, RefusedAt>
-    ensures { ReadAs (open_editions (accepted accepts) paper text.now) result }
+// Where the text is refused what stands in the tables is malformed.
+pub fn open(
+    accepts: Editions,
+    text: &[u8],
+    limits: Limits,
+    cells: &mut [u16],
+    literals: &mut [i16],
+) -> Result<(), RefusedAt>
+    ensures { OpenedAt
+        (capped limits.numbers limits.clauses)
+        (open_editions (accepted accepts) (capped limits.numbers limits.clauses) text.now)
+        cells.old
+        literals.old
+        result
+        cells.new
+        literals.new }
 {
-    read_text(EditionBook::empty(accepts), text)
-}
-
-pub fn open_editions(a: Editions, text: &[u8]) -> Opened
-    ensures { OpenedAs (open_editions (accepted a) paper text.now) result }
-{
-    Opened::from(read_editions(a, text))
+    let Some(layout) = prepare(limits, cells, literals) else {
+        return Err(TOO_SHORT);
+    };
+    let read = read_text(EditionBook::first(accepts, layout), text, cells, literals);
+    closed(cells, read)
 }

@@ -17,7 +17,7 @@ use Rattle.opening.specs.declared.text.RefusedAt.{RefusedAt}
 use Rattle.edition_reader.specs.declared.Edition.{Edition}
 use Rattle.edition_reader.specs.declared.Edition.TheVariants.{First, Second}
 use Rattle.edition_conversion.specs.Converted.{conversion, WrittenAs}
-use Rattle.edition_conversion_at.specs.Converting.{WrittenUnder}
+use Rattle.edition_conversion.specs.Converting.{WrittenUnder}
 use Rattle.edition_printer.specs.Printing.{ConversionWritten, converted_text, converting_program, tag_program, untag_program}
 
 -- a table at whose start a text stands, after one of its size

@@ -5,7 +5,7 @@ ghost use Rattle.qbf.specs.Formula.{capped};
 ghost use Rattle.edition_printer.specs.Printing.{ConversionWritten, TaggedWritten, UntaggedWritten};
 
 use answer_text::refused::write_refusal;
-use edition_conversion_at::convert;
+use edition_conversion::convert;
 use edition_reader::Edition;
 use state::parts::Limits;
 

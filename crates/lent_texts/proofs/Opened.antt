@@ -8,7 +8,7 @@ use Rattle.qbf.specs.Formula.{Limits}
 use Rattle.layout.specs.Opening.{Opened, refused}
 use Rattle.state_parts.specs.Parts.{Whole}
 use Rattle.opening.specs.declared.text.RefusedAt.{RefusedAt}
-use Rattle.opening_at.specs.Opened.{AnsweredAt, OpenedAt}
+use Rattle.opening.specs.Opened.{AnsweredAt, OpenedAt}
 use Rattle.lent_texts.specs.Whole.{IfWhole}
 
 module _ {L : Limits} {o : Opened} {cells : List ℕ} {literals : List ℤ} {r : Result (Unit {0}) RefusedAt} {cells' : List ℕ} {literals' : List ℤ} (a : OpenedAt L o cells literals r cells' literals') where

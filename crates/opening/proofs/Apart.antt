@@ -1,37 +1,25 @@
--- No refusal of a text has the number 0, so that the number of what `open_text` answers tells whether the text opens.
+-- No refusal of a text has the number 0, so that a number tells whether the text opens: what the editions share.
 use Prim.Native.Nat.{ℕ, zero, suc}
-use native.Mathlib.Omega.{arith}
-use mathlib.Core.Path.{◌≡◌, refl}
-use mathlib.Core.Bool.{Bool, true, false, cond, not, ◌||◌}
+use mathlib.Core.Bool.{Bool, true, false, not, ◌||◌}
 use mathlib.Core.List.{List, [], ◌∷◌, ◌++◌}
 use mathlib.Core.Option.{Option, none, some}
-use lib.ListN.{length}
 use lib.Dec.{eqb, ltb}
-use Rattle.qbf.specs.Formula.{Limits, paper, Quantifier, Prefix, Formula, place_of}
+use Rattle.qbf.specs.Formula.{Limits, Quantifier, Prefix, Formula, place_of}
 use Rattle.qbf.specs.Calls.{given}
-use Rattle.layout.specs.Words.{Bytes, newline, split}
-use Rattle.layout.specs.Forms.{Form, book, block, clause, end, form_of}
-use Rattle.layout.specs.Opening.{rank, allowed, stage_after, variable, crowded, declare_fault, form_fault, line_fault, with_form, Opened, refused, opened, refused_or, read_line, at_end, is_end, read_lines, empty_formula, open_text, text_bytes}
+use Rattle.layout.specs.Words.{Bytes}
+use Rattle.layout.specs.Opening.{variable, crowded, declare_fault, Opened, refused, opened, refused_or, at_end}
 use Rattle.serving.proofs.Numbered.{Numbered}
-use Rattle.opening.specs.declared.Opened.{Opened as Answer}
-use Rattle.opening.specs.Opened.{OpenedAs}
-use Rattle.opening.proofs.Numbered.{numbered_given, rule_numbered}
+use Rattle.opening.proofs.Numbered.{numbered_given}
 
-declare_numbered : (L : Limits) (κ : Quantifier) (D : Prefix) (ns : List ℕ) → Numbered (declare_fault L κ D ns)
+pub declare_numbered : (L : Limits) (κ : Quantifier) (D : Prefix) (ns : List ℕ) → Numbered (declare_fault L κ D ns)
 declare_numbered L κ D [] = tt
 declare_numbered L κ D (n ∷ ns) =
     numbered_given (eqb n 0 || ltb L.numbers n) 2 _
     (numbered_given (not (eqb (place_of D n) 0)) 3 _ (numbered_given (crowded κ D) 32 _ (declare_numbered L κ (D ++ (variable κ n ∷ [])) ns)))
 
-edition_numbered : (t : Bool) → Numbered (given t 2)
-edition_numbered true = tt
-edition_numbered false = tt
-
-form_numbered : (b : Formula) (f : Form) → Numbered (form_fault b f)
-form_numbered b (book e) = edition_numbered (not (eqb e 1))
-form_numbered b (block κ ns) = declare_numbered b.limits κ b.prefix ns
-form_numbered b (clause ls) = rule_numbered b ls
-form_numbered b end = tt
+pub edition_given : (t : Bool) → Numbered (given t 2)
+edition_given true = tt
+edition_given false = tt
 
 abbrev pub NumberedText : Opened → Type 0
 NumberedText (refused zero k) = ⊥
@@ -43,45 +31,8 @@ fault_numbered n none o h i = i
 fault_numbered n (some zero) o h i = absurd h
 fault_numbered n (some (suc k)) o h i = tt
 
-end_numbered : (n : ℕ) (b : Formula) (ls : List Bytes) → NumberedText (at_end n b ls)
+pub end_numbered : (n : ℕ) (b : Formula) (ls : List Bytes) → NumberedText (at_end n b ls)
 end_numbered n b [] = tt
 end_numbered n b ([] ∷ []) = tt
 end_numbered n b ([] ∷ l ∷ ls) = tt
 end_numbered n b ((c ∷ l) ∷ ls) = tt
-
-lines_numbered : (n stage : ℕ) (b : Formula) (ls : List Bytes) → NumberedText (read_lines n stage b ls)
-unfolding read_lines
-lines_numbered n stage b [] = tt
-lines_numbered n stage b (l ∷ []) = tt
-lines_numbered n stage b (l ∷ m ∷ ls) = by (form_of l) (λ s x. lines_numbered (suc n) s x (m ∷ ls))
-  where
-    Next : Type 0
-    Next = (s : ℕ) (x : Formula) → NumberedText (read_lines (suc n) s x (m ∷ ls))
-
-    onward : Form → Formula → Opened
-    onward f x = cond (is_end f) (at_end (suc n) x (m ∷ ls)) (read_lines (suc n) (stage_after (rank f)) x (m ∷ ls))
-
-    last : (f : Form) (t : Bool) → Next → NumberedText (cond t (at_end (suc n) (with_form b f) (m ∷ ls)) (read_lines (suc n) (stage_after (rank f)) (with_form b f) (m ∷ ls)))
-    last f true ih = end_numbered (suc n) (with_form b f) (m ∷ ls)
-    last f false ih = ih (stage_after (rank f)) (with_form b f)
-
-    by : (o : Option Form) → Next → NumberedText (read_line n stage b o onward)
-    by none ih = tt
-    by (some f) ih = fault_numbered n (line_fault stage b f) (onward f (with_form b f)) (numbered_given (not (allowed stage (rank f))) 0 _ (form_numbered b f)) (last f (is_end f) ih)
-
-pub text_numbered : (L : Limits) (s : Bytes) → NumberedText (open_text L s)
-unfolding open_text
-text_numbered L s = by (ltb text_bytes (length s))
-  where
-    by : (t : Bool) → NumberedText (cond t (refused 9 0) (read_lines 1 0 (empty_formula L) (split newline s)))
-    by true = tt
-    by false = lines_numbered 1 0 (empty_formula L) (split newline s)
-
--- what has no number is an opened text
-pub text_apart : (s : Bytes) (r : Answer) → OpenedAs (open_text paper s) r → r.refusal ≡ 0 → (b : Formula) × (open_text paper s ≡ opened b)
-text_apart s r told h = by (open_text paper s) refl told (text_numbered paper s)
-  where
-    by : (o : Opened) → open_text paper s ≡ o → OpenedAs o r → NumberedText o → (b : Formula) × (open_text paper s ≡ opened b)
-    by (refused zero k) i t n = absurd n
-    by (refused (suc m) k) i (e, l, x) n = absurd (omega (arith, e, h))
-    by (opened b) i t n = (b, i)

@@ -1,9 +1,11 @@
-pub mod Numbered
-pub mod Standing
+pub mod Laws
 pub mod Growing
+pub mod Blocks
 pub mod Taking
 pub mod Judging
 pub mod Turns
 pub mod Reading
+pub mod Preparing
 pub mod Closed
+pub mod Numbered
 pub mod Apart

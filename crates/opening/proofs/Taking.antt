@@ -1,43 +1,39 @@
--- The forms of a text's lines, each on the state that stands.
+-- The forms of a text's lines, each on what stands.
 use Prim.Native.Nat.{ℕ, zero, suc, ◌≤◌, ◌<◌}
-use mathlib.Core.Path.{◌≡◌, refl, sym, ap, subst, ◌∙◌}
-use mathlib.Core.Bool.{Bool, true, false, cond}
-use mathlib.Core.List.{List, [], ◌++◌, map}
-use mathlib.Core.Option.{Option, none, some}
-use lib.ListN.{get_or}
 use native.Mathlib.Omega.{arith}
+use mathlib.Core.Path.{◌≡◌, refl, sym, ap, subst, ◌∙◌}
+use mathlib.Core.Bool.{Bool, true, false}
+use mathlib.Core.List.{List, ◌++◌, map}
+use mathlib.Core.Option.{Option, none, some}
 use lib.IntN.{ℤ}
-use Rattle.qbf.specs.Formula.{paper, Prefix, quantifiers, Literal, number_of, all, is_free}
-use Rattle.qbf.specs.Learning.{Store, empty_store}
-use Rattle.qbf.specs.Calls.{rule, answer, rule_reply, rule_fault, with_rule, store_after_rule, clause_ok, constraint_ok, formula_is_ok, well_formed, guarded, State as Read}
-use Rattle.qbf.specs.Runs.{fresh}
-use Rattle.theory.proofs.Basics.{and_left, and_both}
-use Rattle.theory.proofs.WellFormed.{formula_facts}
-use Rattle.state.specs.declared.State.{State}
-use Rattle.state.specs.Reading.{at_most, quantifier_of, rows_fit, prefix_of, prefix_in, formula_in, store_in, state_in, fits, read_state, well_formed_read, valid}
-use Rattle.state.proofs.Valid.{valid_facts}
-use Rattle.state.specs.Declare.{Sound}
-use Rattle.state.proofs.SoundPrefix.{valid_sound, sound_valid}
-use Rattle.serving.specs.Serves.{Said, said_of, out_of, next_of, Serves}
+use lib.ListN.{get_or}
 use Rattle.std.specs.Prelude.{Result, Ok, Err}
+use Rattle.qbf.specs.Formula.{Limits, Quantifier, Prefix, quantifiers, Literal, Formula, number_of, all, is_free}
+use Rattle.qbf.specs.Learning.{empty_store}
+use Rattle.qbf.specs.Calls.{rule, answer, rule_reply, rule_fault, with_rule, store_after_rule, well_formed, guarded, State as Read}
+use Rattle.qbf.specs.Runs.{fresh}
+use Rattle.theory.proofs.Basics.{and_right}
 use Rattle.refusal.specs.declared.Refusal.{Refusal}
 use Rattle.refusal.specs.Refusal.{fault_in}
-use Rattle.layout.specs.Forms.{block, clause}
-use Rattle.layout.specs.Opening.{rank, allowed, stage_after, variable}
+use Rattle.state.specs.Reading.{quantifier_of, roomy, valid_under}
+use Rattle.state.proofs.SoundPrefix.{under_sound}
+use Rattle.state_parts.specs.Layout.{limits_in}
+use Rattle.state_parts.specs.Parts.{limits_of, state_at, read_at}
+use Rattle.state_parts.proofs.Accepted.{valid_accepted, valid_whole}
+use Rattle.declaring.specs.Declaring.{prefix_at, SoundAt}
+use Rattle.serving.specs.Serves.{Said, said_of, out_of, next_of}
+use Rattle.rule_calls.specs.ServesAt.{ServesAt, change_said}
+use Rattle.layout.specs.Forms.{block, clause, end}
+use Rattle.layout.specs.Opening.{rank, allowed, stage_after, declare_fault}
 use Rattle.layout_laws.proofs.Blocks.{Before}
 use Rattle.layout_laws.proofs.Opened.{allowed_is, fresh_formed}
-use Rattle.opening.specs.Blocks.{block_rank, Growable, Grown}
-use Rattle.opening.specs.declared.book.Book.{Book}
-use Rattle.opening.specs.declared.stage.Stage.TheVariants as stages
-use Rattle.opening.specs.declared.stage.Stage.{Stage}
+use Rattle.opening.specs.Blocks.{block_rank, GrowableAt, GrownAt}
 use Rattle.opening.specs.Stages.{rank_of, placed}
-use Rattle.rules.specs.Rules.{change_said}
-use Rattle.opening.specs.Standing.{Standing}
-use Rattle.opening.specs.Opened.{BlockTook, RuleTook}
-use Rattle.opening.proofs.Standing.{standing_valid, nothing_stored, fresh_read, refused_form, taken_form, stands_after}
-
-abbrev book_at : (s : Stage) (x : State) → Standing (rank_of s) x → Book
-book_at s x p = record { stage = s; state = x; stands = p }
+use Rattle.opening.specs.declared.book.Book.{Book}
+use Rattle.opening.specs.Standing.{formula_at, Standing}
+use Rattle.opening.specs.Forms.{BlockTookAt, RuleTookAt, TookFormAt}
+use Rattle.opening.proofs.Laws.{standing_valid, misplaced, refused_form, taken_form}
+use Rattle.opening.proofs.Blocks.{grown_read}
 
 -- ---- a block
 rank_is : (kind : ℕ) (ns : List ℕ) → block_rank kind ≡ rank (block (quantifier_of kind) ns)
@@ -54,51 +50,16 @@ rank_most : (kind : ℕ) → block_rank kind ≤ 2
 rank_most zero = omega arith
 rank_most (suc k) = omega arith
 
-abbrev pub grown_state : State → List ℕ → List ℕ → List ℕ → State
-grown_state x ns ls ks =
-    record {
-      numbers = ns;
-      levels = ls;
-      kinds = ks;
-      clauses = x.clauses;
-      clause_sizes = x.clause_sizes;
-      learned_clauses = x.learned_clauses;
-      learned_clause_sizes = x.learned_clause_sizes;
-      learned_cubes = x.learned_cubes;
-      learned_cube_sizes = x.learned_cube_sizes;
-    }
+module _ {L : Limits} {stage : ℕ} {cells : List ℕ} {literals : List ℤ} (s : Standing L stage cells literals) (kind : ℕ) {k : ℕ} (of : k ≡ block_rank kind) where
+  abbrev b : Formula
+  b = formula_at cells literals
 
--- tables by place that show a well-formed prefix, put into a state without a clause and with nothing stored
-module _ {stage : ℕ} {x : State} (s : Standing stage x) (no_clauses : (formula_in x).clauses ≡ []) {ns ls ks : List ℕ} (sound : Sound ns ls ks) where
-  grown_valid : valid (grown_state x ns ls ks) ≡ true
-  grown_valid =
-      let f = valid_facts x (standing_valid s) in
-      let E = prefix_of ns ls ks in
-      sound_valid (grown_state x ns ls ks) sound
-      (and_both (rows_fit paper.literals paper.clauses x.clause_sizes) (all (clause_ok paper E) (formula_in x).clauses) f.clauses_fit (ap (all (clause_ok paper E)) no_clauses))
-      (and_both (rows_fit paper.numbers paper.constraints x.learned_clause_sizes) (all (constraint_ok E false) (store_in x).clauses) f.learned_clauses_fit (ap (λ (st : Store). all (constraint_ok E false) st.clauses) (nothing_stored s)))
-      (and_both (rows_fit paper.numbers paper.constraints x.learned_cube_sizes) (all (constraint_ok E true) (store_in x).cubes) f.learned_cubes_fit (ap (λ (st : Store). all (constraint_ok E true) st.cubes) (nothing_stored s)))
-      (ap (λ (st : Store). at_most (get_or x.clause_sizes 0 0) st.records) (nothing_stored s))
+  abbrev κ : Quantifier
+  κ = quantifier_of kind
 
-  grown_read : read_state (grown_state x ns ls ks) ≡ some (fresh (formula_in (grown_state x ns ls ks)))
-  grown_read = fresh_read (grown_state x ns ls ks) grown_valid (nothing_stored s)
+  pub block_misplaced : (lits : List ℤ) {q : Refusal} → Err q ≡ placed (allowed stage k) → BlockTookAt stage b kind lits (Err q) cells literals
+  block_misplaced lits e ns p q = misplaced stage b (block κ ns) cells literals (e ∙ ap (λ (r : ℕ). placed (allowed stage r)) (of ∙ rank_is kind ns))
 
-  -- rules may follow
-  pub grown_standing : Standing 3 (grown_state x ns ls ks)
-  unfolding valid
-  grown_standing =
-      record {
-        read = grown_read;
-        reached = record { facts = formula_facts (formula_in y) (and_left (formula_is_ok (formula_in y)) _ formed); no_variables = λ h. absurd (omega (arith, h)); no_clauses = λ h. absurd (omega (arith, h)) };
-      }
-    where
-      y : State
-      y = grown_state x ns ls ks
-
-      formed : well_formed (fresh (formula_in y)) ≡ true
-      formed = ap well_formed_read (sym grown_read) ∙ grown_valid
-
-module _ {stage : ℕ} {x : State} (s : Standing stage x) (kind : ℕ) {k : ℕ} (of : k ≡ block_rank kind) where
   module _ {u : Unit {0}} (a : Ok u ≡ placed (allowed stage k)) where
     stands_here : (stage ≤ block_rank kind) × (block_rank kind < 2 → stage ≡ block_rank kind)
     stands_here = allowed_is stage (block_rank kind) (by (allowed stage (block_rank kind)) (a ∙ ap (λ (r : ℕ). placed (allowed stage r)) of))
@@ -107,86 +68,96 @@ module _ {stage : ℕ} {x : State} (s : Standing stage x) (kind : ℕ) {k : ℕ}
         by true e = refl
         by false e = cc
 
-    pub block_growable : kind ≤ 2 → Growable x.numbers x.levels x.kinds kind
+    pub block_growable : kind ≤ 2 → GrowableAt L cells kind
     unfolding Before
-    block_growable h = record { sound = valid_sound x (standing_valid s); code = h; before = before kind stands_here }
+    block_growable h = subst (λ (M : Limits). GrowableAt M cells kind) s.limits here
       where
-        before : (k : ℕ) → (stage ≤ block_rank k) × (block_rank k < 2 → stage ≡ block_rank k) → Before (quantifier_of k) (quantifiers (prefix_in x))
+        sound : SoundAt (limits_of cells) cells
+        sound =
+            under_sound (get_or cells 0 0) (get_or cells 1 0) (state_at cells literals)
+            (and_right (roomy (limits_of cells) (state_at cells literals)) (valid_under (limits_of cells) (state_at cells literals)) (valid_accepted cells literals (standing_valid cells literals s)))
+
+        before : (k : ℕ) → (stage ≤ block_rank k) × (block_rank k < 2 → stage ≡ block_rank k) → Before (quantifier_of k) (quantifiers (prefix_at (limits_of cells) cells))
         before zero p = subst (λ (E : Prefix). all is_free (quantifiers E) ≡ true) (sym (s.reached.no_variables p.0)) refl
         before (suc zero) p = tt
         before (suc (suc k)) p = tt
 
-    here : (ns : List ℕ) → Ok u ≡ placed (allowed stage (rank (block (quantifier_of kind) ns)))
-    here ns = a ∙ ap (λ (r : ℕ). placed (allowed stage r)) (of ∙ rank_is kind ns)
+        here : GrowableAt (limits_of cells) cells kind
+        here =
+            record {
+              room = omega (arith, (valid_whole cells literals (standing_valid cells literals s)).cells_room);
+              sound = sound;
+              few = s.reached.facts.free_ok;
+              code = h;
+              before = before kind stands_here;
+            }
 
-    module _ {lits : List ℤ} {ns' ls' ks' : List ℕ} where
-      module _ {v : Unit {0}} (w : Grown x.numbers x.levels x.kinds lits kind (Ok v) ns' ls' ks') where
-        pub block_taken : (k : Standing 2 (grown_state x ns' ls' ks')) → BlockTook stage x kind lits (Ok (book_at stages.Block (grown_state x ns' ls' ks') k))
-        block_taken k = λ ns p q.
-            taken_form stage (formula_in x) (block (quantifier_of kind) ns) (here ns) (sym p ∙ w.fault)
-            (ap (λ (D : Prefix). record { limits = paper; prefix = D; clauses = (formula_in x).clauses })
-            (w.prefix ∙ ap (λ (ms : List ℕ). prefix_in x ++ map (variable (quantifier_of kind)) ms) (q (sym p ∙ w.fault))))
-            (stage_is kind ns)
+    placed_here : (ns : List ℕ) → Ok u ≡ placed (allowed stage (rank (block κ ns)))
+    placed_here ns = a ∙ ap (λ (r : ℕ). placed (allowed stage r)) (of ∙ rank_is kind ns)
 
-        pub block_stands : Standing 2 (grown_state x ns' ls' ks')
-        block_stands =
-            subst (λ (k : ℕ). Standing k (grown_state x ns' ls' ks')) (sym (stage_is kind (map number_of lits)))
-            (stands_after stage (formula_in x) (block (quantifier_of kind) (map number_of lits)) (here (map number_of lits)) s.reached w.fault
-            (ap (λ (D : Prefix). record { limits = paper; prefix = D; clauses = (formula_in x).clauses }) w.prefix)
-            (grown_read s (s.reached.no_clauses (omega (arith, stands_here.0, rank_most kind))) w.sound))
+    module _ {lits : List ℤ} {r : Result (Unit {0}) Refusal} {cells' : List ℕ} (w : GrownAt L cells lits kind r cells') where
+      own : GrownAt (limits_of cells) cells lits kind r cells'
+      own = subst (λ (M : Limits). GrownAt M cells lits kind r cells') (sym s.limits) w
+
+      pub block_refused : {q : Refusal} → r ≡ Err q → BlockTookAt stage b kind lits (Err q) cells' literals
+      block_refused {q} e ns p z = refused_form stage b (block κ ns) (placed_here ns) cells' literals (sym p ∙ own.fault ∙ ap fault_in e)
+
+      pub block_taken : {v : Unit {0}} → r ≡ Ok v → (y : Book) → limits_in y.layout ≡ L → rank_of y.stage ≡ 2 → BlockTookAt stage b kind lits (Ok y) cells' literals
+      block_taken {v} e y under at ns p z =
+          taken_form stage b (block κ ns) (placed_here ns) s.reached fine y (under ∙ sym s.limits) (at ∙ stage_is kind ns) cells' literals (reads ∙ ap (λ (ms : List ℕ). some (fresh (record { limits = b.limits; prefix = b.prefix ++ map (λ (n : ℕ). record { number = n; quantifier = κ }) ms; clauses = b.clauses }))) (z fine))
+        where
+          fine : declare_fault b.limits κ b.prefix ns ≡ none
+          fine = sym p ∙ own.fault ∙ ap fault_in e
+
+          grown : GrownAt (limits_of cells) cells lits kind (Ok v) cells'
+          grown = subst (λ (t : Result (Unit {0}) Refusal). GrownAt (limits_of cells) cells lits kind t cells') e own
+
+          reads : read_at cells' literals ≡ some (fresh (record { limits = b.limits; prefix = b.prefix ++ map (λ (n : ℕ). record { number = n; quantifier = κ }) (map number_of lits); clauses = b.clauses }))
+          reads =
+              grown_read s (s.reached.no_clauses (omega (arith, stands_here.0, rank_most kind))) grown.beside grown.sound grown.few
+              ∙ ap (λ (E : Prefix). some (fresh (record { limits = b.limits; prefix = E; clauses = b.clauses }))) grown.prefix
 
 -- ---- a rule
-pub read_is : (x : State) (y : Read) → read_state x ≡ some y → state_in x ≡ y
-unfolding read_state
-read_is x y e = by (fits x) e
-  where
-    by : (f : Bool) → cond f (some (state_in x)) none ≡ some y → state_in x ≡ y
-    by true q = ap inner q
-      where
-        inner : Option Read → Read
-        inner none = state_in x
-        inner (some z) = z
-    by false q = absurd (let z : ◌≡◌ {A = ℕ} 0 1 = cc in omega (arith, z))
+module _ {L : Limits} {stage : ℕ} {cells : List ℕ} {literals : List ℤ} (s : Standing L stage cells literals) (lits : List ℤ) where
+  abbrev c : Formula
+  c = formula_at cells literals
 
-module _ {stage : ℕ} {x : State} (s : Standing stage x) (lits : List ℤ) where
-  module _ {u : Unit {0}} (a : Ok u ≡ placed (allowed stage 3)) (r : Result (Unit {0}) Refusal) {x' : State} (w : Serves x (rule lits) (change_said r) x') where
-    formed : well_formed (fresh (formula_in x)) ≡ true
-    formed = fresh_formed (formula_in x) s.reached.facts
+  pub rule_misplaced : {q : Refusal} → Err q ≡ placed (allowed stage 3) → RuleTookAt stage c lits (Err q) cells literals
+  rule_misplaced e ls p q = misplaced stage c (clause ls) cells literals e
 
-    fault_is : rule_fault (formula_in x) lits ≡ fault_in r
+  module _ {u : Unit {0}} (a : Ok u ≡ placed (allowed stage 3)) (r : Result (Unit {0}) Refusal) {cells' : List ℕ} {literals' : List ℤ} (w : ServesAt cells literals (rule lits) (change_said r) cells' literals') where
+    formed : well_formed (fresh c) ≡ true
+    formed = fresh_formed c s.reached.facts
+
+    fault_is : rule_fault c lits ≡ fault_in r
     fault_is = sym refused
       where
         reply : (o : Option ℕ) → (said_of (answer (rule_reply o) 0)).refusal ≡ o
         reply none = refl
         reply (some k) = refl
 
-        refused : fault_in r ≡ rule_fault (formula_in x) lits
+        refused : fault_in r ≡ rule_fault c lits
         refused =
             ap (λ (q : Said). q.refusal) w.answered ∙ ap (λ (o : Option Read). (said_of (out_of o (rule lits))).refusal) s.read
-            ∙ ap (λ (u : Bool). (said_of (guarded u (fresh (formula_in x)) (rule lits)).out).refusal) formed ∙ reply (rule_fault (formula_in x) lits)
+            ∙ ap (λ (u : Bool). (said_of (guarded u (fresh c) (rule lits)).out).refusal) formed ∙ reply (rule_fault c lits)
 
-    pub rule_refused : {q : Refusal} → Err q ≡ r → RuleTook stage x lits (Err q)
-    rule_refused e = λ ls p q. refused_form stage (formula_in x) (clause ls) a (sym p ∙ fault_is ∙ sym (ap fault_in e))
+    pub rule_refused : {q : Refusal} → r ≡ Err q → RuleTookAt stage c lits (Err q) cells' literals'
+    rule_refused e ls p q = refused_form stage c (clause ls) a cells' literals' (sym p ∙ fault_is ∙ ap fault_in e)
 
-    module _ {v : Unit {0}} (e : Ok v ≡ r) where
-      fine : rule_fault (formula_in x) lits ≡ none
-      fine = fault_is ∙ sym (ap fault_in e)
+    pub rule_taken : {v : Unit {0}} → r ≡ Ok v → (y : Book) → limits_in y.layout ≡ L → rank_of y.stage ≡ 3 → RuleTookAt stage c lits (Ok y) cells' literals'
+    rule_taken e y under at ls p q =
+        taken_form stage c (clause ls) a s.reached (sym p ∙ fine) y (under ∙ sym s.limits) at cells' literals'
+        (next_read ∙ ap (λ (ms : List Literal). some (fresh (with_rule none c ms))) (q (sym p ∙ fine)))
+      where
+        fine : rule_fault c lits ≡ none
+        fine = fault_is ∙ ap fault_in e
 
-      next_read : read_state x' ≡ some (fresh (with_rule none (formula_in x) lits))
-      next_read =
-          w.next ∙ ap (λ (o : Option Read). next_of o (rule lits)) s.read ∙ ap (λ (u : Bool). some (guarded u (fresh (formula_in x)) (rule lits)).state) formed
-          ∙ ap (λ (o : Option ℕ). some (record { formula = with_rule o (formula_in x) lits; store = store_after_rule o empty_store })) fine
+        next_read : read_at cells' literals' ≡ some (fresh (with_rule none c lits))
+        next_read =
+            w.next ∙ ap (λ (o : Option Read). next_of o (rule lits)) s.read ∙ ap (λ (u : Bool). some (guarded u (fresh c) (rule lits)).state) formed
+            ∙ ap (λ (o : Option ℕ). some (record { formula = with_rule o c lits; store = store_after_rule o empty_store })) fine
 
-      reads : (ls : List Literal) → rule_fault (formula_in x) lits ≡ rule_fault (formula_in x) ls → (rule_fault (formula_in x) ls ≡ none → lits ≡ ls) → state_in x' ≡ fresh (with_rule none (formula_in x) ls)
-      reads ls p q = read_is x' (fresh (with_rule none (formula_in x) lits)) next_read ∙ ap (λ (r : List Literal). fresh (with_rule none (formula_in x) r)) (q (sym p ∙ fine))
-
-      read_same : some (fresh (formula_in x')) ≡ next_of (read_state x) (rule lits)
-      read_same = ap (λ (y : Read). some (fresh y.formula)) (read_is x' (fresh (with_rule none (formula_in x) lits)) next_read) ∙ sym next_read ∙ w.next
-
-      pub rule_taken : (k : Standing 3 x') → RuleTook stage x lits (Ok (book_at stages.Rule x' k))
-      rule_taken k = λ ls p q. taken_form stage (formula_in x) (clause ls) a (sym p ∙ fine) (ap (λ (y : Read). y.formula) (reads ls p q)) refl
-
-      pub rule_stands : Standing 3 x'
-      rule_stands =
-          stands_after stage (formula_in x) (clause lits) a s.reached fine
-          (ap (λ (y : Read). y.formula) (reads lits refl (λ z. refl))) (w.next ∙ sym read_same)
+-- ---- the book's line and the end's change nothing
+module _ {L : Limits} {stage : ℕ} {cells : List ℕ} {literals : List ℤ} (s : Standing L stage cells literals) where
+  pub end_taken : {u : Unit {0}} → Ok u ≡ placed (allowed stage 4) → (y : Book) → limits_in y.layout ≡ L → rank_of y.stage ≡ 4 → TookFormAt stage (formula_at cells literals) end (Ok y) cells literals
+  end_taken a y under at = taken_form stage (formula_at cells literals) end a s.reached refl y (under ∙ sym s.limits) at cells literals s.read

@@ -1,6 +1,6 @@
-pub mod Standing
-pub mod Blocks
-pub mod Lines
-pub mod Opened
 pub mod Stages
-pub mod Adding
+pub mod Standing
+pub mod Lines
+pub mod Blocks
+pub mod Forms
+pub mod Opened

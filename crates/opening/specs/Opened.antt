@@ -1,76 +1,41 @@
--- What the lines of a text leave, and what the answers say.
-use Rattle.std.specs.Prelude.{ℕ, ◌≡◌, Bool, true, false, cond, List, [], ◌∷◌, eqb, refl, map, ℤ, Result, Ok, Err, IfOk}
-use Rattle.std.proofs.Math.Option.{Option, none, some}
-use Rattle.qbf.specs.Formula.{Formula, paper, Literal, number_of}
-use Rattle.qbf.specs.Calls.{rule_fault}
+-- Opening a text onto two lent tables, under limits of its own. Paper 02, wish 8: "A book is opened with its own limits for numbers and rules, capped at
+-- these". "A refused text opens no book": what it leaves is malformed, so that every call on it is 22.
+use Rattle.std.specs.Prelude.{ℕ, ◌≡◌, Bool, true, false, List, ℤ, Option, Some, None, Result, Ok, Err}
+use Rattle.std.proofs.Math.Option.{some}
+use Rattle.qbf.specs.Formula.{Limits}
 use Rattle.qbf.specs.Runs.{fresh}
-use Rattle.state.specs.declared.State.{State}
-use Rattle.state.specs.Reading.{quantifier_of, read_state, empty_state, prefix_in, formula_in, valid}
-use Rattle.refusal.specs.declared.Refusal.{Refusal}
-use Rattle.refusal.specs.declared.Refusal.TheVariants.{NotInLayout}
-use Rattle.refusal.specs.Refusal as refusal
-use Rattle.layout.specs.Words.{Bytes}
-use Rattle.layout.specs.Forms.{Form, block, clause}
-use Rattle.layout.specs.Opening.{rank, stage_after, declare_fault, line_fault, with_form, refused, opened, at_end, read_lines}
-use Rattle.layout.specs.Opening as text
-use Rattle.opening.specs.declared.Opened.{Opened}
-use Rattle.opening.specs.declared.book.Book.{Book}
+use Rattle.refusal.specs.declared.Refusal.TheVariants as refusal
+use Rattle.refusal.specs.Refusal.{number_of}
+use Rattle.layout.specs.Opening.{Opened, refused, opened}
+use Rattle.state_parts.specs.declared.limits.Layout.{Layout}
+use Rattle.state_parts.specs.Layout.{limits_in}
+use Rattle.state_parts.specs.Initial.{empty_under}
+use Rattle.state_parts.specs.Parts.{read_at, valid_at, Whole}
 use Rattle.opening.specs.declared.text.RefusedAt.{RefusedAt}
-use Rattle.opening.specs.Lines.{Opens}
-use Rattle.opening.specs.Stages.{rank_of}
 
--- before the first line
-pub record Empty (y : Book) : Type 0 where
-  pub first : rank_of y.stage ≡ 0
-  pub read : read_state y.state ≡ some empty_state
+-- what a text opens: the tables read as its formula with an empty store; or the refusal with its line, and what is left is malformed
+abbrev pub AnsweredAt : Opened → Result (Unit {0}) RefusedAt → List ℕ → List ℤ → Type 0
+AnsweredAt (refused k n) (Ok u) cells literals = ⊥
+AnsweredAt (refused k n) (Err r) cells literals = (number_of r.refusal ≡ k) × (r.line ≡ n) × (valid_at cells literals ≡ false)
+AnsweredAt (opened b) (Ok u) cells literals = read_at cells literals ≡ some (fresh b)
+AnsweredAt (opened b) (Err r) cells literals = ⊥
 
--- the book after a line of this form
-pub record Advanced (b : Formula) (f : Form) (y : Book) : Type 0 where
-  pub formula : formula_in y.state ≡ with_form b f
-  pub stage : rank_of y.stage ≡ stage_after (rank f)
+-- "A table of the state shorter than the limits ask is 22": before the text is looked at, and so at no line
+pub record OpenedAt (L : Limits) (o : Opened) (cells : List ℕ) (literals : List ℤ) (r : Result (Unit {0}) RefusedAt) (cells' : List ℕ) (literals' : List ℤ) : Type 0 where
+  pub whole : Whole L cells literals → AnsweredAt o r cells' literals'
+  pub short : (Whole L cells literals → ⊥) → (r ≡ Err (record { refusal = refusal.Malformed; line = 0 })) × (valid_at cells' literals' ≡ false)
 
--- a form at a stage: its fault, or what it leaves
-pub record TookForm (stage : ℕ) (b : Formula) (f : Form) (r : Result Book Refusal) : Type 0 where
-  pub fault : line_fault stage b f ≡ refusal.fault_in r
-  pub advanced : IfOk r (Advanced b f)
+-- whether both tables hold every part
+abbrev pub WholeTold : Limits → List ℕ → List ℤ → Bool → Type 0
+WholeTold L cells literals true = Whole L cells literals
+WholeTold L cells literals false = Whole L cells literals → ⊥
 
--- a block, judged by the numbers of these literals
-abbrev pub BlockTook : ℕ → State → ℕ → List ℤ → Result Book Refusal → Type 0
-BlockTook stage x kind lits r = (ns : List ℕ) → declare_fault paper (quantifier_of kind) (prefix_in x) (map number_of lits) ≡ declare_fault paper (quantifier_of kind) (prefix_in x) ns
-    → (declare_fault paper (quantifier_of kind) (prefix_in x) ns ≡ none → map number_of lits ≡ ns) → TookForm stage (formula_in x) (block (quantifier_of kind) ns) r
+-- the empty state, or none where a table is too short
+abbrev pub PreparedAt : Limits → List ℕ → List ℤ → Option Layout → List ℕ → Type 0
+PreparedAt L cells literals None cells' = (Whole L cells literals → ⊥) × (valid_at cells' literals ≡ false)
+PreparedAt L cells literals (Some l) cells' = Whole L cells literals × (limits_in l ≡ L) × (read_at cells' literals ≡ some (empty_under L))
 
--- a rule, judged by these literals
-abbrev pub RuleTook : ℕ → State → List ℤ → Result Book Refusal → Type 0
-RuleTook stage x lits r = (ls : List Literal) → rule_fault (formula_in x) lits ≡ rule_fault (formula_in x) ls → (rule_fault (formula_in x) ls ≡ none → lits ≡ ls) → TookForm stage (formula_in x) (clause ls) r
-
--- a line by its form
-abbrev pub Took : ℕ → Formula → Option Form → Result Book Refusal → Type 0
-Took stage b none r = r ≡ Err NotInLayout
-Took stage b (some f) r = TookForm stage b f r
-
--- what the pieces open after lines up to a stage: after the end's line nothing may stand
-abbrev pub lines_open : ℕ → Formula → Opens
-lines_open stage b n ls = cond (eqb stage 4) (at_end n b ls) (read_lines n stage b ls)
-
-abbrev pub book_opens : Book → Opens
-book_opens y = lines_open (rank_of y.stage) (formula_in y.state)
-
--- a line that is not ended is missing
-pub book_unended : (y : Book) (n c : ℕ) (l : Bytes) → book_opens y n ((c ∷ l) ∷ []) ≡ refused 1 n
-unfolding read_lines
-book_unended y n c l = by (eqb (rank_of y.stage) 4)
-  where
-    by : (t : Bool) → cond t (at_end n (formula_in y.state) ((c ∷ l) ∷ [])) (read_lines n (rank_of y.stage) (formula_in y.state) ((c ∷ l) ∷ [])) ≡ refused 1 n
-    by true = refl
-    by false = refl
-
--- the answer is what the text opens: the number and the line of its refusal, and no state that a call accepts; or no number, no line, and a state
--- with its formula and an empty store
-abbrev pub OpenedAs : text.Opened → Opened → Type 0
-OpenedAs (refused n k) r = (r.refusal ≡ n) × (r.line ≡ k) × (valid r.state ≡ false)
-OpenedAs (opened b) r = (r.refusal ≡ 0) × (r.line ≡ 0) × (read_state r.state ≡ some (fresh b))
-
--- the answer for what was read
-abbrev pub AnsweredAs : Result State RefusedAt → Opened → Type 0
-AnsweredAs (Ok x) r = (r.refusal ≡ 0) × (r.line ≡ 0) × (r.state ≡ x)
-AnsweredAs (Err k) r = (r.refusal ≡ refusal.number_of k.refusal) × (r.line ≡ k.line) × (valid r.state ≡ false)
+-- what is left where a text is refused
+abbrev pub ClosedFor : Result (Unit {0}) RefusedAt → List ℕ → List ℕ → Type 0
+ClosedFor (Ok u) cells cells' = cells' ≡ cells
+ClosedFor (Err r) cells cells' = (literals : List ℤ) → valid_at cells' literals ≡ false

@@ -1,34 +1,25 @@
-// The variables of a block, declared one after another.
-ghost use Rattle.opening.specs.Blocks.{Growable, Grown};
+// The variables of a block, declared one after another in the cells of a state.
+ghost use Rattle.state_parts.specs.Layout.{limits_in};
+ghost use Rattle.opening.specs.Blocks.{GrowableAt, GrownAt};
 
+use declaring::declare;
 use literal::number_of;
 use refusal::Refusal;
-use state::declare::declare;
+use state_parts::limits::Layout;
 
 // The first fault from the left, or all are declared.
-// stays (form): the kind is the number that `declare` writes into the flat table of kinds, as the line has it.
-// stays (no plainer): the three tables are those of `declare`, whose line says why they are no struct
+// stays (form): the kind is the number that `declare` writes into the table of kinds, as the line has it.
 pub fn declare_all(
-    numbers: &mut [u16; tables::BY_NUMBER],
-    levels: &mut [u16; tables::BY_NUMBER],
-    kinds: &mut [u16; tables::BY_NUMBER],
+    layout: Layout,
+    cells: &mut [u16],
     lits: &[i16],
     kind: u16,
 ) -> Result<(), Refusal>
-    requires { Growable numbers.old levels.old kinds.old kind }
-    ensures { Grown
-        numbers.old
-        levels.old
-        kinds.old
-        lits.now
-        kind
-        result
-        numbers.new
-        levels.new
-        kinds.new }
+    requires { GrowableAt (limits_in layout) cells.old kind }
+    ensures { GrownAt (limits_in layout) cells.old lits.now kind result cells.new }
 {
     for lit in lits {
-        declare(numbers, levels, kinds, number_of(*lit), kind)?;
+        declare(layout, cells, number_of(*lit), kind)?;
     }
     Ok(())
 }

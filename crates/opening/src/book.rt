@@ -1,146 +1,164 @@
-// One line of a text on the state that the lines before it have built. "line by line 1, 2, then as the calls"
+// One line of a text of the first edition, on what the lines before it have built. "line by line 1, 2, then as the calls"
+ghost use Rattle.std.specs.Prelude.{◌≡◌, ◌≤◌, ℕ, List, ℤ};
+ghost use Rattle.qbf.specs.Formula.{forall};
+ghost use Rattle.tables.specs.Views.{quantifier_code};
+ghost use Rattle.state_parts.specs.Layout.{limits_in};
+ghost use Rattle.layout.specs.Forms.{book, end, form_of};
+ghost use Rattle.reader.specs.Items.{narrow};
 ghost use Rattle.opening.specs.Stages.{rank_of};
-ghost use Rattle.opening.specs.Standing.{Standing};
+ghost use Rattle.opening.specs.Standing.{formula_at, Standing};
+ghost use Rattle.opening.specs.Forms.{book_stands, book_opens_at, book_unended_at, TookFormAt, BlockTookAt, RuleTookAt, TookAt};
 
-use crate::add::{Added, add};
 use crate::block::declare_all;
+use crate::kept::kept;
 use crate::stage::{Stage, of_block};
-use crate::text::LineByLine;
+use crate::text::OntoTables;
 use literal::{Number, number_of};
 use reader::keyword::Line;
-use reader::line::{kept, read_line};
+use reader::line::read_line;
 use refusal::Refusal;
-use state::State;
+use rule_calls::rule;
+use state_parts::limits::Layout;
 
 // "2 edition not 1"
 // stays (no plainer): it is the number that the text itself must give, and no code for a kind.
 const EDITION: usize = 1;
 
-// The state that the lines so far have built, and where the text stands.
+// Where the text stands, and the limits under which it is opened.
 #[derive(Clone, Copy)]
 pub struct Book {
     pub stage: Stage,
-    pub state: State,
-    pub ghost stands: { Standing (rank_of stage) state },
+    pub layout: Layout,
 }
 
 impl Book {
-    ghost use Rattle.std.specs.Prelude.{ℕ, ◌≤◌, ◌≡◌};
-    ghost use Rattle.qbf.specs.Formula.{forall};
-    ghost use Rattle.tables.specs.Views.{quantifier_code};
-    ghost use Rattle.state.specs.Reading.{formula_in};
-    ghost use Rattle.layout.specs.Forms.{book, end, form_of};
-    ghost use Rattle.reader.specs.Items.{narrow};
-    ghost use Rattle.opening.specs.Stages.{rank_of};
-    ghost use Rattle.opening.specs.Opened.{Empty, TookForm, BlockTook, RuleTook, Took};
-
     // Before the first line.
-    pub fn empty() -> Book
-        ensures { Empty result }
+    pub fn first(layout: Layout) -> Book
+        ensures { (rank_of result.stage ≡ 0) × (limits_in result.layout ≡ limits_in layout) }
     {
         Book {
             stage: Stage::Book,
-            state: state::empty(),
+            layout,
         }
     }
 
+    fn at(self, stage: Stage) -> Book
+        ensures { (result.stage ≡ stage) × (result.layout ≡ self.layout) }
+    {
+        Book { stage, ..self }
+    }
+
     fn take_book(self, edition: Number) -> Result<Book, Refusal>
-        ensures { (e : ℕ) → edition.0 ≡ narrow e → TookForm (rank_of self.stage) (formula_in self.state) (book e) result }
+        ensures { (e : ℕ) (cells : List ℕ) (literals : List ℤ) →
+            edition.0 ≡ narrow e →
+            book_stands self cells literals →
+            TookFormAt (rank_of self.stage) (formula_at cells literals) (book e) result cells literals }
     {
         self.stage.place(Stage::Book)?;
         let number = edition.0;
         if number != EDITION {
             return Err(Refusal::Edition);
         }
-        Ok(Book {
-            stage: Stage::Flags,
-            state: self.state,
-        })
+        Ok(self.at(Stage::Flags))
     }
 
-    // stays (form): `u16 ≤ quantifier_code forall` is of the number that a keyword gives a quantifier, and that is written into a cell of the flat tables as it is
-    pub fn take_block(self, kind: u16, lits: &[i16]) -> Result<Book, Refusal>
-        requires { kind ≤ quantifier_code forall }
-        ensures { BlockTook (rank_of self.stage) self.state kind lits.now result }
+    // stays (form): `u16 ≤ quantifier_code forall` is of the number that a keyword gives a quantifier, and that is written into a cell of the tables as it is
+    // stays (proof): `literals : List ℤ` is the table of that fact, which the function is not lent
+    pub fn take_block(self, cells: &mut [u16], kind: u16, lits: &[i16]) -> Result<Book, Refusal>
+        requires { (kind ≤ quantifier_code forall) × (literals : List ℤ) × book_stands self cells.old literals }
+        ensures { (literals : List ℤ) →
+            book_stands self cells.old literals →
+            BlockTookAt
+            (rank_of self.stage)
+            (formula_at cells.old literals)
+            kind
+            lits.now
+            result
+            cells.new
+            literals }
     {
         self.stage.place(of_block(kind))?;
-        let mut state = self.state;
-        declare_all(
-            &mut state.numbers,
-            &mut state.levels,
-            &mut state.kinds,
-            lits,
-            kind,
-        )?;
-        Ok(Book {
-            stage: Stage::Block,
-            state,
-        })
+        declare_all(self.layout, cells, lits, kind)?;
+        Ok(self.at(Stage::Block))
     }
 
-    pub fn take_rule(self, lits: &[i16]) -> Result<Book, Refusal>
-        ensures { RuleTook (rank_of self.stage) self.state lits.now result }
+    pub fn take_rule(
+        self,
+        cells: &mut [u16],
+        literals: &mut [i16],
+        lits: &[i16],
+    ) -> Result<Book, Refusal>
+        requires { book_stands self cells.old literals.old }
+        ensures { RuleTookAt
+            (rank_of self.stage)
+            (formula_at cells.old literals.old)
+            lits.now
+            result
+            cells.new
+            literals.new }
     {
         self.stage.place(Stage::Rule)?;
-        let state = add(self.state, Added::Rule, lits)?;
-        Ok(Book {
-            stage: Stage::Rule,
-            state,
-        })
+        rule(cells, literals, lits)?;
+        Ok(self.at(Stage::Rule))
     }
 
     pub fn take_end(self) -> Result<Book, Refusal>
-        ensures { TookForm (rank_of self.stage) (formula_in self.state) end result }
+        ensures { (cells : List ℕ) (literals : List ℤ) →
+            book_stands self cells literals →
+            TookFormAt (rank_of self.stage) (formula_at cells literals) end result cells literals }
     {
         self.stage.place(Stage::End)?;
-        Ok(Book {
-            stage: Stage::End,
-            state: self.state,
-        })
+        Ok(self.at(Stage::End))
     }
 
-    // Of the items as many are kept as decide: one more than there are variables.
-    pub fn take_line(self, line: &[u8]) -> Result<Book, Refusal>
-        ensures { Took (rank_of self.stage) (formula_in self.state) (form_of line.now) result }
+    // Of the items as many are kept as decide: one more than there can be variables.
+    fn take_line(
+        self,
+        cells: &mut [u16],
+        literals: &mut [i16],
+        line: &[u8],
+    ) -> Result<Book, Refusal>
+        requires { book_stands self cells.old literals.old }
+        ensures { TookAt
+            (rank_of self.stage)
+            (formula_at cells.old literals.old)
+            (form_of line.now)
+            result
+            cells.new
+            literals.new }
     {
-        let mut items = [0i16; tables::BY_NUMBER];
+        let mut items = [0i16; tables::HIGHEST_BY_NUMBER];
         let Some(read) = read_line(line, &mut items) else {
             return Err(Refusal::NotInLayout);
         };
         match read {
             Line::Book => self.take_book(number_of(items[0])),
-            Line::Block(kind, n) => {
-                let count = kept(n);
-                self.take_block(kind, &items[..count])
-            }
-            Line::Rule(n) => {
-                let count = kept(n);
-                self.take_rule(&items[..count])
-            }
+            Line::Block(kind, n) => self.take_block(cells, kind, kept(&items, n)),
+            Line::Rule(n) => self.take_rule(cells, literals, kept(&items, n)),
             Line::End => self.take_end(),
         }
     }
 }
 
-impl LineByLine for Book {
-    ghost use Rattle.opening.specs.Opened.{book_opens, book_unended};
+impl OntoTables for Book {
+    ghost stands = { book_stands };
 
-    ghost opens = { book_opens };
+    ghost opens = { book_opens_at };
 
-    ghost unended = { book_unended };
+    ghost unended = { book_unended_at };
 
-    fn take(self, line: &[u8]) -> Result<Book, Refusal> {
+    fn take(self, cells: &mut [u16], literals: &mut [i16], line: &[u8]) -> Result<Book, Refusal> {
         if self.stage == Stage::End {
             return Err(Refusal::NotInLayout);
         }
-        self.take_line(line)
+        self.take_line(cells, literals, line)
     }
 
     // "`(end)`, nothing after"
-    fn end(self) -> Result<State, Refusal> {
+    fn end(self) -> Result<(), Refusal> {
         if self.stage != Stage::End {
             return Err(Refusal::NotInLayout);
         }
-        Ok(self.state)
+        Ok(())
     }
 }

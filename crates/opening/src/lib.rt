@@ -1,56 +1,54 @@
-// Opening a text: a state with an empty store, or the refusal with its line. Paper 01, "Text and program".
+// Opening a text onto the two lent tables of a state, under limits of its own: the empty state that it starts from, its lines one after the other, and what
+// a refused text leaves. Paper 01, "Text and program"; paper 02, wish 8.
 #![tactic(auto)]
 
-ghost use Rattle.qbf.specs.Formula.{paper};
+ghost use Rattle.qbf.specs.Formula.{capped};
 ghost use Rattle.layout.specs.Opening.{open_text};
-ghost use Rattle.opening.specs.Opened.{OpenedAs, AnsweredAs};
+ghost use Rattle.opening.specs.Opened.{OpenedAt};
 
-use book::Book;
-use state::State;
-use text::{NO_LINE, RefusedAt, read_text};
-
-pub mod add;
 mod block;
 pub mod book;
+pub mod kept;
 pub mod lines;
+pub mod prepared;
 pub mod stage;
 pub mod text;
 
+use book::Book;
+use prepared::{closed, prepare};
+use refusal::Refusal;
+use state::parts::Limits;
+use text::{NO_LINE, RefusedAt, read_text};
+
 // Nothing is refused.
-// stays (C): the number that stands in `Opened`, as other languages read it.
+// stays (C): the number that stands in an answer, as other languages read it.
 pub const NONE: u16 = 0;
 
-// What a text opens: its state, with no refusal and no line; or the refusal with its line, and a state on which every call is refused with 22.
-// stays (C): other languages read the number of the refusal, 0 for none, and the state beside it.
-#[repr(C)]
-#[derive(Clone, Copy)]
-pub struct Opened {
-    pub refusal: u16,
-    pub line: usize,
-    pub state: State,
-}
+// "A table of the state shorter than the limits ask is 22"
+pub const TOO_SHORT: RefusedAt = RefusedAt {
+    refusal: Refusal::Malformed,
+    line: NO_LINE,
+};
 
-impl From<Result<State, RefusedAt>> for Opened {
-    ghost from_gives = { AnsweredAs };
-
-    fn from(read: Result<State, RefusedAt>) -> Opened {
-        match read {
-            Ok(state) => Opened {
-                refusal: NONE,
-                line: NO_LINE,
-                state,
-            },
-            Err(refused) => Opened {
-                refusal: refused.refusal.number(),
-                line: refused.line,
-                state: state::closed(),
-            },
-        }
-    }
-}
-
-pub fn open_text(text: &[u8]) -> Opened
-    ensures { OpenedAs (open_text paper text.now) result }
+// A text of the first edition. Where it is refused what stands in the tables is malformed.
+pub fn open(
+    text: &[u8],
+    limits: Limits,
+    cells: &mut [u16],
+    literals: &mut [i16],
+) -> Result<(), RefusedAt>
+    ensures { OpenedAt
+        (capped limits.numbers limits.clauses)
+        (open_text (capped limits.numbers limits.clauses) text.now)
+        cells.old
+        literals.old
+        result
+        cells.new
+        literals.new }
 {
-    Opened::from(read_text(Book::empty(), text))
+    let Some(layout) = prepare(limits, cells, literals) else {
+        return Err(TOO_SHORT);
+    };
+    let read = read_text(Book::first(layout), text, cells, literals);
+    closed(cells, read)
 }

@@ -1,39 +1,34 @@
 -- A line by what was read of it: it is judged by the items that the table keeps.
-use Prim.Native.Nat.{ℕ, zero, suc, ◌<◌, min}
+use Prim.Native.Nat.{ℕ, zero, suc, ◌≤◌, ◌<◌, min}
 use mathlib.Core.Path.{◌≡◌, refl, sym, ap, subst, ◌∙◌}
-use mathlib.Core.Bool.{true}
+use mathlib.Core.Bool.{Bool, true, false, cond, not, ◌&&◌}
 use mathlib.Core.List.{List, [], ◌∷◌, map}
 use mathlib.Core.Option.{Option, none}
 use native.Mathlib.Omega.{arith}
+use lib.Dec.{eqb, leb}
 use lib.IntN.{ℤ, pos, negsuc}
 use lib.ListN.{length, take}
-use lib.Seq.{take_all}
-use Rattle.qbf.specs.Formula.{paper, highest, Quantifier, free, exists, forall, Prefix, Literal, number_of, Formula}
+use lib.Seq.{take_all, take-take}
+use Rattle.std.specs.Prelude.{Result}
+use Rattle.refusal.specs.declared.Refusal.{Refusal}
+use Rattle.qbf.specs.Formula.{Limits, highest, Quantifier, Prefix, any, Literal, number_of}
 use Rattle.qbf.specs.Calls.{numbers_are_ok}
-use Rattle.theory.proofs.WellFormed.{numbers_ok}
-use Rattle.tables.specs.Views.{quantifier_code}
-use Rattle.state.specs.declared.State.{State}
-use Rattle.state.specs.Reading.{quantifier_of, prefix_in, formula_in}
+use Rattle.theory.proofs.WellFormed.{numbers_ok, numbers_capped}
+use Rattle.state.specs.Reading.{quantifier_of}
 use Rattle.reader.specs.Items.{narrow, narrowed, Kept}
-use Rattle.reader.proofs.Judged.{cut_same, rule_cut, rule_cut_same}
+use Rattle.reader.proofs.Judged.{cut_same, rule_cut_under, rule_cut_same_under}
+use Rattle.opening.specs.Standing.{formula_at}
+use Rattle.opening.proofs.Judging.{code_back}
 use Rattle.qdimacs_form.specs.Lines.{Line, group}
-use Rattle.qdimacs_form.specs.Opening.{Reading, group_fault, whole}
+use Rattle.qdimacs_form.specs.Opening.{completed, Reading, group_fault, whole}
 use Rattle.qdimacs_laws.proofs.Judged.{Narrows, group_width, group_narrowed, group_numbers, group_first}
 use Rattle.qdimacs_reader.specs.Lines.{LineIs}
 use Rattle.qdimacs_reader.specs.declared.line.Line.TheVariants as line
-use Rattle.qdimacs_opening.specs.declared.head.Head.{Head}
-use Rattle.std.specs.Prelude.{Result}
-use Rattle.refusal.specs.declared.Refusal.{Refusal}
 use Rattle.qdimacs_opening.specs.declared.problem.Problem.{Problem}
-use Rattle.qdimacs_opening.specs.Stands.{reading_of, Stands}
-use Rattle.qdimacs_opening.specs.Lines.{TookLine, GroupTook, ClauseTook, Took}
-use Rattle.qdimacs_opening.proofs.Taking.{whole_limits}
+use Rattle.qdimacs_opening.specs.Stands.{freed, reading_at, problem_stands}
+use Rattle.qdimacs_opening.specs.Lines.{TookLineAt, GroupTookAt, ClauseTookAt, TookAt}
 
 -- ---- numbers of a quantifier line
-narrows : Narrows paper narrow
-narrows = record { in_range = λ n h. (let z : narrow n ≡ n = omega arith in z); beyond = λ n h. (let z : paper.numbers < narrow n = omega arith in z) }
-
--- the numbers that stand in the table are the first of the line's, narrowed
 number_narrowed : (l : Literal) → number_of (narrowed l) ≡ narrow (number_of l)
 number_narrowed (pos n) = refl
 number_narrowed (negsuc n) = let z : suc (min n highest.numbers) ≡ narrow (suc n) = omega arith in z
@@ -43,47 +38,70 @@ first_numbers zero ls = refl
 first_numbers (suc k) [] = refl
 first_numbers (suc k) (l ∷ ls) = (λ i. number_narrowed l i ∷ first_numbers k ls i)
 
-module _ (v : ℕ) (κ : Quantifier) (D : Prefix) (n : ℕ) (out : List ℤ) (ls : List Literal) (fine : numbers_are_ok paper [] D ≡ true) (room : length out ≡ suc paper.numbers) (k : Kept n out ls) where
-  standing : map number_of (take (min n (suc paper.numbers)) out) ≡ map narrow (take (suc paper.numbers) (map number_of ls))
-  standing =
-      ap (map number_of) (cut_same n (suc paper.numbers) out room ∙ k.first ∙ ap (λ (m : ℕ). take m (map narrowed ls)) room)
-      ∙ first_numbers (suc paper.numbers) ls
+module _ (L : Limits) (low : L.numbers ≤ highest.numbers) (v : ℕ) (κ : Quantifier) (D : Prefix) (n : ℕ) (out : List ℤ) (ls : List Literal) (fine : numbers_are_ok L [] D ≡ true) (room : length out ≡ suc highest.numbers) (k : Kept n out ls) where
+  narrows : Narrows L narrow
+  narrows = record { in_range = λ m h. (let z : narrow m ≡ m = omega (arith, h, low) in z); beyond = λ m h. (let z : L.numbers < narrow m = omega (arith, h, low) in z) }
 
-  group_judged : group_fault paper v κ D (map number_of (take (min n (suc paper.numbers)) out)) ≡ group_fault paper v κ D (map number_of ls)
+  -- the numbers that stand in the table are the first of the line's, narrowed
+  standing : map number_of (take (min n (length out)) out) ≡ map narrow (take (suc highest.numbers) (map number_of ls))
+  standing =
+      ap (map number_of) (cut_same n (length out) out refl ∙ k.first ∙ ap (λ (m : ℕ). take m (map narrowed ls)) room)
+      ∙ first_numbers (suc highest.numbers) ls
+
+  group_judged : group_fault L v κ D (map number_of (take (min n (length out)) out)) ≡ group_fault L v κ D (map number_of ls)
   group_judged =
-      ap (group_fault paper v κ D) standing
-      ∙ group_narrowed paper narrow narrows v κ D (take (suc paper.numbers) (map number_of ls))
-      ∙ group_first paper v κ D (map number_of ls) fine
+      ap (group_fault L v κ D) standing
+      ∙ group_narrowed L narrow narrows v κ D (take (suc highest.numbers) (map number_of ls))
+      ∙ sym (group_first L v κ D (take (suc highest.numbers) (map number_of ls)) fine)
+      ∙ ap (group_fault L v κ D) (take-take (suc L.numbers) (suc highest.numbers) (map number_of ls) (omega (arith, low)))
+      ∙ group_first L v κ D (map number_of ls) fine
 
   -- where it is not refused they are its numbers
-  group_same : group_fault paper v κ D (map number_of ls) ≡ none → map number_of (take (min n (suc paper.numbers)) out) ≡ map number_of ls
+  group_same : group_fault L v κ D (map number_of ls) ≡ none → map number_of (take (min n (length out)) out) ≡ map number_of ls
   group_same e =
-      let w = group_width paper v κ D (map number_of ls) fine e in
-      standing ∙ ap (map narrow) (take_all (suc paper.numbers) (map number_of ls) (omega (arith, w))) ∙ group_numbers paper narrow narrows v κ D (map number_of ls) e
+      let w = group_width L v κ D (map number_of ls) fine e in
+      standing ∙ ap (map narrow) (take_all (suc highest.numbers) (map number_of ls) (omega (arith, w, low))) ∙ group_numbers L narrow narrows v κ D (map number_of ls) e
 
 -- ---- lines
-code_back : (q : Quantifier) → quantifier_of (quantifier_code q) ≡ q
-code_back free = refl
-code_back exists = refl
-code_back forall = refl
+numbers_freed : (k : ℕ) (L : Limits) (seen : List ℕ) (D : Prefix) → numbers_are_ok L seen (freed k D) ≡ numbers_are_ok L seen D
+numbers_freed zero L seen D = refl
+numbers_freed (suc k) L seen [] = refl
+numbers_freed (suc k) L seen (d ∷ D) = ap (λ (b : Bool). leb 1 d.number && leb d.number L.numbers && not (any (eqb d.number) seen) && b) (numbers_freed k L (d.number ∷ seen) D)
 
-pub line_is : (s : Reading) (r : Result Problem Refusal) {o p : Option Line} → o ≡ p → Took s p r → Took s o r
-line_is s r e = subst (λ (q : Option Line). Took s q r) (sym e)
+pub whole_limits : (s : Reading) → (whole s).limits ≡ s.formula.limits
+whole_limits s = by (eqb s.stage 1)
+  where
+    by : (t : Bool) → (cond t (completed s.variables s.formula) s.formula).limits ≡ s.formula.limits
+    by true = refl
+    by false = refl
 
-module _ {h : Head} {x : State} (s : Stands h x) {o : Option Line} {out : List ℤ} (r : Result Problem Refusal) (room : length out ≡ suc paper.numbers) where
-  pub line_clause : (n : ℕ) {m : ℕ} → m ≡ min n (suc paper.numbers) → LineIs o (line.Clause n) out → ClauseTook (reading_of h x) (take m out) r → Took (reading_of h x) o r
-  line_clause n e (ls, f, k) w =
-      let b : Formula = whole (reading_of h x) in
-      let is_paper = whole_limits (reading_of h x) refl in
-      line_is (reading_of h x) r f (subst (λ (m : ℕ). ClauseTook (reading_of h x) (take m out) r) e w ls (rule_cut b is_paper n out ls room k) (rule_cut_same b is_paper n out ls room k))
+module _ (p : Problem) {cells : List ℕ} {literals : List ℤ} (s : problem_stands p cells literals) where
+  abbrev q : Reading
+  q = reading_at p cells literals
 
-  pub line_group : (κ n : ℕ) {m : ℕ} → m ≡ min n (suc paper.numbers) → LineIs o (line.Group κ n) out → GroupTook (reading_of h x) κ (take m out) r → Took (reading_of h x) o r
-  line_group κ n e (q, c, f, (ls, g, k)) w =
-      line_is (reading_of h x) r g
-      (subst (λ (u : Quantifier). TookLine (reading_of h x) (group u (map number_of ls)) r) (ap quantifier_of c ∙ code_back q)
-      (subst (λ (m : ℕ). GroupTook (reading_of h x) κ (take m out) r) e w (map number_of ls)
-      (group_judged h.variables (quantifier_of κ) (prefix_in x) n out ls fine room k)
-      (group_same h.variables (quantifier_of κ) (prefix_in x) n out ls fine room k)))
-    where
-      fine : numbers_are_ok paper [] (prefix_in x) ≡ true
-      fine = numbers_ok (formula_in x) s.stands.reached.facts
+  low : (formula_at cells literals).limits.numbers ≤ highest.numbers
+  low = numbers_capped (formula_at cells literals) s.stands.reached.facts
+
+  module _ {o : Option Line} {out : List ℤ} {r : Result Problem Refusal} {cells' : List ℕ} {literals' : List ℤ} (room : length out ≡ suc highest.numbers) where
+    pub line_clause : (n : ℕ) {lits : List ℤ} → lits ≡ take (min n (length out)) out → LineIs o (line.Clause n) out → ClauseTookAt q lits r cells' literals' → TookAt q o r cells' literals'
+    line_clause n {lits} e h w =
+        subst (λ (f : Option Line). TookAt q f r cells' literals') (sym h.1)
+        (subst (λ (l : List ℤ). ClauseTookAt q l r cells' literals') e w h.0
+        (rule_cut_under (whole q) few n out h.0 h.2 refl wide) (rule_cut_same_under (whole q) few n out h.0 h.2 refl wide))
+      where
+        few : (whole q).limits.numbers ≤ highest.numbers
+        few = subst (λ (L : Limits). L.numbers ≤ highest.numbers) (sym (whole_limits q)) low
+
+        wide : (whole q).limits.literals < length out
+        wide = subst (λ (L : Limits). L.literals < length out) (sym (whole_limits q)) (omega (arith, room))
+
+    pub line_group : (κ n : ℕ) {lits : List ℤ} → lits ≡ take (min n (length out)) out → LineIs o (line.Group κ n) out → GroupTookAt q κ lits r cells' literals' → TookAt q o r cells' literals'
+    line_group κ n {lits} e (u, c, f, (ls, g, k)) w =
+        subst (λ (t : Option Line). TookAt q t r cells' literals') (sym g)
+        (subst (λ (u : Quantifier). TookLineAt q (group u (map number_of ls)) r cells' literals') (ap quantifier_of c ∙ code_back u)
+        (subst (λ (l : List ℤ). GroupTookAt q κ l r cells' literals') e w (map number_of ls)
+        (group_judged q.formula.limits low p.head.variables (quantifier_of κ) q.formula.prefix n out ls fine room k)
+        (group_same q.formula.limits low p.head.variables (quantifier_of κ) q.formula.prefix n out ls fine room k)))
+      where
+        fine : numbers_are_ok q.formula.limits [] q.formula.prefix ≡ true
+        fine = numbers_freed p.head.crowd q.formula.limits [] (formula_at cells literals).prefix ∙ numbers_ok (formula_at cells literals) s.stands.reached.facts

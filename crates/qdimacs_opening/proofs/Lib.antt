@@ -1,8 +1,10 @@
-pub mod Flagging
-pub mod Joining
-pub mod Counting
+pub mod Freed
+pub mod Forming
+pub mod Building
 pub mod Completing
+pub mod Counting
 pub mod Taking
 pub mod Judging
 pub mod Turns
-pub mod Books
+pub mod Formed
+pub mod Served

@@ -1,3 +1,3 @@
-pub mod Completed
+pub mod Built
 pub mod Stands
 pub mod Lines

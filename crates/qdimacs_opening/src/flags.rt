@@ -1,60 +1,39 @@
 // "Variables up to the header's count that stand in no quantifier line become flags, in rising number"
-ghost use Rattle.std.specs.Prelude.{◌≤◌};
-ghost use Rattle.qbf.specs.Formula.{paper, free};
-ghost use Rattle.tables.specs.Views.{quantifier_code};
-ghost use Rattle.opening.specs.Blocks.{Growable};
-ghost use Rattle.qdimacs_opening.specs.Completed.{FlagDeclared, Flagged};
+ghost use Rattle.std.specs.Prelude.{◌≡◌, length};
+ghost use Rattle.state_parts.specs.Layout.{limits_in};
+ghost use Rattle.qdimacs_opening.specs.Built.{Built, flags_in, flags_as, FlagsReady};
 
-use literal::Number;
-use state::declare::declare;
+use declaring::declare;
+use literal::{Number, cell_at};
+use state_parts::limits::Layout;
 
 // The places are those of the quantified variables.
-// stays (no plainer): the three tables are those of `declare`, whose line says why they are no struct
-fn declare_flag(
-    numbers: &mut [u16; tables::BY_NUMBER],
-    levels: &mut [u16; tables::BY_NUMBER],
-    kinds: &mut [u16; tables::BY_NUMBER],
-    places: &[u16; tables::BY_NUMBER],
-    number: Number,
-)
-    requires { Growable numbers.old levels.old kinds.old (quantifier_code free) × (number.0 ≤ paper.numbers) }
-    ensures { FlagDeclared
-        numbers.old
-        levels.old
-        kinds.old
-        places.now
-        number.0
-        numbers.new
-        levels.new
-        kinds.new }
+pub fn flag_count(places: &[u16], variables: usize) -> usize
+    ensures { result ≡ length (flags_in places.now variables) }
 {
-    let n = number.0;
-    if places[n] == 0 {
-        let _ = declare(numbers, levels, kinds, number, tables::FREE);
+    let mut count = 0;
+    // stays (no plainer): `places.iter().skip(1).take(variables)` ends with the table; a number behind its end has place 0, by the definition
+    for i in 0..variables {
+        if cell_at(places, i + 1) == 0 {
+            count += 1;
+        }
     }
+    count
 }
 
-// stays (no plainer): `usize ≤ paper.numbers` is of how many numbers the text declares, and bounds a loop over them; `Number` is one of them, of any size;
-// the three tables are those of `declare`, whose line says why they are no struct
-pub fn declare_flags(
-    numbers: &mut [u16; tables::BY_NUMBER],
-    levels: &mut [u16; tables::BY_NUMBER],
-    kinds: &mut [u16; tables::BY_NUMBER],
-    places: &[u16; tables::BY_NUMBER],
-    variables: usize,
-)
-    requires { Growable numbers.old levels.old kinds.old (quantifier_code free) × (variables ≤ paper.numbers) }
-    ensures { Flagged
-        numbers.old
-        levels.old
-        kinds.old
-        places.now
-        variables
-        numbers.new
-        levels.new
-        kinds.new }
+// stays (form): the kind is the number of the flat table of kinds
+pub fn declare_flags(layout: Layout, cells: &mut [u16], places: &[u16], variables: usize, kind: u16)
+    requires { FlagsReady (limits_in layout) cells.old places.now variables kind }
+    ensures { Built
+        (limits_in layout)
+        cells.old
+        (flags_as kind places.now variables)
+        cells.new }
 {
-    for n in 1..=variables {
-        declare_flag(numbers, levels, kinds, places, Number(n));
+    for i in 0..variables {
+        let n = i + 1;
+        if cell_at(places, n) == 0 {
+            let _ = declare(layout, cells, Number(n), kind);
+        }
     }
 }

@@ -8,10 +8,11 @@ pub enum Part {
     Clauses,
 }
 
-// The counts are the header's.
+// The counts are the header's. Where there are more flags than may be they stand in the tables as variables of exists, as many as `crowd` says.
 #[derive(Clone, Copy)]
 pub struct Head {
     pub part: Part,
     pub variables: usize,
     pub clauses: usize,
+    pub crowd: usize,
 }

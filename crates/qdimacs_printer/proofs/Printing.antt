@@ -22,14 +22,14 @@ use Rattle.booktext.specs.Books.{book_text, text_room}
 use Rattle.state_parts.specs.Parts.{limits_of, state_at, read_at, valid_at}
 use Rattle.refusal.specs.Refusal.{number_of}
 use Rattle.opening.specs.declared.text.RefusedAt.{RefusedAt}
-use Rattle.opening_at.specs.Opened.{AnsweredAt, OpenedAt}
+use Rattle.opening.specs.Opened.{AnsweredAt, OpenedAt}
 use Rattle.writer.specs.Wrote.{Wrote}
 use Rattle.book_writer.specs.Writes.{WritesAt}
 use Rattle.book_writer.proofs.Rooms.{capped_most, whole_written}
 use Rattle.qdimacs_form.specs.Opening.{open_qdimacs}
 use Rattle.qdimacs_printer.specs.Printing.{opened_text, qdimacs_program, Printed, BookPrinted}
 use Rattle.lent_texts.proofs.Opened.{if_whole}
-use Rattle.qdimacs_opening_at.proofs.Formed.{opened_formula}
+use Rattle.qdimacs_opening.proofs.Formed.{opened_formula}
 
 -- ---- what was written
 pub wrote_printed : {t d₀ d : Bytes} {r : ℕ} → Wrote d₀ 0 t d r → Printed t r d

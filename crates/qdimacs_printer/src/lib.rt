@@ -13,7 +13,7 @@ ghost use Rattle.qdimacs_printer.specs.Printing.{Printed, BookPrinted};
 use answer_text::refused::write_refusal;
 use book_writer::at::write_at;
 use book_writer::longest::HIGHEST_LONGEST;
-use qdimacs_opening_at::open;
+use qdimacs_opening::open;
 use state::parts::Limits;
 
 // A table that holds the text of every book, under any limits.

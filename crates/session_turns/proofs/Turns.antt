@@ -22,8 +22,7 @@ use Rattle.answer_text.specs.declared.shown.Shown.{Shown}
 use Rattle.answer_text.specs.Room.{answer_bytes}
 use Rattle.buffered_lines.specs.declared.Place.{Place}
 use Rattle.buffered_lines.specs.Places.{waits, LineIn, too_long}
-use Rattle.buffered_lines.specs.Turns.{unused, Ready, Went, Finished}
-use Rattle.buffered_lines.specs.Turns.{Turned as TurnedOf}
+use Rattle.buffered_lines.specs.Turns.{unused, Ready, Went, Finished, Turned as TurnedOf}
 use Rattle.buffered_lines.proofs.Runs.{true_false}
 use Rattle.session_turns.specs.declared.Stage.{Stage}
 use Rattle.session_turns.specs.declared.Stage.TheVariants as stage

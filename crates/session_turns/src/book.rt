@@ -9,7 +9,7 @@ use answer_text::book::print_refusal;
 use answer_text::shown::no_card;
 use buffered_lines::{Line, Place};
 use edition_opening::Editions;
-use edition_opening_at::open;
+use edition_opening::open;
 use line_buffer::next_number;
 use opening::text::RefusedAt;
 use reader::text::{book_end, line_count};

@@ -24,7 +24,7 @@ use Rattle.editions_laws.proofs.Formed.{opened_formula}
 use Rattle.state_parts.specs.Parts.{read_at}
 use Rattle.refusal.specs.Refusal.{number_of}
 use Rattle.opening.specs.declared.text.RefusedAt.{RefusedAt}
-use Rattle.opening_at.specs.Opened.{AnsweredAt, OpenedAt}
+use Rattle.opening.specs.Opened.{AnsweredAt, OpenedAt}
 use Rattle.cover.specs.declared.CardLines.{CardLines}
 use Rattle.writer.specs.Wrote.{Wrote}
 use Rattle.book_writer.specs.declared.Written.{Written}

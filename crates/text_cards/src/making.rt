@@ -10,8 +10,7 @@ ghost use Rattle.text_cards.specs.Making.{CardMade, MakesCard};
 
 use card_answers::names::names_at;
 use cover::CardLines;
-use edition_opening::Editions;
-use edition_opening_at::open;
+use edition_opening::{Editions, open};
 use opening::text::{NO_LINE, RefusedAt};
 use search_entry::workspace::Workspace;
 use state::parts::Limits;

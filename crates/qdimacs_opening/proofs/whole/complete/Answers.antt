@@ -1,12 +1,21 @@
--- `complete`: empty tables, the flags, the groups.
-use Rattle.qdimacs_opening.proofs.Completing.{none_growable, groups_sound, groups_joinable, groups_joined}
+-- `complete`: the groups, set aside, and the whole prefix anew.
+use mathlib.Core.Path.{refl}
+use Rattle.state_parts.specs.Layout.{limits_in}
+use Rattle.opening.specs.Standing.{formula_at}
+use Rattle.qdimacs_opening.proofs.Completing.{grouped_room, regroupable, completed_at}
 use Rattle.qdimacs_opening.proofs.whole.complete.Goals as goal
 
-pub declare_flags-requires : goal.declare_flags-requires
-declare_flags-requires c = (none_growable _ _, c.requires.1)
+pub set_aside-groups-requires : goal.set_aside-groups-requires
+set_aside-groups-requires c = grouped_room c.requires.1
 
-pub declare_groups-requires : goal.declare_groups-requires
-declare_groups-requires c = record { sound = (c.declare_flags.ensures.growable.sound, groups_sound c.requires.0 c.requires.1); joinable = groups_joinable c.requires.0 c.requires.1 c.places_of-places.ensures c.declare_flags.ensures }
+pub regroup-requires : goal.regroup-requires
+regroup-requires c = (
+  (formula_at c.args.cells.now c.requires.0).prefix,
+  regroupable c.requires.1 c.requires.2 c.set_aside-groups.ensures.0 c.set_aside-groups.ensures.1 c.set_aside-groups.ensures.2 (c.place_numbers.ensures.1 (limits_in c.args.layout) refl),
+)
 
 pub returns : goal.returns
-returns c = groups_joined c.requires.0 c.requires.1 c.places_of-places.ensures c.declare_flags.ensures c.declare_groups.ensures
+returns c = λ literals g.
+    completed_at g
+    (c.regroup.ensures (formula_at c.args.cells.now literals).prefix
+    (regroupable g c.requires.2 c.set_aside-groups.ensures.0 c.set_aside-groups.ensures.1 c.set_aside-groups.ensures.2 (c.place_numbers.ensures.1 (limits_in c.args.layout) refl)))

@@ -1,0 +1,19 @@
+-- `open`: what the book's lines build on the empty state, under the lesser of each limit and the highest.
+use mathlib.Core.Path.{subst}
+use Rattle.theory.proofs.Widths.{capped_ok}
+use Rattle.layout.specs.Opening.{Opened}
+use Rattle.opening.specs.Lines.{ReadAt}
+use Rattle.opening.proofs.Preparing.{opened_so}
+use Rattle.edition_opening.proofs.Turns.{begun_stands, begun_opens}
+use Rattle.edition_opening.proofs.open.Goals as goal
+
+pub read_text-read-requires : goal.read_text-read-requires
+read_text-read-requires c = begun_stands c.first.ensures c.in-Some.ensures.1 (capped_ok c.args.limits.numbers c.args.limits.clauses) c.prepare.new.cells c.args.literals.now c.in-Some.ensures.2
+
+pub returns : goal.returns
+returns c =
+    opened_so c.read_text-read.result c.read_text-read.new.cells c.in-Some.ensures.0
+    (subst (λ (o : Opened). ReadAt o c.read_text-read.result c.read_text-read.new.cells c.read_text-read.new.literals)
+    (begun_opens c.first.ensures c.in-Some.ensures.1 (capped_ok c.args.limits.numbers c.args.limits.clauses) c.prepare.new.cells c.args.literals.now c.in-Some.ensures.2 c.args.text.now)
+    c.read_text-read.ensures)
+    c.closed.ensures.left c.closed.ensures.same

@@ -1,4 +1,0 @@
-pub mod Taking
-pub mod Lines
-pub mod Turns
-pub mod Served

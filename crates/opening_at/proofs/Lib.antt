@@ -1,9 +1,0 @@
-pub mod Laws
-pub mod Growing
-pub mod Blocks
-pub mod Taking
-pub mod Judging
-pub mod Turns
-pub mod Reading
-pub mod Preparing
-pub mod Closed

@@ -1,5 +1,0 @@
-pub mod Standing
-pub mod Lines
-pub mod Blocks
-pub mod Forms
-pub mod Opened
