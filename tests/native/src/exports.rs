@@ -384,7 +384,7 @@ pub(crate) fn said(call: &Call, reply: &Reply) -> Result<Said, String> {
     let Reply { refusal, verdict, lines, visits } = *reply;
     let said = match (call, refusal, verdict, lines, visits) {
         (Call::Card(_) | Call::KeepCard(_), 21, 0, 0, _) => Some(Said::Refused(21)),
-        (_, 34, 0, 0, _) if call.searches() => Some(Said::Refused(34)),
+        (_, 34 | 37, 0, 0, _) if call.searches() => Some(Said::Refused(refusal as u8)),
         (_, 1.., 0, 0, 0) => u8::try_from(refusal).ok().map(Said::Refused),
         (Call::Rule(_) | Call::One(_), 0, 0, 0, 0) => Some(Said::Added),
         (Call::Withdraw, 0, 0, 0, 0) => Some(Said::Withdrawn),
@@ -407,7 +407,7 @@ pub(crate) fn said_of_nearest(nearest: &Nearest, values: [u8; MOST_FLAGS]) -> Re
             Ok(Said::Closest(Closest { reading: values, differs, lines }))
         }
         Nearest { refusal, differs: 0, lines: 0, visits } if values == [0; MOST_FLAGS] => {
-            let told = matches!(refusal, 21 | 34 | 35) || visits == 0;
+            let told = matches!(refusal, 21 | 34 | 35 | 37) || visits == 0;
             let number = u8::try_from(refusal).ok().filter(|_| told);
             Ok(Said::Refused(number.ok_or(format!("{nearest:?} is no refusal"))?))
         }
