@@ -20,7 +20,7 @@ use shares::BOOKS;
 use skip::skip_turn;
 use text::text_turn;
 
-mod answers; // what is printed of a text, and of a line that is 1
+mod told; // what is printed of a text, and of a line that is 1
 mod lines; // the lines
 mod skip; // a text that is skipped
 mod text; // the text of a place

@@ -11,7 +11,7 @@ ghost use Rattle.day_turns.specs.Tables.{tables, in_tables};
 
 // stays (no plainer): `line_bytes ≤ length [u8]` is of a table that the day is lent whole; a type for it would be made for each of these calls, and taken off in each
 // stays (no plainer): `Day.place.at ≤ Day.place.held` and `Day.place.held ≤ length [u8]` are asked once, by the turn; `Day.place.at + usize < Day.place.held` is of a line that was just found
-use crate::answers::refuse_line;
+use crate::told::refuse_line;
 use crate::{Day, Skipping, Stage, over};
 use answer_text::shown::no_card;
 use buffered_lines::line_in;

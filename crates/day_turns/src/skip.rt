@@ -6,8 +6,8 @@ ghost use Rattle.day_turns.specs.Turns.{counted, SkipsFrom, SkipTurned};
 ghost use Rattle.day_turns.specs.Tables.{tables, in_tables};
 
 // stays (no plainer): `line_bytes ≤ length [u8]` is of a table that the day is lent whole; a type for it would be made for each of these calls, and taken off in each
-use crate::answers::tell_skipped;
 use crate::text::mark;
+use crate::told::tell_skipped;
 use crate::{Day, Skipping, Stage, over};
 use buffered_lines::{Line, Place};
 use day_lines::Kept;

@@ -8,9 +8,9 @@ ghost use Rattle.day_turns.specs.Tables.{tables, in_tables, marked, PlaceOpened}
 
 // stays (no plainer): `line_bytes ≤ length [u8]` is of a table that the day is lent whole; a type for it would be made for each of these calls, and taken off in each
 // stays (no plainer): `Day.place.at ≤ Day.place.held` and `Day.place.held ≤ length [u8]` are asked once, by the turn; `Day.place.at + usize < Day.place.held` is of a line that was just found
-use crate::answers::tell_text;
 use crate::lines::wait_line;
 use crate::skip::behind;
+use crate::told::tell_text;
 use crate::{Day, Skipping, Stage, over};
 use buffered_lines::{Line, Place};
 use day_lines::Kept;

@@ -4,7 +4,6 @@
 //! and lists of calls from a seed, `hold` makes the calls on both sides and compares.
 
 pub mod budget;
-#[cfg(feature = "day")]
 pub mod day;
 pub mod exports;
 pub mod generate;
@@ -17,6 +16,5 @@ pub mod run;
 pub mod shrink;
 pub mod spoil;
 pub mod tally;
-#[cfg(feature = "text")]
 pub mod text;
 pub mod texts;

@@ -14,14 +14,9 @@ const OF_THE_PROGRAM: [DaySlip; 5] = [
     DaySlip::CardOfAnotherPlace,
 ];
 
-/// The compiled calls, once the library has them: until then the independent implementation on the same tables.
-#[cfg(feature = "day")]
+/// The compiled calls.
 fn subject() -> impl AtPlaces {
     native::day::Exports
-}
-#[cfg(not(feature = "day"))]
-fn subject() -> impl AtPlaces {
-    None
 }
 
 /// Texts opened at places of days that begin.

@@ -2,7 +2,6 @@
 //!
 //! The standard calls unquantified variables outermost existentials. A reading gives each of them its
 //! value, as unit clauses behind the book's own: then the two meanings are the same.
-#![cfg(feature = "text")]
 
 use compare::qdimacs::{by_place, lines};
 use compare::random::Random;

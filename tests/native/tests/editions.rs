@@ -1,5 +1,4 @@
 //! Texts converted between the editions: the library against the independent implementation.
-#![cfg(feature = "text")]
 
 use compare::cases::{self, Program};
 use compare::editions::{EditionSlip, ALL};

@@ -1,5 +1,4 @@
 //! Printed pages: the library against the independent implementation.
-#![cfg(feature = "text")]
 
 use compare::page::{lent, Card, ALL, BYTES};
 use compare::{Call, Said, Subject};

@@ -1,5 +1,4 @@
 //! Books that come as QDIMACS: the library against the independent implementation.
-#![cfg(feature = "text")]
 
 use compare::cases::{self, Program};
 use compare::limits::LimitSlip;

@@ -1,5 +1,4 @@
 //! The functions on texts run on the stack that the C header asks for.
-#![cfg(feature = "text")]
 
 use compare::random::Random;
 use compare::{write, Formula, Limits, Options, Quantifier, Variable};

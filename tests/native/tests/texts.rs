@@ -1,5 +1,4 @@
 //! Texts, opened and printed, and call lines: the library against the independent implementation.
-#![cfg(feature = "text")]
 
 use compare::cases::{self, Program, StoredCase};
 use compare::last_card;

@@ -3,8 +3,9 @@
 //! made smaller.
 
 use compare::draw::on_a_large_stack;
+use native::day::Exports;
 use native::input::{Source, SOURCES};
-use native::rounds::{lists, states, Counts};
+use native::rounds::{days, lists, states, Counts};
 use native::tally::Tally;
 use std::process::exit;
 use std::time::{Duration, Instant};
@@ -54,12 +55,11 @@ fn turn(seed: u64, index: u64, lists: &mut Tally, others: &mut Counts) -> Result
     if index % 32 == 0 {
         states::of_wide(seed, index / 32, others)?;
     }
-    #[cfg(feature = "text")]
     texts(seed, index, others)?;
-    Ok(())
+    days::round(&mut Exports, seed, index, others)?;
+    days::openings(&mut Exports, seed, index, others)
 }
 
-#[cfg(feature = "text")]
 fn texts(seed: u64, index: u64, others: &mut Counts) -> Result<(), String> {
     use native::rounds::{books, editions, lines, pages, qdimacs};
     books::round(seed, index, others)?;

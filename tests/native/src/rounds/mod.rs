@@ -5,15 +5,10 @@ pub mod days;
 pub mod lists;
 pub mod states;
 
-#[cfg(feature = "text")]
 pub mod books;
-#[cfg(feature = "text")]
 pub mod editions;
-#[cfg(feature = "text")]
 pub mod lines;
-#[cfg(feature = "text")]
 pub mod pages;
-#[cfg(feature = "text")]
 pub mod qdimacs;
 
 use crate::generate::Book;
