@@ -1,13 +1,8 @@
 -- The card answered last, as the code holds it: numbers, and a table whose first bytes are the card's.
 use Rattle.std.specs.Prelude.{ℕ, ◌≡◌, cond, [], take, eqb, Result}
 use Rattle.std.proofs.Math.Option.{Option, none, some}
-use Rattle.qbf.specs.Formula.{Prefix}
-use Rattle.qbf.specs.Truth.{free_variables}
 use Rattle.layout.specs.Words.{Bytes}
 use Rattle.sessions.specs.Session.{Card}
-use Rattle.tables.specs.Views.{Numbers}
-use Rattle.state.specs.declared.State.{State}
-use Rattle.state.specs.Derived.{Quantified}
 use Rattle.serving.specs.Serves.{number}
 use Rattle.replies.specs.Replies.{card_said}
 use Rattle.refusal.specs.declared.Refusal.{Refusal}
@@ -26,10 +21,3 @@ pub record CardToldBy (f : ℕ) (p : Result ℕ Refusal) (m : ℕ) (r : Shown) :
   pub size : r.size ≡ m
   pub lines : r.lines ≡ (card_said p 0 []).lines
   pub free : r.free ≡ f
-
--- .. on a state by value
-pub record CardTold (x : State) (p : Result ℕ Refusal) (m : ℕ) (r : Shown) : Type 0 where
-  pub refusal : r.refusal ≡ number (card_said p 0 []).refusal
-  pub size : r.size ≡ m
-  pub lines : r.lines ≡ (card_said p 0 []).lines
-  pub free : (E : Prefix) → Numbers E x.numbers → Quantified E x.levels x.kinds → r.free ≡ free_variables E

@@ -1,9 +1,8 @@
 // The card answered last, from which pages are printed. Its lines stand in a table that outlives the call.
 ghost use Rattle.std.specs.Prelude.{◌≡◌, cond, eqb};
-ghost use Rattle.answer_text.specs.Shown.{no_card, CardToldBy, CardTold};
+ghost use Rattle.answer_text.specs.Shown.{no_card, CardToldBy};
 
 use refusal::{Refusal, number_if};
-use state::State;
 
 // The card stands in the first bytes of the table, as many as the call asked for; a refusal other than 0 is no card.
 // stays (C): the header declares the number of the refusal, 0 for none, beside the counts
@@ -14,13 +13,6 @@ pub struct Shown {
     pub size: usize,
     pub lines: usize,
     pub free: usize,
-}
-
-// What a session holds between two lines: the state, and the card answered last.
-#[derive(Clone, Copy)]
-pub struct Held {
-    pub state: State,
-    pub shown: Shown,
 }
 
 // No card has been answered yet, or what was answered may no longer hold: "36 a page the card does not have".
@@ -56,11 +48,4 @@ pub fn card_told(free: usize, lines: Result<usize, Refusal>, size: usize) -> Sho
         lines: lines.unwrap_or(0),
         free: free,
     }
-}
-
-// .. on a state by value.
-pub fn card_of(x: State, lines: Result<usize, Refusal>, size: usize) -> Shown
-    ensures { CardTold x lines size result }
-{
-    card_told(x.free_count(), lines, size)
 }

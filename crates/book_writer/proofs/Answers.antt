@@ -14,9 +14,7 @@ use Rattle.qbf.specs.Formula.{Limits, paper, Prefix, Clause}
 use Rattle.qbf.specs.Card.{zero_table}
 use Rattle.qbf.specs.Calls.{State as Read, well_formed}
 use Rattle.state.specs.declared.State.{State}
-use Rattle.state.specs.Reading.{own, prefix_in, formula_in, formula_under, state_in, state_under, read_state, well_formed_read, valid}
-use Rattle.state.specs.Derived.{Sized}
-use Rattle.state.proofs.Valid.{valid_facts, valid_tables}
+use Rattle.state.specs.Reading.{own, prefix_in, formula_under, state_under, well_formed_read}
 use Rattle.state_parts.specs.declared.limits.Layout.{Layout}
 use Rattle.state_parts.specs.Layout.{limits_in, CheckedIn}
 use Rattle.state_parts.specs.Parts.{limits_of, parts_under, state_at, read_at, valid_at}
@@ -26,7 +24,7 @@ use Rattle.booktext.specs.Books.{written, write_refused, written_to, write_guard
 use Rattle.booktext_laws.proofs.Writing.{written_as}
 use Rattle.writer.specs.Wrote.{Wrote}
 use Rattle.book_writer.specs.Tables.{formula_of, Standing}
-use Rattle.book_writer.specs.Writes.{answered, told, written_of, WritesRead, Writes, WritesAt}
+use Rattle.book_writer.specs.Writes.{answered, told, written_of, WritesRead, WritesAt}
 use Rattle.book_writer.proofs.Rows.{table_standing}
 
 -- the answer, by the numbers that it was made of
@@ -90,19 +88,6 @@ module _ (o : Option Read) (size : ℕ) where
 pub same_text : (L M : Limits) (D : Prefix) (R : List Clause) → written_text (record { limits = L; prefix = D; clauses = R }) ≡ written_text (record { limits = M; prefix = D; clauses = R })
 unfolding written_text
 same_text L M D R = refl
-
--- ---- a state by value
-module _ (x : State) (size : ℕ) {refusal count : ℕ} {table : Bytes} where
-  pub invalid_writes : valid x ≡ false → answered refusal count table ≡ told (write_refused 22 (zero_table size)) → Writes x size refusal count table
-  unfolding valid
-  invalid_writes v e = malformed_writes (read_state x) size v e
-
-  pub valid_writes : valid x ≡ true → answered refusal count table ≡ told (written_to size (written_text (formula_in x))) → Writes x size refusal count table
-  valid_writes v e = formed_writes (read_state x) size (state_in x) (valid_facts x v).read (valid_facts x v).formed e
-
--- the rows of a valid state's clauses
-pub valid_standing : (x : State) → valid x ≡ true → Sized x → Standing x.clauses x.clause_sizes
-valid_standing x v s = table_standing (valid_tables x v s).clauses
 
 -- ---- a state in two tables
 -- one that was not checked

@@ -1,6 +1,6 @@
 -- What follows from the contract of writing, for whatever meets it, whichever way the state is read. Paper 02, wish 2. "Not refused" is the answer 0.
 use Prim.Native.Nat.{ℕ, zero, suc, ◌-◌, ◌≤◌}
-use mathlib.Core.Path.{◌≡◌, refl, sym, ap, subst, ◌∙◌}
+use mathlib.Core.Path.{◌≡◌, refl, sym, ap, ◌∙◌}
 use mathlib.Core.Logic.{◌↔◌}
 use mathlib.Core.Bool.{Bool, true, false, cond}
 use mathlib.Core.List.{List, ◌++◌}
@@ -10,26 +10,22 @@ use lib.IntN.{ℤ}
 use lib.ListN.{length, take, replicate, length-append, length-take}
 use lib.Seq.{take_at}
 use lib.Dec.{leb}
-use Rattle.qbf.specs.Formula.{Limits, paper, Formula}
+use Rattle.qbf.specs.Formula.{Formula}
 use Rattle.qbf.specs.Card.{zero_table}
 use Rattle.qbf.specs.Calls.{formula_is_ok, State as Read, well_formed}
-use Rattle.qbf.specs.Runs.{fresh}
 use Rattle.theory.proofs.Basics.{and_left}
 use Rattle.theory.proofs.AcceptedRule.{some_none}
 use Rattle.theory.proofs.WellFormed.{formula_facts, numbers_capped}
-use Rattle.state.specs.declared.State.{State}
-use Rattle.state.specs.Reading.{formula_in, formula_under, state_in, state_under, read_state, well_formed_read, valid}
-use Rattle.state.proofs.Valid.{valid_facts}
+use Rattle.state.specs.Reading.{formula_under, state_under, well_formed_read}
 use Rattle.state_parts.specs.Parts.{limits_of, state_at, read_at, valid_at}
 use Rattle.state_parts.proofs.Accepted.{valid_read}
 use Rattle.layout.specs.Words.{Bytes}
 use Rattle.layout.specs.Opening.{text_bytes, opened, open_text}
-use Rattle.layout_laws.proofs.Opened.{fresh_formed}
 use Rattle.booktext.specs.Texts.{read_text}
 use Rattle.booktext.specs.Books.{written, write_refused, written_to, book_text, text_room}
 use Rattle.booktext_laws.proofs.Books.{ShortNumbers, read_back, open_back, equal_texts, SameBook}
 use Rattle.booktext_laws.proofs.Room.{text_room_lem}
-use Rattle.book_writer.specs.Writes.{Answer, answered, told, WritesRead, Writes, WritesAt}
+use Rattle.book_writer.specs.Writes.{Answer, answered, told, WritesRead, WritesAt}
 use Rattle.book_writer.proofs.Answers.{fits, malformed_is, formed_is}
 
 -- ---- what is not refused
@@ -96,28 +92,6 @@ module _ (o : Option Read) (y : Read) (read : o ≡ some y) (formed : well_forme
       by zero v = let q = text_written v in (count_within v, q.is ∙ ap (λ (z : Read). book_text z.formula) (same_read q.y q.read))
       by (suc n) v = absurd (some_none (ap (λ (a : Answer). a.refusal) (v.said ∙ ap told (formed_is o size y read formed ∙ fits size t room_for))))
 
--- a state with nothing learned
-pub fresh_read : (o : Option Read) (b : Formula) → o ≡ some (fresh b) → formula_is_ok b ≡ true → {size refusal count : ℕ} {table : Bytes} → WritesRead o size refusal count table → text_room b.limits ≤ size
-    → (count ≤ length table) × (take count table ≡ book_text b)
-fresh_read o b e ok w room = room_written o (fresh b) e (fresh_formed b (formula_facts b ok)) w room
-
--- .. by value
-module _ (x : State) (b : Formula) (e : read_state x ≡ some (fresh b)) (ok : formula_is_ok b ≡ true) where
-  fresh_valid : valid x ≡ true
-  unfolding valid
-  fresh_valid = ap well_formed_read e ∙ fresh_formed b (formula_facts b ok)
-
-  limits_or : Option Read → Limits
-  limits_or none = paper
-  limits_or (some y) = y.formula.limits
-
-  paper_limits : b.limits ≡ paper
-  unfolding limits_or
-  paper_limits = ap limits_or (sym e ∙ (valid_facts x fresh_valid).read)
-
-  pub fresh_written : {size refusal count : ℕ} {table : Bytes} → Writes x size refusal count table → text_room paper ≤ size → (count ≤ length table) × (take count table ≡ book_text b)
-  fresh_written {size} w room = fresh_read (read_state x) b e ok w (subst (λ (L : Limits). text_room L ≤ size) (sym paper_limits) room)
-
 -- ---- the theorems
 -- "Reading the text gives the same variables, places, kinds and rules, with an empty store": a text opens a formula, and the state of an opened
 -- formula is `fresh`. Over a reader without 9, for a state's own limits; a text of 65,536 bytes is the longest that is opened.
@@ -152,12 +126,7 @@ equal_written w v = (λ e. same.0 (sym (text_written w).is ∙ e ∙ (text_writt
 read_one : (o : Option Read) (y z : Read) → o ≡ some y → o ≡ some z → y ≡ z
 read_one o y z e f = let g : some y ≡ some z = sym e ∙ f in cc
 
--- .. of a state by value
-pub book_in : (x : State) {size count : ℕ} {table : Bytes} (w : Writes x size 0 count table) → book w ≡ formula_in x
-unfolding valid
-book_in x w = ap (λ (y : Read). y.formula) (read_one (read_state x) (shown w).y (state_in x) (shown w).read (valid_facts x (ap well_formed_read (shown w).read ∙ (shown w).formed)).read)
-
--- .. of one in two tables: it has the limits of their first two cells
+-- of a state in two tables: it has the limits of their first two cells
 pub book_at : (cells : List ℕ) (literals : List ℤ) {size count : ℕ} {table : Bytes} (w : WritesAt cells literals size 0 count table) → book w ≡ formula_under (limits_of cells) (state_at cells literals)
 unfolding valid_at
 book_at cells literals w =

@@ -3,8 +3,6 @@ use Rattle.std.specs.Prelude.{ℕ, ◌≡◌, List, ℤ}
 use Rattle.std.proofs.Math.Option.{Option, none, some}
 use Rattle.qbf.specs.Card.{zero_table}
 use Rattle.qbf.specs.Calls.{State as Read}
-use Rattle.state.specs.declared.State.{State}
-use Rattle.state.specs.Reading.{read_state}
 use Rattle.state_parts.specs.Parts.{read_at}
 use Rattle.serving.specs.Serves.{fault_of}
 use Rattle.layout.specs.Words.{Bytes}
@@ -34,10 +32,6 @@ written_of size (some y) = write_call size y
 pub record WritesRead (o : Option Read) (size refusal length : ℕ) (table : Bytes) : Type 0 where
   pub said : answered refusal length table ≡ told (written_of size o)
 
--- .. of a state by value
-abbrev pub Writes : State → ℕ → ℕ → ℕ → Bytes → Type 0
-Writes x size refusal length table = WritesRead (read_state x) size refusal length table
-
--- .. of one that lies in two tables, under its own limits (paper 02, wish 8: "a state with higher ones is 22")
+-- .. of a state that lies in two tables, under its own limits (paper 02, wish 8: "a state with higher ones is 22")
 abbrev pub WritesAt : List ℕ → List ℤ → ℕ → ℕ → ℕ → Bytes → Type 0
 WritesAt cells literals size refusal length table = WritesRead (read_at cells literals) size refusal length table

@@ -6,11 +6,10 @@ ghost use Rattle.std.specs.Prelude.{◌≡◌, ◌≤◌, length};
 ghost use Rattle.qbf.specs.Card.{zero_table};
 ghost use Rattle.refusal.specs.Refusal.{number_of};
 ghost use Rattle.writer.specs.Wrote.{Wrote};
-ghost use Rattle.state.specs.Lent.{lent_state};
 ghost use Rattle.booktext.specs.Books.{written_to, write_refused, written_text};
 ghost use Rattle.book_writer.specs.Tables.{formula_of};
 ghost use Rattle.book_writer.specs.Made.{WrittenAs};
-ghost use Rattle.book_writer.specs.Writes.{answered, told, Writes};
+ghost use Rattle.book_writer.specs.Writes.{answered, told};
 
 pub mod at; // a state in two lent tables
 pub mod clauses; // the clauses of a formula, in a table that is lent
@@ -22,7 +21,6 @@ mod variables; // the lines of the variables
 use clauses::Clauses;
 use refusal::Refusal;
 use state::prefix::Variables;
-use state::{Lent, State};
 use writer::Output;
 
 // The number of the refusal, 0 where there is none, and the length of the text, which stands in the first bytes of the lent table.
@@ -55,11 +53,8 @@ impl From<Result<usize, Refusal>> for Written {
     }
 }
 
-// A text is no longer: numbers have at most two digits, and every variable may stand on a line of its own (`text_room`).
-pub const LONGEST: usize = 23 + tables::NUMBERS * 12 + tables::CLAUSES * (7 + tables::LITERALS * 8);
-
 // "and zeroed"
-// stays (no plainer): what `write_formula` and `write_lent` answer, the two numbers of `Written`
+// stays (no plainer): what `write_formula` and `at::write_at` answer, the two numbers of `Written`
 fn refused(table: &mut [u8], refusal: Refusal) -> Written
     ensures { answered result.refusal result.length table.new
         ≡ told (write_refused (number_of refusal) (zero_table (length table.old))) }
@@ -100,7 +95,8 @@ fn put_formula(table: &mut [u8], variables: Variables<'_>, clauses: Clauses<'_>)
 }
 
 // The formula of the tables, whatever its limits are.
-// stays (no plainer): what `write_lent` answers, the two numbers of `Written`
+// stays (C): these are the two numbers that exports answer, and `WritesAt` is their clause of them; over a `Result` the same promise would be defined twice, with a step
+// from the one to the other for the exports
 pub fn write_formula(variables: Variables<'_>, clauses: Clauses<'_>, table: &mut [u8]) -> Written
     ensures { answered result.refusal result.length table.new
         ≡ told
@@ -121,53 +117,4 @@ pub fn write_formula(variables: Variables<'_>, clauses: Clauses<'_>, table: &mut
     let end = put_formula(table, variables, clauses);
     cover::clear(&mut table[end..]);
     Written::from(Ok(end))
-}
-
-// "Write a book as text." The state stays as it is.
-// stays (C): these are the two numbers that the export `bullacetop_write_in_place` answers, and `Writes` is its clause of them; over a `Result` the same promise would be
-// defined twice, with a step from the one to the other for the export
-pub fn write_lent(lent: Lent<'_>, table: &mut [u8]) -> Written
-    ensures { Writes (lent_state lent.entry) (length table.old) result.refusal result.length table.new }
-{
-    let Ok(_) = lent.check() else {
-        return refused(table, Refusal::Malformed);
-    };
-    let Lent {
-        numbers,
-        levels,
-        kinds,
-        clauses,
-        clause_sizes,
-        ..
-    } = lent;
-    let variables = Variables {
-        numbers,
-        levels,
-        kinds,
-    };
-    let clauses = Clauses {
-        cells: clauses,
-        sizes: clause_sizes,
-    };
-    write_formula(variables, clauses, table)
-}
-
-// The book of a state by value.
-// stays (no plainer): what `write_lent` answers, whose clause this is; a `Result` made of the two numbers here would need a second definition of that clause
-// stays (no plainer): no other function lends a whole `State` to be read, so that a `State::lent` would be these nine fields at another place, with a clause of its own
-pub fn write_book(x: State, table: &mut [u8]) -> Written
-    ensures { Writes x (length table.old) result.refusal result.length table.new }
-{
-    let lent = Lent {
-        numbers: &x.numbers,
-        levels: &x.levels,
-        kinds: &x.kinds,
-        clauses: &x.clauses,
-        clause_sizes: &x.clause_sizes,
-        learned_clauses: &x.learned_clauses,
-        learned_clause_sizes: &x.learned_clause_sizes,
-        learned_cubes: &x.learned_cubes,
-        learned_cube_sizes: &x.learned_cube_sizes,
-    };
-    write_lent(lent, table)
 }

@@ -1,20 +1,18 @@
 -- A call whose literals were narrowed and cut to the lent table is served as the call of the text, under any limits that a state may have.
-use Prim.Native.Nat.{ℕ, suc, min, ◌≤◌, ◌<◌}
+use Prim.Native.Nat.{ℕ, suc, min, ◌<◌}
 use native.Mathlib.Omega.{arith}
 use mathlib.Core.Path.{◌≡◌, refl, sym, ap, ◌∙◌}
 use mathlib.Core.Bool.{Bool, true, false, cond, not}
-use mathlib.Core.List.{List, [], ◌++◌, map}
+use mathlib.Core.List.{List, [], ◌++◌}
 use mathlib.Core.Option.{Option, none, some}
-use native.Mathlib.Decide.{dec_lt}
 use lib.IntN.{ℤ}
-use lib.ListN.{length, take, length-map, length-take}
-use Rattle.qbf.specs.Formula.{paper, highest, most_free, Prefix, Literal, Formula}
+use lib.ListN.{length, take}
+use Rattle.qbf.specs.Formula.{paper, most_free, Prefix, Literal, Formula}
 use Rattle.qbf.specs.Truth.{free_variables}
 use Rattle.qbf.specs.Calls.{Call, rule, one, query, closest, Reply, done, refused, swap, keep, unsettled, lines, card_refused, found, Answer, answer, rule_fault, one_fault, rule_reply, with_rule, with_one, store_after_rule, query_fault, given, ◌or_else◌, learning_query, learning_closest, State as Read, Stepped, step, guarded, well_formed}
 use Rattle.qbf.specs.Open.{reading_of, is_full}
 use Rattle.qbf.specs.Card.{zero_table}
 use Rattle.qbf.specs.Demands.{refusal_of}
-use Rattle.theory.proofs.OneAdded.{twenty}
 use Rattle.theory.proofs.WellFormed.{FormulaFacts, state_facts, numbers_ok, numbers_capped, free_few}
 use Rattle.layout.specs.Words.{Bytes}
 use Rattle.layout.specs.Output.{card_text}
@@ -23,34 +21,13 @@ use Rattle.state.specs.Reading.{roomy, fits_under, state_under, read_under}
 use Rattle.state_parts.specs.Parts.{limits_of, state_at, read_at}
 use Rattle.serving.specs.Serves.{out_of, next_of}
 use Rattle.reader.specs.Items.{narrowed, Kept}
-use Rattle.reader.proofs.Judged.{literals_judged_under, literals_same_under, kept_all, cut_same, rule_cut_under, rule_cut_same_under}
-use Rattle.editions_laws.proofs.One.{one_judged, one_long}
+use Rattle.reader.proofs.Judged.{rule_cut_under, rule_cut_same_under}
+use Rattle.edition_reader.proofs.OneCut.{one_cut, one_cut_same}
 use Rattle.sessions.specs.Session.{Card, card_of as shown_of, card_after_rule}
 use Rattle.card_answers.specs.Lines.{prefix_read}
 use Rattle.line_turns.specs.Line.{CallServedAt, line_card}
 use Rattle.named.proofs.Judged.{flags, flags_judged_under, flags_same_under}
 use Rattle.named.proofs.Standing.{deciding}
-
--- ---- an exactly-one form by the items that stand in a table with more cells than one may have literals
-module _ (b : Formula) (low : b.limits.numbers ≤ highest.numbers) (n : ℕ) (out : List ℤ) (ls : List Literal) (k : Kept n out ls) {m : ℕ} (room : length out ≡ m) (wide : b.limits.literals < m) where
-  judged : one_fault b (map narrowed ls) ≡ one_fault b ls
-  judged = one_judged b (map narrowed ls) ls (length-map ls narrowed) (literals_judged_under b.limits low b.prefix [] ls)
-
-  one_cut : one_fault b (take (min n m) out) ≡ one_fault b ls
-  one_cut = by (dec_lt m n)
-    where
-      by : Dec (m < n) → one_fault b (take (min n m) out) ≡ one_fault b ls
-      by (no h) = ap (one_fault b) (cut_same n m out room ∙ kept_all n out ls k (omega (arith, h, room))) ∙ judged
-      by (yes h) =
-          one_long b (take (min n m) out) (omega (arith, h, room, wide, length-take (min n m) out))
-          ∙ sym (one_long b ls (omega (arith, h, wide, k.count)))
-
-  one_cut_same : one_fault b ls ≡ none → take (min n m) out ≡ ls
-  one_cut_same e = by (dec_lt m n)
-    where
-      by : Dec (m < n) → take (min n m) out ≡ ls
-      by (no h) = cut_same n m out room ∙ kept_all n out ls k (omega (arith, h, room)) ∙ literals_same_under b.limits low b.prefix [] ls (twenty b ls e).1
-      by (yes h) = absurd (let z : some 7 ≡ none = sym (one_long b ls (omega (arith, h, wide, k.count))) ∙ e in let y : ◌≡◌ {A = ℕ} 0 1 = cc in omega (arith, y))
 
 -- ---- one step
 module _ (y : Read) where

@@ -10,7 +10,7 @@ use lib.ListN.{length, take}
 use Rattle.std.specs.Prelude.{Result, Ok, Err}
 use Rattle.refusal.specs.declared.Refusal.{Refusal}
 use Rattle.refusal.specs.Refusal.{fault_in}
-use Rattle.qbf.specs.Formula.{Formula, Literal}
+use Rattle.qbf.specs.Formula.{Formula}
 use Rattle.qbf.specs.Truth.{free_variables}
 use Rattle.qbf.specs.Calls.{Call, query, card_of, closest, ceiling_of, guarded, step, State as Read, well_formed}
 use Rattle.qbf.specs.Demands.{refusal_of}
@@ -28,6 +28,7 @@ use Rattle.closest_call.specs.Nearest.{nearest_said}
 use Rattle.card_answers.specs.declared.Filled.{Filled}
 use Rattle.card_answers.specs.declared.names.Names.{Names}
 use Rattle.card_answers.specs.Lines.{NamesRead, card_for}
+use Rattle.card_answers.proofs.Kept.{closest_kept}
 use Rattle.layout.specs.Words.{Bytes}
 use Rattle.answer_text.specs.declared.shown.Shown.{Shown}
 use Rattle.line_turns.specs.declared.Turn.{Turn}
@@ -130,14 +131,6 @@ module _ (n : Names) (f : Filled) (l : Listed) {line : ℕ} {r : Turn} {d : Byte
       card_called f.sought.yes f.sought.ceiling m l.lines l.visits f.table.now s long i (turned (card_served n f l long s names) z t after)
 
 -- ---- a closest reading
--- it adds no rule
-kept_formula : (y : Read) (top size : ℕ) (on off : List Literal) → (step y (closest top size on off)).state.formula ≡ y.formula
-kept_formula y top size on off = by (well_formed y)
-  where
-    by : (g : Bool) → (guarded g y (closest top size on off)).state.formula ≡ y.formula
-    by true = refl
-    by false = refl
-
 -- the prefix of what was read
 abbrev is_read : Option Read → Option ℕ
 is_read none = none
@@ -182,7 +175,7 @@ module _ {cells : List ℕ} {literals : List ℤ} {cells' : List ℕ} {literals'
           go true g =
               ap (λ (j : ℕ). nearest_said f.nearest.told f.nearest.lines f.nearest.visits f.table.now (take j f.reading.now))
               ((names (step y c).state (s.next ∙ ap (λ (o : Option Read). next_of o c) e) (step_formed y g c)).frees
-              ∙ ap (λ (b : Formula). free_variables b.prefix) (kept_formula y top m on off)
+              ∙ ap (λ (b : Formula). free_variables b.prefix) (closest_kept top m on off y)
               ∙ ap free_variables (sym (read_prefix cells literals y e)))
               ∙ s.answered
 

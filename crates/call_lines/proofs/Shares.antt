@@ -8,12 +8,10 @@ use mathlib.Core.Option.{Option, none, some}
 use borrow.Author.Tests.{eqb-true, lt-ltb}
 use lib.Dec.{eqb}
 use lib.IntN.{ℤ}
-use Rattle.qbf.specs.Formula.{Prefix, any}
-use Rattle.qbf.specs.Calls.{Call, rule, query, card, keep_card, forget, withdraw, one, closest, ceiling_of, Reply, done, refused, swap, keep, unsettled, lines, card_refused, found, Answer, answer, refusal, State as Read, step}
+use Rattle.qbf.specs.Formula.{Prefix}
+use Rattle.qbf.specs.Calls.{Call, rule, query, card, keep_card, forget, withdraw, one, closest, ceiling_of, Reply, done, refused, swap, keep, unsettled, lines, card_refused, found, Answer, answer, refusal, State as Read}
 use Rattle.qbf.specs.Demands.{refusal_of}
 use Rattle.theory.proofs.AcceptedRule.{some_none}
-use Rattle.theory.proofs.Basics.{any_false→}
-use Rattle.theory.proofs.Refusals.{refusals, refused_known}
 use Rattle.layout.specs.Words.{Bytes}
 use Rattle.layout.specs.Output.{overflow_text}
 use Rattle.layout.specs.Session.{answer_text, named}
@@ -21,6 +19,7 @@ use Rattle.sessions.specs.Session.{Card, card_after, card_of}
 use Rattle.days.specs.Accounts.{stop_number}
 use Rattle.days.specs.Day.{limited, stopped_as, shared_reply}
 use Rattle.day_text.specs.Output.{stopped_by_share, placed_text}
+use Rattle.day_text_laws.proofs.Alone as alone
 use Rattle.days_laws.proofs.Limited.{limited_same, reply_own}
 use Rattle.state_parts.specs.Parts.{read_at}
 use Rattle.serving.specs.Serves.{number, out_of}
@@ -102,16 +101,6 @@ same_card m D (one ls) r z = refl
 same_card m D (closest top size on off) r z = refl
 
 -- ---- no call is refused with 37 by itself
-none_37 : (c : Call) → any (λ n. eqb n 37) (refusals c) ≡ false
-none_37 (rule ls) = refl
-none_37 (query n on off) = refl
-none_37 (card n size) = refl
-none_37 (keep_card n size) = refl
-none_37 forget = refl
-none_37 withdraw = refl
-none_37 (one ls) = refl
-none_37 (closest n size on off) = refl
-
 malformed_37 : (c : Call) → stopped_by_share (refusal 22 c) ≡ false
 malformed_37 (rule ls) = refl
 malformed_37 (query n on off) = refl
@@ -124,20 +113,7 @@ malformed_37 (closest n size on off) = refl
 
 own_reply : (o : Option Read) (c : Call) → stopped_by_share (out_of o c).reply ≡ false
 own_reply none c = malformed_37 c
-own_reply (some y) c = by (step y c).out.reply refl
-  where
-    known : (n : ℕ) → refusal_of (step y c).out.reply ≡ some n → eqb n 37 ≡ false
-    known n e = any_false→ (λ k. eqb k 37) (refusals c) (none_37 c) n (refused_known y c n e)
-
-    by : (r : Reply) → (step y c).out.reply ≡ r → stopped_by_share r ≡ false
-    by done e = refl
-    by (refused n) e = known n (ap refusal_of e)
-    by swap e = refl
-    by keep e = refl
-    by unsettled e = refl
-    by (lines ls tb) e = refl
-    by (card_refused n tb) e = known n (ap refusal_of e)
-    by (found ls tb r) e = refl
+own_reply (some y) c = alone.own_reply y c
 
 -- so that it is told as in a session
 told_alone : (D : Prefix) (c : Call) (n : ℕ) (a : Answer) → stopped_by_share a.reply ≡ false → answer_text D c n a ≡ placed_text D c n a

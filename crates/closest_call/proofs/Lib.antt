@@ -1,4 +1,3 @@
-pub mod Ready
 pub mod Given
 pub mod Telling
-pub mod Serving
+pub mod Padded

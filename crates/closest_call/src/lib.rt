@@ -1,28 +1,18 @@
-// The call for the closest reading on lent tables, open to outsiders. Paper 02, wish 9.
+// What the call for the closest reading answers, from the lines of a card that stands in a table. Paper 02, wish 9.
 #![tactic(auto)]
 
 ghost use Rattle.std.specs.Prelude.{◌≡◌, List, ◌++◌, ℕ, ◌*◌, ◌≤◌, length, take, drop};
 ghost use Rattle.std.proofs.Math.Option.{none, some};
 ghost use Rattle.qbf.specs.Formula.{most_free};
 ghost use Rattle.qbf.specs.Card.{zero_table};
-ghost use Rattle.qbf.specs.Truth.{free_variables};
-ghost use Rattle.qbf.specs.Calls.{closest};
 ghost use Rattle.qbf.specs.Closest.{closest_in as closestOf};
 ghost use Rattle.refusal.specs.Refusal.{number_of};
-ghost use Rattle.state.specs.Reading.{prefix_in};
-ghost use Rattle.serving.specs.Serves.{said, said_with, Serves};
+ghost use Rattle.serving.specs.Serves.{said, said_with};
 ghost use Rattle.closest.specs.Table.{values_in, lines_in, reading_after};
-ghost use Rattle.answers.specs.Lent.{searching_state, SearchingHeld};
-ghost use Rattle.closest_call.specs.Nearest.{nearest_said, returned, found_said, padded};
+ghost use Rattle.closest_call.specs.Nearest.{nearest_said, found_said};
 
-use answers::asked::Asked;
-use answers::in_place::card_of;
-use answers::lent::Searching;
 use closest::Sought;
-use reading::Flags;
-use reading::placed::by_place;
 use refusal::Refusal;
-use search_entry::workspace::Workspace;
 
 // The answer: in how many variables the reading differs from the given one.
 #[derive(Clone, Copy)]
@@ -97,62 +87,5 @@ pub fn on_lines<'a>(
             cover::clear(table);
             Nearest::refused(Refusal::NoLine, visits)
         }
-    }
-}
-
-// "Given a full reading, return a reading on the swap card that differs from it in the fewest flags, and that number." "It works from a card made
-// under a ceiling, whose count .. it also returns and whose lines the table then holds." The reading's bytes are the first of the lent ones, off 1 or
-// on 2 for each free variable in place order, and all others are zero.
-pub fn closest(
-    lent: &mut Searching<'_>,
-    work: &mut Workspace,
-    asked: Asked<'_>,
-    table: &mut [u8],
-    reading: &mut [u8; tables::MOST_FREE],
-) -> Nearest
-    ensures held { SearchingHeld lent.old lent.new }
-    ensures serves { Serves
-        (searching_state lent.old)
-        (closest asked.entry.ceiling (length table.old) asked.entry.on.now asked.entry.off.now)
-        (nearest_said
-        result.told
-        result.lines
-        result.visits
-        table.new
-        (take (free_variables (prefix_in (searching_state lent.old))) reading.new))
-        (searching_state lent.new) }
-    ensures reading_after { reading.new
-        ≡ padded
-        (returned
-        result.told
-        (take (free_variables (prefix_in (searching_state lent.old))) reading.new)) }
-{
-    clear_reading(reading);
-    let Ok(prefix) = lent.lent().check() else {
-        cover::clear(table);
-        return Nearest::refused(Refusal::Malformed, 0);
-    };
-    let numbers = lent.numbers;
-    let free = lent.free_count();
-    let mut values = [tables::OPEN; tables::BY_NUMBER];
-    let flags = Flags {
-        numbers,
-        places: &prefix.places,
-        free,
-    };
-    let Ok(full) = reading::read(flags, &mut values, asked.on, asked.off) else {
-        cover::clear(table);
-        return Nearest::refused(Refusal::NotFree, 0);
-    };
-    if !full {
-        cover::clear(table);
-        return Nearest::refused(Refusal::NotFree, 0);
-    }
-    let listed = card_of(lent, work, table, true, asked.ceiling);
-    let mut given = [tables::OPEN; tables::BY_NUMBER];
-    by_place(&mut given, &values, numbers, free);
-    match listed.lines {
-        Ok(lines) => on_lines(table, lines, listed.visits, &given[1..free + 1], reading),
-        Err(refusal) => Nearest::refused(refusal, listed.visits),
     }
 }

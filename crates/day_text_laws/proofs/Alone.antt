@@ -43,7 +43,7 @@ none_37 (closest n size on off) = refl
 own_refusal : (x : State) (c : Call) (n : ℕ) → refusal_of (step x c).out.reply ≡ some n → eqb n 37 ≡ false
 own_refusal x c n e = any_false→ (λ k. eqb k 37) (refusals c) (none_37 c) n (refused_known x c n e)
 
-own_reply : (x : State) (c : Call) → stopped_by_share (step x c).out.reply ≡ false
+pub own_reply : (x : State) (c : Call) → stopped_by_share (step x c).out.reply ≡ false
 own_reply x c = by (step x c).out.reply refl
   where
     by : (r : Reply) → (step x c).out.reply ≡ r → stopped_by_share r ≡ false

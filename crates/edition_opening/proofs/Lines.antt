@@ -1,24 +1,21 @@
 -- A line by what was read of it: it is judged by the items that the table keeps.
-use Prim.Native.Nat.{ℕ, suc, ◌≤◌, ◌<◌, min}
+use Prim.Native.Nat.{ℕ, suc, ◌<◌, min}
 use mathlib.Core.Path.{◌≡◌, refl, sym, ap, subst, ◌∙◌}
-use mathlib.Core.List.{List, [], map}
-use mathlib.Core.Option.{Option, none, some}
+use mathlib.Core.List.{List}
+use mathlib.Core.Option.{Option, some}
 use native.Mathlib.Omega.{arith}
-use native.Mathlib.Decide.{dec_lt}
 use lib.IntN.{ℤ, pos}
-use lib.ListN.{length, get_or, take, length-map, length-take}
+use lib.ListN.{length, get_or, take}
 use Rattle.std.specs.Prelude.{Result}
 use Rattle.refusal.specs.declared.Refusal.{Refusal}
-use Rattle.qbf.specs.Formula.{highest, Literal, Formula, number_of}
-use Rattle.qbf.specs.Calls.{one_fault}
-use Rattle.theory.proofs.OneAdded.{twenty}
+use Rattle.qbf.specs.Formula.{highest, Formula, number_of}
 use Rattle.layout.specs.Forms.{book, block, clause}
-use Rattle.reader.specs.Items.{narrow, narrowed, Kept}
-use Rattle.reader.proofs.Judged.{literals_judged_under, literals_same_under, kept_all, cut_same, rule_cut_under, rule_cut_same_under}
+use Rattle.reader.specs.Items.{narrow}
+use Rattle.reader.proofs.Judged.{rule_cut_under, rule_cut_same_under}
 use Rattle.editions.specs.Lines.{says}
 use Rattle.editions.specs.Lines as form
-use Rattle.editions_laws.proofs.One.{one_judged, one_long}
 use Rattle.edition_reader.specs.Lines.{LineIs}
+use Rattle.edition_reader.proofs.OneCut.{one_cut, one_cut_same}
 use Rattle.edition_reader.specs.declared.line.Line.TheVariants as line
 use Rattle.opening.specs.Stages.{rank_of}
 use Rattle.opening.specs.declared.book.Book.{Book}
@@ -29,27 +26,6 @@ use Rattle.edition_opening.specs.Editions.{accepted, edition_of}
 use Rattle.edition_opening.specs.declared.book.EditionBook.{EditionBook}
 use Rattle.edition_opening.specs.Lines.{kept_with, TookOnAt, TookAt, PlainTookAt, TaggedTookAt, OneTookAt, edition_stands}
 use Rattle.edition_opening.proofs.Taking.{form_kept}
-
--- ---- an exactly-one form
-module _ (b : Formula) (low : b.limits.numbers ≤ highest.numbers) (n : ℕ) (out : List ℤ) (ls : List Literal) (k : Kept n out ls) (wide : b.limits.literals < length out) where
-  judged : one_fault b (map narrowed ls) ≡ one_fault b ls
-  judged = one_judged b (map narrowed ls) ls (length-map ls narrowed) (literals_judged_under b.limits low b.prefix [] ls)
-
-  one_cut : one_fault b (take (min n (length out)) out) ≡ one_fault b ls
-  one_cut = by (dec_lt (length out) n)
-    where
-      by : Dec (length out < n) → one_fault b (take (min n (length out)) out) ≡ one_fault b ls
-      by (no h) = ap (one_fault b) (cut_same n (length out) out refl ∙ kept_all n out ls k (omega (arith, h))) ∙ judged
-      by (yes h) =
-          one_long b (take (min n (length out)) out) (omega (arith, h, wide, length-take (min n (length out)) out))
-          ∙ sym (one_long b ls (omega (arith, h, wide, k.count)))
-
-  one_cut_same : one_fault b ls ≡ none → take (min n (length out)) out ≡ ls
-  one_cut_same e = by (dec_lt (length out) n)
-    where
-      by : Dec (length out < n) → take (min n (length out)) out ≡ ls
-      by (no h) = cut_same n (length out) out refl ∙ kept_all n out ls k (omega (arith, h)) ∙ literals_same_under b.limits low b.prefix [] ls (twenty b ls e).1
-      by (yes h) = absurd (let z : some 7 ≡ none = sym (one_long b ls (omega (arith, h, wide, k.count))) ∙ e in let y : ◌≡◌ {A = ℕ} 0 1 = cc in omega (arith, y))
 
 -- ---- lines
 module _ (z : EditionBook) {cells : List ℕ} {literals : List ℤ} (s : edition_stands z cells literals) (o : Option form.Line) where
@@ -87,4 +63,4 @@ module _ (z : EditionBook) {cells : List ℕ} {literals : List ℤ} (s : edition
     pub line_one : (r : Result EditionBook Refusal) (n : ℕ) (cells' : List ℕ) (literals' : List ℤ) {lits : List ℤ} → lits ≡ take (min n (length out)) out → LineIs o (line.One n) out → OneTookAt z b lits r cells' literals' → TookHere o r cells' literals'
     line_one r n cells' literals' p (ls, h, k) w =
         line_some r (form.one ls) cells' literals' h
-        (subst (λ (l : List ℤ). OneTookAt z b l r cells' literals') p w ls (one_cut b (first.few_numbers s) n out ls k wide) (one_cut_same b (first.few_numbers s) n out ls k wide))
+        (subst (λ (l : List ℤ). OneTookAt z b l r cells' literals') p w ls (one_cut b (first.few_numbers s) n out ls k refl wide) (one_cut_same b (first.few_numbers s) n out ls k refl wide))

@@ -7,7 +7,7 @@ use Rattle.qbf.specs.Calls.{Call}
 use Rattle.state.specs.declared.State.{State}
 use Rattle.serving.specs.Serves.{Said, said, said_with, number, fault_of, told, Serves}
 use Rattle.serving.proofs.Numbered.{served_told}
-use Rattle.rules.specs.Rules.{change_said}
+use Rattle.rule_calls.specs.ServesAt.{change_said}
 use Rattle.std.specs.Prelude.{Result, Ok, Err}
 use Rattle.refusal.specs.declared.Refusal.{Refusal}
 use Rattle.refusal.specs.Refusal.{number_of}

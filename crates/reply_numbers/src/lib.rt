@@ -3,7 +3,7 @@
 
 ghost use Rattle.std.specs.Prelude.{◌≡◌, List, [], ℕ};
 ghost use Rattle.serving.specs.Serves.{told};
-ghost use Rattle.rules.specs.Rules.{change_said};
+ghost use Rattle.rule_calls.specs.ServesAt.{change_said};
 ghost use Rattle.replies.specs.Replies.{ruling_said, card_said};
 ghost use Rattle.reply_numbers.specs.Answers.{reply_said, ClosestTold};
 
@@ -38,7 +38,7 @@ pub fn of_change(change: Result<(), Refusal>) -> Reply
     ensures { reply_said result [] ≡ told (change_said change) }
 {
     Reply {
-        refusal: rules::refusal_of(change),
+        refusal: number_if(change.err()),
         verdict: 0,
         lines: 0,
         visits: 0,

@@ -2,40 +2,25 @@
 use Prim.Native.Nat.{ℕ, ◌*◌, ◌-◌, ◌+◌, ◌≤◌}
 use native.Mathlib.Omega.{arith}
 use mathlib.Core.Path.{◌≡◌, refl, sym, ap, ◌∙◌, subst}
-use mathlib.Core.Logic.{◌⊎◌, inl, inr}
-use mathlib.Core.Bool.{Bool, true, false, cond, not}
-use mathlib.Core.List.{List, [], ◌++◌, map}
-use mathlib.Core.Option.{Option, none, some}
-use lib.ListN.{length, take, drop, length-append, length-drop, length-map, take-append-drop, replicate-append-replicate}
-use lib.Seq.{drop_at}
-use lib.Dec.{leb}
-use borrow.Author.Tests.{leb-true}
-use Rattle.qbf.specs.Formula.{Formula, Literal, Node, most_free, paper, quantifiers}
-use Rattle.qbf.specs.Truth.{outline, decided_nodes, select, free_variables}
-use Rattle.qbf.specs.Open.{reading_of, is_full}
-use Rattle.qbf.specs.Ceiling.{Attempt, finished, stopped, search_within}
-use Rattle.qbf.specs.Card.{Mem, byte_of, table_of, zero_table}
-use Rattle.qbf.specs.Closest.{Found, closest_in}
-use Rattle.qbf.specs.Calls.{Call, card, closest, Reply, lines, card_refused, Answer, start_node, closest_fault, given, ◌or_else◌, from_card, found_reply, closest_answer, card_reply_of, attempt_answer, learning_card, learning_closest, guarded, well_formed, State as Read}
-use Rattle.qbf.specs.Demands.{AfterSearch, refusal_of}
-use Rattle.theory.proofs.AcceptedRule.{some_none}
-use Rattle.theory.proofs.Starting.{start_length}
-use Rattle.theory.proofs.ShortLines.{LinesHeld, card_held}
-use Rattle.cover.proofs.Bytes.{table_length, zeros_length}
+use mathlib.Core.Bool.{true, false, not}
+use mathlib.Core.List.{List, ◌++◌, map}
+use mathlib.Core.Option.{none, some}
+use lib.ListN.{length, take, drop}
+use Rattle.qbf.specs.Formula.{Literal, most_free}
+use Rattle.qbf.specs.Truth.{free_variables}
+use Rattle.qbf.specs.Card.{byte_of, zero_table}
+use Rattle.qbf.specs.Closest.{closest_in}
+use Rattle.qbf.specs.Calls.{card, closest, start_node, closest_fault, given, well_formed, State as Read}
+use Rattle.cover.proofs.Bytes.{zeros_length}
 use Rattle.rule_calls.specs.Served.{Lists, read_lists}
-use Rattle.serving.specs.Serves.{Said, said, said_with, said_reply, said_of, out_of, next_of, ServesBy}
-use Rattle.serving.proofs.Calls.{Passes, moved_on_read, unchanged_read}
+use Rattle.serving.specs.Serves.{said}
 use Rattle.replies.specs.Replies.{card_said}
 use Rattle.closest.specs.Table.{values_in, lines_in, reading_after}
-use Rattle.closest.proofs.Bytes.{values_shown, lines_shown}
-use Rattle.closest_call.specs.Nearest.{nearest_said, returned, found_said, padded}
+use Rattle.closest_call.specs.Nearest.{nearest_said, found_said}
 use Rattle.std.specs.Prelude.{Result, Ok, Err}
 use Rattle.refusal.specs.declared.Refusal.{Refusal}
 use Rattle.refusal.specs.Refusal.{number_of}
-use Rattle.closest_call.proofs.Telling.{said_returned}
-use Rattle.closest_call.proofs.Serving.{reading_padded}
 use lib.IntN.{ℤ}
-use lib.ListN.{get_or}
 use Rattle.std.specs.Prelude.{Some, None}
 use Rattle.std.specs.Prelude.{Option as Maybe}
 use Rattle.qbf.specs.Formula.{Prefix}

@@ -3,20 +3,18 @@ use Prim.Native.Nat.{ℕ, ◌*◌, ◌-◌, ◌+◌, ◌≤◌}
 use native.Mathlib.Omega.{arith}
 use mathlib.Core.Path.{◌≡◌, refl, sym, ap, ◌∙◌, subst}
 use mathlib.Core.Logic.{◌⊎◌, inl, inr}
-use mathlib.Core.Bool.{Bool, true, false, cond, not}
+use mathlib.Core.Bool.{Bool, true, false, cond}
 use mathlib.Core.List.{List, [], ◌++◌, map}
 use mathlib.Core.Option.{Option, none, some}
-use lib.ListN.{length, take, drop, length-append, length-drop, length-map, take-append-drop, replicate-append-replicate}
-use lib.Seq.{drop_at}
+use lib.ListN.{length, take, drop, length-append, length-drop, length-map}
 use lib.Dec.{leb}
 use borrow.Author.Tests.{leb-true}
-use Rattle.qbf.specs.Formula.{Formula, Literal, Node, most_free, paper, quantifiers}
+use Rattle.qbf.specs.Formula.{Formula, Literal, Node, most_free, quantifiers}
 use Rattle.qbf.specs.Truth.{outline, decided_nodes, select, free_variables}
-use Rattle.qbf.specs.Open.{reading_of, is_full}
 use Rattle.qbf.specs.Ceiling.{Attempt, finished, stopped, search_within}
 use Rattle.qbf.specs.Card.{Mem, byte_of, table_of, zero_table}
 use Rattle.qbf.specs.Closest.{Found, closest_in}
-use Rattle.qbf.specs.Calls.{Call, card, closest, Reply, lines, card_refused, Answer, start_node, closest_fault, given, ◌or_else◌, from_card, found_reply, closest_answer, card_reply_of, attempt_answer, learning_card, learning_closest, guarded, well_formed, State as Read}
+use Rattle.qbf.specs.Calls.{Call, card, closest, Reply, lines, card_refused, Answer, start_node, closest_fault, given, from_card, found_reply, closest_answer, card_reply_of, attempt_answer, learning_card, learning_closest, guarded, well_formed, State as Read}
 use Rattle.qbf.specs.Demands.{AfterSearch, refusal_of}
 use Rattle.theory.proofs.AcceptedRule.{some_none}
 use Rattle.theory.proofs.Starting.{start_length}
@@ -25,33 +23,13 @@ use Rattle.cover.proofs.Bytes.{table_length, zeros_length}
 use Rattle.rule_calls.specs.Served.{Lists, read_lists}
 use Rattle.serving.specs.Serves.{Said, said, said_with, said_reply, said_of, out_of, next_of, ServesBy}
 use Rattle.serving.proofs.Calls.{Passes, moved_on_read, unchanged_read}
-use Rattle.replies.specs.Replies.{card_said}
 use Rattle.closest.specs.Table.{values_in, lines_in, reading_after}
 use Rattle.closest.proofs.Bytes.{values_shown, lines_shown}
 use Rattle.closest_call.specs.Nearest.{nearest_said, returned, found_said, padded}
-use Rattle.std.specs.Prelude.{Result, Ok, Err}
+use Rattle.std.specs.Prelude.{Result}
 use Rattle.refusal.specs.declared.Refusal.{Refusal}
-use Rattle.refusal.specs.Refusal.{number_of}
 use Rattle.closest_call.proofs.Telling.{said_returned}
-use Rattle.closest_call.proofs.Serving.{reading_padded}
-use lib.IntN.{ℤ}
-use lib.ListN.{get_or}
-use Rattle.std.specs.Prelude.{Some, None}
-use Rattle.std.specs.Prelude.{Option as Maybe}
-use Rattle.qbf.specs.Formula.{Prefix}
-use Rattle.state.specs.Reading.{prefix_in, state_under}
-use Rattle.state_parts.specs.declared.limits.Layout.{Layout}
-use Rattle.state_parts.specs.Parts.{limits_of, state_at, valid_at}
-use Rattle.state_parts.proofs.Accepted.{valid_state, valid_read}
-use Rattle.rule_calls.specs.ServesAt.{ServesAt}
-use Rattle.rule_calls.specs.Served.{lists}
-use Rattle.rule_calls.proofs.Lists.{serves_by}
-use Rattle.asking.specs.declared.checked.Checked.{Checked}
-use Rattle.asking.specs.Answered.{state_of}
-use Rattle.search_calls.specs.Checked.{ShownAt, CheckedOf}
-use Rattle.search_calls.specs.Full.{FullAs}
-use Rattle.search_calls.proofs.Checks.{state_same}
-use Rattle.search_calls.proofs.Calls.{malformed_as}
+use Rattle.closest_call.proofs.Padded.{reading_padded}
 
 -- on two tables
 abbrev pub Serves : Lists → Call → Said → Lists → Type 0

@@ -2,7 +2,7 @@
 use Prim.Native.Nat.{ℕ, suc}
 use mathlib.Core.Path.{◌≡◌, refl, sym, ap, subst, ◌∙◌}
 use mathlib.Core.Logic.{◌⊎◌, inl, inr}
-use mathlib.Core.Bool.{Bool, true, false}
+use mathlib.Core.Bool.{Bool, true}
 use mathlib.Core.List.{List}
 use mathlib.Core.Option.{Option, some}
 use Rattle.qbf.specs.Formula.{Formula}
@@ -10,17 +10,16 @@ use Rattle.qbf.specs.Truth.{free_variables}
 use Rattle.qbf.specs.Learning.{empty_store}
 use Rattle.qbf.specs.Card.{table_of}
 use Rattle.qbf.specs.Ceiling.{highest_ceiling}
-use Rattle.qbf.specs.Calls.{card, card_of, next_formula, step, Reply, lines, card_refused, Answer, learning_card, formula_is_ok, guarded, State as Read, well_formed}
+use Rattle.qbf.specs.Calls.{card, Reply, lines, card_refused, Answer, learning_card, formula_is_ok, guarded, State as Read, well_formed}
 use Rattle.qbf.specs.Runs.{fresh}
 use Rattle.theory.proofs.AcceptedRule.{some_none}
 use Rattle.theory.proofs.WellFormed.{formula_facts}
-use Rattle.theory.proofs.Preserved.{step_formed}
 use Rattle.layout.specs.Output.{refusal_text}
 use Rattle.layout.specs.Program.{card_printed, answer_printed}
 use Rattle.layout.specs.Session.{answer_text}
 use Rattle.layout.specs.Opening.{opened}
 use Rattle.layout_laws.proofs.Opened.{fresh_formed}
-use Rattle.serving.specs.Serves.{Said, said_reply, said_of, number, out_of, next_of}
+use Rattle.serving.specs.Serves.{Said, said_reply, said_of, number, out_of}
 use Rattle.replies.specs.Replies.{card_said}
 use Rattle.std.specs.Prelude.{Result, Ok, Err}
 use Rattle.refusal.specs.declared.Refusal.{Refusal}
@@ -29,28 +28,10 @@ use Rattle.opening.specs.declared.text.RefusedAt.{RefusedAt}
 use Rattle.cover.specs.declared.CardLines.{CardLines}
 use Rattle.card_answers.specs.declared.names.Names.{Names}
 use Rattle.card_answers.specs.declared.Filled.{Filled}
-use Rattle.card_answers.specs.Names.{NamesOf}
 use Rattle.card_answers.specs.Lines.{prefix_read, line_answer, NamesRead, card_for, ShownOn}
 use Rattle.card_answers.proofs.FreeLines.{card_lines}
 use Rattle.card_answers.proofs.CardTexts.{Listed, Refused, formed_cases, said_by, text_by, shown_said}
 use Rattle.text_cards.specs.Making.{ReplyMade, CardMade}
-
--- ---- the names of the state that a card leaves are those of the state that it was made on: a card adds no rule
-same_formula : (b : Formula) (v : Bool) (top size : ℕ) → next_formula b (card_of v top size) ≡ b
-same_formula b true top size = refl
-same_formula b false top size = refl
-
-kept_formula : (y : Read) (v : Bool) (top size : ℕ) → (step y (card_of v top size)).state.formula ≡ y.formula
-kept_formula y v top size = by (well_formed y)
-  where
-    by : (g : Bool) → (guarded g y (card_of v top size)).state.formula ≡ y.formula
-    by true = same_formula y.formula v top size
-    by false = refl
-
-pub names_before : (o o' : Option Read) (v : Bool) (top size : ℕ) → o' ≡ next_of o (card_of v top size) → (n : Names) → NamesRead o' n → NamesRead o n
-names_before o o' v top size next n h y i g =
-    subst (λ (b : Formula). NamesOf b.prefix n.numbers.now n.free) (kept_formula y v top size)
-    (h (step y (card_of v top size)).state (next ∙ ap (λ (q : Option Read). next_of q (card_of v top size)) i) (step_formed y g (card_of v top size)))
 
 -- what the lines' table owes to the writer
 abbrev pub shown_on : (o : Option Read) (n : Names) → NamesRead o n → (f : Filled) (p : Result ℕ Refusal) (m k : ℕ) → card_said p k f.table.now ≡ said_of (out_of o (card_for f)) → p ≡ Ok m → ShownOn n f m k

@@ -9,7 +9,7 @@ use Rattle.refusal.specs.declared.Refusal.{Refusal}
 use Rattle.refusal.specs.Refusal.{number_of}
 use Rattle.refusal.proofs.Apart.{number_apart}
 use Rattle.serving.specs.Serves.{Said, said, number}
-use Rattle.rules.specs.Rules.{change_said}
+use Rattle.rule_calls.specs.ServesAt.{change_said}
 
 -- .. whatever tells a refusal, if no two refusals have one number
 abbrev pub change_by : {R : Type 0} → (R → ℕ) → Result Unit R → Said

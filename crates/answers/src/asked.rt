@@ -1,2 +1,0 @@
-// What a query or a closest reading asks.
-pub use asking::asked::Asked;

@@ -1,5 +1,0 @@
-pub mod Emptied
-pub mod Refused
-pub mod Adds
-pub mod Withdrawn
-pub mod Told
