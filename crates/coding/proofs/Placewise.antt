@@ -16,7 +16,6 @@ use Rattle.theory.proofs.Basics.{value_some, le_or_lt}
 use Rattle.theory.proofs.Prefixes.{numbers, place_of_number}
 use Rattle.tables.specs.Views.{quantifier_code, value_code, Kinds, Values, Numbers}
 use Rattle.tables.specs.Codes.{code_at, Statuses, status_of, given, Quantified}
-use Rattle.tables.specs.Shelves.{code_count}
 use Rattle.coding.proofs.Given.{stored_positive, stored_negative, stored_other, statuses_below}
 
 -- a table of zeros has 0 everywhere, past its end too
@@ -62,25 +61,17 @@ pub statuses_all : (s : Node) (t : List ℕ) (p : ℕ) → Statuses (take p s) t
 statuses_all s t p shown e = subst (λ (u : Node). Statuses u t) (ap (λ (m : ℕ). take m s) (sym e) ∙ take-length s) shown
 
 -- ---- quantifiers
--- the quantifiers of the first p places, and none after them
+-- the quantifiers of the first p places
 pub record Filled (D : Prefix) (p : ℕ) (t : List ℕ) : Type 0 where
   pub low : (q : ℕ) (b : Bool) → q ≤ p → get_or t (code_at q b) 0 ≡ quantifier_code (quantifier_at D q)
-  pub high : (q : ℕ) (b : Bool) → p < q → q ≤ highest.numbers → get_or t (code_at q b) 0 ≡ 3
 
 -- of no place: only the place of no variable counts as free
-pub filled_none : (D : Prefix) → Filled D 0 (set (set (replicate code_count 3) (code_at 0 false) 0) (code_at 0 true) 0)
-filled_none D = record {
-  low = λ q b h. zero_at q b h;
-  high = λ q b h k. stored_other 0 0 0 (replicate code_count 3) q b (λ e. omega (arith, e, h)) ∙ get_or-replicate code_count (code_at q b) 3 0 (in_table q b k);
-}
+pub filled_none : (D : Prefix) (t : List ℕ) → code_at 0 true < length t → Filled D 0 (set (set t (code_at 0 false) 0) (code_at 0 true) 0)
+filled_none D t room = record { low = λ q b h. zero_at q b h }
   where
-    in_table : (q : ℕ) (b : Bool) → q ≤ highest.numbers → code_at q b < code_count
-    in_table q true k = omega (arith, k)
-    in_table q false k = omega (arith, k)
-
-    zero_at : (q : ℕ) (b : Bool) → q ≤ 0 → get_or (set (set (replicate code_count 3) (code_at 0 false) 0) (code_at 0 true) 0) (code_at q b) 0 ≡ quantifier_code (quantifier_at D q)
-    zero_at zero true h = stored_positive 0 0 0 (replicate code_count 3) (in_table 0 true (omega arith))
-    zero_at zero false h = stored_negative 0 0 0 (replicate code_count 3) (in_table 0 true (omega arith))
+    zero_at : (q : ℕ) (b : Bool) → q ≤ 0 → get_or (set (set t (code_at 0 false) 0) (code_at 0 true) 0) (code_at q b) 0 ≡ quantifier_code (quantifier_at D q)
+    zero_at zero true h = stored_positive 0 0 0 t room
+    zero_at zero false h = stored_negative 0 0 0 t room
     zero_at (suc q) b h = absurd (omega (arith, h))
 
 -- the quantifier of the place after p, by its number
@@ -102,10 +93,7 @@ pub filled_more : (D : Prefix) (ns ks : List ℕ) → Numbers D ns → Kinds D k
     → (p : ℕ) (t : List ℕ) → Filled D p t → p < length D → code_at (p + 1) true < length t
     → {r : ℕ} → (get_or ks (get_or ns (p + 1) 0) 0 ≤ 2 → r ≡ get_or ks (get_or ns (p + 1) 0) 0)
     → Filled D (p + 1) (set (set t (code_at (p + 1) false) r) (code_at (p + 1) true) r)
-filled_more D ns ks numbered shown ok p t was h within {r} read = record {
-  low = λ q b k. low q b k (le_or_lt q p);
-  high = λ q b k m. stored_other (p + 1) r r t q b (λ e. omega (arith, e, k)) ∙ was.high q b (omega (arith, k)) m;
-}
+filled_more D ns ks numbered shown ok p t was h within {r} read = record { low = λ q b k. low q b k (le_or_lt q p) }
   where
     is : r ≡ quantifier_code (quantifier_at D (p + 1))
     is =
@@ -123,6 +111,18 @@ filled_more D ns ks numbered shown ok p t was h within {r} read = record {
         subst (λ (z : ℕ). get_or (set (set t (code_at (p + 1) false) r) (code_at (p + 1) true) r) (code_at z b) 0 ≡ quantifier_code (quantifier_at D z)) (let e : p + 1 ≡ q = omega (arith, k, m) in e)
         (here b)
 
--- of all places
-pub filled_all : (D : Prefix) (p : ℕ) (t : List ℕ) → Filled D p t → length D ≡ p → Quantified D t
-filled_all D p t was e = record { at = λ q b h. was.low q b (omega arith); end = λ q b h k. was.high q b (omega arith) k }
+-- of all places, where the place behind them has none
+pub filled_all : (D : Prefix) (p : ℕ) (t : List ℕ) → Filled D p t → length D ≡ p → (p < highest.numbers → (b : Bool) → get_or t (code_at (p + 1) b) 0 ≡ 3) → Quantified D t
+filled_all D p t was e last = record {
+  at = λ q b h. was.low q b (omega arith);
+  end = λ b h. ap (λ (n : ℕ). get_or t (code_at (n + 1) b) 0) e ∙ last (omega (arith, h, e)) b;
+}
+
+-- the place behind them gets none
+pub filled_end : (D : Prefix) (p : ℕ) (t : List ℕ) → Filled D p t → length D ≡ p → p < highest.numbers → code_at (p + 1) true < length t
+    → Quantified D (set (set t (code_at (p + 1) false) 3) (code_at (p + 1) true) 3)
+filled_end D p t was e small room = filled_all D p _ (record { low = λ q b k. stored_other (p + 1) 3 3 t q b (λ n. omega (arith, n, k)) ∙ was.low q b k }) e (λ h b. here b)
+  where
+    here : (b : Bool) → get_or (set (set t (code_at (p + 1) false) 3) (code_at (p + 1) true) 3) (code_at (p + 1) b) 0 ≡ 3
+    here true = stored_positive (p + 1) 3 3 t room
+    here false = stored_negative (p + 1) 3 3 t room

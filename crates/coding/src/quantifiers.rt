@@ -30,7 +30,7 @@ fn put(table: &mut [u8; tables::CODES], place: usize, kind: u8)
     table[place * 2 + 1] = kind;
 }
 
-// The quantifiers of the first places, as many as there are variables; the places after them have none. The table's content before is free.
+// The quantifiers of the first places, as many as there are variables; the place behind them has none. The table's content before is free, and stays beyond that place.
 // stays (no plainer): `usize ≤ highest.numbers` is of the count in the table's first cell, and says how far the table by code is written
 pub fn quantifiers_of<'a>(numbers: &'a [u16], kinds: &'a [u16], table: &mut [u8; tables::CODES])
     requires { get_or numbers.now 0 0 ≤ highest.numbers }
@@ -41,12 +41,14 @@ pub fn quantifiers_of<'a>(numbers: &'a [u16], kinds: &'a [u16], table: &mut [u8;
         → Quantified D table.new }
 {
     let count = cell_at(numbers, 0) as usize;
-    *table = [tables::END; tables::CODES];
     put(table, 0, tables::FREE as u8); // no variable's place
     // stays (no plainer): a chain is `numbers.iter().enumerate().skip(1).take(count)`, three steps and a pair for a range and an accessor by place
     for i in 0..count {
         let place = i + 1;
         let kind = kind_at(numbers, kinds, place);
         put(table, place, kind);
+    }
+    if count < tables::HIGHEST_NUMBERS {
+        put(table, count + 1, tables::END);
     }
 }

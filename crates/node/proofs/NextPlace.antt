@@ -1,15 +1,15 @@
 -- The quantifier of the next place, by the tables: a code is that of one quantifier only, and a place that has one is of the prefix.
-use Prim.Native.Nat.{ℕ, suc, ◌≤◌, ◌<◌}
+use Prim.Native.Nat.{ℕ, suc, ◌+◌, ◌≤◌, ◌<◌}
 use native.Mathlib.Omega.{arith}
-use mathlib.Core.Path.{◌≡◌, refl, ◌∙◌}
+use mathlib.Core.Path.{◌≡◌, refl, ap, ◌∙◌}
 use mathlib.Core.Logic.{◌⊎◌, inl, inr}
 use mathlib.Core.Bool.{false}
 use mathlib.Core.List.{List}
-use lib.ListN.{length}
+use lib.ListN.{length, get_or}
 use Rattle.qbf.specs.Formula.{highest, Quantifier, free, exists, forall, Prefix, quantifier_at}
 use Rattle.theory.proofs.Basics.{le_or_lt}
 use Rattle.tables.specs.Views.{quantifier_code}
-use Rattle.tables.specs.Codes.{Quantified}
+use Rattle.tables.specs.Codes.{code_at, Quantified}
 use Rattle.node.specs.Node.{NextKind}
 
 pub one_code : (a b : Quantifier) → quantifier_code a ≡ quantifier_code b → a ≡ b
@@ -43,14 +43,15 @@ more_places kd at k h low = by (le_or_lt highest.numbers at)
 
 module _ (D : Prefix) (kd : List ℕ) (shown : Quantified D kd) (at k : ℕ) (next : NextKind kd at k) where
   -- it is one of the prefix
-  pub next_inside : k < 3 → at < length D
-  next_inside low = by (le_or_lt (length D) at)
+  pub next_inside : at ≤ length D → k < 3 → at < length D
+  next_inside within low = by (le_or_lt (length D) at)
     where
       lt : at < highest.numbers
       lt = more_places kd at k next low
 
       by : (length D ≤ at) ⊎ (at < length D) → at < length D
-      by (inl le) = absurd (omega (arith, low, next.more lt, shown.end (suc at) false (omega (arith, le)) (omega (arith, lt))))
+      by (inl le) =
+          absurd (omega (arith, low, next.more lt, ap (λ (n : ℕ). get_or kd (code_at n false) 0) (let e : suc at ≡ length D + 1 = omega (arith, le, within) in e), shown.end false (omega (arith, le, lt))))
       by (inr in_d) = in_d
 
   pub kind_here : at < length D → length D ≤ highest.numbers → k ≡ quantifier_code (quantifier_at D (suc at))

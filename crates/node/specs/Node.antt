@@ -66,6 +66,7 @@ pub record Shown (D : Prefix) (s : Node) (quantifiers statuses : List ℕ) (k : 
   pub quantified : Quantified D quantifiers
   pub statused : Statuses s statuses
   pub long : length s ≡ k
+  pub within : length s ≤ length D
 
 -- ---- step 5
 -- whether the off side's outcome goes up without a further visit

@@ -51,6 +51,7 @@ below_found {sets} {kinds} {recorded} {sat} {sat'} count budget {words} r is row
       (subst (λ (w : ℕ). Task D R os w sets kinds recorded) (sym is) task)
       (record {
         long = refl;
+        within = omega arith;
         alive = alive;
         unsatisfied = unsatisfied;
         known = rows_start [] sat' (λ i m. row.row i m ∙ ap (λ (n : ℕ). leb n i) (sym counted));

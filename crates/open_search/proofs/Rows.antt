@@ -46,6 +46,7 @@ rows_united u = record { rows = λ f i h. u.kept.below f i h }
 pub opened_kept : {D : Prefix} {s : Node} {R : List Clause} {wc : ℕ} {sat sat₁ : List ℕ} {k : ℕ} → Opened D s R wc sat k → RowsKept (suc k) wc sat sat₁ → Opened D s R wc sat₁ k
 opened_kept {wc = wc} {k = k} o a = record {
   long = o.long;
+  within = o.within;
   alive = o.alive;
   unsatisfied = o.unsatisfied;
   known = rows_kept o.known (λ j l i m. a.rows (j * wc) i (before j i l m));
@@ -105,6 +106,7 @@ module _ {D : Prefix} {R : List Clause} {os : Reading} {wc : ℕ} {sets kd rec :
     pub below_opened : any (dead D (s ▹ b)) R ≡ false → every ≡ false → Opened D (s ▹ b) R wc sat' at
     below_opened alive e = record {
       long = long ∙ sym is;
+      within = omega (arith, long, is, next, inside);
       alive = alive;
       unsatisfied = sym below_satisfied ∙ e;
       known = subst (Satisfied D (s ▹ b) R wc sat') (sym is) stepped.rows;

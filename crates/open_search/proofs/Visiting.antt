@@ -70,7 +70,7 @@ module _ {D : Prefix} {R : List Clause} {os : Reading} {wc : ℕ} {sets kd rec :
     next_is κ e in_d = one_code (quantifier_at D (suc k)) κ (sym (at_kind in_d) ∙ e)
 
     pub next_in : (κ : Quantifier) → kind ≡ quantifier_code κ → k < length D
-    next_in κ e = next_inside D kd task.quantified k kind next (subst (λ (n : ℕ). n < 3) (sym e) (code_small κ))
+    next_in κ e = next_inside D kd task.quantified k kind next (omega (arith, opened.long, opened.within)) (subst (λ (n : ℕ). n < 3) (sym e) (code_small κ))
 
     pub kind_found : (κ : Quantifier) (n : ℕ) (r : Finding) → kind ≡ quantifier_code κ → Found (step_of κ (get_or os k none) (search_at D R os (k + 1)) s) n r → Found (search_at D R os k s) n r
     kind_found κ n r e h =

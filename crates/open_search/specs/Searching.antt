@@ -45,6 +45,7 @@ pub record Task (D : Prefix) (R : List Clause) (os : Reading) (wc : ℕ) (sets q
 -- at the node s, of k places, no clause is dead and not all are satisfied; and which are is known there
 pub record Opened (D : Prefix) (s : Node) (R : List Clause) (wc : ℕ) (sat : List ℕ) (k : ℕ) : Type 0 where
   pub long : length s ≡ k
+  pub within : length s ≤ length D
   pub alive : any (dead D s) R ≡ false
   pub unsatisfied : all (satisfied D s) R ≡ false
   pub known : Satisfied D s R wc sat k

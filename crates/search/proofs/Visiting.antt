@@ -172,7 +172,7 @@ module _ {D : Prefix} {s : Node} {ls : List Node} {R : List Clause} {g : Ledger}
         → Branched k p r cls sets kd ss cs cl qs ql tb sat mk up cs' cl' qs' ql' tb' → Result D g ls (below_of D R p s st) p r cls up cs' cl' qs' ql' tb'
     next_result low opened h =
         let κ : Quantifier = quantifier_at D (suc p.at) in
-        let in_d : p.at < length D = next_inside D kd task.shown.quantified p.at k next low in
+        let in_d : p.at < length D = next_inside D kd task.shown.quantified p.at k next (omega (arith, task.shown.long, task.shown.within)) low in
         branch_result κ r in_d refl (h.result D s ls R g st κ task opened in_d refl (sym (at_kind in_d)))
 
     -- no place is left
@@ -234,4 +234,5 @@ side_result D s b ls R g st k {kd = kd} {ss = ss} p task opened inside e within 
           quantified = task.shown.quantified;
           statused = statuses_below s b ss p.at value task.shown.statused next (omega (arith, full, within)) v;
           long = length-▹ s b ∙ next;
+          within = omega (arith, length-▹ s b, task.shown.long, inside);
         }

@@ -108,7 +108,7 @@ below_shown {p} rows sets count words numbers quantifiers values statuses cs cl 
         r =
             follow.result D s [] R g st
             (record {
-              shown = record { quantified = qs_shown; statused = statused; long = long };
+              shown = record { quantified = qs_shown; statused = statused; long = long; within = omega (arith, inside, long) };
               formed = form;
               matrix = matrix;
               stored = stored;

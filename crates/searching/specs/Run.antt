@@ -2,7 +2,7 @@
 -- leaves stand on shelves, or are those that stood in the tables, where it did not go below the start node.
 use Rattle.std.specs.Prelude.{ℕ, ◌+◌, ◌-◌, ◌≤◌, ◌≡◌, Bool, true, false, List, [], length, get_or, drop, leb, Option, Some, None}
 use Rattle.std.proofs.Math.Option.{none}
-use Rattle.qbf.specs.Formula.{paper, highest, Prefix, Clause, Node, quantifiers}
+use Rattle.qbf.specs.Formula.{paper, Prefix, Clause, Node, quantifiers}
 use Rattle.qbf.specs.Truth.{Outcome, decided, mixed, DecidedNode, free_variables}
 use Rattle.qbf.specs.Learning.{Constraint, Store, LearningResult, leaf, first_dead}
 use Rattle.qbf.specs.Ceiling.{Attempt, finished, stopped, below_within, search_within}

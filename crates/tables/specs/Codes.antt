@@ -47,7 +47,7 @@ all_are t w cs = all (λ c. eqb (get_or t c 0) w) cs
 abbrev pub given : ℕ → ℕ → List ℕ → List ℕ
 given p v t = set (set t (code_at p false) (negated v)) (code_at p true) v
 
--- ---- the quantifier of each code's variable; 3 after the last variable's place
+-- ---- the quantifier of each code's variable; 3 at the place behind the last variable's
 pub record Quantified (D : Prefix) (t : List ℕ) : Type 0 where
   pub at : (p : ℕ) (b : Bool) → p ≤ length D → get_or t (code_at p b) 0 ≡ quantifier_code (quantifier_at D p)
-  pub end : (p : ℕ) (b : Bool) → length D < p → p ≤ highest.numbers → get_or t (code_at p b) 0 ≡ 3
+  pub end : (b : Bool) → length D < highest.numbers → get_or t (code_at (length D + 1) b) 0 ≡ 3

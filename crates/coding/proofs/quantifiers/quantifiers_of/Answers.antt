@@ -12,8 +12,8 @@ loop-i-init c = (
   omega arith,
   c.cell_at-count.ensures,
   c.requires,
-  ap length c.put.ensures,
-  λ D n k o. subst (Filled D 0) (sym c.put.ensures) (filled_none D),
+  c.put.array_long,
+  λ D n k o. subst (Filled D 0) (sym c.put.ensures) (filled_none D c.args.table.now (omega (arith, c.told-table))),
 )
 
 pub loop-i-preserved : goal.loop-i-preserved
