@@ -1,8 +1,8 @@
 -- A state that was checked: what a search asks of its tables, and what it is as the definitions have it.
 use Prim.Native.Nat.{ℕ, suc, ◌+◌, ◌*◌, ◌≤◌, ◌<◌}
 use native.Mathlib.Omega.{arith}
-use mathlib.Core.Path.{◌≡◌, refl, sym, ap, ◌∙◌}
-use mathlib.Core.Bool.{Bool, true, ◌&&◌}
+use mathlib.Core.Path.{◌≡◌, sym, ap, ◌∙◌}
+use mathlib.Core.Bool.{true}
 use mathlib.Core.List.{List, []}
 use lib.ListN.{length, get_or, length-map}
 use lib.Dec.{leb}
@@ -10,15 +10,15 @@ use lib.IntN.{ℤ}
 use borrow.Author.Tests.{le-leb, leb-true}
 use Rattle.qbf.specs.Formula.{Limits, paper, highest, most_free, Prefix, Clause, quantifiers, all}
 use Rattle.qbf.specs.Truth.{free_variables}
-use Rattle.qbf.specs.Calls.{numbers_are_ok, free_first, clause_ok, clauses_are_ok, prefix_is_ok, store_is_ok, State as Read}
+use Rattle.qbf.specs.Calls.{numbers_are_ok, free_first, clause_ok}
 use Rattle.theory.proofs.Basics.{and_left, and_right, and_both}
 use Rattle.theory.proofs.Starting.{free_fit}
 use Rattle.theory.proofs.WellFormed.{StateFacts, state_facts, shaped_store, free_few}
-use Rattle.tables.specs.Views.{Numbers, rows_of}
+use Rattle.tables.specs.Views.{Numbers}
 use Rattle.inner.specs.Formed.{Formed}
 use Rattle.lent_rows.specs.Held.{Held}
-use Rattle.lent_rows.proofs.Rows.{before}
-use Rattle.state.specs.declared.State.{State}
+use Rattle.tables.proofs.Laws.{before}
+use Rattle.state.specs.State.{State}
 use Rattle.state.specs.Reading.{own, at_most, entry_at, entries, rows_fit, prefix_in, formula_under, store_under, state_under, valid_under, roomy, accepted}
 use Rattle.state.specs.Derived.{Quantified, Roomy}
 use Rattle.state.proofs.Listing.{listing_all}

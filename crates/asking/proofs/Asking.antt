@@ -15,25 +15,24 @@ use Rattle.qbf.specs.Truth.{Outcome, decided, mixed, decided_nodes, select, outl
 use Rattle.qbf.specs.Learning.{Constraint, Store, LearningResult, empty_store}
 use Rattle.qbf.specs.Ceiling.{Attempt, finished, stopped, search_within}
 use Rattle.qbf.specs.Card.{table_of, zero_table}
-use Rattle.qbf.specs.Calls.{Call, query, card, keep_card, card_of, State as Read, Reply, refused, lines, card_refused, Answer, answer, query_fault, start_node, query_reply, card_reply_of, attempt_answer, open_answer, learning_reading, learning_query, learning_card, guarded}
-use Rattle.qbf.specs.Demands.{AfterSearch, refusal_of}
-use Rattle.theory.proofs.Starting.{free_rest, start_length}
+use Rattle.qbf.specs.Calls.{Call, query, card_of, State as Read, Reply, refused, lines, card_refused, Answer, answer, query_fault, start_node, query_reply, card_reply_of, attempt_answer, open_answer, learning_reading, learning_query, learning_card}
+use Rattle.qbf.specs.Demands.{refusal_of}
+use Rattle.theory.proofs.Starting.{free_rest}
 use Rattle.theory.proofs.Queries.{reading_length}
 use Rattle.tables.specs.Views.{Places, Kinds, Values}
 use Rattle.cover.specs.Cover.{Covers}
-use Rattle.cover.proofs.Laws.{covers_none, covers_open, covers_fits}
+use Rattle.cover.proofs.Laws.{covers_open, covers_fits}
 use Rattle.node.specs.Node.{new_lines}
 use Rattle.node.specs.declared.answer.Answer.{Answer as Found}
 use Rattle.node.specs.declared.Verdict.{Verdict}
 use Rattle.node.specs.declared.Verdict.TheVariants.{Yes, No, Mixed}
-use Rattle.state.specs.declared.State.{State}
+use Rattle.state.specs.State.{State}
 use Rattle.state.specs.Reading.{own, prefix_in, formula_under, store_under, state_under, accepted}
 use Rattle.state.proofs.Valid.{prefix_numbers}
 use Rattle.coding.proofs.Placewise.{zeros}
 use Rattle.reading.specs.Reading.{QueryRead, Ready}
 use Rattle.serving.specs.Serves.{Said, said, said_reply, said_of}
-use Rattle.serving.proofs.Calls.{Passes}
-use Rattle.theory.proofs.AcceptedRule.{some_none}
+use Rattle.serving.proofs.Calls.{Passes, after_search}
 use Rattle.replies.specs.Replies.{ruling_said, card_said, ruling_for, total}
 use Rattle.refusal.specs.declared.Refusal.TheVariants as refusal
 use Rattle.std.specs.Prelude.{Ok, Err, Some, None}
@@ -75,17 +74,6 @@ left_by over top tell (stopped st) = refl
 abbrev pub LeftAs : Limits → State → Store → Maybe Learned → Type 0
 LeftAs L x z None = z ≡ store_under L x
 LeftAs L x z (Some l) = Shelved L x z l
-
-after_search : (o : Option ℕ) → Passes o → (k : ℕ) → o ≡ some k → AfterSearch k
-after_search none h k e = absurd (some_none (sym e))
-after_search (some i) h k e = subst AfterSearch (number e) h
-  where
-    of : Option ℕ → ℕ
-    of none = 0
-    of (some j) = j
-
-    number : some i ≡ some k → i ≡ k
-    number q = ap of q
 
 module _ (n m : ℕ) (x : State) where
   abbrev L : Limits

@@ -24,7 +24,7 @@ use Rattle.state.specs.Derived.{Quantified}
 use Rattle.inner.specs.Formed.{Formed}
 use Rattle.tables.specs.Records.{Ledger}
 use Rattle.cover.specs.Cover.{Covers}
-use Rattle.state.specs.declared.State.{State}
+use Rattle.state.specs.State.{State}
 use Rattle.state.specs.Reading.{own, record_at, records_of, prefix_in, formula_under, store_under, state_under, accepted}
 use Rattle.state.proofs.Listing.{listing_length}
 use Rattle.search_entry.specs.declared.Learned.{Learned}

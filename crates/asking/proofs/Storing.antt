@@ -1,9 +1,9 @@
 -- What is learned, written back from the shelves: the tables hold the store that the shelves have.
 use Prim.Native.Nat.{ℕ, ◌≤◌}
 use native.Mathlib.Omega.{arith}
-use mathlib.Core.Path.{◌≡◌, refl, sym, ap, ◌∙◌, subst}
+use mathlib.Core.Path.{◌≡◌, sym, ap, ◌∙◌, subst}
 use mathlib.Core.Bool.{Bool, true, false, cond, ◌&&◌}
-use mathlib.Core.List.{List, [], map}
+use mathlib.Core.List.{List, []}
 use mathlib.Core.Option.{some, none}
 use lib.ListN.{length, get_or}
 use lib.Dec.{leb}
@@ -12,31 +12,24 @@ use borrow.Author.Tests.{le-leb, leb-true}
 use Rattle.qbf.specs.Formula.{Limits, paper, highest, Prefix, Literal, place}
 use Rattle.qbf.specs.Learning.{Constraint, Store, constraints}
 use Rattle.qbf.specs.Card.{Mem}
-use Rattle.qbf.specs.Calls.{numbers_are_ok, free_first}
+use Rattle.qbf.specs.Calls.{numbers_are_ok}
 use Rattle.theory.proofs.Basics.{and_left, and_both}
-use Rattle.theory.proofs.Game.{Rising, rising_above}
+use Rattle.theory.proofs.Game.{rising_above}
 use Rattle.theory.proofs.Stores.{ShapedStore}
 use Rattle.theory.proofs.WellFormed.{store_shaped}
-use Rattle.tables.specs.Views.{Numbers, rows_of}
 use Rattle.tables.proofs.Laws.{rows_length}
-use Rattle.tables.specs.Codes.{codes}
-use Rattle.tables.specs.Records.{records_at}
 use Rattle.lent_rows.specs.Held.{Held}
-use Rattle.state.specs.declared.State.{State}
-use Rattle.state.specs.Reading.{own, state_of, at_most, entry_at, entries, rows_fit, prefix_fits, fits_under, record_at, records_of, prefix_in, formula_under, store_from, state_under, read_under, accepted}
-use Rattle.state.proofs.Listing.{listing_length, listing_most}
-use Rattle.shelf.specs.Standing.{rows, newest}
+use Rattle.state.specs.State.{State}
+use Rattle.state.specs.Reading.{own, at_most, entry_at, entries, rows_fit, prefix_fits, fits_under, records_of, prefix_in, formula_under, store_from, state_under, read_under, accepted}
+use Rattle.state.proofs.Listing.{listing_most}
+use Rattle.shelf.specs.Standing.{newest}
 use Rattle.search_entry.specs.declared.Learned.{Learned}
 use Rattle.unloading.specs.Written.{Narrow, Recorded}
 use Rattle.unloading.proofs.Unloading.{constraints_narrow}
 use Rattle.asking.specs.Answered.{Shelved}
-use Rattle.asking.specs.Stored.{ClausesStored, CubesStored}
+use Rattle.asking.specs.Stored.{with_learned, ClausesStored, CubesStored}
 use Rattle.asking.proofs.Accepting.{facts, good, numbers_shown, formed}
 use Rattle.asking.proofs.Records.{records_length, records_back}
-
--- the state with other learned constraints
-abbrev pub with_store : State → List ℤ → List ℕ → List ℤ → List ℕ → State
-with_store x cs css qs qss = state_of x.numbers x.levels x.kinds x.clauses x.clause_sizes cs css qs qss
 
 module _ (n m : ℕ) (x : State) (acc : accepted (own n m) x ≡ true) (low : n ≤ highest.numbers) (few_clauses : m ≤ highest.clauses) (z : Store) (l : Learned) (s : Shelved (own n m) x z l) where
   abbrev L : Limits
@@ -102,15 +95,15 @@ module _ (n m : ℕ) (x : State) (acc : accepted (own n m) x ≡ true) (low : n 
       abbrev a : Bool
       a = rows_fit paper.literals m x.clause_sizes
 
-      fits : fits_under L (with_store x lc lcs lq lqs) ≡ true
+      fits : fits_under L (with_learned x lc lcs lq lqs) ≡ true
       fits =
           let f = facts n m x acc low few_clauses in
           and_both (p && a && rows_fit n paper.constraints lcs) (rows_fit n paper.constraints lqs)
           (and_both (p && a) (rows_fit n paper.constraints lcs) (and_both p a f.prefix_fits_lem f.clauses_fit) (rows_fit_by c.stored.held)) (rows_fit_by q.held)
 
       -- the state then reads as the definitions' with that store
-      pub stored_back : read_under L (with_store x lc lcs lq lqs) ≡ some (record { formula = formula_under L x; store = z })
+      pub stored_back : read_under L (with_learned x lc lcs lq lqs) ≡ some (record { formula = formula_under L x; store = z })
       unfolding read_under
       stored_back =
-          ap (λ (b : Bool). cond b (some (state_under L (with_store x lc lcs lq lqs))) none) fits
+          ap (λ (b : Bool). cond b (some (state_under L (with_learned x lc lcs lq lqs))) none) fits
           ∙ ap (λ (y : Store). some (record { formula = formula_under L x; store = y })) same

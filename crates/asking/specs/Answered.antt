@@ -1,12 +1,12 @@
 -- What a call on a checked state answers, and what it leaves of the learned constraints: the shelves have them all, or they are as they were.
-use Rattle.std.specs.Prelude.{ℕ, ◌≡◌, true, List, length, get_or, Option, Some, None}
-use Rattle.qbf.specs.Formula.{Limits, Formula}
+use Rattle.std.specs.Prelude.{ℕ, ◌≡◌, true, length, get_or, Option, Some, None}
+use Rattle.qbf.specs.Formula.{Limits}
 use Rattle.qbf.specs.Learning.{Store}
-use Rattle.qbf.specs.Calls.{Call, Stepped, guarded, store_is_ok, State as Read}
+use Rattle.qbf.specs.Calls.{Call, Stepped, guarded, store_is_ok}
 use Rattle.qbf.specs.Demands.{AfterSearch, refusal_of}
 use Rattle.std.proofs.Math.Option.{some}
-use Rattle.tables.specs.Records.{Ledger, StoreKept}
-use Rattle.state.specs.declared.State.{State}
+use Rattle.tables.specs.Records.{StoreKept}
+use Rattle.state.specs.State.{State}
 use Rattle.state.specs.Reading.{own, prefix_in, formula_under, records_of, store_under, state_under}
 use Rattle.state.specs.Lent.{parts_state}
 use Rattle.serving.specs.Serves.{Said, said_of}

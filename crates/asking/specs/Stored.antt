@@ -7,6 +7,8 @@ use Rattle.qbf.specs.Calls.{numbers_are_ok}
 use Rattle.tables.specs.Views.{Numbers, rows_of}
 use Rattle.tables.specs.Codes.{codes}
 use Rattle.lent_rows.specs.Held.{Held}
+use Rattle.state.specs.State.{State}
+use Rattle.state.specs.Reading.{state_of}
 use Rattle.shelf.specs.declared.Shelf.{Shelf}
 use Rattle.shelf.specs.Standing.{rows, newest}
 use Rattle.unloading.specs.Written.{Recorded}
@@ -23,3 +25,7 @@ pub record CubesStored (w : ℕ) (s : Shelf) (numbers : List ℕ) (f : List ℤ)
 pub record ClausesStored (w : ℕ) (s : Shelf) (numbers : List ℕ) (clauses : ℕ) (f : List ℤ) (l : List ℕ) (f' : List ℤ) (l' : List ℕ) : Type 0 where
   pub stored : CubesStored w s numbers f l f' l'
   pub recorded : Recorded l (newest s) clauses l'
+
+-- the state with other learned constraints
+abbrev pub with_learned : State → List ℤ → List ℕ → List ℤ → List ℕ → State
+with_learned x cs css qs qss = state_of x.numbers x.levels x.kinds x.clauses x.clause_sizes cs css qs qss

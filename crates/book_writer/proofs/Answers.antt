@@ -13,7 +13,7 @@ use Rattle.refusal.specs.declared.Refusal.{Refusal}
 use Rattle.qbf.specs.Formula.{Limits, paper, Prefix, Clause}
 use Rattle.qbf.specs.Card.{zero_table}
 use Rattle.qbf.specs.Calls.{State as Read, well_formed}
-use Rattle.state.specs.declared.State.{State}
+use Rattle.state.specs.State.{State}
 use Rattle.state.specs.Reading.{own, prefix_in, formula_under, state_under, well_formed_read}
 use Rattle.state_parts.specs.declared.limits.Layout.{Layout}
 use Rattle.state_parts.specs.Layout.{limits_in, CheckedIn}

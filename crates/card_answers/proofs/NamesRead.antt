@@ -13,7 +13,7 @@ use Rattle.qbf.specs.Calls.{State as Read, well_formed, limits_are_ok}
 use Rattle.theory.proofs.Starting.{free_fit}
 use Rattle.theory.proofs.WellFormed.{FormulaFacts, state_facts, free_few}
 use Rattle.tables.specs.Views.{Numbers}
-use Rattle.state.specs.declared.State.{State}
+use Rattle.state.specs.State.{State}
 use Rattle.state.specs.Reading.{own, prefix_in, state_under, well_formed_read}
 use Rattle.state.specs.Derived.{Quantified}
 use Rattle.state_parts.specs.declared.limits.Layout.{Layout}

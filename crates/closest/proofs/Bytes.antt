@@ -5,10 +5,10 @@ use native.Mathlib.Omega.{arith}
 use mathlib.Core.Path.{◌≡◌, refl, sym, ap, ◌∙◌}
 use mathlib.Core.Logic.{inl, inr}
 use mathlib.Core.Bool.{Bool, true, false, cond}
-use mathlib.Core.List.{List, [], ◌∷◌, ◌++◌, map, append_assoc, append-nil}
+use mathlib.Core.List.{List, [], ◌∷◌, ◌++◌, map, append_assoc, append-nil, map-append}
 use lib.ListN.{length, get_or, set, take, drop, replicate, length-map, drop_of_length-le}
 use lib.Seq.{drop-cons, take_at, drop_at, set_at, take_all, length-take-le}
-use Rattle.std.proofs.lemmas.List.{get_or-append_right, map_more}
+use Rattle.std.proofs.lemmas.List.{get_or-append_right, map_more, drop-map}
 use lib.Dec.{eqb}
 use borrow.Author.Tests.{eq-eqb, ne_eqb}
 use Rattle.qbf.specs.Formula.{Node}
@@ -111,15 +111,6 @@ line_within (b ∷ row) = by (eqb b 0) (line_within row)
     by false h = omega (arith, h)
 
 -- ---- a reading written
-map_append : {A B : Type 0} (g : A → B) (xs ys : List A) → map g (xs ++ ys) ≡ map g xs ++ map g ys
-map_append g [] ys = refl
-map_append {B = B} g (x ∷ xs) ys = ap {B = List B} (λ l. g x ∷ l) (map_append g xs ys)
-
-map_drop : {A B : Type 0} (g : A → B) (k : ℕ) (xs : List A) → map g (drop k xs) ≡ drop k (map g xs)
-map_drop g zero xs = refl
-map_drop g (suc k) [] = refl
-map_drop g (suc k) (x ∷ xs) = map_drop g k xs
-
 -- a list changed in place by g, in its first i elements
 module _ (g : ℕ → ℕ) (xs : List ℕ) where
   abbrev pub Changed : ℕ → List ℕ → Type 0
@@ -176,10 +167,10 @@ line_values (b ∷ row) = by (eqb b 0) (line_values row)
 pub nearest_written : (row given : List ℕ) (k : ℕ) → k ≡ length (line_in row) → values_in (take k row ++ drop k given) ≡ nearest (line_in row) (values_in given)
 unfolding values_in
 nearest_written row given k w =
-    map_append value_in (take k row) (drop k given)
+    map-append value_in (take k row) (drop k given)
     ∙ ap (λ (n : ℕ). map value_in (take n row) ++ map value_in (drop n given)) w
     ∙ ap (λ (s : Node). s ++ map value_in (drop (length (line_in row)) given)) (sym (line_values row))
-    ∙ ap (λ (s : Node). line_in row ++ s) (map_drop value_in (length (line_in row)) given)
+    ∙ ap (λ (s : Node). line_in row ++ s) (sym (drop-map value_in (length (line_in row)) given))
 
 -- ---- a flag's two values by their bytes
 pub differs_byte : (a b : Bool) → byte_of a ≡ byte_of b → 0 ≡ differs a b

@@ -1,3 +1,2 @@
-pub mod Lists
 pub mod Mentioning
 pub mod Inserting

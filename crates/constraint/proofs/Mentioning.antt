@@ -1,13 +1,19 @@
 -- The last place of a constraint.
-use Prim.Native.Nat.{ℕ, ◌-◌}
+use Prim.Native.Nat.{ℕ, suc, ◌-◌, ◌<◌}
 use native.Mathlib.Omega.{arith}
 use mathlib.Core.Path.{◌≡◌, refl, sym, ap, ◌∙◌}
 use mathlib.Core.List.{[], ◌∷◌, ◌++◌}
 use lib.ListN.{length, get_or, take}
-use lib.Seq.{take-length}
+use lib.Seq.{take-length, take-suc}
 use Rattle.qbf.specs.Formula.{Prefix, Literal, place}
 use Rattle.qbf.specs.Learning.{Constraint, last_place, last_place_from}
-use Rattle.constraint.proofs.Lists.{take_last}
+
+-- a constraint with its last literal apart
+last_apart : (e : Constraint) (d : Literal) → 0 < length e → e ≡ take (length e - 1) e ++ (get_or e (length e - 1) d ∷ [])
+last_apart e d h =
+    sym (take-length e)
+    ∙ ap (λ (m : ℕ). take m e) (let n : length e ≡ suc (length e - 1) = omega arith in n)
+    ∙ take-suc e (length e - 1) d (omega arith)
 
 module _ (D : Prefix) where
   last_of : (q : ℕ) (e : Constraint) (l : Literal) → last_place_from D q (e ++ (l ∷ [])) ≡ place D l
@@ -22,4 +28,4 @@ module _ (D : Prefix) where
   last_place_some e d h is found =
       found ∙ ap (place D) is
       ∙ sym (last_of 0 (take (length e - 1) e) (get_or e (length e - 1) d))
-      ∙ ap (last_place D) (sym (take_last e (length e) d (omega (arith, h)) (omega arith)) ∙ take-length e)
+      ∙ ap (last_place D) (sym (last_apart e d (omega (arith, h))))

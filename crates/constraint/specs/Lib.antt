@@ -1,1 +1,1 @@
-pub mod Area
+pub mod Cells

@@ -54,11 +54,6 @@ pub free_code : (kind : ℕ) → kind ≡ 0 → is_free (quantifier_of kind) ≡
 free_code zero e = refl
 free_code (suc k) e = absurd (let z : suc k ≡ 0 = e in omega arith)
 
-pub bound_code : (kind : ℕ) → (kind ≡ 0 → ⊥) → is_free (quantifier_of kind) ≡ false
-bound_code zero h = absurd (h refl)
-bound_code (suc zero) h = refl
-bound_code (suc (suc k)) h = refl
-
 -- ---- the tests in their order
 module _ (L : Limits) (D : Prefix) (κ : Quantifier) (n : ℕ) where
   abbrev crowd : Bool

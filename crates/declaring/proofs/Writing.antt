@@ -14,8 +14,8 @@ use Rattle.qbf.specs.Truth.{free_variables}
 use Rattle.qbf.specs.Calls.{given, ◌or_else◌, free_is_ok}
 use Rattle.theory.proofs.Basics.{or_false_left, or_false_right, not_false}
 use Rattle.state.specs.Reading.{quantifier_of, prefix_of, own}
-use Rattle.state.specs.Declare.{declare_fault, with_variable, next_level, SoundUnder, DeclaredUnder, Growing}
-use Rattle.state.proofs.Growth.{New, growing, count_fits, level_fits, declared_under}
+use Rattle.state.specs.Declare.{declare_fault, next_level, SoundUnder, Growing}
+use Rattle.state.proofs.Growth.{New, Grown, growing, count_fits, level_fits, declared_under}
 use Rattle.state_parts.specs.Parts.{by_number, numbers_at, levels_at, kinds_at, clause_sizes_at}
 use Rattle.state_parts.proofs.Cutting.{part_length, part_set, part_set_before, part_set_after}
 use Rattle.declaring.specs.Declaring.{numbers_in, levels_in, kinds_in, prefix_at, DeclarableAt, Beside, DeclaredAt}
@@ -154,7 +154,7 @@ module _ (L : Limits) (cells : List ℕ) (n kind : ℕ) (w : DeclarableAt L cell
                 ∙ drop-set-lt (clause_sizes_at L) cells numbers_at p (omega arith);
           }
 
-      under : DeclaredUnder L ns ls ks n kind 0 (set (set ns 0 p) p n) (set ls p l) (set ks l kind)
+      under : Grown L ns ls ks n kind (set (set ns 0 p) p n) (set ls p l) (set ks l kind)
       under = declared_under new clean.2 w.few p_is l_is
 
       same_prefix : prefix_at L t₄ ≡ prefix_of (set (set ns 0 p) p n) (set ls p l) (set ks l kind)
@@ -164,7 +164,7 @@ module _ (L : Limits) (cells : List ℕ) (n kind : ℕ) (w : DeclarableAt L cell
       declared_so =
           record {
             refusal = fine;
-            prefix = same_prefix ∙ under.prefix ∙ ap (λ (o : Option ℕ). with_variable o (prefix_at L cells) κ n) fine;
+            prefix = same_prefix ∙ under.prefix;
             sound =
                 subst (λ (a : List ℕ). SoundUnder L a (levels_in L t₄) (kinds_in L t₄)) (sym numbers_now)
                 (subst (λ (b : List ℕ). SoundUnder L (set (set ns 0 p) p n) b (kinds_in L t₄)) (sym levels_now)

@@ -23,7 +23,8 @@ use Rattle.editions.specs.Converting.{joined, is_rule, tag_text, insert_tag, rem
 use Rattle.editions.specs.Converting as converting
 use Rattle.editions_laws.proofs.Words.{AllLack, split_lacks, joined_split, split_joined, pieces}
 use Rattle.editions_laws.proofs.Lines.{book_line}
-use Rattle.editions_laws.proofs.Reading.{never, went, AllFit, lines_same}
+use Rattle.layout_laws.proofs.Opened.{never_opened, went}
+use Rattle.editions_laws.proofs.Reading.{AllFit, lines_same}
 use Rattle.editions_laws.proofs.Tags.{untag_tag, lost_tag, tag_untag, Kept, kept_all, Counted, tag_line_lem, untag_line_lem}
 
 -- ---- byte 10 stands in no tag
@@ -71,8 +72,8 @@ given_off false n e = refl
 
 pub begun : (a : Editions) (n : ℕ) (b : Formula) (ps : List Bytes) (c : Formula) → read_lines a n 0 0 b ps ≡ opened c → Begun a n b ps c
 unfolding read_lines
-begun a n b [] c z = absurd (never 1 n c z)
-begun a n b (l ∷ []) c z = absurd (never 1 n c z)
+begun a n b [] c z = absurd (never_opened 1 n c z)
+begun a n b (l ∷ []) c z = absurd (never_opened 1 n c z)
 begun a n b (l ∷ m ∷ ls) c z = by (line_of l) refl z
   where
     onward : Line → Formula → Opened
@@ -98,7 +99,7 @@ begun a n b (l ∷ m ∷ ls) c z = by (line_of l) refl z
     first (one x) q w y = absurd (some_none w)
 
     by : (o : Option Line) → line_of l ≡ o → read_line a n 0 0 b o onward ≡ opened c → Begun a n b (l ∷ m ∷ ls) c
-    by none q y = absurd (never 1 n c y)
+    by none q y = absurd (never_opened 1 n c y)
     by (some f) q y = let w = went n (line_fault a 0 0 b f) (onward f (with_line b f)) c y in first f q w.0 w.1
 
 -- the line of an edition
@@ -220,7 +221,7 @@ unfolding open_editions read_editions
 fits_text a L s c e = by (ltb text_bytes (length s)) refl e
   where
     by : (t : Bool) → ltb text_bytes (length s) ≡ t → cond t (refused 9 0) (read_lines a 1 0 0 (empty_formula L) (split newline s)) ≡ opened c → (length s ≤ text_bytes) × (read_lines a 1 0 0 (empty_formula L) (split newline s) ≡ opened c)
-    by true q z = absurd (never 9 0 c z)
+    by true q z = absurd (never_opened 9 0 c z)
     by false q z = (ltb-false text_bytes (length s) q, z)
 
 pub text_fits : (a : Editions) (L : Limits) (s : Bytes) (c : Formula) → length s ≤ text_bytes → read_lines a 1 0 0 (empty_formula L) (split newline s) ≡ opened c → open_editions a L s ≡ opened c

@@ -17,10 +17,9 @@ use Rattle.layout.specs.Words.{Bytes, newline, split}
 use Rattle.layout.specs.Forms.{Form, book, block, clause, end}
 use Rattle.layout.specs.Opening.{allowed, stage_after, Opened, opened, at_end, empty_formula}
 use Rattle.layout.specs.Opening as own
-use Rattle.layout_laws.proofs.Opened.{Reached, line_reached, reached_none, fresh_formed}
+use Rattle.layout_laws.proofs.Opened.{Reached, line_reached, reached_none, fresh_formed, never_opened, went, at_end_lem}
 use Rattle.editions.specs.Lines.{Line, says, tagged, one, line_of}
 use Rattle.editions.specs.Opening.{Editions, rank_of, tags_fit, said_fault, line_fault, with_line, edition_after, is_end, read_line, read_lines, open_editions}
-use Rattle.editions_laws.proofs.Reading.{never, went}
 use Rattle.editions_laws.proofs.Tags.{line_grows}
 use Rattle.editions_laws.proofs.Converting.{fits_text}
 
@@ -49,16 +48,10 @@ line_formed a e stage b f i z = by f z
     by (one ls) z = record { facts = subst (λ (o : Option ℕ). FormulaFacts (with_one o b ls)) (order (one ls) z).1 (one_formed b i.facts ls); no_variables = λ h. absurd (omega arith); no_clauses = λ h. absurd (omega arith) }
 
 -- ---- the text
-at_end_lem : (n : ℕ) (b : Formula) (ls : List Bytes) (c : Formula) → at_end n b ls ≡ opened c → b ≡ c
-at_end_lem n b [] c e = absurd (never 1 n c e)
-at_end_lem n b ([] ∷ []) c e = cc
-at_end_lem n b ([] ∷ l ∷ ls) c e = absurd (never 1 n c e)
-at_end_lem n b ((x ∷ l) ∷ ls) c e = absurd (never 1 n c e)
-
 lines_formed : (a : Editions) (n e stage : ℕ) (b : Formula) (ps : List Bytes) (c : Formula) → Reached stage b → read_lines a n e stage b ps ≡ opened c → FormulaFacts c × (c.limits ≡ b.limits)
 unfolding read_lines
-lines_formed a n e stage b [] c i z = absurd (never 1 n c z)
-lines_formed a n e stage b (l ∷ []) c i z = absurd (never 1 n c z)
+lines_formed a n e stage b [] c i z = absurd (never_opened 1 n c z)
+lines_formed a n e stage b (l ∷ []) c i z = absurd (never_opened 1 n c z)
 lines_formed a n e stage b (l ∷ m ∷ ls) c i z = by (line_of l) z (λ x s y. lines_formed a (suc n) x s y (m ∷ ls) c)
   where
     Next : Type 0
@@ -73,7 +66,7 @@ lines_formed a n e stage b (l ∷ m ∷ ls) c i z = by (line_of l) z (λ x s y. 
     last f false j y ih = ih (edition_after e f) (stage_after (rank_of f)) (with_line b f) j y
 
     by : (o : Option Line) → read_line a n e stage b o onward ≡ opened c → Next → FormulaFacts c × (c.limits ≡ b.limits)
-    by none y ih = absurd (never 1 n c y)
+    by none y ih = absurd (never_opened 1 n c y)
     by (some f) y ih =
         let w = went n (line_fault a e stage b f) (onward f (with_line b f)) c y in
         let r = last f (is_end f) (line_formed a e stage b f i w.0) w.1 ih in

@@ -17,7 +17,7 @@ use Rattle.layout.specs.Words.{Bytes, newline, space, split, same, inside}
 use Rattle.layout.specs.Forms.{then, items, Form, book, block, clause, end, rule_form, rule_word, form_from, form_of, one_word}
 use Rattle.layout.specs.Opening.{text_bytes, rank, allowed, stage_after, form_fault, with_form, Opened, refused, opened, at_end, empty_formula, open_text}
 use Rattle.layout.specs.Opening as own
-use Rattle.layout_laws.proofs.Opened.{allowed_is}
+use Rattle.layout_laws.proofs.Opened.{allowed_is, never_opened, went}
 use Rattle.editions.specs.Lines.{Line, says, tagged, one, said, exactly_one_line, rule_from, line_from, line_of}
 use Rattle.editions.specs.Opening.{Editions, both, only, rank_of, said_fault, line_fault, with_line, edition_after, is_end, read_line, read_lines, read_editions, open_editions}
 use Rattle.editions.specs.Converting.{next, each_line, converted, to_tagged, to_untagged}
@@ -26,7 +26,7 @@ use Rattle.booktext.specs.Books.{book_text}
 use Rattle.booktext_laws.proofs.Books.{ShortNumbers, read_back}
 use Rattle.editions_laws.proofs.Words.{none_some, some_same, same_true}
 use Rattle.editions_laws.proofs.Lines.{untagged_from}
-use Rattle.editions_laws.proofs.Reading.{never, went, Same, AllFit, lines_same}
+use Rattle.editions_laws.proofs.Reading.{Same, AllFit, lines_same}
 use Rattle.editions_laws.proofs.Converting.{begun, first_line, fits_text, text_fits, same_tagged, same_untagged}
 
 -- ---- which editions a reader takes does not show after the first line
@@ -109,8 +109,8 @@ after_one r = by (ltb r 2) refl
 module _ (a : Editions) where
   own_lines : (n stage : ℕ) (b : Formula) (ps : List Bytes) (c : Formula) → 1 ≤ stage → own.read_lines n stage b ps ≡ opened c → read_lines a n 1 stage b ps ≡ opened c
   unfolding own.read_lines read_lines
-  own_lines n stage b [] c h z = absurd (never 1 n c z)
-  own_lines n stage b (l ∷ []) c h z = absurd (never 1 n c z)
+  own_lines n stage b [] c h z = absurd (never_opened 1 n c z)
+  own_lines n stage b (l ∷ []) c h z = absurd (never_opened 1 n c z)
   own_lines n stage b (l ∷ m ∷ ls) c h z = by (form_of l) refl z (λ s x. own_lines (suc n) s x (m ∷ ls) c)
     where
       onward : Form → Formula → Opened
@@ -127,7 +127,7 @@ module _ (a : Editions) where
 
       by : (o : Option Form) → form_of l ≡ o → own.read_line n stage b o onward ≡ opened c
           → ((s : ℕ) (x : Formula) → 1 ≤ s → own.read_lines (suc n) s x (m ∷ ls) ≡ opened c → read_lines a (suc n) 1 s x (m ∷ ls) ≡ opened c) → read_line a n 1 stage b (line_of l) onward' ≡ opened c
-      by none q y ih = absurd (never 1 n c y)
+      by none q y ih = absurd (never_opened 1 n c y)
       by (some f) q y ih =
           let w = went n (own.line_fault stage b f) (onward f (with_form b f)) c y in
           let g = own_fault a stage b f h w.0 in
@@ -135,8 +135,8 @@ module _ (a : Editions) where
 
   own_first : (n : ℕ) (b : Formula) (ps : List Bytes) (c : Formula) → a 1 ≡ true → own.read_lines n 0 b ps ≡ opened c → read_lines a n 0 0 b ps ≡ opened c
   unfolding own.read_lines
-  own_first n b [] c h z = absurd (never 1 n c z)
-  own_first n b (l ∷ []) c h z = absurd (never 1 n c z)
+  own_first n b [] c h z = absurd (never_opened 1 n c z)
+  own_first n b (l ∷ []) c h z = absurd (never_opened 1 n c z)
   own_first n b (l ∷ m ∷ ls) c h z = by (form_of l) refl z
     where
       onward : Form → Formula → Opened
@@ -158,7 +158,7 @@ module _ (a : Editions) where
       first end q w y = absurd (some_none w)
 
       by : (o : Option Form) → form_of l ≡ o → own.read_line n 0 b o onward ≡ opened c → read_lines a n 0 0 b (l ∷ m ∷ ls) ≡ opened c
-      by none q y = absurd (never 1 n c y)
+      by none q y = absurd (never_opened 1 n c y)
       by (some f) q y = let w = went n (own.line_fault 0 b f) (onward f (with_form b f)) c y in first f q w.0 w.1
 
   -- What the reader of 01 opens, a reader that takes edition 1 opens; without 9, and with it.
@@ -171,7 +171,7 @@ module _ (a : Editions) where
   opens_as_before h L s c z = by (ltb text_bytes (length s)) refl z
     where
       by : (t : Bool) → ltb text_bytes (length s) ≡ t → cond t (refused 9 0) (own.read_lines 1 0 (empty_formula L) (split newline s)) ≡ opened c → open_editions a L s ≡ opened c
-      by true q y = absurd (never 9 0 c y)
+      by true q y = absurd (never_opened 9 0 c y)
       by false q y = text_fits a L s c (ltb-false text_bytes (length s) q) (own_first 1 (empty_formula L) (split newline s) c h y)
 
 -- ---- the reader of both editions

@@ -9,17 +9,11 @@ use borrow.Author.Tests.{ltb-false}
 use lib.Dec.{ltb, eqb}
 use Rattle.qbf.specs.Formula.{Formula}
 use Rattle.layout.specs.Words.{Bytes}
-use Rattle.layout.specs.Opening.{stage_after, Opened, refused, opened, refused_or, at_end}
+use Rattle.layout.specs.Opening.{stage_after, Opened, opened, refused_or, at_end}
+use Rattle.layout_laws.proofs.Opened.{never_opened, went}
 use Rattle.editions.specs.Lines.{Line, line_of}
 use Rattle.editions.specs.Opening.{Editions, rank_of, line_fault, with_line, edition_after, is_end, read_line, read_lines}
 use Rattle.editions.specs.Converting.{next, each_line}
-
-pub never : (k n : ℕ) (b : Formula) → refused k n ≡ opened b → ⊥
-never k n b e = let z : ◌≡◌ {A = ℕ} 0 1 = cc in omega arith
-
-pub went : (n : ℕ) (o : Option ℕ) (x : Opened) (b : Formula) → refused_or n o x ≡ opened b → (o ≡ none) × (x ≡ opened b)
-went n none x b e = (refl, e)
-went n (some k) x b e = absurd (never k n b e)
 
 -- a line f in place of a line says the same, in another edition and for another reader
 pub record Same (a' : Editions) (e e' : ℕ) (stage : ℕ) (b : Formula) (l' : Bytes) (f : Line) : Type 0 where
@@ -51,15 +45,15 @@ module _
   where
     at_end_lem : (n k : ℕ) (b : Formula) (ps : List Bytes) (c : Formula) → at_end n b ps ≡ opened c → at_end n b (each_line g k ps) ≡ opened c
     unfolding each_line
-    at_end_lem n k b [] c z = absurd (never 1 n c z)
+    at_end_lem n k b [] c z = absurd (never_opened 1 n c z)
     at_end_lem n k b ([] ∷ []) c z = ap (λ (l : Bytes). at_end n b (l ∷ [])) (empty k) ∙ z
-    at_end_lem n k b ([] ∷ l ∷ ls) c z = absurd (never 1 n c z)
-    at_end_lem n k b ((x ∷ l) ∷ ls) c z = absurd (never 1 n c z)
+    at_end_lem n k b ([] ∷ l ∷ ls) c z = absurd (never_opened 1 n c z)
+    at_end_lem n k b ((x ∷ l) ∷ ls) c z = absurd (never_opened 1 n c z)
 
     pub lines_same : (n k stage : ℕ) (b : Formula) (ps : List Bytes) (c : Formula) → 1 ≤ stage → I k b → AllFit Fit k ps → read_lines a n e stage b ps ≡ opened c → read_lines a' n e' stage b (each_line g k ps) ≡ opened c
     unfolding read_lines each_line
-    lines_same n k stage b [] c h i fit z = absurd (never 1 n c z)
-    lines_same n k stage b (l ∷ []) c h i fit z = absurd (never 1 n c z)
+    lines_same n k stage b [] c h i fit z = absurd (never_opened 1 n c z)
+    lines_same n k stage b (l ∷ []) c h i fit z = absurd (never_opened 1 n c z)
     lines_same n k stage b (l ∷ m ∷ ls) c h i fit z =
         by (line_of l) refl z (λ s x j w. lines_same (suc n) (next k l) s x (m ∷ ls) c w j fit.1)
       where
@@ -85,7 +79,7 @@ module _
         last f false j q y ih = ih (stage_after (rank_of f)) (with_line b f) j (after_one (rank_of f)) (ap (λ (x : ℕ). read_lines a (suc n) x (stage_after (rank_of f)) (with_line b f) (m ∷ ls)) (sym q) ∙ y)
 
         by : (o : Option Line) → line_of l ≡ o → read_line a n e stage b o onward ≡ opened c → Next → read_line a' n e' stage b (line_of (g k l)) onward' ≡ opened c
-        by none q y ih = absurd (never 1 n c y)
+        by none q y ih = absurd (never_opened 1 n c y)
         by (some f) q y ih =
             let w = went n (line_fault a e stage b f) (onward f (with_line b f)) c y in
             let s = says_same k stage b l f h i fit.0 q w.0 in

@@ -2,23 +2,18 @@
 use Prim.Native.Nat.{ℕ, ◌+◌, ◌-◌, ◌≤◌, ◌<◌}
 use native.Mathlib.Omega.{arith}
 use mathlib.Core.Path.{◌≡◌, refl, sym, ap, subst, ◌∙◌}
-use mathlib.Core.List.{List, [], ◌∷◌, ◌++◌, map, append_assoc, append-nil}
+use mathlib.Core.List.{List, [], ◌∷◌, ◌++◌, map, append_assoc, append-nil, map-append}
 use lib.IntN.{ℤ, pos}
 use lib.ListN.{length, get_or, take, drop, length-append, drop_of_length-le}
-use Rattle.std.proofs.lemmas.List.{take_all, length-drop, get_or-drop}
+use Rattle.std.proofs.lemmas.List.{take_all, length-drop, get_or-drop, drop_more}
 use Rattle.qbf.specs.Formula.{paper, Literal, Clause}
 use Rattle.qbf.specs.One.{both_negated, pairs_with, pairs, one_count}
 use Rattle.qbf.specs.Calls.{clause_of}
 use Rattle.theory.proofs.OneCount.{forms_count}
 use Rattle.tables.specs.Views.{Table, rows_of}
-use Rattle.constraint.proofs.Lists.{drop_more}
 use Rattle.rule_rows.specs.Accepted.{Added, Named}
 
 -- ---- clauses one after the other
-map_append : {A B : Type 0} (f : A → B) (xs ys : List A) → map f (xs ++ ys) ≡ map f xs ++ map f ys
-map_append f [] ys = refl
-map_append f (x ∷ xs) ys = ap (λ l. f x ∷ l) (map_append f xs ys)
-
 pub added_none : {most : ℕ} {f : List ℤ} {l places : List ℕ} → Table paper.literals most f l → Added most f l [] places f l
 added_none {most} {f} {l} t = record { table = t; kept = refl; count = omega arith; rows = λ D s. sym (append-nil (rows_of paper.literals f l)) }
 
@@ -32,7 +27,7 @@ added_more {most} {f} {f₁} {f₂} {l} {l₁} {l₂} {places} {cs} {ds} a b =
           b.rows D s
           ∙ ap (λ (r : List Clause). r ++ map (clause_of D) ds) (a.rows D s)
           ∙ append_assoc (rows_of paper.literals f l) (map (clause_of D) cs) (map (clause_of D) ds)
-          ∙ ap (λ (r : List Clause). rows_of paper.literals f l ++ r) (sym (map_append (clause_of D) cs ds));
+          ∙ ap (λ (r : List Clause). rows_of paper.literals f l ++ r) (sym (map-append (clause_of D) cs ds));
     }
 
 -- where the clauses of some forms are left to be added: there is room for them, and with them those of all forms are added

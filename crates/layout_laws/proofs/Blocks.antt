@@ -1,17 +1,17 @@
 -- Blocks: a block without a fault keeps a prefix well formed, and its first numbers decide its fault.
-use Prim.Native.Nat.{ℕ, zero, suc, ◌+◌, ◌≤◌, ◌<◌, zero-le, suc-le-suc}
-use native.Mathlib.Nat.{le_refl}
+use Prim.Native.Nat.{ℕ, zero, suc, ◌+◌, ◌≤◌, ◌<◌}
 use mathlib.Core.Path.{◌≡◌, refl, sym, ap, ◌∙◌, subst}
 use mathlib.Core.Bool.{Bool, true, false, cond, not, ◌&&◌, ◌||◌, false≢true}
 use mathlib.Core.List.{List, [], ◌∷◌, ◌++◌, map, append_assoc, append-nil}
 use mathlib.Core.Option.{Option, none}
 use native.Mathlib.Omega.{arith}
-use borrow.Author.Tests.{eqb-true, eqb-false, ltb-false, le-leb, lt-leb, leb-false}
+use borrow.Author.Tests.{eqb-true, eqb-false, ltb-false, le-leb, lt-leb}
 use lib.ListN.{length, take, length-append, length-map}
 use lib.Dec.{eqb, leb, ltb}
 use Rattle.qbf.specs.Formula.{Limits, most_free, Quantifier, free, exists, forall, is_free, Variable, Prefix, quantifiers, any, all, place_from, place_of}
-use Rattle.qbf.specs.Truth.{free_count, free_variables}
+use Rattle.qbf.specs.Truth.{free_variables}
 use Rattle.qbf.specs.Calls.{given, no_free, free_first, free_is_ok, numbers_are_ok, prefix_is_ok, ◌or_else◌}
+use Rattle.theory.proofs.FreeCount.{free_more}
 use Rattle.theory.proofs.Basics.{and_left, and_right, and_both, or_false_left, or_false_right, not_false}
 use Rattle.theory.proofs.AcceptedRule.{given_none}
 use Rattle.theory.proofs.Widths.{prefix_width}
@@ -142,41 +142,12 @@ block_prefix L κ D (n ∷ ns) h g e =
     (block_prefix L κ (D ++ (variable κ n ∷ [])) ns m.0 m.1 d.1)
 
 -- ---- free variables
-free_snoc : (ks : List Quantifier) (κ : Quantifier) → free_count (ks ++ (κ ∷ [])) ≤ suc (free_count ks)
-free_snoc [] free = le_refl 1
-free_snoc [] exists = zero-le
-free_snoc [] forall = zero-le
-free_snoc (free ∷ ks) κ = suc-le-suc (free_snoc ks κ)
-free_snoc (exists ∷ ks) κ = zero-le
-free_snoc (forall ∷ ks) κ = zero-le
-
-bound_snoc : (ks : List Quantifier) (κ : Quantifier) → is_free κ ≡ false → free_count (ks ++ (κ ∷ [])) ≡ free_count ks
-bound_snoc [] free e = absurd (false≢true (sym e))
-bound_snoc [] exists e = refl
-bound_snoc [] forall e = refl
-bound_snoc (free ∷ ks) κ e = ap suc (bound_snoc ks κ e)
-bound_snoc (exists ∷ ks) κ e = refl
-bound_snoc (forall ∷ ks) κ e = refl
-
--- one more where there is room for it
-pub free_more : (κ : Quantifier) (D : Prefix) (n : ℕ) → crowded κ D ≡ false → free_is_ok D ≡ true → free_is_ok (D ++ (variable κ n ∷ [])) ≡ true
-free_more κ D n e h = by (is_free κ) refl
-  where
-    said : free_variables (D ++ (variable κ n ∷ [])) ≡ free_count (quantifiers D ++ (κ ∷ []))
-    said = ap free_count (quantifiers_append D (variable κ n))
-
-    by : (t : Bool) → is_free κ ≡ t → free_is_ok (D ++ (variable κ n ∷ [])) ≡ true
-    by true f =
-        let few : free_variables D < most_free = leb-false most_free (free_variables D) (sym (ap (λ (b : Bool). b && leb most_free (free_variables D)) f) ∙ e) in
-        le-leb (free_variables (D ++ (variable κ n ∷ []))) most_free (omega (arith, said, free_snoc (quantifiers D) κ, few))
-    by false f = ap (λ (k : ℕ). leb k most_free) (said ∙ bound_snoc (quantifiers D) κ f) ∙ h
-
 -- a block without a fault leaves no more free variables than there may be
 pub block_free : (L : Limits) (κ : Quantifier) (D : Prefix) (ns : List ℕ) → free_is_ok D ≡ true → declare_fault L κ D ns ≡ none → free_is_ok (D ++ map (variable κ) ns) ≡ true
 block_free L κ D [] h e = rw append-nil h
 block_free L κ D (n ∷ ns) h e =
     subst (λ (E : Prefix). free_is_ok E ≡ true) (append_assoc D (variable κ n ∷ []) (map (variable κ) ns))
-    (block_free L κ (D ++ (variable κ n ∷ [])) ns (free_more κ D n (uncrowded L κ D n ns e) h) (declarable L κ D n ns e).1)
+    (block_free L κ (D ++ (variable κ n ∷ [])) ns (free_more D (variable κ n) (uncrowded L κ D n ns e) h) (declarable L κ D n ns e).1)
 
 -- ---- the first numbers decide
 pub number_declared : (L : Limits) (κ : Quantifier) (D : Prefix) (n : ℕ) → numbers_are_ok L [] D ≡ true → Declarable L D n → numbers_are_ok L [] (D ++ (variable κ n ∷ [])) ≡ true

@@ -89,14 +89,25 @@ fresh_formed b h =
     none_stored = rw (le-leb 0 b.limits.constraints zero-le)
 
 -- ---- the text
-never_opened : (k n : ℕ) (b : Formula) → refused k n ≡ opened b → ⊥
+pub never_opened : (k n : ℕ) (b : Formula) → refused k n ≡ opened b → ⊥
 never_opened k n b e = let z : ◌≡◌ {A = ℕ} 0 1 = cc in omega arith
 
-at_end_lem : (n : ℕ) (b : Formula) (ls : List Bytes) (b' : Formula) → at_end n b ls ≡ opened b' → b ≡ b'
+-- what opened was not refused
+pub went : (n : ℕ) (o : Option ℕ) (x : Opened) (b : Formula) → refused_or n o x ≡ opened b → (o ≡ none) × (x ≡ opened b)
+went n none x b e = (refl, e)
+went n (some k) x b e = absurd (never_opened k n b e)
+
+pub at_end_lem : (n : ℕ) (b : Formula) (ls : List Bytes) (b' : Formula) → at_end n b ls ≡ opened b' → b ≡ b'
 at_end_lem n b [] b' e = absurd (never_opened 1 n b' e)
 at_end_lem n b ([] ∷ []) b' e = cc
 at_end_lem n b ([] ∷ l ∷ ls) b' e = absurd (never_opened 1 n b' e)
 at_end_lem n b ((c ∷ l) ∷ ls) b' e = absurd (never_opened 1 n b' e)
+
+pub same_limits : (b : Formula) (f : Form) → (with_form b f).limits ≡ b.limits
+same_limits b (book x) = refl
+same_limits b (block κ ns) = refl
+same_limits b (clause r) = refl
+same_limits b end = refl
 
 pub lines_facts : (n stage : ℕ) (b : Formula) (ls : List Bytes) (b' : Formula) → Reached stage b → read_lines n stage b ls ≡ opened b' → FormulaFacts b' × (b'.limits ≡ b.limits)
 unfolding read_lines
@@ -110,19 +121,13 @@ lines_facts n stage b (l ∷ m ∷ ls) b' i e = by (form_of l) e (λ s x. lines_
     onward : Form → Formula → Opened
     onward f x = cond (is_end f) (at_end (suc n) x (m ∷ ls)) (read_lines (suc n) (stage_after (rank f)) x (m ∷ ls))
 
-    same_limits : (f : Form) → (with_form b f).limits ≡ b.limits
-    same_limits (book x) = refl
-    same_limits (block κ ns) = refl
-    same_limits (clause r) = refl
-    same_limits end = refl
-
     last : (f : Form) (t : Bool) → Reached (stage_after (rank f)) (with_form b f)
         → cond t (at_end (suc n) (with_form b f) (m ∷ ls)) (read_lines (suc n) (stage_after (rank f)) (with_form b f) (m ∷ ls)) ≡ opened b' → Next → FormulaFacts b' × (b'.limits ≡ (with_form b f).limits)
     last f true j z ih = subst (λ (x : Formula). FormulaFacts x × (x.limits ≡ (with_form b f).limits)) (at_end_lem (suc n) (with_form b f) (m ∷ ls) b' z) (j.facts, refl)
     last f false j z ih = ih (stage_after (rank f)) (with_form b f) j z
 
     go : (f : Form) (o : Option ℕ) → line_fault stage b f ≡ o → refused_or n o (onward f (with_form b f)) ≡ opened b' → Next → FormulaFacts b' × (b'.limits ≡ b.limits)
-    go f none q z ih = let r = last f (is_end f) (line_reached stage b f i q) z ih in (r.0, r.1 ∙ same_limits f)
+    go f none q z ih = let r = last f (is_end f) (line_reached stage b f i q) z ih in (r.0, r.1 ∙ same_limits b f)
     go f (some k) q z ih = absurd (never_opened k n b' z)
 
     by : (o : Option Form) → read_line n stage b o onward ≡ opened b' → Next → FormulaFacts b' × (b'.limits ≡ b.limits)

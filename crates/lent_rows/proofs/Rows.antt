@@ -1,34 +1,25 @@
 -- The rows of a flat table of which the cells before a row stay, and those that stand in a lent one.
 use Prim.Native.Nat.{ℕ, zero, suc, ◌+◌, ◌*◌, ◌-◌, ◌≤◌, ◌<◌}
 use native.Mathlib.Omega.{arith}
-use native.Mathlib.Nat.{zero-add, suc-add, suc-mul, mul-le-mul_right, le_refl}
+use native.Mathlib.Nat.{le_refl}
 use native.Mathlib.Numerals.{add-one}
 use mathlib.Core.Path.{◌≡◌, sym, ap, subst, ◌∙◌}
 use mathlib.Core.List.{List, [], ◌∷◌, ◌++◌}
 use borrow.Rule.Slice.PartMut.{put_mid, post_of}
 use lib.ListN.{length, get_or, take, drop, length-drop}
-use lib.Seq.{take-nil, take-take, drop_at, length-take-le, take-append-le}
+use lib.Seq.{take-take, drop_at, length-take-le, take-append-le}
+use Rattle.std.proofs.lemmas.List.{drop-take}
 use Rattle.tables.specs.Views.{row, rows, Table}
-use Rattle.tables.proofs.Laws.{rows_suc, rows_zero, standing}
+use Rattle.tables.proofs.Laws.{before, rows_suc, rows_zero, standing}
 use Rattle.lent_rows.specs.Held.{Held}
 
--- row k ends before row n begins
-pub before : (w k n : ℕ) → k < n → k * w + w ≤ n * w
-before w k n h = subst (λ (m : ℕ). m ≤ n * w) (suc-mul k w) (mul-le-mul_right w h)
-
 module _ {A : Type 0} where
-  -- a part, cut the other way round
-  take_drop : (s n : ℕ) (l : List A) → take n (drop s l) ≡ drop s (take (s + n) l)
-  take_drop zero n l = ap (λ (k : ℕ). take k l) (sym (zero-add n))
-  take_drop (suc s) n [] = take-nil n ∙ sym (ap (drop (suc s)) (take-nil (suc s + n)))
-  take_drop (suc s) n (x ∷ xs) = take_drop s n xs ∙ ap (λ (k : ℕ). drop (suc s) (take k (x ∷ xs))) (sym (suc-add s n))
-
   -- a part that ends within the first m elements
   pub part_kept : (s n m : ℕ) (l l' : List A) → s + n ≤ m → take m l' ≡ take m l → take n (drop s l') ≡ take n (drop s l)
   part_kept s n m l l' h e =
-      take_drop s n l'
+      sym (drop-take s n l')
       ∙ ap (drop s) (sym (take-take (s + n) m l' h) ∙ ap (take (s + n)) e ∙ take-take (s + n) m l h)
-      ∙ sym (take_drop s n l)
+      ∙ drop-take s n l
 
   -- the rows before row k, of which the cells and the sizes stay
   module _ (w k : ℕ) (f f' : List A) (l l' : List ℕ) (cells : take (k * w) f' ≡ take (k * w) f) (sizes : (j : ℕ) → j < k → get_or l' (suc j) 0 ≡ get_or l (suc j) 0)

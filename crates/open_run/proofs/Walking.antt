@@ -1,18 +1,17 @@
 -- The search on the tables of a formula: what its parts show, and the empty node by its tests.
-use Prim.Native.Nat.{ℕ, zero, suc, ◌-◌, ◌≤◌, ◌<◌}
-use native.Mathlib.Nat.{le_of_suc-le-suc, not-suc-le-zero}
+use Prim.Native.Nat.{ℕ, zero, suc, ◌-◌, ◌≤◌}
 use native.Mathlib.Omega.{arith}
 use mathlib.Core.Path.{◌≡◌, refl, sym, ap, ◌∙◌, subst}
 use mathlib.Core.Bool.{true}
-use mathlib.Core.List.{List, [], ◌∷◌}
+use mathlib.Core.List.{List, []}
 use lib.ListN.{length, get_or, replicate}
 use lib.IntN.{ℤ}
 use lib.Dec.{leb}
-use Rattle.qbf.specs.Formula.{paper, highest, Quantifier, free, exists, forall, Prefix, quantifiers, any, all, dead, satisfied, place_of, value_at}
-use Rattle.qbf.specs.Truth.{free_count}
+use Rattle.qbf.specs.Formula.{paper, highest, Prefix, quantifiers, any, all, dead, satisfied, place_of, value_at}
 use Rattle.qbf.specs.Calls.{numbers_are_ok, free_first}
 use Rattle.qbf.specs.Open.{Reading}
 use Rattle.theory.proofs.Basics.{and_left}
+use Rattle.theory.proofs.Starting.{free_kind}
 use Rattle.tables.specs.Views.{Numbers, Places, Kinds, Values, value_code}
 use Rattle.tables.specs.Codes.{Quantified}
 use Rattle.tables.specs.Formed.{clauses_of}
@@ -59,13 +58,6 @@ below_found {sets} {kinds} {recorded} {sat} {sat'} count budget {words} r is row
 }
 
 -- ---- the reading is one of free variables
-frees_of : (ks : List Quantifier) (i : ℕ) → i < free_count ks → get_or ks i free ≡ free
-frees_of [] i h = refl
-frees_of (free ∷ ks) zero h = refl
-frees_of (free ∷ ks) (suc i) h = frees_of ks i (le_of_suc-le-suc h)
-frees_of (exists ∷ ks) i h = absurd (not-suc-le-zero h)
-frees_of (forall ∷ ks) i h = absurd (not-suc-le-zero h)
-
 module _ {numbers : List ℕ} {clauses : List ℤ} {sizes places kinds values : List ℕ} {count : ℕ} where
   -- ---- the tables that are derived
   module _ {qs rows sets recorded : List ℕ} (cells last n : ℕ)
@@ -85,7 +77,7 @@ module _ {numbers : List ℕ} {clauses : List ℤ} {sizes places kinds values : 
                 placed_reading highest D shown.formed.prefix_ok numbers shown.numbered os (shown.long ∙ shown.counted) values shown.recorded (replicate cells 0) recorded (zeros cells)
                 (subst (λ (k : ℕ). Placed values numbers k (replicate cells 0) recorded) shown.counted put) p;
           };
-          frees = λ i h. frees_of (quantifiers D) i (omega (arith, h, shown.long, shown.counted));
+          frees = λ i h. free_kind (quantifiers D) i (omega (arith, h, shown.long, shown.counted));
         }
 
     pub searched_found : {budget : ℕ} (r : Finding) → Below sets n qs recorded budget r → Searched numbers clauses sizes places kinds values count budget r

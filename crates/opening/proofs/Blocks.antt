@@ -13,7 +13,7 @@ use Rattle.qbf.specs.Learning.{Store, empty_store}
 use Rattle.qbf.specs.Calls.{clause_ok, constraint_ok, free_is_ok}
 use Rattle.qbf.specs.Runs.{fresh}
 use Rattle.theory.proofs.Basics.{and_both}
-use Rattle.state.specs.declared.State.{State}
+use Rattle.state.specs.State.{State}
 use Rattle.state.specs.Reading.{state_of, at_most, rows_fit, formula_under, store_under, roomy, valid_under}
 use Rattle.state.proofs.Rooms.{room_is}
 use Rattle.state.proofs.SoundPrefix.{sound_under}

@@ -11,7 +11,7 @@ use lib.ListN.{length, get_or, drop}
 use Rattle.qbf.specs.Formula.{Limits, Quantifier, Prefix, quantifiers, number_of, place_of}
 use Rattle.qbf.specs.Calls.{given, numbers_are_ok, free_first, prefix_is_ok, ◌or_else◌}
 use Rattle.theory.proofs.Basics.{and_right, and_both}
-use Rattle.constraint.proofs.Lists.{drop_more}
+use Rattle.std.proofs.lemmas.List.{drop_more}
 use Rattle.state.specs.Reading.{quantifier_of, prefix_fits}
 use Rattle.state.specs.Declare.{with_variable}
 use Rattle.declaring.specs.Declaring.{numbers_in, levels_in, kinds_in, prefix_at, DeclarableAt, Beside, DeclaredAt}

@@ -13,14 +13,14 @@ use Rattle.qbf.specs.Calls.{given, State as Read, ◌or_else◌}
 use Rattle.qbf.specs.Runs.{fresh}
 use Rattle.refusal.specs.declared.Refusal.{Refusal}
 use Rattle.refusal.specs.Refusal.{number_of, fault_in}
-use Rattle.state.specs.declared.State.{State}
+use Rattle.state.specs.State.{State}
 use Rattle.state.specs.Reading.{fits_under, state_under, store_under, read_under, roomy, well_formed_read}
 use Rattle.state_parts.specs.Layout.{limits_in}
 use Rattle.state_parts.specs.Parts.{limits_of, state_at, read_at, valid_at}
 use Rattle.state_parts.proofs.Accepted.{valid_read}
-use Rattle.layout.specs.Forms.{Form, book, block, clause, end}
+use Rattle.layout.specs.Forms.{Form}
 use Rattle.layout.specs.Opening.{rank, allowed, stage_after, form_fault, line_fault, with_form}
-use Rattle.layout_laws.proofs.Opened.{Reached, line_reached, fresh_formed}
+use Rattle.layout_laws.proofs.Opened.{Reached, line_reached, fresh_formed, same_limits}
 use Rattle.opening.specs.Stages.{rank_of, placed}
 use Rattle.opening.specs.declared.book.Book.{Book}
 use Rattle.opening.specs.Standing.{formula_at, Standing}
@@ -73,12 +73,6 @@ module _ (cells : List ℕ) (literals : List ℤ) where
 
 -- ---- a form at a stage
 module _ (stage : ℕ) (b : Formula) (f : Form) where
-  same_limits : (f : Form) → (with_form b f).limits ≡ b.limits
-  same_limits (book e) = refl
-  same_limits (block κ ns) = refl
-  same_limits (clause ls) = refl
-  same_limits end = refl
-
   -- a form that may not stand here
   pub misplaced : {q : Refusal} (cells : List ℕ) (literals : List ℤ) → Err q ≡ placed (allowed stage (rank f)) → TookFormAt stage b f (Err q) cells literals
   misplaced {q} cells literals e = by (allowed stage (rank f)) refl e
@@ -109,7 +103,7 @@ module _ (stage : ℕ) (b : Formula) (f : Form) where
             formula = formula_is cells literals (with_form b f) e;
             stage = at;
             stands =
-                subst (λ (L : Limits). Standing L (rank_of y.stage) cells literals) (same_limits f ∙ sym under)
+                subst (λ (L : Limits). Standing L (rank_of y.stage) cells literals) (same_limits b f ∙ sym under)
                 (subst (λ (n : ℕ). Standing (with_form b f).limits n cells literals) (sym at)
                 (stands_by cells literals (with_form b f) (stage_after (rank f)) e (line_reached stage b f i (standing_fault ∙ k))));
           };

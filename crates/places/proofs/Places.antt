@@ -28,7 +28,8 @@ use Rattle.rule_calls.specs.ServesAt.{ServesAt}
 use Rattle.rule_calls.specs.Served.{Lists, lists, read_lists}
 use Rattle.rule_calls.proofs.Lists.{serves_by}
 use Rattle.serving_days.specs.Serves.{Held, ServesDay, book_in, day_of, said_at}
-use Rattle.serving_days.proofs.Places.{place_serves, place_next, map_get_or, said_visits}
+use Rattle.serving.proofs.Numbered.{said_visits}
+use Rattle.serving_days.proofs.Places.{place_serves, place_next, map_get_or}
 use Rattle.places.specs.declared.rooms.Rooms.{Rooms}
 use Rattle.places.specs.declared.rooms.Bounds.{Bounds}
 use Rattle.places.specs.declared.accounts.Accounts.{Accounts}

@@ -17,31 +17,24 @@ use Rattle.theory.proofs.AcceptedRule.{given_none}
 use Rattle.theory.proofs.Prefixes.{numbers}
 use Rattle.layout.specs.Words.{Bytes}
 use Rattle.layout.specs.Forms.{consed}
-use Rattle.layout.specs.Opening.{variable, Opened, refused, opened, refused_or}
+use Rattle.layout.specs.Opening.{variable, opened, refused_or}
+use Rattle.layout_laws.proofs.Opened.{never_opened, went}
 use Rattle.qdimacs_form.specs.Lines.{Line, comment, header, group, clause, line_of}
 use Rattle.qdimacs_form.specs.Opening.{completed, Reading, group_fault, whole, line_fault, after, crowded, end_fault, read_line, read_lines, start}
 use Rattle.qdimacs_form.specs.Translation.{parsed, quantified, in_the_form, clauses_inside, Plain}
 use Rattle.qdimacs_laws.proofs.Translated.{read_parsed}
 
-never : (k n : ℕ) (b : Formula) → refused k n ≡ opened b → ⊥
-never k n b e = let z : ◌≡◌ {A = ℕ} 0 1 = cc in omega arith
-
--- what opened was not refused
-went : (n : ℕ) (o : Option ℕ) (x : Opened) (b : Formula) → refused_or n o x ≡ opened b → (o ≡ none) × (x ≡ opened b)
-went n none x b e = (refl, e)
-went n (some k) x b e = absurd (never k n b e)
-
 -- ---- the lines are in the form
 pub opened_parsed : (n : ℕ) (r : Reading) (ps : List Bytes) (b : Formula) → read_lines n r ps ≡ opened b → (ls : List Line) × (parsed ps ≡ some ls)
 unfolding read_lines parsed consed
-opened_parsed n r [] b e = absurd (never 1 n b e)
+opened_parsed n r [] b e = absurd (never_opened 1 n b e)
 opened_parsed n r ([] ∷ []) b e = ([], refl)
-opened_parsed n r ((c ∷ l) ∷ []) b e = absurd (never 1 n b e)
+opened_parsed n r ((c ∷ l) ∷ []) b e = absurd (never_opened 1 n b e)
 opened_parsed n r (l ∷ m ∷ ps) b e = by (line_of l) refl e (λ s. opened_parsed (suc n) s (m ∷ ps) b)
   where
     by : (o : Option Line) → line_of l ≡ o → read_line n r o (λ s. read_lines (suc n) s (m ∷ ps)) ≡ opened b → ((s : Reading) → read_lines (suc n) s (m ∷ ps) ≡ opened b → (ls : List Line) × (parsed (m ∷ ps) ≡ some ls))
         → (ls : List Line) × (consed (λ f. f) o (parsed (m ∷ ps)) ≡ some ls)
-    by none q z ih = absurd (never 1 n b z)
+    by none q z ih = absurd (never_opened 1 n b z)
     by (some f) q z ih =
         let w = ih (after r f) (went n (line_fault r f) (read_lines (suc n) (after r f) (m ∷ ps)) b z).1 in
         (f ∷ w.0, ap (consed (λ x. x) (some f)) w.1)
@@ -156,7 +149,7 @@ module _ (b : Formula) where
 
   pub opened_plain : (L : Limits) (n : ℕ) (ls : List Line) → read_parsed n (start L) ls ≡ opened b → Plain L ls
   unfolding read_parsed
-  opened_plain L n [] e = absurd (never 1 n b e)
+  opened_plain L n [] e = absurd (never_opened 1 n b e)
   opened_plain L n (comment ∷ ls) e = let p = opened_plain L (suc n) ls e in record { in_form = p.in_form; few = p.few; bounded = p.bounded; counted = p.counted }
   opened_plain L n (header v c ∷ ls) e =
       let w = went n (line_fault (start L) (header v c)) (read_parsed (suc n) (after (start L) (header v c)) ls) b e in
@@ -166,5 +159,5 @@ module _ (b : Formula) where
       fits : (t : Bool) → given t 3 ≡ none → t ≡ false
       fits true z = absurd (let y : ◌≡◌ {A = ℕ} 0 1 = cc in omega arith)
       fits false z = refl
-  opened_plain L n (group κ ns ∷ ls) e = absurd (never 1 n b e)
-  opened_plain L n (clause l ∷ ls) e = absurd (never 1 n b e)
+  opened_plain L n (group κ ns ∷ ls) e = absurd (never_opened 1 n b e)
+  opened_plain L n (clause l ∷ ls) e = absurd (never_opened 1 n b e)

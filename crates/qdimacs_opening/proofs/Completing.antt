@@ -17,7 +17,7 @@ use Rattle.qbf.specs.Runs.{fresh}
 use Rattle.theory.proofs.Basics.{and_right, and_both}
 use Rattle.theory.proofs.WellFormed.{FormulaFacts}
 use Rattle.tables.specs.Views.{Numbers}
-use Rattle.state.specs.declared.State.{State}
+use Rattle.state.specs.State.{State}
 use Rattle.state.specs.declared.parts.Parts.{Parts}
 use Rattle.state.specs.Reading.{quantifier_of, prefix_fits}
 use Rattle.state.specs.Derived.{Quantified, Placing}

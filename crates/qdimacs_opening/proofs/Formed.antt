@@ -20,6 +20,7 @@ use Rattle.state.specs.Reading.{quantifier_of}
 use Rattle.layout.specs.Words.{Bytes, newline, split}
 use Rattle.layout.specs.Opening.{text_bytes, variable, refused, opened, refused_or}
 use Rattle.layout_laws.proofs.Blocks.{number_declared, in_range}
+use Rattle.layout_laws.proofs.Opened.{never_opened}
 use Rattle.qdimacs_form.specs.Lines.{Line, comment, header, group, clause, line_of}
 use Rattle.qdimacs_form.specs.Opening.{flags_up_to, completed, Reading, group_fault, whole, line_fault, after, read_line, crowded, end_fault, at_end, read_lines, start, read_qdimacs, open_qdimacs}
 use Rattle.qdimacs_laws.proofs.Spoken.{line_spoken}
@@ -177,9 +178,6 @@ module _ (L : Limits) (low : limits_are_ok L ≡ true) where
       w = whole_stands r i (eqb-false r.stage 0 g.0)
 
   -- ---- the text
-  never_opened : (k n : ℕ) (b : Formula) → refused k n ≡ opened b → ⊥
-  never_opened k n b e = let z : ◌≡◌ {A = ℕ} 0 1 = cc in omega (arith, z)
-
   end_known : (n : ℕ) (r : Reading) (b : Formula) → Known L r → at_end n r ≡ opened b → FormulaFacts b
   end_known n r b i e = by (end_fault r) refl e
     where

@@ -2,10 +2,9 @@
 use Prim.Native.Nat.{ℕ, zero, suc}
 use mathlib.Core.Path.{◌≡◌, refl, sym, ap, subst, ◌∙◌}
 use mathlib.Core.List.{List, []}
-use mathlib.Core.Option.{some}
-use Rattle.qbf.specs.Calls.{Call}
-use Rattle.state.specs.declared.State.{State}
-use Rattle.serving.specs.Serves.{Said, said, said_with, number, fault_of, told, Serves}
+use mathlib.Core.Option.{Option, some}
+use Rattle.qbf.specs.Calls.{Call, State as Read}
+use Rattle.serving.specs.Serves.{Said, said, said_with, number, fault_of, told, ServesBy}
 use Rattle.serving.proofs.Numbered.{served_told}
 use Rattle.rule_calls.specs.ServesAt.{change_said}
 use Rattle.std.specs.Prelude.{Result, Ok, Err}
@@ -19,8 +18,8 @@ use Rattle.closest_call.specs.Nearest.{nearest_said, returned}
 use Rattle.reply_numbers.specs.Answers.{unless_refused}
 
 -- the same answer, as its numbers tell it
-pub says_as : {x : State} {c : Call} {a b : Said} {y : State} → Serves x c a y → b ≡ told a → Serves x c b y
-says_as {x} {c} {a} {b} {y} s p = subst (λ (r : Said). Serves x c r y) (sym (p ∙ served_told s)) s
+pub says_as : {X : Type 0} {read : X → Option Read} {x : X} {c : Call} {a b : Said} {y : X} → ServesBy read x c a y → b ≡ told a → ServesBy read x c b y
+says_as {X} {read} {x} {c} {a} {b} {y} s p = subst (λ (r : Said). ServesBy read x c r y) (sym (p ∙ served_told s)) s
 
 change_told : (c : Result Unit Refusal) → said (fault_of (number (change_said c).refusal)) 0 0 0 [] ≡ told (change_said c)
 change_told (Ok u) = refl
@@ -49,15 +48,15 @@ nearest_told (Err r) m k tb bytes h = refused (number_of r) (ap (λ (a : Said). 
     refused zero h = absurd (some_none (sym h))
     refused (suc n) h = refl
 
-pub nearest_numbers : {x : State} {c : Call} {y : State} (t : Result ℕ Refusal) {n d m k : ℕ} (i j : ℕ) (tb bytes : List ℕ) → Serves x c (nearest_said t i j tb bytes) y
+pub nearest_numbers : {X : Type 0} {read : X → Option Read} {x : X} {c : Call} {y : X} (t : Result ℕ Refusal) {n d m k : ℕ} (i j : ℕ) (tb bytes : List ℕ) → ServesBy read x c (nearest_said t i j tb bytes) y
     → n ≡ number (nearest_said t 0 0 [] []).refusal → d ≡ (nearest_said t 0 0 [] []).differs → m ≡ i → k ≡ j
-    → Serves x c (said_with (fault_of n) 0 m k tb (unless_refused (fault_of n) bytes) d) y
-nearest_numbers {x} {c} {y} t i j tb bytes s p q u v =
-    subst (λ (r : Said). Serves x c r y)
+    → ServesBy read x c (said_with (fault_of n) 0 m k tb (unless_refused (fault_of n) bytes) d) y
+nearest_numbers {X} {read} {x} {c} {y} t i j tb bytes s p q u v =
+    subst (λ (r : Said). ServesBy read x c r y)
     (sym ((λ l. said_with (fault_of (p l)) 0 (u l) (v l) tb (unless_refused (fault_of (p l)) bytes) (q l)) ∙ nearest_told t i j tb bytes (served_told s))) s
 
 -- the reading that it returns
-pub nearest_returned : {x : State} {c : Call} {y : State} (t : Result ℕ Refusal) {n : ℕ} (i j : ℕ) (tb bytes : List ℕ) → Serves x c (nearest_said t i j tb bytes) y
+pub nearest_returned : {X : Type 0} {read : X → Option Read} {x : X} {c : Call} {y : X} (t : Result ℕ Refusal) {n : ℕ} (i j : ℕ) (tb bytes : List ℕ) → ServesBy read x c (nearest_said t i j tb bytes) y
     → n ≡ number (nearest_said t 0 0 [] []).refusal → returned t bytes ≡ unless_refused (fault_of n) bytes
 nearest_returned t i j tb bytes s p = by t (served_told s) ∙ ap (λ (n : ℕ). unless_refused (fault_of n) bytes) (sym p)
   where

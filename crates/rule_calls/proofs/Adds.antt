@@ -13,7 +13,7 @@ use Rattle.qbf.specs.Calls.{Call, State as Read, Answer, answer, rule_reply, cla
 use Rattle.qbf.specs.Demands.{refusal_of}
 use Rattle.theory.proofs.Basics.{and_both}
 use Rattle.tables.specs.Views.{Places}
-use Rattle.state.specs.declared.State.{State}
+use Rattle.state.specs.State.{State}
 use Rattle.state.specs.Reading.{own, rows_fit, prefix_fits, fits_under, prefix_in, formula_under, store_under, state_under}
 use Rattle.state.proofs.Valid.{table_rows}
 use Rattle.serving.specs.Serves.{Said, said, said_of}

@@ -10,7 +10,7 @@ use Rattle.qbf.specs.Formula.{Limits, paper, Literal}
 use Rattle.qbf.specs.One.{one_forms, one_count}
 use Rattle.qbf.specs.Calls.{State as Read, rule, one, rule_fault, one_fault, with_rule, with_one, store_after_rule}
 use Rattle.tables.proofs.Laws.{rows_length}
-use Rattle.state.specs.declared.State.{State}
+use Rattle.state.specs.State.{State}
 use Rattle.state.specs.Reading.{own, prefix_in, formula_under, store_under}
 use Rattle.serving.specs.Serves.{said}
 use Rattle.rule_faults.specs.Faults.{fault_under, one_fault_under}

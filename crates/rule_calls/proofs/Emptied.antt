@@ -17,7 +17,7 @@ use Rattle.qbf.specs.Learning.{empty_store}
 use Rattle.theory.proofs.Basics.{and_both}
 use Rattle.tables.specs.Views.{rows, rows_of}
 use Rattle.tables.proofs.Laws.{rows_zero}
-use Rattle.state.specs.declared.State.{State}
+use Rattle.state.specs.State.{State}
 use Rattle.state.specs.Reading.{own, state_of, at_most, listing, entry_at, record_at, records_of, rows_fit, prefix_fits, fits_under, formula_under, state_under}
 use Rattle.state_parts.specs.Parts.{part, limits_of, by_number, clause_count, cube_sizes, recorded, numbers_at, levels_at, kinds_at, clause_sizes_at, learned_clause_sizes_at, learned_cube_sizes_at, parts_under, state_at, read_at, valid_at, Whole}
 use Rattle.state_parts.proofs.Cutting.{part_set, part_set_before, part_set_after}

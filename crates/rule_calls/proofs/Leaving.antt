@@ -8,7 +8,7 @@ use lib.IntN.{ℤ}
 use lib.ListN.{length, get_or, set, length-set}
 use lib.Seq.{get_or-set_other}
 use Rattle.qbf.specs.Formula.{Limits, paper}
-use Rattle.state.specs.declared.State.{State}
+use Rattle.state.specs.State.{State}
 use Rattle.state.specs.Reading.{own, state_of}
 use Rattle.state_parts.specs.Parts.{part, limits_of, by_number, clause_count, cube_sizes, recorded, numbers_at, levels_at, kinds_at, clause_sizes_at, learned_clause_sizes_at, learned_cube_sizes_at, clause_cells, learned_cells, parts_under, Whole}
 use Rattle.state_parts.proofs.Cutting.{part_set, part_set_before, part_set_after}

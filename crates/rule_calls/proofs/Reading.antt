@@ -6,7 +6,7 @@ use mathlib.Core.List.{List}
 use mathlib.Core.Option.{none, some}
 use lib.IntN.{ℤ}
 use Rattle.qbf.specs.Formula.{Limits}
-use Rattle.state.specs.declared.State.{State}
+use Rattle.state.specs.State.{State}
 use Rattle.state.specs.Reading.{fits_under, state_under, read_under, roomy}
 use Rattle.state.proofs.Rooms.{room_is}
 use Rattle.state_parts.specs.Parts.{limits_of, parts_under, read_at, Whole}

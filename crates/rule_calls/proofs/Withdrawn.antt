@@ -15,7 +15,7 @@ use Rattle.qbf.specs.Demands.{refusal_of}
 use Rattle.theory.proofs.Basics.{and_both}
 use Rattle.tables.specs.Views.{rows_of}
 use Rattle.tables.proofs.Laws.{rows_length}
-use Rattle.state.specs.declared.State.{State}
+use Rattle.state.specs.State.{State}
 use Rattle.state.specs.Reading.{own, rows_fit, prefix_fits, fits_under, records_of, prefix_in, formula_under, store_under, state_under}
 use Rattle.state.proofs.Valid.{table_rows}
 use Rattle.serving.specs.Serves.{Said, said, said_of}

@@ -3,7 +3,7 @@ use Rattle.std.specs.Prelude.{ℕ, ◌+◌, ◌≤◌, ◌≡◌, List, ℤ, get
 use Rattle.qbf.specs.Formula.{Limits, Literal}
 use Rattle.tables.specs.Views.{Table}
 use Rattle.rule_rows.specs.Accepted.{Added}
-use Rattle.state.specs.declared.State.{State}
+use Rattle.state.specs.State.{State}
 use Rattle.state.specs.Reading.{state_of}
 use Rattle.state_parts.specs.Parts.{limits_of, parts_under, Whole}
 

@@ -1,4 +1,4 @@
--- What a call owes on a state in two lent tables: what `Serves` says, of the state read under its own limits.
+-- What a call owes on a state in two lent tables: what `ServesBy` says, of the state read under its own limits.
 use Rattle.std.specs.Prelude.{ℕ, ◌≡◌, List, [], ℤ, Result}
 use Rattle.std.proofs.Math.Option.{some}
 use Rattle.refusal.specs.declared.Refusal.{Refusal}

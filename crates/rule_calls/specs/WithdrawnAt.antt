@@ -1,7 +1,7 @@
 -- What a withdrawal finds and leaves in the two tables of a state under limits.
 use Rattle.std.specs.Prelude.{ℕ, ◌≡◌, List, ℤ, set}
 use Rattle.qbf.specs.Formula.{Limits}
-use Rattle.state.specs.declared.State.{State}
+use Rattle.state.specs.State.{State}
 use Rattle.state.specs.Reading.{state_of}
 use Rattle.state_parts.specs.Parts.{limits_of, parts_under, Whole}
 use Rattle.withdrawal.specs.Learned.{Room, Kept}

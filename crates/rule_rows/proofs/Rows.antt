@@ -3,25 +3,21 @@ use mathlib.Core.Path.{◌≡◌, sym, ap, ◌∙◌}
 use mathlib.Core.List.{List, [], ◌∷◌, ◌++◌, append_assoc}
 use Prim.Native.Nat.{ℕ, zero, suc, ◌+◌, ◌*◌, ◌<◌, ◌≤◌}
 use native.Mathlib.Omega.{arith}
-use native.Mathlib.Nat.{zero-add, suc-add, le_refl}
+use native.Mathlib.Nat.{le_refl}
 use native.Mathlib.Numerals.{add-one}
 use borrow.Author.Count.{below_more}
 use lib.IntN.{ℤ}
 use lib.ListN.{length, get_or, take, drop, set, length-set, length-append}
-use lib.Seq.{take_all, take_at, drop_at, take-nil, take-append-le, take-take, paste, length-paste, length-take-le, get_or-set_same, get_or-set_other}
+use lib.Seq.{take_all, take_at, drop_at, take-append-le, take-take, paste, length-paste, length-take-le, get_or-set_same, get_or-set_other}
+use Rattle.std.proofs.lemmas.List.{drop-take}
 use Rattle.tables.specs.Views.{row, rows, rows_of, Table}
 use Rattle.tables.proofs.Laws.{before, rows_suc, rows_zero}
 
 -- ---- parts of lists
 module _ {A : Type 0} where
-  take_drop : (s n : ℕ) (l : List A) → take n (drop s l) ≡ drop s (take (s + n) l)
-  take_drop zero n l = ap (λ (k : ℕ). take k l) (sym (zero-add n))
-  take_drop (suc s) n [] = take-nil n ∙ sym (ap (drop (suc s)) (take-nil (suc s + n)))
-  take_drop (suc s) n (x ∷ xs) = take_drop s n xs ∙ ap (λ (k : ℕ). drop (suc s) (take k (x ∷ xs))) (sym (suc-add s n))
-
   -- a part that lies within the first list
   part_left : (s n : ℕ) (xs ys : List A) → s + n ≤ length xs → take n (drop s (xs ++ ys)) ≡ take n (drop s xs)
-  part_left s n xs ys h = take_drop s n (xs ++ ys) ∙ ap (drop s) (take-append-le (s + n) xs ys h) ∙ sym (take_drop s n xs)
+  part_left s n xs ys h = sym (drop-take s n (xs ++ ys)) ∙ ap (drop s) (take-append-le (s + n) xs ys h) ∙ drop-take s n xs
 
   -- a part before the place of a copy
   part_before : (s n : ℕ) (d : List A) (at : ℕ) (e : List A) (m : ℕ) → s + n ≤ at → at ≤ length d → take n (drop s (paste d at e m)) ≡ take n (drop s d)
@@ -29,7 +25,7 @@ module _ {A : Type 0} where
       let long : length (take at d) ≡ at = length-take-le at d k in
       part_left s n (take at d ++ take m e) (drop (at + m) d) (simp length-append (omega arith))
       ∙ part_left s n (take at d) (take m e) (omega arith)
-      ∙ take_drop s n (take at d) ∙ ap (drop s) (take-take (s + n) at d h) ∙ sym (take_drop s n d)
+      ∙ sym (drop-take s n (take at d)) ∙ ap (drop s) (take-take (s + n) at d h) ∙ drop-take s n d
 
   -- the copy itself
   part_copy : (d : List A) (at : ℕ) (e : List A) → at ≤ length d → take (length e) (drop at (paste d at e (length e))) ≡ e

@@ -1,10 +1,9 @@
 -- The calls on a state in two lent tables, from what was answered on it as it was checked and what was learned.
 use Prim.Native.Nat.{ℕ, ◌≤◌}
-use native.Mathlib.Omega.{arith}
 use mathlib.Core.Path.{◌≡◌, refl, sym, ap, subst, ◌∙◌}
 use mathlib.Core.Bool.{Bool, true, false}
 use mathlib.Core.List.{List}
-use mathlib.Core.Option.{Option, some, none}
+use mathlib.Core.Option.{Option, some}
 use lib.IntN.{ℤ}
 use lib.ListN.{get_or}
 use lib.Dec.{leb}
@@ -14,14 +13,14 @@ use Rattle.std.specs.Prelude.{Option as Maybe}
 use Rattle.qbf.specs.Formula.{Limits, paper, highest}
 use Rattle.qbf.specs.Card.{zero_table}
 use Rattle.qbf.specs.Calls.{Call, card, keep_card, card_of, Answer, answer, refusal, guarded, State as Read}
-use Rattle.qbf.specs.Demands.{AfterSearch, refusal_of}
+use Rattle.qbf.specs.Demands.{refusal_of}
 use Rattle.theory.proofs.Basics.{and_left}
-use Rattle.state.specs.declared.State.{State}
-use Rattle.state.specs.Reading.{own, at_most, entries, state_under, read_under, roomy, accepted}
+use Rattle.state.specs.State.{State}
+use Rattle.state.specs.Reading.{own, at_most, entries, state_under, read_under, roomy}
 use Rattle.state.proofs.Rooms.{room_is}
 use Rattle.serving.specs.Serves.{Said, said, said_of, out_of, next_of}
 use Rattle.state_parts.specs.declared.limits.Layout.{Layout}
-use Rattle.state_parts.specs.Parts.{limits_of, parts_under, state_at, read_at, valid_at, Whole}
+use Rattle.state_parts.specs.Parts.{limits_of, parts_under, state_at, read_at, valid_at}
 use Rattle.state_parts.specs.Layout.{limits_in}
 use Rattle.state_parts.proofs.Accepted.{read_roomy, accepted_whole, valid_accepted, valid_state, valid_read}
 use Rattle.state_parts.proofs.Written.{whole_exact, exact_roomy}
@@ -29,7 +28,7 @@ use Rattle.rule_calls.specs.ServesAt.{ServesAt}
 use Rattle.rule_calls.proofs.Calls.{capped, malformed, unchanged}
 use Rattle.search_entry.specs.declared.Learned.{Learned}
 use Rattle.asking.specs.declared.checked.Checked.{Checked}
-use Rattle.asking.specs.Answered.{called, Shelved, Answered, state_of}
+use Rattle.asking.specs.Answered.{called, Answered, state_of}
 use Rattle.asking.proofs.Accepting.{facts}
 use Rattle.asking.proofs.Storing.{clauses_narrow, cubes_narrow, stored_back}
 use Rattle.search_calls.specs.Checked.{ShownAt, CheckedOf}

@@ -1,17 +1,16 @@
 -- A state in two lent tables as it was checked: what its parts under its own limits are.
-use Prim.Native.Nat.{ℕ, suc, ◌+◌, ◌≤◌}
-use native.Mathlib.Omega.{arith}
+use Prim.Native.Nat.{ℕ, suc, ◌+◌}
 use native.Mathlib.Numerals.{add-one}
 use mathlib.Core.Path.{◌≡◌, refl, sym, ap, subst, ◌∙◌}
-use mathlib.Core.Bool.{Bool, true}
+use mathlib.Core.Bool.{true}
 use mathlib.Core.List.{List}
 use lib.IntN.{ℤ}
 use lib.ListN.{get_or, take}
 use Rattle.std.specs.Prelude.{Option as Maybe}
-use Rattle.qbf.specs.Formula.{Limits, paper}
+use Rattle.qbf.specs.Formula.{Limits}
 use Rattle.qbf.specs.Calls.{Call}
 use Rattle.tables.specs.Views.{Places, Kinds}
-use Rattle.state.specs.declared.State.{State}
+use Rattle.state.specs.State.{State}
 use Rattle.state.specs.Reading.{own, prefix_in, accepted}
 use Rattle.serving.specs.Serves.{Said}
 use Rattle.state_parts.specs.declared.limits.Layout.{Layout}

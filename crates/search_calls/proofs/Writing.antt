@@ -1,20 +1,20 @@
 -- The two tables of a state after what was learned was written back into its parts.
-use Prim.Native.Nat.{ℕ, suc, ◌+◌, ◌*◌, ◌-◌, ◌≤◌}
+use Prim.Native.Nat.{ℕ, ◌+◌, ◌-◌}
 use native.Mathlib.Omega.{arith}
-use mathlib.Core.Path.{◌≡◌, refl, sym, ap, subst, ◌∙◌}
+use mathlib.Core.Path.{◌≡◌, sym, ap, subst, ◌∙◌}
 use mathlib.Core.List.{List}
 use borrow.Rule.Slice.PartMut.{put_mid, same_len_mid}
 use lib.IntN.{ℤ}
 use lib.ListN.{length, get_or}
-use Rattle.qbf.specs.Formula.{Limits, paper}
-use Rattle.state.specs.declared.State.{State}
-use Rattle.state.specs.Reading.{own, state_of}
+use Rattle.qbf.specs.Formula.{Limits}
+use Rattle.state.specs.State.{State}
+use Rattle.state.specs.Reading.{own}
 use Rattle.search_entry.specs.declared.Learned.{Learned}
-use Rattle.state_parts.specs.Parts.{part, limits_of, by_number, clause_count, cube_sizes, recorded, numbers_at, levels_at, clause_sizes_at, learned_clause_sizes_at, learned_cube_sizes_at, clause_cells, learned_cells, learned_cubes_at, parts_under, Whole, Exact}
+use Rattle.state_parts.specs.Parts.{part, by_number, clause_count, cube_sizes, recorded, levels_at, clause_sizes_at, learned_clause_sizes_at, learned_cube_sizes_at, clause_cells, learned_cells, learned_cubes_at, parts_under, Whole, Exact}
 use Rattle.state_parts.proofs.Cutting.{part_at, put_after}
 use Rattle.state_parts.proofs.Written.{whole_exact, learned_clauses_put, learned_clause_sizes_put, learned_cubes_put, learned_cube_sizes_put, limits_put}
-use Rattle.asking.specs.Stored.{ClausesStored, CubesStored}
-use Rattle.search_calls.specs.Back.{with_learned, BackAt}
+use Rattle.asking.specs.Stored.{with_learned, ClausesStored, CubesStored}
+use Rattle.search_calls.specs.Back.{BackAt}
 
 module _ (L : Limits) (cells : List ℕ) (literals : List ℤ) (w : Whole L cells literals) (l : Learned) where
   abbrev x : State

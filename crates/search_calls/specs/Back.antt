@@ -1,12 +1,10 @@
 -- What is learned, written back into the parts of a state in two lent tables.
 use Rattle.std.specs.Prelude.{ℕ, ◌≤◌, ◌≡◌, List, ℤ, get_or}
 use Rattle.qbf.specs.Formula.{Limits, paper}
-use Rattle.state.specs.declared.State.{State}
-use Rattle.state.specs.Reading.{state_of}
 use Rattle.state_parts.specs.Parts.{limits_of, parts_under, Whole}
 use Rattle.search_entry.specs.declared.Learned.{Learned}
 use Rattle.unloading.specs.Written.{Narrow}
-use Rattle.asking.specs.Stored.{ClausesStored, CubesStored}
+use Rattle.asking.specs.Stored.{with_learned, ClausesStored, CubesStored}
 
 -- both tables hold every part, and the rows on the shelves those of the limits
 pub record Writable (L : Limits) (cells : List ℕ) (literals : List ℤ) (l : Learned) : Type 0 where
@@ -14,10 +12,6 @@ pub record Writable (L : Limits) (cells : List ℕ) (literals : List ℤ) (l : L
   pub few : get_or (parts_under L cells literals).learned_clause_sizes 0 0 ≤ paper.constraints
   pub clauses : Narrow L.numbers l.clauses.cells.now l.clauses.links.now
   pub cubes : Narrow L.numbers l.cubes.cells.now l.cubes.links.now
-
--- the learned constraints of x are others
-abbrev pub with_learned : State → List ℤ → List ℕ → List ℤ → List ℕ → State
-with_learned x cs css qs qss = state_of x.numbers x.levels x.kinds x.clauses x.clause_sizes cs css qs qss
 
 -- nothing else has changed
 pub record BackAt (L : Limits) (cells : List ℕ) (literals : List ℤ) (l : Learned) (cells' : List ℕ) (literals' : List ℤ) : Type 0 where

@@ -8,7 +8,7 @@ use asking::checked::Checked;
 use state_parts::limits::Layout;
 
 // The tables by number are the first cells of longer ones.
-// stays (no plainer): `Checked` is of either form of a state, and nine tables have no layout: the two limits are copied where the one becomes the other
+// stays (no plainer): `Checked` is of a state however its tables lie, and knows no layout: the two limits are copied where the one becomes the other
 pub fn checked<'a>(
     layout: Layout,
     cells: &'a [u16],

@@ -1,22 +1,20 @@
 -- What a call owes on a state that is not valid, and on one that is.
 use Prim.Native.Nat.{ℕ}
 use mathlib.Core.Path.{◌≡◌, refl, sym, ap, subst, ◌∙◌}
-use mathlib.Core.Bool.{Bool, true, false, cond}
+use mathlib.Core.Bool.{Bool, true, false}
 use mathlib.Core.Option.{Option, none, some}
 use Rattle.qbf.specs.Calls.{Call, Answer, answer, refusal, guarded, well_formed, State as Read}
 use Rattle.qbf.specs.Demands.{AfterSearch, refusal_of}
 use Rattle.theory.proofs.AcceptedRule.{some_none}
-use Rattle.state.specs.declared.State.{State}
-use Rattle.state.specs.Reading.{fits, state_in, read_state, well_formed_read, valid}
-use Rattle.state.proofs.Valid.{valid_facts}
-use Rattle.serving.specs.Serves.{said_of, out_of, next_of, ServesBy, Serves}
+use Rattle.state.specs.Reading.{well_formed_read}
+use Rattle.serving.specs.Serves.{said_of, out_of, next_of, ServesBy}
 
 -- no refusal, or one after a search: then the state may differ from the one given
 abbrev pub Passes : Option ℕ → Type 0
 Passes none = Unit {0}
 Passes (some n) = AfterSearch n
 
-after_search : (o : Option ℕ) → Passes o → (n : ℕ) → o ≡ some n → AfterSearch n
+pub after_search : (o : Option ℕ) → Passes o → (n : ℕ) → o ≡ some n → AfterSearch n
 after_search none h n e = absurd (some_none (sym e))
 after_search (some m) h n e = subst AfterSearch (number e) h
   where
@@ -61,22 +59,3 @@ module _ {X : Type 0} (read : X → Option Read) (x : X) (c : Call) where
     -- refused: the state is as given, and so it is in the definitions
     pub unchanged_read : (guarded true y c).state ≡ y → ServesBy read x c (said_of (guarded true y c).out) x
     unchanged_read e = record { answered = sym (ap said_of out_is); next = is ∙ ap some (sym e) ∙ sym next_is; kept = λ n q k. refl }
-
--- ---- in nine tables, under the paper's limits
-module _ (x : State) (c : Call) where
-  pub malformed : valid x ≡ false → Serves x c (said_of (answer (refusal 22 c) 0)) x
-  unfolding valid
-  malformed e = malformed_read read_state x c e
-
-  module _ (v : valid x ≡ true) where
-    pub moved_on : (x' : State) → read_state x' ≡ some (guarded true (state_in x) c).state → Passes (refusal_of (guarded true (state_in x) c).out.reply) → Serves x c (said_of (guarded true (state_in x) c).out) x'
-    moved_on = moved_on_read read_state x c (valid_facts x v).read (valid_facts x v).formed
-
-    -- not refused: the next state is given by its cells
-    pub served : (x' : State) → fits x' ≡ true → state_in x' ≡ (guarded true (state_in x) c).state → refusal_of (guarded true (state_in x) c).out.reply ≡ none
-        → Serves x c (said_of (guarded true (state_in x) c).out) x'
-    unfolding read_state
-    served x' f e h = moved_on x' (ap (λ (b : Bool). cond b (some (state_in x')) none) f ∙ ap some e) (subst Passes (sym h) tt)
-
-    pub unchanged : (guarded true (state_in x) c).state ≡ state_in x → Serves x c (said_of (guarded true (state_in x) c).out) x
-    unchanged = unchanged_read read_state x c (valid_facts x v).read (valid_facts x v).formed

@@ -1,4 +1,4 @@
--- The three demands of the code, over every list of calls: whatever functions serve them, if each meets `Serves`.
+-- The three demands of the code, over every list of calls: whatever functions serve them, if each meets `ServesBy`.
 use Prim.Native.Nat.{ℕ, ◌≤◌, ◌<◌}
 use mathlib.Core.Path.{◌≡◌, refl, sym, ap, ◌∙◌, subst}
 use mathlib.Core.Logic.{◌⊎◌, inl, inr}
@@ -21,10 +21,8 @@ use Rattle.theory.proofs.OneCall.{call_adds}
 use Rattle.theory.proofs.ClosestCall.{closest_no_store, closest_right}
 use Rattle.theory.proofs.Partition.{cards_partition, same_clauses}
 use Rattle.theory.proofs.Demands.{demand_3, finished_if_fits}
-use Rattle.state.specs.declared.State.{State}
-use Rattle.state.specs.Reading.{read_state}
-use Rattle.serving.specs.Serves.{Said, said, said_with, said_reply, said_of, out_of, next_of, ServesBy, ServedBy, Served}
-use Rattle.serving.specs.Demands.{zeroed, LeavesIfRefused, UnderCeiling, OneAddsTo, AddsIfOne, Each, CardBy, IfCard, RightIfCard, EachStanding, CardsRight, QueryBy, RightIfQuery, QueriesRight, ClosestBy, RightIfClosest, ClosestsRight, Shows, Together, LaterTogether, CardsTogether, SaidAgrees, SaidStopped, SaidRightly, AllSaid, AnswersPlain, DemandsBy, Demands}
+use Rattle.serving.specs.Serves.{Said, said, said_with, said_reply, said_of, out_of, next_of, ServesBy, ServedBy}
+use Rattle.serving.specs.Demands.{zeroed, LeavesIfRefused, UnderCeiling, OneAddsTo, AddsIfOne, Each, CardBy, IfCard, RightIfCard, EachStanding, CardsRight, QueryBy, RightIfQuery, QueriesRight, ClosestBy, RightIfClosest, ClosestsRight, Shows, Together, LaterTogether, CardsTogether, SaidAgrees, SaidStopped, SaidRightly, AllSaid, AnswersPlain, DemandsBy}
 use Rattle.serving.proofs.Numbered.{said_refusal}
 use Rattle.serving.proofs.Refused.{refused_leaves, refusal_said, under_ceiling}
 
@@ -406,7 +404,3 @@ module _ {X : Type 0} (read : X → Option Read) (b : Formula) (ok : formula_is_
         demand_3 = demand_3_served;
         together = together_served;
       }
-
--- under the paper's limits
-pub demands_served : (b : Formula) → formula_is_ok b ≡ true → (x : State) → read_state x ≡ some (fresh b) → (cs : List Call) (qs : List Said) (s : Served x cs qs) → Demands b x cs qs s
-demands_served = demands_served_by read_state

@@ -1,4 +1,4 @@
--- Demand 1 of one call: what a refused call answers and leaves, from `Serves`.
+-- Demand 1 of one call: what a refused call answers and leaves, from `ServesBy`.
 use Prim.Native.Nat.{ℕ, ◌*◌, ◌≤◌, zero-le}
 use native.Mathlib.Omega.{arith}
 use mathlib.Core.Path.{◌≡◌, refl, sym, ap, subst, ◌∙◌}

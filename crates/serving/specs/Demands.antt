@@ -12,9 +12,7 @@ use Rattle.qbf.specs.Partition.{Partition, keeps_clauses}
 use Rattle.qbf.specs.Runs.{after, fresh, learning_run, plain_run}
 use Rattle.qbf.specs.Demands.{AfterSearch, CardRight}
 use Rattle.theory.proofs.Refusals.{refusals}
-use Rattle.state.specs.declared.State.{State}
-use Rattle.state.specs.Reading.{read_state}
-use Rattle.serving.specs.Serves.{Said, said, said_of, ServedBy, Served}
+use Rattle.serving.specs.Serves.{Said, said, said_of, ServedBy}
 
 -- ---- demand 1: "Nothing refused changes the book's declarations or rules, and every refusal has its number and leaves what the paper
 -- says."
@@ -279,7 +277,3 @@ pub record DemandsBy {X : Type 0} (read : X → Option Read) (b : Formula) (x : 
   pub closests : ClosestsRight b cs qs
   pub demand_3 : AnswersPlain b cs qs
   pub together : CardsTogether b cs qs
-
--- under the paper's limits
-abbrev pub Demands : (b : Formula) (x : State) (cs : List Call) (qs : List Said) → Served x cs qs → Type 0
-Demands b x cs qs s = DemandsBy read_state b x cs qs s

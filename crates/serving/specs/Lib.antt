@@ -1,3 +1,2 @@
 pub mod Serves
 pub mod Demands
-pub mod Left

@@ -1,12 +1,10 @@
 -- What a call owes for every state and argument: its answer, its next state and the card table are those of the
--- definitions' step. Every call's contract is `Serves`; the demands are theorems about lists of calls that meet it (Demands.antt).
+-- definitions' step. Every call's contract is `ServesBy`; the demands are theorems about lists of calls that meet it (Demands.antt).
 use Rattle.std.specs.Prelude.{ℕ, zero, suc, ◌≡◌, List, [], ◌∷◌, map, length}
 use Rattle.std.proofs.Math.Option.{Option, none, some}
 use Rattle.qbf.specs.Calls.{Call, Reply, done, refused, swap, keep, unsettled, lines, card_refused, found, Answer, answer, refusal, State as Read, step}
 use Rattle.qbf.specs.Card.{byte_of}
 use Rattle.qbf.specs.Demands.{AfterSearch, refusal_of}
-use Rattle.state.specs.declared.State.{State}
-use Rattle.state.specs.Reading.{read_state}
 
 -- An answer as code gives it: the refusal, if there is one; keep 1, swap 2 or unsettled 3 (0 where the call is no query, or is refused); the
 -- count of the lines; the visits; the bytes of the card table (none where the call makes no card); and of the closest reading its bytes in place
@@ -64,7 +62,7 @@ abbrev pub next_of : Option Read → Call → Option Read
 next_of none c = none
 next_of (some y) c = some (step y c).state
 
--- How a state stands in tables, and how it is read, are parameters: `read_state` reads one in nine tables under the paper's limits.
+-- How a state stands in tables, and how it is read, are parameters.
 module _ {X : Type 0} (read : X → Option Read) where
   -- the call c on the state x was answered by a and left the state x'
   pub record ServesBy (x : X) (c : Call) (a : Said) (x' : X) : Type 0 where
@@ -79,10 +77,3 @@ module _ {X : Type 0} (read : X → Option Read) where
   ServedBy x [] (a ∷ qs) = ⊥
   ServedBy x (c ∷ cs) [] = ⊥
   ServedBy x (c ∷ cs) (a ∷ qs) = (x' : X) × ServesBy x c a x' × ServedBy x' cs qs
-
--- ---- under the paper's limits
-abbrev pub Serves : State → Call → Said → State → Type 0
-Serves x c a x' = ServesBy read_state x c a x'
-
-abbrev pub Served : State → List Call → List Said → Type 0
-Served x cs qs = ServedBy read_state x cs qs

@@ -22,6 +22,7 @@ use Rattle.refusal.specs.declared.Refusal.{Refusal}
 use Rattle.std.specs.Prelude.{Result, Ok}
 use Rattle.shares.specs.Shares.{allows_of, share_of, settled}
 use Rattle.shares.proofs.Days.{ByShare, by_share, held}
+use Rattle.serving.proofs.Numbered.{said_visits}
 use Rattle.serving_days.specs.Serves.{Held, ServesDay, book_in, day_of, said_at, state_in}
 
 -- ---- tables that do not read
@@ -56,16 +57,6 @@ pub map_get_or : {A B : Type 0} (f : A → B) (l : List A) (i : ℕ) (z : A) →
 map_get_or f [] i z = refl
 map_get_or f (x ∷ l) zero z = refl
 map_get_or f (x ∷ l) (suc i) z = map_get_or f l i z
-
-pub said_visits : (r : Reply) (v : ℕ) → (said_reply r v).visits ≡ v
-said_visits done v = refl
-said_visits (refused n) v = refl
-said_visits swap v = refl
-said_visits keep v = refl
-said_visits unsettled v = refl
-said_visits (lines ls tb) v = refl
-said_visits (card_refused n tb) v = refl
-said_visits (found ls tb r) v = refl
 
 -- ---- the call
 module _ {S : Type 0} (read : S → Option Read) (h : Held S) (p : Placed) (x : S) (here : get_or h.places (p.place - 1) none ≡ some x) (m : ℕ)

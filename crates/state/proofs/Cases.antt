@@ -5,10 +5,10 @@ use mathlib.Core.Bool.{true, not, ◌&&◌}
 use mathlib.Core.List.{List, [], ◌∷◌, ◌++◌}
 use lib.ListN.{replicate}
 use lib.IntN.{ℤ, pos, negsuc}
-use Rattle.qbf.specs.Formula.{all, levels, place_of}
+use Rattle.qbf.specs.Formula.{paper, all, levels, place_of}
 use Rattle.tables.specs.Views.{rows}
-use Rattle.state.specs.declared.State.{State}
-use Rattle.state.specs.Reading.{read_state, valid}
+use Rattle.state.specs.State.{State}
+use Rattle.state.specs.Reading.{read_under, valid_under}
 
 -- the free variable 5, then exists 2, forall 7 and forall 4
 prefixed : List ℕ → List ℕ → List ℕ → State
@@ -127,6 +127,6 @@ refused =
     ∷ recorded 2
     ∷ []
 
-pub cases : (all valid accepted && all (λ x. not (valid x)) refused) ≡ true
-unfolding valid read_state rows levels place_of prefixed holding clause learned_clause learned_cube recorded accepted refused
+pub cases : (all (valid_under paper) accepted && all (λ x. not (valid_under paper x)) refused) ≡ true
+unfolding valid_under read_under rows levels place_of prefixed holding clause learned_clause learned_cube recorded accepted refused
 cases = refl

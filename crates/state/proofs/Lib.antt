@@ -7,7 +7,6 @@ pub mod Codes
 pub mod Recording
 pub mod Rooms
 pub mod Valid
-pub mod Checks
 pub mod Behind
 pub mod Growth
 pub mod Cases

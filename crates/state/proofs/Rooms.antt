@@ -8,11 +8,11 @@ use lib.ListN.{length}
 use lib.Dec.{leb}
 use lib.IntN.{ℤ}
 use borrow.Author.Tests.{le-leb, lt-leb, leb-true}
-use Rattle.qbf.specs.Formula.{Limits, paper}
+use Rattle.qbf.specs.Formula.{Limits}
 use Rattle.theory.proofs.Basics.{and_left, and_right, and_both}
-use Rattle.state.specs.declared.State.{State}
+use Rattle.state.specs.State.{State}
 use Rattle.state.specs.Reading.{prefix_roomy, rows_roomy, roomy}
-use Rattle.state.specs.Derived.{Sized, Roomy}
+use Rattle.state.specs.Derived.{Roomy}
 
 -- ---- as it is tested: without the product, which may be too large for a number
 
@@ -90,18 +90,3 @@ module _ (L : Limits) (x : State) where
 
       sizes : (w most : ℕ) (cells : List ℤ) (ns : List ℕ) → rows_roomy w most cells ns ≡ true → suc most ≤ length ns
       sizes w most cells ns q = leb-true (suc most) (length ns) (and_right (leb (most * w) (length cells)) (leb (suc most) (length ns)) q)
-
--- arrays of the paper's sizes
-pub sized_room : {x : State} → Sized x → Roomy paper x
-sized_room s =
-    record {
-      numbers_room = omega (arith, s.numbers_room);
-      levels_room = omega (arith, s.levels_room);
-      kinds_room = omega (arith, s.kinds_room);
-      clauses_room = omega (arith, s.clauses_room);
-      clause_sizes_room = omega (arith, s.clause_sizes_room);
-      learned_clauses_room = omega (arith, s.learned_clauses_room);
-      learned_clause_sizes_room = omega (arith, s.learned_clause_sizes_room);
-      learned_cubes_room = omega (arith, s.learned_cubes_room);
-      learned_cube_sizes_room = omega (arith, s.learned_cube_sizes_room);
-    }

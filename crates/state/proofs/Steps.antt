@@ -38,7 +38,7 @@ beside_other (suc (suc zero)) (suc (suc (suc b))) h k n e = absurd (by (omega (a
     by : ⊥ → ⊥
     by x = x
 
-not_free : (b : ℕ) → (b ≡ 0 → ⊥) → is_free (quantifier_of b) ≡ false
+pub not_free : (b : ℕ) → (b ≡ 0 → ⊥) → is_free (quantifier_of b) ≡ false
 not_free zero n = absurd (n refl)
 not_free (suc zero) n = refl
 not_free (suc (suc b)) n = refl

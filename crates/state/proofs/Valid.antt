@@ -16,10 +16,9 @@ use Rattle.theory.proofs.Basics.{and_left, and_right, and_both, true_eqb}
 use Rattle.theory.proofs.WellFormed.{facts_formula, formula_facts}
 use Rattle.tables.specs.Views.{quantifier_code, Numbers, Places, Kinds, Table, rows_of}
 use Rattle.tables.proofs.Laws.{rows_length}
-use Rattle.state.specs.declared.State.{State}
-use Rattle.state.specs.Reading.{listing, at_most, quantifier_of, entry_at, entries, code_at, variable_at, prefix_of, levels_fit, prefix_fits, rows_fit, own, fits_under, record_at, records_of, prefix_in, store_under, state_under, state_in, read_under, read_state, well_formed_read, valid_under, valid, roomy}
-use Rattle.state.specs.Derived.{numbered, Placing, KindsFilled, Quantified, levels_are_ok, Shown, clauses_fine, constraints_fine, records_fine, rows_fine, Sized, CheckedUnder, Checked}
-use Rattle.state.proofs.Rooms.{sized_room, room_is}
+use Rattle.state.specs.State.{State}
+use Rattle.state.specs.Reading.{listing, at_most, quantifier_of, entry_at, entries, code_at, variable_at, prefix_of, levels_fit, prefix_fits, rows_fit, own, fits_under, record_at, records_of, prefix_in, store_under, state_under, read_under, well_formed_read, valid_under, roomy}
+use Rattle.state.specs.Derived.{numbered, Placing, KindsFilled, Quantified, levels_are_ok, Shown, clauses_fine, constraints_fine, records_fine, rows_fine, CheckedUnder}
 use Rattle.state.proofs.Listing.{listing_length, listing_at, listing_map, listing_all, listing_most}
 
 -- ---- the prefix of three tables
@@ -334,11 +333,6 @@ module _ (n m : ℕ) (x : State) where
       both true v h = h
       both false v h = refl
 
-  -- where a table is too short
-  pub checked_short : roomy L x ≡ false → (places kinds : List ℕ) → CheckedUnder L x false places kinds
-  checked_short e places kinds =
-      record { said = sym (ap (λ (q : Bool). q && valid_under L x) e); placed = λ q. absurd (false≢true q); kinded = λ q. absurd (false≢true q) }
-
   -- from the prefix that was read: the check stops there, or goes on to the rows
   module _ {ok : Bool} {places kinds : List ℕ} (room : roomy L x ≡ true) (shown : Shown L x.numbers x.levels x.kinds ok places kinds) where
     valid_read : valid_under L x ≡ true → ok ≡ true
@@ -365,72 +359,3 @@ module _ (n m : ℕ) (x : State) where
 
     pub checked_rows : limits_are_ok L ≡ true → ok ≡ true → ((D : Prefix) → Numbers D x.numbers → Quantified D x.levels x.kinds → true ≡ free_is_ok D) → {r : Bool} → ((D : Prefix) → Places D places → Kinds D kinds → r ≡ rows_fine n m D x) → CheckedUnder L x r places kinds
     checked_rows low e few f = checked (rows_valid low (sym (free_said e few)) (sym shown.said ∙ e) (f D (shown.places_shown e) (shown.kinds_shown e)))
-
--- ---- a state by value, under the paper's limits
-pub record ValidFacts (x : State) : Type 0 where
-  pub read : read_state x ≡ some (state_in x)
-  pub formed : well_formed (state_in x) ≡ true
-  pub prefix_fits_lem : prefix_fits paper x.numbers x.levels x.kinds ≡ true
-  pub clauses_fit : rows_fit paper.literals paper.clauses x.clause_sizes ≡ true
-  pub learned_clauses_fit : rows_fit paper.numbers paper.constraints x.learned_clause_sizes ≡ true
-  pub learned_cubes_fit : rows_fit paper.numbers paper.constraints x.learned_cube_sizes ≡ true
-
-module _ (x : State) where
-  read_paper : read_state x ≡ read_under paper x
-  unfolding read_state read_under
-  read_paper = refl
-
-  pub valid_paper : valid x ≡ valid_under paper x
-  unfolding valid read_state valid_under read_under
-  valid_paper = refl
-
-  pub valid_facts : valid x ≡ true → ValidFacts x
-  valid_facts e =
-      let f = facts_under paper.numbers paper.clauses x (sym valid_paper ∙ e) in
-      record {
-        read = read_paper ∙ f.read;
-        formed = f.formed;
-        prefix_fits_lem = f.prefix_fits_lem;
-        clauses_fit = f.clauses_fit;
-        learned_clauses_fit = f.learned_clauses_fit;
-        learned_cubes_fit = f.learned_cubes_fit;
-      }
-
-  pub checked_paper : Sized x → {ok : Bool} {places kinds : List ℕ} → CheckedUnder paper x ok places kinds → Checked x ok places kinds
-  checked_paper s {ok} k =
-      record { said = said; sized = s; placed = λ v. k.placed (said ∙ v); kinded = λ v. k.kinded (said ∙ v) }
-    where
-      said : ok ≡ valid x
-      said = k.said ∙ ap (λ (q : Bool). q && valid_under paper x) (room_is paper x (sized_room s)) ∙ sym valid_paper
-
-  -- where the check says no there are no tables
-  pub checked_none : {ok : Bool} {places kinds : List ℕ} → Checked x ok places kinds → ok ≡ false → Checked x false [] []
-  checked_none k e = record { said = sym e ∙ k.said; sized = k.sized; placed = λ v. absurd (no v); kinded = λ v. absurd (no v) }
-    where
-      no : valid x ≡ true → ⊥
-      no v = false≢true (sym e ∙ k.said ∙ v)
-
--- ---- what the tables of a valid state show
-pub record ValidTables (x : State) : Type 0 where
-  pub clauses : Table paper.literals paper.clauses x.clauses x.clause_sizes
-  pub learned_clauses : Table paper.numbers paper.constraints x.learned_clauses x.learned_clause_sizes
-  pub learned_cubes : Table paper.numbers paper.constraints x.learned_cubes x.learned_cube_sizes
-
-module _ (x : State) (v : valid x ≡ true) where
-  pub valid_tables : Sized x → ValidTables x
-  valid_tables s =
-      let f = valid_facts x v in
-      record {
-        clauses = rows_table paper.literals paper.clauses x.clauses x.clause_sizes f.clauses_fit s.clauses_room (omega (arith, s.clause_sizes_room));
-        learned_clauses = rows_table paper.numbers paper.constraints x.learned_clauses x.learned_clause_sizes f.learned_clauses_fit s.learned_clauses_room (omega (arith, s.learned_clause_sizes_room));
-        learned_cubes = rows_table paper.numbers paper.constraints x.learned_cubes x.learned_cube_sizes f.learned_cubes_fit s.learned_cubes_room (omega (arith, s.learned_cube_sizes_room));
-      }
-
-  pub valid_numbered : numbered paper (prefix_in x) ≡ true
-  valid_numbered = (valid_parts paper.numbers paper.clauses x (sym (valid_paper x) ∙ v)).numbers_ok
-
-  pub valid_numbers : Numbers (prefix_in x) x.numbers
-  valid_numbers = prefix_numbers x.numbers x.levels x.kinds
-
-  pub valid_quantified : Quantified (prefix_in x) x.levels x.kinds
-  valid_quantified = prefix_quantified x.numbers x.levels x.kinds paper (valid_facts x v).prefix_fits_lem

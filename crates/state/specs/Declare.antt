@@ -1,9 +1,9 @@
 -- Declaring one variable more, at the end of the prefix. Paper 01, "Refusals from the input", 3 and 4.
 use Rattle.std.specs.Prelude.{ℕ, zero, suc, ◌≤◌, ◌≡◌, true, not, ◌&&◌, ◌||◌, List, [], ◌∷◌, ◌++◌, leb, ltb, eqb}
 use Rattle.std.proofs.Math.Option.{Option, none, some}
-use Rattle.qbf.specs.Formula.{Limits, paper, most_free, Quantifier, forall, is_free, Variable, Prefix, quantifiers, place_of, level_beside}
+use Rattle.qbf.specs.Formula.{Limits, most_free, Quantifier, forall, is_free, Variable, Prefix, quantifiers, place_of, level_beside}
 use Rattle.qbf.specs.Truth.{free_variables}
-use Rattle.qbf.specs.Calls.{given, ◌or_else◌, numbers_are_ok, free_first, free_is_ok}
+use Rattle.qbf.specs.Calls.{given, ◌or_else◌, numbers_are_ok, free_first}
 use Rattle.tables.specs.Views.{quantifier_code}
 use Rattle.state.specs.Reading.{quantifier_of, entry_at, prefix_of}
 use Rattle.state.specs.Derived.{code_for, levels_are_ok}
@@ -23,11 +23,6 @@ abbrev pub with_variable : Option ℕ → Prefix → Quantifier → ℕ → Pref
 with_variable none D κ n = D ++ (variable κ n ∷ [])
 with_variable (some k) D κ n = D
 
--- 0 where nothing is refused
-abbrev pub refusal_of : Option ℕ → ℕ
-refusal_of none = 0
-refusal_of (some k) = k
-
 -- the level of a place; 0 where there is none
 abbrev pub level_for : List ℕ → ℕ → ℕ
 level_for ls zero = 0
@@ -46,27 +41,8 @@ pub record SoundUnder (L : Limits) (ns ls ks : List ℕ) : Type 0 where
   pub numbers_ok : numbers_are_ok L [] (prefix_of ns ls ks) ≡ true
   pub levels_ok : levels_are_ok L ns ls ks ≡ true
 
-abbrev pub Sound : List ℕ → List ℕ → List ℕ → Type 0
-Sound ns ls ks = SoundUnder paper ns ls ks
-
 -- a variable of this quantifier may stand after those that are declared: the free variables come first
 pub record DeclarableUnder (L : Limits) (ns ls ks : List ℕ) (kind : ℕ) : Type 0 where
   pub sound : SoundUnder L ns ls ks
   pub code : kind ≤ quantifier_code forall
   pub next : free_first (quantifiers (prefix_of ns ls ks) ++ (quantifier_of kind ∷ [])) ≡ true
-
-abbrev pub Declarable : List ℕ → List ℕ → List ℕ → ℕ → Type 0
-Declarable ns ls ks kind = DeclarableUnder paper ns ls ks kind
-
--- o is the fault, if there is one
-pub record Declared (ns ls ks : List ℕ) (n kind : ℕ) (o : Option ℕ) (ns' ls' ks' : List ℕ) : Type 0 where
-  pub refusal : o ≡ variable_fault paper (prefix_of ns ls ks) n
-  pub prefix : prefix_of ns' ls' ks' ≡ with_variable (variable_fault paper (prefix_of ns ls ks) n) (prefix_of ns ls ks) (quantifier_of kind) n
-  pub sound : Sound ns' ls' ks'
-
--- the same under any limits, with a 41st free variable refused; there are no more than 40
-pub record DeclaredUnder (L : Limits) (ns ls ks : List ℕ) (n kind r : ℕ) (ns' ls' ks' : List ℕ) : Type 0 where
-  pub refusal : r ≡ refusal_of (declare_fault L (prefix_of ns ls ks) (quantifier_of kind) n)
-  pub prefix : prefix_of ns' ls' ks' ≡ with_variable (declare_fault L (prefix_of ns ls ks) (quantifier_of kind) n) (prefix_of ns ls ks) (quantifier_of kind) n
-  pub sound : SoundUnder L ns' ls' ks'
-  pub free_ok : free_is_ok (prefix_of ns' ls' ks') ≡ true

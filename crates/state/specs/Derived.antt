@@ -1,11 +1,10 @@
 -- What the tables of a state say of its prefix, and what is ensured of the tables that are derived from them.
 use Rattle.std.specs.Prelude.{ℕ, zero, suc, ◌+◌, ◌*◌, ◌≤◌, ◌<◌, ◌≡◌, Bool, true, false, not, ◌&&◌, List, [], length, get_or, leb, eqb, ℤ}
 use Rattle.qbf.specs.Formula.{Limits, paper, Quantifier, free, exists, forall, is_free, Prefix, quantifiers, quantifier_at, level_beside, all}
-use Rattle.qbf.specs.Truth.{free_variables}
 use Rattle.qbf.specs.Calls.{numbers_are_ok, free_first, clause_ok, constraint_ok}
 use Rattle.tables.specs.Views.{quantifier_code, Numbers, Places, Kinds, rows_of}
-use Rattle.state.specs.declared.State.{State}
-use Rattle.state.specs.Reading.{at_most, quantifier_of, code_at, prefix_of, prefix_fits, rows_fit, records_of, prefix_in, valid, accepted}
+use Rattle.state.specs.State.{State}
+use Rattle.state.specs.Reading.{at_most, quantifier_of, code_at, prefix_of, prefix_fits, rows_fit, records_of, prefix_in, accepted}
 
 -- a table of n cells, each of them 0
 pub record Cleared (n : ℕ) (t : List ℕ) : Type 0 where
@@ -32,10 +31,6 @@ pub record Quantified (D : Prefix) (ls ks : List ℕ) : Type 0 where
 pub record KindsFilled (ns ls ks old new : List ℕ) : Type 0 where
   pub room : length new ≡ length old
   pub shown : (L : Limits) (D : Prefix) (places : List ℕ) → Numbers D ns → numbers_are_ok L [] D ≡ true → Places D places → length places ≡ length old → Quantified D ls ks → Kinds D new
-
--- n is how many variables are free
-abbrev pub FreeCounted : State → ℕ → Type 0
-FreeCounted x n = (D : Prefix) → Numbers D x.numbers → Quantified D x.levels x.kinds → n ≡ free_variables D
 
 -- the quantifier's code at a place; where there is none it is free
 abbrev pub code_for : List ℕ → List ℕ → ℕ → ℕ
@@ -73,18 +68,6 @@ constraints_fine w D cube flat sizes = rows_fit w paper.constraints sizes && all
 abbrev pub records_fine : List ℕ → List ℕ → Bool
 records_fine css sizes = at_most (get_or css 0 0) (records_of sizes)
 
--- the length of each table: what the type of a state says
-pub record Sized (x : State) : Type 0 where
-  pub numbers_room : length x.numbers ≡ suc paper.numbers
-  pub levels_room : length x.levels ≡ suc paper.numbers
-  pub kinds_room : length x.kinds ≡ suc paper.numbers
-  pub clauses_room : length x.clauses ≡ paper.clauses * paper.literals
-  pub clause_sizes_room : length x.clause_sizes ≡ suc paper.clauses
-  pub learned_clauses_room : length x.learned_clauses ≡ paper.constraints * paper.numbers
-  pub learned_clause_sizes_room : length x.learned_clause_sizes ≡ suc paper.constraints + paper.constraints
-  pub learned_cubes_room : length x.learned_cubes ≡ paper.constraints * paper.numbers
-  pub learned_cube_sizes_room : length x.learned_cube_sizes ≡ suc paper.constraints
-
 -- lent tables that have room for what the limits allow
 pub record Roomy (L : Limits) (x : State) : Type 0 where
   pub numbers_room : suc L.numbers ≤ length x.numbers
@@ -110,10 +93,3 @@ pub record CheckedUnder (L : Limits) (x : State) (ok : Bool) (places kinds : Lis
   pub said : ok ≡ accepted L x
   pub placed : ok ≡ true → Places (prefix_in x) places
   pub kinded : ok ≡ true → Kinds (prefix_in x) kinds
-
--- what the check of a state says: whether it is valid, and the tables by number that show its prefix where it is
-pub record Checked (x : State) (ok : Bool) (places kinds : List ℕ) : Type 0 where
-  pub said : ok ≡ valid x
-  pub sized : Sized x
-  pub placed : valid x ≡ true → Places (prefix_in x) places
-  pub kinded : valid x ≡ true → Kinds (prefix_in x) kinds

@@ -1,3 +1,4 @@
+pub mod State
 pub mod Reading
 pub mod Derived
 pub mod Declare

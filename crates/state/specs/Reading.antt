@@ -3,10 +3,10 @@
 use Rattle.std.specs.Prelude.{ℕ, zero, suc, ◌+◌, ◌*◌, Bool, true, false, cond, ◌&&◌, List, [], ◌∷◌, length, get_or, ℤ, leb, eqb}
 use Rattle.std.proofs.Math.Option.{Option, none, some}
 use Rattle.qbf.specs.Formula.{Limits, paper, Quantifier, free, exists, forall, Variable, Prefix, Formula, levels, all}
-use Rattle.qbf.specs.Learning.{Store, empty_store}
+use Rattle.qbf.specs.Learning.{Store}
 use Rattle.qbf.specs.Calls.{State as Read, well_formed}
 use Rattle.tables.specs.Views.{quantifier_code, rows_of}
-use Rattle.state.specs.declared.State.{State}
+use Rattle.state.specs.State.{State}
 
 -- f i, f (i + 1), ..: k elements
 abbrev pub listing : {A : Type 0} → (ℕ → A) → ℕ → ℕ → List A
@@ -61,7 +61,7 @@ abbrev pub rows_fit : ℕ → ℕ → List ℕ → Bool
 rows_fit stride capacity sizes = leb (get_or sizes 0 0) capacity && at_most stride (entries sizes)
 
 -- ---- the state
--- the state of nine tables
+-- the state that has these tables
 abbrev pub state_of : List ℕ → List ℕ → List ℕ → List ℤ → List ℕ → List ℤ → List ℕ → List ℤ → List ℕ → State
 state_of ns ls ks cs css lcs lcss lqs lqss =
     record {
@@ -87,17 +87,11 @@ fits_under L x =
     && rows_fit L.numbers L.constraints x.learned_clause_sizes
     && rows_fit L.numbers L.constraints x.learned_cube_sizes
 
-abbrev pub fits : State → Bool
-fits x = fits_under paper x
-
 abbrev pub prefix_in : State → Prefix
 prefix_in x = prefix_of x.numbers x.levels x.kinds
 
 abbrev pub formula_under : Limits → State → Formula
 formula_under L x = record { limits = L; prefix = prefix_in x; clauses = rows_of L.literals x.clauses x.clause_sizes }
-
-abbrev pub formula_in : State → Formula
-formula_in x = formula_under paper x
 
 -- the record of each learned clause stands behind their sizes, for which there is room for as many as may stand
 abbrev pub record_at : List ℕ → ℕ → ℕ
@@ -110,26 +104,14 @@ records_of sizes = listing (record_at sizes) 0 (get_or sizes 0 0)
 abbrev pub store_from : ℕ → List ℤ → List ℕ → List ℤ → List ℕ → Store
 store_from w cs css qs qss = record { clauses = rows_of w cs css; records = records_of css; cubes = rows_of w qs qss }
 
-abbrev pub store_of : List ℤ → List ℕ → List ℤ → List ℕ → Store
-store_of cs css qs qss = store_from paper.numbers cs css qs qss
-
 abbrev pub store_under : Limits → State → Store
 store_under L x = store_from L.numbers x.learned_clauses x.learned_clause_sizes x.learned_cubes x.learned_cube_sizes
-
-abbrev pub store_in : State → Store
-store_in x = store_under paper x
 
 abbrev pub state_under : Limits → State → Read
 state_under L x = record { formula = formula_under L x; store = store_under L x }
 
-abbrev pub state_in : State → Read
-state_in x = state_under paper x
-
 unfoldable pub read_under : Limits → State → Option Read
 read_under L x = cond (fits_under L x) (some (state_under L x)) none
-
-unfoldable pub read_state : State → Option Read
-read_state x = cond (fits x) (some (state_in x)) none
 
 abbrev pub well_formed_read : Option Read → Bool
 well_formed_read none = false
@@ -137,9 +119,6 @@ well_formed_read (some y) = well_formed y
 
 unfoldable pub valid_under : Limits → State → Bool
 valid_under L x = well_formed_read (read_under L x)
-
-unfoldable pub valid : State → Bool
-valid x = well_formed_read (read_state x)
 
 -- ---- lent tables, which may have any length: each has room for what the limits allow
 abbrev pub prefix_roomy : ℕ → List ℕ → List ℕ → List ℕ → Bool
@@ -159,7 +138,3 @@ roomy L x =
 -- "22 the state is malformed": a table is too short, or what stands in them is not well formed
 abbrev pub accepted : Limits → State → Bool
 accepted L x = roomy L x && valid_under L x
-
--- no variable, no clause, and an empty store
-abbrev pub empty_state : Read
-empty_state = record { formula = record { limits = paper; prefix = []; clauses = [] }; store = empty_store }

@@ -4,9 +4,8 @@ ghost use Rattle.qbf.specs.Formula.{Prefix};
 ghost use Rattle.qbf.specs.Truth.{free_variables};
 ghost use Rattle.qbf.specs.Calls.{free_is_ok};
 ghost use Rattle.tables.specs.Views.{Numbers};
-ghost use Rattle.state.specs.Derived.{Quantified, FreeCounted, KindsFilled, code_for};
+ghost use Rattle.state.specs.Derived.{Quantified, KindsFilled, code_for};
 
-use crate::State;
 use crate::prefix::Variables;
 use literal::Place;
 
@@ -57,20 +56,6 @@ pub fn free_count(variables: Variables<'_>) -> usize
         }
     }
     count
-}
-
-impl State {
-    // .. of the tables of a state.
-    // stays (no plainer): a state has arrays, and `Variables` slices: the three are named where the ones become the others
-    pub fn free_count(&self) -> usize
-        ensures { FreeCounted self.now result }
-    {
-        free_count(Variables {
-            numbers: &self.numbers,
-            levels: &self.levels,
-            kinds: &self.kinds,
-        })
-    }
 }
 
 // "flags stay at most 40": so there are where there are no more variables.

@@ -1,8 +1,6 @@
 // The numbers of the variables: each is 1 to the limit and stands once. The place of each number.
-ghost use Rattle.std.specs.Prelude.{◌≡◌, true, [], suc, length};
-ghost use Rattle.qbf.specs.Formula.{Limits, Prefix, paper};
-ghost use Rattle.qbf.specs.Calls.{numbers_are_ok};
-ghost use Rattle.tables.specs.Views.{Numbers, Places};
+ghost use Rattle.std.specs.Prelude.{◌≡◌, suc, length};
+ghost use Rattle.qbf.specs.Formula.{Limits};
 ghost use Rattle.state.specs.Derived.{is_fresh, Placing};
 
 use literal::{Number, cell_at};
@@ -40,13 +38,4 @@ pub fn place_numbers(numbers: &[u16], limit: usize, places: &mut [u16]) -> bool
         places[n] = (i + 1) as u16;
     }
     true
-}
-
-// The same under the paper's limit, where the numbers are known to be fine.
-pub fn places_of(numbers: &[u16]) -> [u16; tables::BY_NUMBER]
-    ensures { (D : Prefix) → Numbers D numbers.now → numbers_are_ok paper [] D ≡ true → Places D result }
-{
-    let mut places = [0u16; tables::BY_NUMBER];
-    place_numbers(numbers, tables::NUMBERS, &mut places);
-    places
 }

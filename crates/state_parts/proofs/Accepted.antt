@@ -14,7 +14,7 @@ use Rattle.qbf.specs.Formula.{Limits, Prefix, any}
 use Rattle.qbf.specs.Calls.{numbers_are_ok, limits_are_ok}
 use Rattle.theory.proofs.Basics.{and_left, and_right, and_both}
 use Rattle.tables.specs.Views.{Numbers, Table}
-use Rattle.state.specs.declared.State.{State}
+use Rattle.state.specs.State.{State}
 use Rattle.state.specs.Reading.{own, prefix_in, state_under, read_under, well_formed_read, roomy, valid_under, accepted}
 use Rattle.state.specs.Derived.{Quantified, CheckedUnder}
 use Rattle.state.proofs.Valid.{FactsUnder, checked_high, facts_under, valid_parts, rows_table, prefix_numbers, prefix_quantified}

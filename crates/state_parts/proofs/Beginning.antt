@@ -18,7 +18,7 @@ use Rattle.theory.proofs.Basics.{dichotomy, and_both, le_or_lt}
 use Rattle.theory.proofs.Widths.{capped_ok}
 use Rattle.tables.specs.Views.{rows, rows_of}
 use Rattle.tables.proofs.Laws.{rows_zero}
-use Rattle.state.specs.declared.State.{State}
+use Rattle.state.specs.State.{State}
 use Rattle.state.specs.Reading.{listing, entry_at, at_most, variable_at, prefix_in, record_at, records_of, own, state_under, roomy, valid_under}
 use Rattle.state.specs.Derived.{clauses_fine, constraints_fine}
 use Rattle.state.proofs.Rooms.{room_is}

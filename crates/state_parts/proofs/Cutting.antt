@@ -1,12 +1,12 @@
 -- A part of a lent table: its length and its cells, and what writing a cell or a part leaves.
-use Prim.Native.Nat.{ℕ, zero, suc, ◌+◌, ◌-◌, ◌≤◌, ◌<◌}
+use Prim.Native.Nat.{ℕ, ◌+◌, ◌-◌, ◌≤◌, ◌<◌}
 use native.Mathlib.Omega.{arith}
-use native.Mathlib.Nat.{zero-add, suc-add}
 use mathlib.Core.Path.{◌≡◌, sym, ap, ◌∙◌}
-use mathlib.Core.List.{List, [], ◌∷◌, ◌++◌}
+use mathlib.Core.List.{List, ◌++◌}
 use borrow.Rule.Slice.PartMut.{put_mid, post_of, take_put, drop_put}
 use lib.ListN.{length, get_or, set, take, drop, length-drop, length-take}
-use lib.Seq.{length-take-le, take-nil, take-take, take_at, drop_at, drop-drop, get_or-take, get_or-drop, take-set-lt, take-set-le, drop-set-lt, drop-set-add}
+use lib.Seq.{length-take-le, take-take, take_at, drop_at, drop-drop, get_or-take, get_or-drop, take-set-lt, take-set-le, drop-set-lt, drop-set-add}
+use Rattle.std.proofs.lemmas.List.{drop-take}
 use Rattle.state_parts.specs.Parts.{part}
 
 module _ {A : Type 0} where
@@ -37,16 +37,11 @@ module _ {A : Type 0} where
   pub put_here : (a k : ℕ) (t ys : List A) → a + k ≤ length t → length ys ≡ k → part a k (put_mid a k t ys) ≡ ys
   put_here a k t ys h l = ap (take k) (drop_at (take a t) (ys ++ post_of a k t) a (length-take-le a t (omega (arith, h)))) ∙ take_at ys (post_of a k t) k l
 
-  take_drop : (s n : ℕ) (l : List A) → take n (drop s l) ≡ drop s (take (s + n) l)
-  take_drop zero n l = ap (λ (k : ℕ). take k l) (sym (zero-add n))
-  take_drop (suc s) n [] = take-nil n ∙ sym (ap (drop (suc s)) (take-nil (suc s + n)))
-  take_drop (suc s) n (x ∷ xs) = take_drop s n xs ∙ ap (λ (k : ℕ). drop (suc s) (take k (x ∷ xs))) (sym (suc-add s n))
-
   pub put_before : (from len a k : ℕ) (t ys : List A) → from + len ≤ a → a ≤ length t → part from len (put_mid a k t ys) ≡ part from len t
   put_before from len a k t ys h g =
-      take_drop from len (put_mid a k t ys)
+      sym (drop-take from len (put_mid a k t ys))
       ∙ ap (drop from) (sym (take-take (from + len) a (put_mid a k t ys) h) ∙ ap (take (from + len)) (take_put a k t ys g) ∙ take-take (from + len) a t h)
-      ∙ sym (take_drop from len t)
+      ∙ drop-take from len t
 
   pub put_after : (from len a k : ℕ) (t ys : List A) → a + k ≤ from → a + k ≤ length t → length ys ≡ k → part from len (put_mid a k t ys) ≡ part from len t
   put_after from len a k t ys i g l =

@@ -8,12 +8,12 @@ use borrow.Rule.Slice.PartMut.{put_mid, take_put}
 use lib.IntN.{ℤ}
 use lib.ListN.{length, get_or}
 use lib.Seq.{get_or-take}
-use Rattle.qbf.specs.Formula.{Limits, paper}
-use Rattle.state.specs.declared.State.{State}
+use Rattle.qbf.specs.Formula.{Limits}
+use Rattle.state.specs.State.{State}
 use Rattle.state.specs.Reading.{own, state_of, roomy}
-use Rattle.state.specs.Derived.{Sized, Roomy}
+use Rattle.state.specs.Derived.{Roomy}
 use Rattle.state.proofs.Rooms.{room_facts}
-use Rattle.state_parts.specs.Parts.{limits_of, by_number, clause_count, cube_sizes, recorded, numbers_at, levels_at, kinds_at, clause_sizes_at, learned_clause_sizes_at, learned_cube_sizes_at, clause_cells, learned_cells, learned_cubes_at, parts_under, state_at, Whole, Exact}
+use Rattle.state_parts.specs.Parts.{limits_of, by_number, clause_count, cube_sizes, recorded, numbers_at, levels_at, kinds_at, clause_sizes_at, learned_clause_sizes_at, learned_cube_sizes_at, clause_cells, learned_cells, learned_cubes_at, parts_under, Whole, Exact}
 use Rattle.state_parts.proofs.Cutting.{part_length, part_most, put_here, put_before, put_after}
 
 -- equal parts are equal states
@@ -58,45 +58,6 @@ module _ (L : Limits) (cells : List ℕ) (literals : List ℤ) where
 module _ (L : Limits) (cells : List ℕ) (literals : List ℤ) (w : Whole L cells literals) where
   abbrev x : State
   x = parts_under L cells literals
-
-  pub numbers_put : (ys : List ℕ) → length ys ≡ by_number L → parts_under L (put_mid numbers_at (by_number L) cells ys) literals ≡ state_of ys x.levels x.kinds x.clauses x.clause_sizes x.learned_clauses x.learned_clause_sizes x.learned_cubes x.learned_cube_sizes
-  numbers_put ys long =
-      same_state
-      (put_here numbers_at (by_number L) cells ys (omega (arith, w.cells_room)) long)
-      (put_after (levels_at L) (by_number L) numbers_at (by_number L) cells ys (omega (arith, w.cells_room)) (omega (arith, w.cells_room)) long)
-      (put_after (kinds_at L) (by_number L) numbers_at (by_number L) cells ys (omega (arith, w.cells_room)) (omega (arith, w.cells_room)) long)
-      refl
-      (put_after (clause_sizes_at L) (clause_count L) numbers_at (by_number L) cells ys (omega (arith, w.cells_room)) (omega (arith, w.cells_room)) long)
-      refl
-      (put_after (learned_clause_sizes_at L) (recorded L) numbers_at (by_number L) cells ys (omega (arith, w.cells_room)) (omega (arith, w.cells_room)) long)
-      refl
-      (put_after (learned_cube_sizes_at L) (cube_sizes L) numbers_at (by_number L) cells ys (omega (arith, w.cells_room)) (omega (arith, w.cells_room)) long)
-
-  pub levels_put : (ys : List ℕ) → length ys ≡ by_number L → parts_under L (put_mid (levels_at L) (by_number L) cells ys) literals ≡ state_of x.numbers ys x.kinds x.clauses x.clause_sizes x.learned_clauses x.learned_clause_sizes x.learned_cubes x.learned_cube_sizes
-  levels_put ys long =
-      same_state
-      (put_before numbers_at (by_number L) (levels_at L) (by_number L) cells ys (omega (arith, w.cells_room)) (omega (arith, w.cells_room)))
-      (put_here (levels_at L) (by_number L) cells ys (omega (arith, w.cells_room)) long)
-      (put_after (kinds_at L) (by_number L) (levels_at L) (by_number L) cells ys (omega (arith, w.cells_room)) (omega (arith, w.cells_room)) long)
-      refl
-      (put_after (clause_sizes_at L) (clause_count L) (levels_at L) (by_number L) cells ys (omega (arith, w.cells_room)) (omega (arith, w.cells_room)) long)
-      refl
-      (put_after (learned_clause_sizes_at L) (recorded L) (levels_at L) (by_number L) cells ys (omega (arith, w.cells_room)) (omega (arith, w.cells_room)) long)
-      refl
-      (put_after (learned_cube_sizes_at L) (cube_sizes L) (levels_at L) (by_number L) cells ys (omega (arith, w.cells_room)) (omega (arith, w.cells_room)) long)
-
-  pub kinds_put : (ys : List ℕ) → length ys ≡ by_number L → parts_under L (put_mid (kinds_at L) (by_number L) cells ys) literals ≡ state_of x.numbers x.levels ys x.clauses x.clause_sizes x.learned_clauses x.learned_clause_sizes x.learned_cubes x.learned_cube_sizes
-  kinds_put ys long =
-      same_state
-      (put_before numbers_at (by_number L) (kinds_at L) (by_number L) cells ys (omega (arith, w.cells_room)) (omega (arith, w.cells_room)))
-      (put_before (levels_at L) (by_number L) (kinds_at L) (by_number L) cells ys (omega (arith, w.cells_room)) (omega (arith, w.cells_room)))
-      (put_here (kinds_at L) (by_number L) cells ys (omega (arith, w.cells_room)) long)
-      refl
-      (put_after (clause_sizes_at L) (clause_count L) (kinds_at L) (by_number L) cells ys (omega (arith, w.cells_room)) (omega (arith, w.cells_room)) long)
-      refl
-      (put_after (learned_clause_sizes_at L) (recorded L) (kinds_at L) (by_number L) cells ys (omega (arith, w.cells_room)) (omega (arith, w.cells_room)) long)
-      refl
-      (put_after (learned_cube_sizes_at L) (cube_sizes L) (kinds_at L) (by_number L) cells ys (omega (arith, w.cells_room)) (omega (arith, w.cells_room)) long)
 
   pub clauses_put : (ys : List ℤ) → length ys ≡ clause_cells L → parts_under L cells (put_mid 0 (clause_cells L) literals ys) ≡ state_of x.numbers x.levels x.kinds ys x.clause_sizes x.learned_clauses x.learned_clause_sizes x.learned_cubes x.learned_cube_sizes
   clauses_put ys long =
@@ -184,9 +145,6 @@ module _ (cells : List ℕ) (a k : ℕ) (ys : List ℕ) (h : numbers_at ≤ a) (
   pub limits_put : limits_of (put_mid a k cells ys) ≡ limits_of cells
   limits_put = ap (λ (n : ℕ). own n (get_or (put_mid a k cells ys) 1 0)) (cell_put 0 (omega (arith, h))) ∙ ap (own (get_or cells 0 0)) (cell_put 1 (omega (arith, h)))
 
-  pub state_put : (literals : List ℤ) {y : State} → parts_under (limits_of cells) (put_mid a k cells ys) literals ≡ y → state_at (put_mid a k cells ys) literals ≡ y
-  state_put literals e = ap (λ (L : Limits). parts_under L (put_mid a k cells ys) literals) limits_put ∙ e
-
 -- parts of these lengths have room for what the limits allow
 pub exact_roomy : (L : Limits) (x : State) → Exact L x → Roomy L x
 exact_roomy L x e =
@@ -200,19 +158,4 @@ exact_roomy L x e =
       learned_clause_sizes_room = omega (arith, e.learned_clause_sizes_room);
       learned_cubes_room = omega (arith, e.learned_cubes_room);
       learned_cube_sizes_room = omega (arith, e.learned_cube_sizes_room);
-    }
-
--- under the paper's limits the parts are as long as the arrays of a state by value
-pub exact_sized : {x : State} → Exact paper x → Sized x
-exact_sized e =
-    record {
-      numbers_room = e.numbers_room;
-      levels_room = e.levels_room;
-      kinds_room = e.kinds_room;
-      clauses_room = e.clauses_room;
-      clause_sizes_room = e.clause_sizes_room;
-      learned_clauses_room = e.learned_clauses_room;
-      learned_clause_sizes_room = e.learned_clause_sizes_room;
-      learned_cubes_room = e.learned_cubes_room;
-      learned_cube_sizes_room = e.learned_cube_sizes_room;
     }

@@ -6,7 +6,7 @@ use Rattle.std.proofs.Math.Option.{Option, none}
 use Rattle.qbf.specs.Formula.{Limits}
 use Rattle.qbf.specs.Calls.{State as Read}
 use Rattle.tables.specs.Views.{Places, Kinds}
-use Rattle.state.specs.declared.State.{State}
+use Rattle.state.specs.State.{State}
 use Rattle.state.specs.Reading.{own, state_of, prefix_in, roomy, read_under, well_formed_read}
 
 abbrev pub part : {A : Type 0} → ℕ → ℕ → List A → List A

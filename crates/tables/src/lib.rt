@@ -12,10 +12,6 @@ pub const CLAUSES: usize = 255;
 
 pub const LITERALS: usize = 16;
 
-pub const CLAUSE_CELLS: usize = CLAUSES * LITERALS;
-
-pub const CLAUSE_SIZES: usize = CLAUSES + 1;
-
 // "Variable numbers run to 1,000, rules to 4,000": a state's own limits are no higher. "flags stay at most 40"
 pub const HIGHEST_NUMBERS: usize = 1000;
 
@@ -28,15 +24,10 @@ pub const MOST_FREE: usize = 40;
 // Learned constraints of each polarity; a constraint has at most one literal of a variable.
 pub const CONSTRAINTS: usize = 64;
 
-pub const CONSTRAINT_CELLS: usize = CONSTRAINTS * NUMBERS;
-
 pub const CONSTRAINT_SIZES: usize = CONSTRAINTS + 1;
 
 // Behind the sizes of the learned clauses stands the record of each: how many clauses stood when it was stored.
 pub const LEARNED_CLAUSE_SIZES: usize = CONSTRAINT_SIZES + CONSTRAINTS;
-
-// Room for two constraints, so that one can be put into the other.
-pub const AREA: usize = NUMBERS * 2;
 
 // The tables below are those of a search. Paper 02, wish 8: one program serves books of any limits, so that the tables are of the highest ones,
 // whatever a book's own are: a search reads and writes as much of each as its book has use for.

@@ -8,7 +8,6 @@ pub mod Shape
 pub mod Lowest
 pub mod Dying
 pub mod Stepwise
-pub mod Resumed
 pub mod Uniting
 pub mod Stores
 pub mod Induction
@@ -52,5 +51,5 @@ pub mod Distance
 pub mod Closest
 pub mod ClosestCall
 pub mod Widths
-pub mod Levels
 pub mod Demands
+pub mod FreeCount

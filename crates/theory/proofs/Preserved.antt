@@ -7,6 +7,7 @@ use mathlib.Core.Bool.{Bool, true, false}
 use mathlib.Core.List.{List, [], ◌∷◌, ◌++◌}
 use mathlib.Core.Option.{Option, none, some}
 use lib.ListN.{length, take, length-append}
+use lib.Seq.{length-take-le}
 use lib.Dec.{eqb, leb}
 use Rattle.qbf.specs.Formula.{Clause, Formula, Limits, Literal, Node, Prefix, Quantifier, ◌▹◌, quantifiers}
 use Rattle.qbf.specs.Truth.{Outcome, bound}
@@ -24,7 +25,6 @@ use Rattle.theory.proofs.Induction.{BranchCases, SearchCases, below_by, visit_by
 use Rattle.theory.proofs.Leaves.{shaped_leaves}
 use Rattle.theory.proofs.ShapedSearch.{ShapedOutcome, shaped_branches, shaped_search}
 use Rattle.theory.proofs.NextFormula.{next_formula_lem}
-use Rattle.theory.proofs.Withdrawn.{take_short}
 use Rattle.theory.proofs.WellFormed.{FitStore, Fits, FormulaFacts, StateFacts, capacity, clauses_rising, facts_state, state_facts}
 use Rattle.theory.proofs.Ceiling.{attempt_store, search_within_lem}
 use Rattle.theory.proofs.Starting.{start_rest}
@@ -87,7 +87,7 @@ module _ (b : Formula) (f : FormulaFacts b) (st : Store) (h : ShapedFor b st) wh
   withdraw_store none =
       record {
         shaped = stored_withdraw (Formed b.prefix) b.limits (Formed b.prefix) n (λ v E w. w) st h.shaped;
-        fit = recorded_withdraw (Fits (length b.clauses)) (Fits (length (take n b.clauses))) n (λ k E w le. omega (arith, le, take_short n b.clauses (omega arith))) st h.fit;
+        fit = recorded_withdraw (Fits (length b.clauses)) (Fits (length (take n b.clauses))) n (λ k E w le. omega (arith, le, length-take-le n b.clauses (omega arith))) st h.fit;
       }
     where
       n : ℕ

@@ -3,14 +3,15 @@ use Prim.Native.Nat.{ℕ, ◌≤◌, ◌<◌}
 use native.Mathlib.Omega.{arith}
 use mathlib.Core.Path.{◌≡◌, refl, sym, ap, ◌∙◌, subst}
 use mathlib.Core.Logic.{◌⊎◌, inl, inr}
-use mathlib.Core.Bool.{Bool, true, false, cond, not, ◌||◌, beq, true≢false, false≢true}
+use mathlib.Core.Bool.{Bool, true, false, cond, ◌||◌, beq, true≢false, false≢true}
 use mathlib.Core.List.{List, [], ◌∷◌}
 use mathlib.Core.Option.{Option, none, some}
-use lib.Dec.{eqb, ltb, ltb→lt, nltb→le}
+use lib.Dec.{eqb, ltb}
+use borrow.Author.Tests.{ltb-true, ltb-false}
 use Rattle.qbf.specs.Formula.{Literal, Node, Prefix, any, equals, has, place, positive, value_at}
 use Rattle.qbf.specs.Learning.{Constraint, first, insert, last_place, mentions, union, without}
 use Rattle.qbf.specs.Card.{Mem}
-use Rattle.theory.proofs.Basics.{dichotomy, any→, →any, eqb_true, true_eqb, false_eqb, ≡→T, beq→≡}
+use Rattle.theory.proofs.Basics.{dichotomy, any→, →any, eqb_true, true_eqb, false_eqb, beq→≡}
 use Rattle.theory.proofs.Game.{Rising}
 use Rattle.theory.proofs.Constraints.{last_max, last_mem, rising_from}
 
@@ -21,12 +22,6 @@ module _ (D : Prefix) where
   pub covers_more : (E F : Constraint) (p : ℕ) → ((x : Literal) → Mem x E → Mem x F) → Covers E p → Covers F p
   covers_more E F p h w = (w.0, h w.0 w.1, w.2)
 
-  ltb_true : (m n : ℕ) → ltb m n ≡ true → m < n
-  ltb_true m n e = ltb→lt m n (≡→T (ltb m n) e)
-
-  ltb_false : (m n : ℕ) → ltb m n ≡ false → n ≤ m
-  ltb_false m n e = nltb→le m n (≡→T (not (ltb m n)) (ap not e))
-
   -- what `insert D l (k ∷ E)` comes to, by cases
   insert_by : (P : Constraint → Type 0) (l k : Literal) (E : Constraint)
       → (place D l < place D k → P (l ∷ k ∷ E)) → (place D l ≡ place D k → P (k ∷ E)) → (place D k < place D l → P (k ∷ insert D l E))
@@ -34,9 +29,9 @@ module _ (D : Prefix) where
   insert_by P l k E a b c = by (ltb (place D l) (place D k)) refl (eqb (place D l) (place D k)) refl
     where
       by : (x : Bool) → ltb (place D l) (place D k) ≡ x → (y : Bool) → eqb (place D l) (place D k) ≡ y → P (cond x (l ∷ k ∷ E) (cond y (k ∷ E) (k ∷ insert D l E)))
-      by true e y f = a (ltb_true (place D l) (place D k) e)
+      by true e y f = a (ltb-true (place D l) (place D k) e)
       by false e true f = b (eqb_true (place D l) (place D k) f)
-      by false e false f = c (lt (place D l) (place D k) (ltb_false (place D l) (place D k) e) (false_eqb (place D l) (place D k) f))
+      by false e false f = c (lt (place D l) (place D k) (ltb-false (place D l) (place D k) e) (false_eqb (place D l) (place D k) f))
         where
           lt : (m n : ℕ) → n ≤ m → (m ≡ n → ⊥) → n < m
           lt m n h q = omega (arith, h, q)

@@ -40,7 +40,7 @@ free_rest (free ∷ ks) = free_rest ks
 free_rest (exists ∷ ks) = refl
 free_rest (forall ∷ ks) = refl
 
-free_kind : (ks : List Quantifier) (i : ℕ) → i < free_count ks → get_or ks i free ≡ free
+pub free_kind : (ks : List Quantifier) (i : ℕ) → i < free_count ks → get_or ks i free ≡ free
 free_kind [] i h = refl
 free_kind (free ∷ ks) zero h = refl
 free_kind (free ∷ ks) (suc i) h = free_kind ks i (le_of_suc-le-suc h)

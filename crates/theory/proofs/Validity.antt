@@ -7,6 +7,7 @@ use mathlib.Core.Bool.{Bool, true, false, ◌||◌, true≢false}
 use mathlib.Core.List.{List, [], ◌∷◌, ◌++◌}
 use mathlib.Core.Option.{none}
 use lib.ListN.{length, take, drop, length-append, take-append-drop}
+use lib.Seq.{length-take-le, take-take, take-append-le}
 use Rattle.qbf.specs.Formula.{Clause, Limits, Node, Prefix, Quantifier, ◌▹◌, all, quantifiers, satisfied}
 use Rattle.qbf.specs.Truth.{combine, completions, one_side_enough}
 use Rattle.qbf.specs.Learning.{Constraint, Store, constraints}
@@ -16,7 +17,6 @@ use Rattle.theory.proofs.Basics.{and_left, and_right, or_cases, or_left, or_righ
 use Rattle.theory.proofs.Game.{Win}
 use Rattle.theory.proofs.Stores.{RecordedStore, recorded_mem, recorded_weaker, recorded_withdraw, stored_rule, stored_withdraw}
 use Rattle.theory.proofs.Leaves.{ByFirst, Valid, SoundStore}
-use Rattle.theory.proofs.Withdrawn.{take_short, take_take, take_front}
 
 -- what is true with clauses more is true without them
 more_clauses : (D : Prefix) (a : Bool) (R Q : List Clause) (ks : List Quantifier) (s : Node) → completions a D (R ++ Q) ks s ≡ true → completions a D R ks s ≡ true
@@ -64,10 +64,10 @@ module _ (D : Prefix) (R : List Clause) where
 
   by_first_more : (Q : List Clause) (k : ℕ) (E : Constraint) → ByFirst D R k E → ByFirst D (R ++ Q) k E
   by_first_more Q k E w =
-      record { within = omega (arith, w.within, length-append R Q); valid = subst (λ (P : List Clause). Valid D P false E) (sym (take_front k R Q w.within)) w.valid }
+      record { within = omega (arith, w.within, length-append R Q); valid = subst (λ (P : List Clause). Valid D P false E) (sym (take-append-le k R Q w.within)) w.valid }
 
   by_first_less : (n : ℕ) → n ≤ length R → (k : ℕ) (E : Constraint) → ByFirst D R k E → k ≤ n → ByFirst D (take n R) k E
-  by_first_less n h k E w le = record { within = omega (arith, le, take_short n R h); valid = subst (λ (P : List Clause). Valid D P false E) (sym (take_take k n R le)) w.valid }
+  by_first_less n h k E w le = record { within = omega (arith, le, length-take-le n R h); valid = subst (λ (P : List Clause). Valid D P false E) (sym (take-take k n R le)) w.valid }
 
 -- ---- stores
 module _ (L : Limits) (D : Prefix) (R : List Clause) where

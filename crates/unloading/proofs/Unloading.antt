@@ -18,7 +18,7 @@ use Rattle.qbf.specs.Calls.{numbers_are_ok}
 use Rattle.tables.specs.Views.{Numbers, rows, rows_of}
 use Rattle.tables.specs.Codes.{code_of, codes}
 use Rattle.tables.specs.Shelves.{Entries, entries_of, newest_of, base_of, length_at, row_at}
-use Rattle.tables.proofs.Laws.{rows_suc, rows_zero}
+use Rattle.tables.proofs.Laws.{before, rows_suc, rows_zero}
 use Rattle.lent_rows.specs.Held.{Held}
 use Rattle.unloading.specs.declared.lent.LentTable.{LentTable}
 use Rattle.unloading.specs.Table.{Same}
@@ -27,7 +27,7 @@ use Rattle.theory.proofs.Game.{Rising}
 use Rattle.theory.proofs.Widths.{constraint_width}
 use Rattle.shelf.proofs.Slots.{length_short}
 use Rattle.shelf.proofs.Ring.{ring_length, ring_at}
-use Rattle.lent_rows.proofs.Rows.{before, rows_kept}
+use Rattle.lent_rows.proofs.Rows.{rows_kept}
 
 -- ---- elements of lists
 -- the image of the element at i

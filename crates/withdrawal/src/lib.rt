@@ -37,7 +37,7 @@ fn keep_row(width: usize, cells: &mut [i16], sizes: &mut [u16], i: usize, remain
 
 // "Bars with a larger record than the rules that remain are dropped": rows of that many cells, with room for the records behind their sizes.
 // stays (no plainer): as `move_row`
-// stays (no plainer): `usize ≤ highest.numbers` is of a state's limit, which `Layout` keeps; the rows of the nine tables have none
+// stays (no plainer): `usize ≤ highest.numbers` is of a state's limit, which `Layout` keeps; the rows alone are lent here, and know no layout
 pub fn leave(width: usize, cells: &mut [i16], sizes: &mut [u16], remain: u16)
     requires { (width ≤ highest.numbers) × Room width cells.old sizes.old }
     ensures { Kept width cells.old sizes.old remain cells.new sizes.new }

@@ -1,20 +1,13 @@
 -- A number in decimal: its last digit after the digits of its tenth.
 use Prim.Native.Nat.{ℕ, ◌+◌, ◌/◌, ◌%◌, ◌<◌, ◌≤◌}
-use mathlib.Core.Path.{◌≡◌, sym, subst, ◌∙◌, ap}
+use mathlib.Core.Path.{sym, subst}
 use mathlib.Core.List.{[], ◌∷◌}
-use lib.ListN.{length, length-append}
 use Rattle.layout.specs.Words.{Bytes}
 use Rattle.layout.specs.Output.{decimal}
 use Rattle.layout_laws.proofs.Decimal.{decimal_one, decimal_more}
 use Rattle.writer.specs.declared.Output.{Output}
 use Rattle.writer.specs.Appended.{Appended}
 use Rattle.writer.proofs.Appending.{appended_then}
-
-pub one_length : (n : ℕ) → n < 10 → length (decimal n) ≡ 1
-one_length n h = ap length (decimal_one n h)
-
-pub tenth_length : (n : ℕ) → 10 ≤ n → length (decimal n) ≡ length (decimal (n / 10)) + 1
-tenth_length n h = ap length (decimal_more n h) ∙ length-append (decimal (n / 10)) ((48 + n % 10) ∷ [])
 
 pub appended_one : {a b : Output} (n : ℕ) → n < 10 → Appended a ((48 + n) ∷ []) b → Appended a (decimal n) b
 appended_one {a} {b} n h p = subst (λ (t : Bytes). Appended a t b) (sym (decimal_one n h)) p

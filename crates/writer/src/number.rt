@@ -7,7 +7,7 @@ use crate::Output;
 const ZERO: u8 = b'0';
 
 impl Output<'_> {
-    #[tactic(auto, using(crate::proofs::Decimals::one_length, crate::proofs::Decimals::tenth_length))]
+    #[tactic(auto, using(layout_laws::proofs::Decimal::length_one, layout_laws::proofs::Decimal::length_more))]
     pub fn put_number(&mut self, n: u64)
         requires { Room self.old (decimal n) }
         ensures { Appended self.old (decimal n) self.new }

@@ -1,7 +1,7 @@
 -- `next_of`: the parts that are lent are those of the cells.
 use mathlib.Core.Path.{ap}
 use Rattle.refusal.specs.Refusal.{fault_in}
-use Rattle.state.specs.declared.State.{State}
+use Rattle.state.specs.State.{State}
 use Rattle.state_parts.specs.Layout.{limits_in}
 use Rattle.declaring.proofs.Writing.{may_grow_by}
 use Rattle.declaring.proofs.next_of.Goals as goal

@@ -6,7 +6,7 @@ use mathlib.Core.List.{List}
 use lib.ListN.{length}
 use Rattle.qbf.specs.Formula.{paper, highest}
 use Rattle.tables.specs.Shelves.{row_at}
-use Rattle.lent_rows.proofs.Rows.{before}
+use Rattle.tables.proofs.Laws.{before}
 use Rattle.unloading.proofs.unload_row.Goals as goal
 
 pub decode-requires : goal.decode-requires

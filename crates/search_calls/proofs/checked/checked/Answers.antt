@@ -4,7 +4,7 @@ use mathlib.Core.Bool.{true}
 use lib.ListN.{take}
 use Prim.Native.Nat.{◌+◌}
 use Rattle.tables.specs.Views.{Places, Kinds}
-use Rattle.state.specs.declared.State.{State}
+use Rattle.state.specs.State.{State}
 use Rattle.state.specs.Reading.{prefix_in, accepted}
 use Rattle.state_parts.specs.Layout.{limits_in}
 use Rattle.search_calls.proofs.Checks.{accepted_in, placed_in, kinded_in}
