@@ -6,7 +6,8 @@ use mathlib.Core.Logic.{inl, inr}
 use mathlib.Core.Bool.{Bool, true, false, cond, not, beq}
 use mathlib.Core.List.{List, [], ◌∷◌, ◌++◌}
 use mathlib.Core.Option.{Option, none, some}
-use lib.ListN.{length, get_or, drop, length-replicate}
+use lib.ListN.{length, get_or, take, drop, length-replicate}
+use lib.Seq.{length-take-le}
 use lib.Dec.{leb}
 use Rattle.qbf.specs.Formula.{Limits, highest, Formula, Prefix, Literal, Node, quantifiers}
 use Rattle.qbf.specs.Plain.{PlainResult}
@@ -102,6 +103,10 @@ module _ (n m : ℕ) (x : State) where
 -- a call answered as that
 pub answered_as : (L : Limits) (x : State) (c : Call) {a q : Said} {o : Maybe Learned} → a ≡ q → Answered L x c q o → Answered L x c a o
 answered_as L x c {a} {q} {o} p s = subst (λ (u : Said). Answered L x c u o) (sym p) s
+
+-- a table with a cell for each number up to n still has them where it is cut behind them
+pub cut_room : (n : ℕ) (vs : List ℕ) → n < length vs → n < length (take (n + 1) vs)
+cut_room n vs h = omega (arith, length-take-le (n + 1) vs (omega (arith, h)))
 
 module _ (n m : ℕ) (x : State) (acc : accepted (own n m) x ≡ true) (low : n ≤ highest.numbers) (few_clauses : m ≤ highest.clauses) where
   -- the tables of the state, and open values, are ready for a reading

@@ -49,6 +49,7 @@ pub fn query<'a>(
 {
     let numbers = checked.parts.variables.numbers;
     let free = checked.free();
+    let values = &mut values[..checked.numbers + 1]; // no number is above the state's limit
     cover::clear(values);
     let flags = Flags {
         numbers,
