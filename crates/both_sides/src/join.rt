@@ -34,6 +34,7 @@ fn with_bounds(on: Answer, b: Bounds) -> Answer
 // stays (no plainer): `Room Shelf` is used up, a number by each row that is stored: a shelf that kept it could not be written to
 // "the on side's entry goes up if it lacks v, else the two are joined"; the resolvent is made in an area of its own, and goes up as its row. The shelf is
 // that of the on side's polarity.
+#[inline(always)]
 pub fn join<'a>(
     off: Aside<'a>,
     on: Answer,

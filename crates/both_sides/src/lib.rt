@@ -40,6 +40,7 @@ pub fn put_by<'a>(aside: &'a [u16; ASIDE], off: OffSide) -> Aside<'a>
 
 // stays (no plainer): `Numbered learned` is used up, a number by each row that is stored: shelves that kept it could not be written to
 // Both sides done, where the off side did not go up: the on side's result, the resolvent of both, which is made in that area and stored, or Mixed.
+#[inline(always)] // a part of the search's one function: bench/ sees it
 pub fn finish<'a>(
     off: Aside<'a>,
     on: Answer,

@@ -17,6 +17,7 @@ use Rattle.qbf.specs.Card.{Mem}
 use Rattle.theory.proofs.Game.{Rising}
 use Rattle.theory.proofs.WellFormed.{FormulaFacts, clauses_rising}
 use Rattle.bitset.specs.Rows.{Unites, least_below, outside, some_below, width}
+use Rattle.bitset.proofs.Below.{least, some_at, some_none}
 use Rattle.tables.specs.Codes.{code_at, codes, sign, Statuses}
 use Rattle.inner.specs.Formed.{Formed}
 use Rattle.tables.specs.Shelves.{code_count}
@@ -96,6 +97,15 @@ module _ {D : Prefix} {R : List Clause} {s : Node} {st : Store} {at code wc k : 
       first_dies D s k given.value entered.long last shown.by_code entered.inside entered.known.rows (rising formed) entered.alive
       (sym (ap (λ (f : ℕ → Bool). some_below f (wc * width)) same) ∙ sym q ∙ e) (found ∙ ap (λ (f : ℕ → Bool). least_below f (wc * width)) same) in
       (w.0, ap (reduced_found D false) w.1)
+
+  -- by the least clause that dies, which is the limit where none does
+  pub none_least : {i : ℕ} → i ≡ least_below killing (wc * width) → wc * width ≤ i → reduced_found D false (lowest_dead D s R) ≡ none
+  none_least found h =
+      nothing_dies refl (some_none killing (wc * width) (λ j p. (least killing (wc * width)).before j (omega (arith, found, h, p))))
+
+  pub one_least : {i : ℕ} → i ≡ least_below killing (wc * width) → i < wc * width → (i < length R) × (reduced_found D false (lowest_dead D s R) ≡ some (reduce D false (get_or R i [])))
+  one_least {i} found h =
+      one_dies refl (some_at killing (wc * width) i h (ap killing found ∙ (least killing (wc * width)).at (omega (arith, found, h)))) found
 
 -- ---- the node's row and mark
 pub step_kept : {from at wc b₀ n : ℕ} {by sat sat' marks marks' : List ℕ} {every new : Bool} → Unites from (at * wc) by b₀ n sat sat' every new

@@ -12,7 +12,7 @@ ghost use Rattle.bitset.specs.Rows.{width, some_below, row};
 ghost use Rattle.inner.specs.Inner.{FoundCoded, LastGiven, Entered, killing};
 
 use crate::Given;
-use bitset::rows::{any_outside, first_outside};
+use bitset::rows::{WIDTH, any_outside, first_outside};
 use search_entry::{Bounds, Matrix, Source};
 
 // How many codes universal reduction leaves of clause k.
@@ -75,7 +75,7 @@ pub fn any_dies<'a>(
     any_outside(dying, above)
 }
 
-// The clause that dies at an inner node, under universal reduction.
+// The clause that dies at an inner node, under universal reduction. The rows are passed once, word by word: the row above was written so, just before.
 pub fn dead<'a>(matrix: &'a Matrix, sat: &'a [u64; tables::SATISFIED], g: Given) -> Option<Bounds>
     ensures { (D : Prefix) (R : List Clause) (s : Node) (st : Store) (k : ℕ) (marks learned area : List ℕ)
         → LastGiven s g.at g.code
@@ -84,11 +84,11 @@ pub fn dead<'a>(matrix: &'a Matrix, sat: &'a [u64; tables::SATISFIED], g: Given)
         → Entered D s R g.words sat.now marks k
         → FoundCoded D result matrix.now.rows learned area (reduced_found D false (lowest_dead D s R)) }
 {
-    if !any_dies(&matrix.sets, sat, g) {
-        return None;
-    }
     let dying = dying_row(&matrix.sets, g);
     let above = row_above(sat, g);
     let k = first_outside(dying, above);
+    if g.words * WIDTH <= k {
+        return None;
+    }
     clause_at(&matrix.rows, k)
 }
