@@ -4,3 +4,4 @@ pub mod Lookups
 pub mod Stepping
 pub mod Conclusions
 pub mod Frees
+pub mod Blocks

@@ -5,6 +5,7 @@
 pub mod found; // steps 2 and 4: the oldest constraint on a shelf that ends in the last place's literal
 pub mod dying; // step 1: the first clause that dies
 pub mod step_down; // step 3: the clauses that are satisfied, and the mark of a place whose value satisfied one more
+pub mod union; // .. united with those of the parent, where rows are whole blocks
 pub mod cube; // the cube of the true literals of the marked places
 
 ghost use Rattle.std.specs.Prelude.{◌≡◌, true, false, List, map, ℕ, suc, ◌≤◌, ◌<◌, length, eqb};

@@ -8,6 +8,7 @@ ghost use Rattle.tables.specs.Sets.{ClauseSets, Descended, RowsKept, satisfying_
 ghost use Rattle.inner.specs.Inner.{LastGiven, Entered};
 
 use crate::Given;
+use crate::union::unite_blocks;
 use bitset::rows::{United, unite};
 use search_entry::Trail;
 
@@ -48,7 +49,12 @@ pub fn row_down<'a>(
         result.fresh }
 {
     let by = satisfying_row(sets, g);
-    unite(sat, (g.at - 1) * g.words, g.at * g.words, by)
+    let (from, to) = ((g.at - 1) * g.words, g.at * g.words);
+    let whole = by.len() % tables::BLOCK == 0;
+    if whole {
+        return unite_blocks(sat, from, to, by);
+    }
+    unite(sat, from, to, by)
 }
 
 // The node's row and mark; whether every clause is satisfied there.
