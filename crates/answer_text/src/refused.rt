@@ -1,7 +1,7 @@
 // A refusal at the start of the lent table.
-ghost use Rattle.std.specs.Prelude.{◌≡◌, ◌||◌, eqb, ◌≤◌, length};
+ghost use Rattle.std.specs.Prelude.{◌≡◌, ◌≤◌, length};
 ghost use Rattle.layout.specs.Output.{refusal_text, overflow_text};
-ghost use Rattle.layout.specs.Session.{search_refusal_text};
+ghost use Rattle.layout.specs.Session.{search_refusal_text, tells_visits as told};
 ghost use Rattle.writer.specs.Wrote.{Wrote};
 ghost use Rattle.answer_text.specs.Room.{refusal_bytes};
 ghost use Rattle.answer_text.specs.Answered.{Answered};
@@ -52,11 +52,12 @@ fn refuse_with_visits(out: &mut Answer<'_>, refusal: u16, line: u64, visits: u64
 // A card too large, a stopped call and a card without a line tell their visits.
 // stays (no plainer): it could take a `Refusal` only if its caller `put_search_refusal` had one, which is of every number
 fn tells_visits(refusal: u16) -> bool
-    ensures { result ≡ (eqb refusal 21 || (eqb refusal 34 || eqb refusal 35)) }
+    ensures { result ≡ told refusal }
 {
     refusal == Refusal::TooManyLines.number()
         || refusal == Refusal::Stopped.number()
         || refusal == Refusal::NoLine.number()
+        || refusal == Refusal::StoppedByShare.number()
 }
 
 // stays (no plainer): `search_refusal_text` is of every number; a `Refusal` is one of 23, and would ask more of a caller

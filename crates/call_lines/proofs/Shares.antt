@@ -13,13 +13,11 @@ use Rattle.qbf.specs.Calls.{Call, rule, query, card, keep_card, forget, withdraw
 use Rattle.qbf.specs.Demands.{refusal_of}
 use Rattle.theory.proofs.AcceptedRule.{some_none}
 use Rattle.layout.specs.Words.{Bytes}
-use Rattle.layout.specs.Output.{overflow_text}
-use Rattle.layout.specs.Session.{answer_text, named}
+use Rattle.layout.specs.Output.{overflow_text, card_text}
+use Rattle.layout.specs.Session.{done_text, lists_yes, refused_text, answer_text, named}
 use Rattle.sessions.specs.Session.{Card, card_after, card_of}
 use Rattle.days.specs.Accounts.{stop_number}
 use Rattle.days.specs.Day.{limited, stopped_as, shared_reply}
-use Rattle.day_text.specs.Output.{stopped_by_share, placed_text}
-use Rattle.day_text_laws.proofs.Alone as alone
 use Rattle.days_laws.proofs.Limited.{limited_same, reply_own}
 use Rattle.state_parts.specs.Parts.{read_at}
 use Rattle.serving.specs.Serves.{number, out_of}
@@ -38,56 +36,27 @@ use Rattle.call_lines.specs.Calling.{stopped_at, line_stopped, CalledAt}
 use Rattle.call_lines.specs.Sharing.{under_limit, HasCeiling, SharedAt}
 
 -- ---- the text of an answer says nothing of a ceiling
-same_words : (m : ℕ) (D : Prefix) (c : Call) (n : ℕ) (r : Reply) (k : ℕ) → answer_text D (limited m c) n (answer r k) ≡ answer_text D c n (answer r k)
+same_text : (D : Prefix) (c c' : Call) (n k : ℕ) → done_text c ≡ done_text c' → lists_yes c ≡ lists_yes c' → ((j : ℕ) → refused_text c j n k ≡ refused_text c' j n k) → (r : Reply)
+    → answer_text D c n (answer r k) ≡ answer_text D c' n (answer r k)
 unfolding answer_text
+same_text D c c' n k d l f done = d
+same_text D c c' n k d l f (refused j) = f j
+same_text D c c' n k d l f swap = refl
+same_text D c c' n k d l f keep = refl
+same_text D c c' n k d l f unsettled = refl
+same_text D c c' n k d l f (lines ls tb) = ap (λ (t : Bool). card_text t D ls k) l
+same_text D c c' n k d l f (card_refused j tb) = refl
+same_text D c c' n k d l f (found ls tb g) = refl
+
+same_words : (m : ℕ) (D : Prefix) (c : Call) (n : ℕ) (r : Reply) (k : ℕ) → answer_text D (limited m c) n (answer r k) ≡ answer_text D c n (answer r k)
 same_words m D (rule ls) n r k = refl
-same_words m D (query top on off) n r k = by r
-  where
-    by : (r : Reply) → answer_text D (query (min top m) on off) n (answer r k) ≡ answer_text D (query top on off) n (answer r k)
-    by done = refl
-    by (refused j) = refl
-    by swap = refl
-    by keep = refl
-    by unsettled = refl
-    by (lines ls tb) = refl
-    by (card_refused j tb) = refl
-    by (found ls tb f) = refl
-same_words m D (card top size) n r k = by r
-  where
-    by : (r : Reply) → answer_text D (card (min top m) size) n (answer r k) ≡ answer_text D (card top size) n (answer r k)
-    by done = refl
-    by (refused j) = refl
-    by swap = refl
-    by keep = refl
-    by unsettled = refl
-    by (lines ls tb) = refl
-    by (card_refused j tb) = refl
-    by (found ls tb f) = refl
+same_words m D (query top on off) n r k = same_text D (query (min top m) on off) (query top on off) n k refl refl (λ j. refl) r
+same_words m D (card top size) n r k = same_text D (card (min top m) size) (card top size) n k refl refl (λ j. refl) r
 same_words m D forget n r k = refl
 same_words m D withdraw n r k = refl
-same_words m D (keep_card top size) n r k = by r
-  where
-    by : (r : Reply) → answer_text D (keep_card (min top m) size) n (answer r k) ≡ answer_text D (keep_card top size) n (answer r k)
-    by done = refl
-    by (refused j) = refl
-    by swap = refl
-    by keep = refl
-    by unsettled = refl
-    by (lines ls tb) = refl
-    by (card_refused j tb) = refl
-    by (found ls tb f) = refl
+same_words m D (keep_card top size) n r k = same_text D (keep_card (min top m) size) (keep_card top size) n k refl refl (λ j. refl) r
 same_words m D (one ls) n r k = refl
-same_words m D (closest top size on off) n r k = by r
-  where
-    by : (r : Reply) → answer_text D (closest (min top m) size on off) n (answer r k) ≡ answer_text D (closest top size on off) n (answer r k)
-    by done = refl
-    by (refused j) = refl
-    by swap = refl
-    by keep = refl
-    by unsettled = refl
-    by (lines ls tb) = refl
-    by (card_refused j tb) = refl
-    by (found ls tb f) = refl
+same_words m D (closest top size on off) n r k = same_text D (closest (min top m) size on off) (closest top size on off) n k refl refl (λ j. refl) r
 
 -- .. nor does the card that it leaves
 same_card : (m : ℕ) (D : Prefix) (c : Call) (r : Reply) (z : Option Card) → card_after D (limited m c) r z ≡ card_after D c r z
@@ -99,26 +68,6 @@ same_card m D withdraw r z = refl
 same_card m D (keep_card top size) r z = refl
 same_card m D (one ls) r z = refl
 same_card m D (closest top size on off) r z = refl
-
--- ---- no call is refused with 37 by itself
-malformed_37 : (c : Call) → stopped_by_share (refusal 22 c) ≡ false
-malformed_37 (rule ls) = refl
-malformed_37 (query n on off) = refl
-malformed_37 (card n size) = refl
-malformed_37 (keep_card n size) = refl
-malformed_37 forget = refl
-malformed_37 withdraw = refl
-malformed_37 (one ls) = refl
-malformed_37 (closest n size on off) = refl
-
-own_reply : (o : Option Read) (c : Call) → stopped_by_share (out_of o c).reply ≡ false
-own_reply none c = malformed_37 c
-own_reply (some y) c = alone.own_reply y c
-
--- so that it is told as in a session
-told_alone : (D : Prefix) (c : Call) (n : ℕ) (a : Answer) → stopped_by_share a.reply ≡ false → answer_text D c n a ≡ placed_text D c n a
-unfolding placed_text
-told_alone D c n a e = sym (ap (λ (t : Bool). cond t (overflow_text 37 n a.visits) (answer_text D c n a)) e)
 
 -- ---- a call that was not stopped, or at its own ceiling
 -- the same reply, under another number for a stop
@@ -183,8 +132,7 @@ module _ (m own : ℕ) {cells : List ℕ} {literals : List ℤ} {n : ℕ} {s₀ 
               text =
                   w.turned.served.text
                   ∙ same_words m (prefix_read (read_at cells literals)) c n (out_of (read_at cells literals) (limited m c)).reply (out_of (read_at cells literals) (limited m c)).visits
-                  ∙ told_alone (prefix_read (read_at cells literals)) c n (out_of (read_at cells literals) (limited m c)) (own_reply (read_at cells literals) (limited m c))
-                  ∙ ap (λ (r : Reply). placed_text (prefix_read (read_at cells literals)) c n (answer r (out_of (read_at cells literals) (limited m c)).visits)) (sym (h c refl));
+                  ∙ ap (λ (r : Reply). answer_text (prefix_read (read_at cells literals)) c n (answer r (out_of (read_at cells literals) (limited m c)).visits)) (sym (h c refl));
               next = w.turned.served.next;
               kept = w.turned.served.kept;
             };
@@ -215,16 +163,30 @@ module _ (m own : ℕ) {cells : List ℕ} {literals : List ℤ} {n : ℕ} {s₀ 
 zero_stop : eqb 0 34 ≡ true → ⊥
 zero_stop q = let z : ◌≡◌ {A = ℕ} 0 34 = eqb-true 0 34 q in omega (arith, z)
 
-share_text : (D : Prefix) (n k : ℕ) (c : Call) (r : Reply) → eqb (number (refusal_of r)) 34 ≡ true → overflow_text 37 n k ≡ placed_text D c n (answer (stopped_as 37 r) k)
-unfolding placed_text
-share_text D n k c done e = absurd (zero_stop e)
-share_text D n k c (refused j) e = sym (ap (λ (t : Bool). cond (eqb (cond t 37 j) 37) (overflow_text 37 n k) (answer_text D c n (answer (refused (cond t 37 j)) k))) e)
-share_text D n k c swap e = absurd (zero_stop e)
-share_text D n k c keep e = absurd (zero_stop e)
-share_text D n k c unsettled e = absurd (zero_stop e)
-share_text D n k c (lines ls tb) e = absurd (zero_stop e)
-share_text D n k c (card_refused j tb) e = sym (ap (λ (t : Bool). cond (eqb (cond t 37 j) 37) (overflow_text 37 n k) (answer_text D c n (answer (card_refused (cond t 37 j) tb) k))) e)
-share_text D n k c (found ls tb f) e = absurd (zero_stop e)
+refused_37 : (D : Prefix) (n k : ℕ) (c : Call) (top : ℕ) → ceiling_of c ≡ some top → answer_text D c n (answer (refused 37) k) ≡ overflow_text 37 n k
+unfolding answer_text
+refused_37 D n k (rule ls) top i = absurd (some_none (sym i))
+refused_37 D n k (query m on off) top i = refl
+refused_37 D n k (card m size) top i = refl
+refused_37 D n k forget top i = absurd (some_none (sym i))
+refused_37 D n k withdraw top i = absurd (some_none (sym i))
+refused_37 D n k (keep_card m size) top i = refl
+refused_37 D n k (one ls) top i = absurd (some_none (sym i))
+refused_37 D n k (closest m size on off) top i = refl
+
+card_37 : (D : Prefix) (n k : ℕ) (c : Call) (tb : List ℕ) → answer_text D c n (answer (card_refused 37 tb) k) ≡ overflow_text 37 n k
+unfolding answer_text
+card_37 D n k c tb = refl
+
+share_text : (D : Prefix) (n k : ℕ) (c : Call) (top : ℕ) → ceiling_of c ≡ some top → (r : Reply) → eqb (number (refusal_of r)) 34 ≡ true → overflow_text 37 n k ≡ answer_text D c n (answer (stopped_as 37 r) k)
+share_text D n k c top i done e = absurd (zero_stop e)
+share_text D n k c top i (refused j) e = sym (ap (λ (t : Bool). answer_text D c n (answer (refused (cond t 37 j)) k)) e ∙ refused_37 D n k c top i)
+share_text D n k c top i swap e = absurd (zero_stop e)
+share_text D n k c top i keep e = absurd (zero_stop e)
+share_text D n k c top i unsettled e = absurd (zero_stop e)
+share_text D n k c top i (lines ls tb) e = absurd (zero_stop e)
+share_text D n k c top i (card_refused j tb) e = sym (ap (λ (t : Bool). answer_text D c n (answer (card_refused (cond t 37 j) tb) k)) e ∙ card_37 D n k c tb)
+share_text D n k c top i (found ls tb f) e = absurd (zero_stop e)
 
 module _ (m own : ℕ) {cells : List ℕ} {literals : List ℤ} {n : ℕ} {s₀ : Shown} {t₀ : Bytes} {u : Called} {cells' : List ℕ} {literals' : List ℤ} {t d : Bytes} where
   pub told_stopped : {d' : Bytes} {r : ℕ} (c : Option Call) → HasCeiling own c → u.stopped ≡ true → m < own → CalledAt cells literals (under_limit m c) n s₀ t₀ u cells' literals' t d → Wrote d 0 (overflow_text 37 n u.visits) d' r
@@ -252,11 +214,11 @@ module _ (m own : ℕ) {cells : List ℕ} {literals : List ℤ} {n : ℕ} {s₀ 
       ended : (p : Option ℕ) → ceiling_of c ≡ p → true ≡ stopped_at p (refusal_of a.reply)
       ended p z = sym e ∙ w.stopped ∙ limit_kept m c (refusal_of a.reply) ∙ ap (λ (q : Option ℕ). stopped_at q (refusal_of a.reply)) z
 
-      by : (p : Option ℕ) → ceiling_of c ≡ p → overflow_text 37 n a.visits ≡ placed_text (prefix_read (read_at cells literals)) c n (answer (shared_reply (ceiling_of c) m a.reply) a.visits)
+      by : (p : Option ℕ) → ceiling_of c ≡ p → overflow_text 37 n a.visits ≡ answer_text (prefix_read (read_at cells literals)) c n (answer (shared_reply (ceiling_of c) m a.reply) a.visits)
       by none z = absurd (true≢false (ended none z))
       by (some k) z =
-          share_text (prefix_read (read_at cells literals)) n a.visits c a.reply (sym (ended (some k) z))
-          ∙ sym (ap (λ (q : Option ℕ). placed_text (prefix_read (read_at cells literals)) c n (answer (shared_reply q m a.reply) a.visits)) z ∙ ap (λ (b : Bool). placed_text (prefix_read (read_at cells literals)) c n (answer (stopped_as (cond b 37 34) a.reply) a.visits)) (lt-ltb m k (omega (arith, less, h k z))))
+          share_text (prefix_read (read_at cells literals)) n a.visits c k z a.reply (sym (ended (some k) z))
+          ∙ sym (ap (λ (q : Option ℕ). answer_text (prefix_read (read_at cells literals)) c n (answer (shared_reply q m a.reply) a.visits)) z ∙ ap (λ (b : Bool). answer_text (prefix_read (read_at cells literals)) c n (answer (stopped_as (cond b 37 34) a.reply) a.visits)) (lt-ltb m k (omega (arith, less, h k z))))
 
 -- ---- the call that was read, under a limit
 module _ (m : ℕ) where

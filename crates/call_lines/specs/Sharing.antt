@@ -5,9 +5,9 @@ use Rattle.qbf.specs.Calls.{Call, ceiling_of, Answer, answer, State as Read}
 use Rattle.qbf.specs.Demands.{AfterSearch}
 use Rattle.layout.specs.Words.{Bytes}
 use Rattle.layout.specs.Output.{refusal_text}
+use Rattle.layout.specs.Session.{answer_text}
 use Rattle.sessions.specs.Session.{Card, card_after}
 use Rattle.days.specs.Day.{limited, shared_reply}
-use Rattle.day_text.specs.Output.{placed_text}
 use Rattle.state_parts.specs.Parts.{read_at}
 use Rattle.serving.specs.Serves.{out_of}
 use Rattle.answer_text.specs.declared.shown.Shown.{Shown}
@@ -34,7 +34,7 @@ out_shared m o c =
 
 abbrev pub shared_answer : ℕ → Option Read → ℕ → Option Call → Bytes
 shared_answer m o n none = refusal_text 1 n
-shared_answer m o n (some c) = placed_text (prefix_read o) c n (out_shared m o c)
+shared_answer m o n (some c) = answer_text (prefix_read o) c n (out_shared m o c)
 
 abbrev pub shared_visits : ℕ → Option Read → Option Call → ℕ
 shared_visits m o none = 0

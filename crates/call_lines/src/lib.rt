@@ -1,23 +1,30 @@
-// A line that is a call, served on a state where it lies, in two lent tables, with a lent workspace: under the visits that the call may make, which a session does not
+// A call that was read from a line, served on a state where it lies, in two lent tables, with a lent workspace: under the visits that it may make, which a session does not
 // limit and a day does. The answer is written into a lent table. Each call has a frame of its own (`inline(never)`), so that the stack of a line is that of one call.
 #![tactic(auto)]
 
 mod asked; // the flags of a query or a closest reading
 mod call; // the call that was read
 mod card;
-pub mod made; // a line that is a call, or none
+pub mod made; // a line that is a call
 mod nearest;
 mod query;
 mod share; // the visits that it may make
 mod stop;
 
 use line_turns::{At, Turn};
+use reader::ceiling::CeiledLine;
 
-// A line without its byte 10, its number and the card answered last before it, and the visits that its call may make: the highest ceiling in a session, or the share of
-// a place.
+// A line without its byte 10, the call that was read from it, and the table of its literals.
 #[derive(Clone, Copy)]
-pub struct Line<'a> {
+pub struct ReadCall<'a> {
     pub bytes: &'a [u8],
+    pub read: CeiledLine,
+    pub lits: &'a [i16; tables::BY_NUMBER],
+}
+
+// The number of a line and the card answered last before it, and the visits that its call may make: the highest ceiling in a session, or the share of a place.
+#[derive(Clone, Copy)]
+pub struct Under {
     pub at: At,
     pub share: u32,
 }

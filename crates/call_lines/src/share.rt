@@ -3,26 +3,16 @@ ghost use Rattle.std.specs.Prelude.{◌≡◌, ◌≤◌, ℕ, List, ℤ};
 ghost use Rattle.std.proofs.Math.Option.{Option};
 ghost use Rattle.qbf.specs.Calls.{Call};
 ghost use Rattle.layout.specs.Words.{Bytes};
-ghost use Rattle.layout.specs.Output.{overflow_text};
 ghost use Rattle.answer_text.specs.declared.shown.Shown.{Shown};
-ghost use Rattle.answer_text.specs.Answered.{AnswerHeld, Answered};
+ghost use Rattle.answer_text.specs.Answered.{AnswerHeld};
 ghost use Rattle.call_lines.specs.Calling.{CalledAt};
 ghost use Rattle.call_lines.specs.Sharing.{under_limit, HasCeiling, SharedAt};
 
 use crate::{Called, Shared};
 use answer_text::Answer;
+use answer_text::refused::put_search_refusal;
 use line_turns::Turn;
 use refusal::Refusal;
-use writer::Output;
-
-fn put_stop(out: &mut Answer<'_>, line: u64, visits: u64) -> usize
-    ensures { Answered out.old (overflow_text 37 line visits) out.new result }
-{
-    let bytes = &mut *out.bytes;
-    let mut text = Output { bytes, at: 0 };
-    text.put_overflow(Refusal::StoppedByShare.number() as u64, line, visits);
-    text.at
-}
 
 // The answer of a call that was made under the smaller of its own ceiling and the share.
 // stays (no plainer): the two numbers are those of `shares::limit`, whose line says why they are no struct
@@ -64,7 +54,7 @@ pub fn told_under(called: Called, own: u32, share: u32, line: u64, out: &mut Ans
     } = called;
     if stopped {
         if share < own {
-            let length = put_stop(out, line, visits);
+            let length = put_search_refusal(out, Refusal::StoppedByShare.number(), visits, line);
             let turn = Turn {
                 shown: turn.shown,
                 length,

@@ -13,7 +13,7 @@ use Rattle.layout.specs.Session.{call_from, sized_call, ceiled_call, answer_text
 use Rattle.sessions.specs.Session.{request_from, request_of}
 use Rattle.feeding.specs.Lines.{fed, grown}
 use Rattle.day_text.specs.Lines.{total_of, behind, is_place, place_of, cut_of, at_of, asked_of}
-use Rattle.day_text.specs.Output.{at_text, placed_text}
+use Rattle.day_text.specs.Output.{at_text}
 use Rattle.day_feeding.specs.Steps.{Held, start, on_byte, at_end}
 
 -- the pieces of an input, and what is printed at each; last, at the end
@@ -57,5 +57,5 @@ rows =
     ∷ []
 
 step_rows : all_printed rows ≡ all_expected rows
-unfolding split same digits number items consed closed inside form_from form_of rule_from line_from line_said read_lines read_editions open_editions formula_place last_digits decimal refusal_text overflow_text query_text call_from number_up_to ended sized_call ceiled_call answer_text request_from request_of fed grown total_of behind is_place place_of cut_of at_of asked_of at_text placed_text
+unfolding split same digits number items consed closed inside form_from form_of rule_from line_from line_said read_lines read_editions open_editions formula_place last_digits decimal refusal_text overflow_text query_text call_from number_up_to ended sized_call ceiled_call answer_text request_from request_of fed grown total_of behind is_place place_of cut_of at_of asked_of at_text
 step_rows = refl

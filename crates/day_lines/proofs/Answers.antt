@@ -16,7 +16,6 @@ use Rattle.sessions.specs.Session.{Request, call, write, page, Card, card_after,
 use Rattle.booktext.specs.Books.{write_call}
 use Rattle.days.specs.Accounts.{overspent, charged}
 use Rattle.days.specs.Day.{DayStepped, book_at, day_step, limited, outside, share_at, shared_reply, under_share}
-use Rattle.day_text.specs.Output.{placed_text}
 use Rattle.day_text.specs.Program.{Served, shown_at, answer_at}
 use Rattle.shares.specs.Shares.{share_of, allows_of, settled}
 use Rattle.state_parts.specs.Parts.{read_at}
@@ -104,8 +103,8 @@ module _ (z : Served) (k n m : ℕ) (cells : List ℕ) (literals : List ℤ) whe
           text : t ≡ (answer_at (state_in o) z n k (call c)).text
           text =
               s.text
-              ∙ ap (λ (D : Prefix). placed_text D c n (out_shared m o c)) (prefix_in o)
-              ∙ ap (placed_text (state_in o).formula.prefix c n) (owed_out ∙ ap (λ (r : DayStepped). r.out) (sym stepped))
+              ∙ ap (λ (D : Prefix). answer_text D c n (out_shared m o c)) (prefix_in o)
+              ∙ ap (answer_text (state_in o).formula.prefix c n) (owed_out ∙ ap (λ (r : DayStepped). r.out) (sym stepped))
 
           visits : v ≡ made.visits
           visits = w ∙ ap (λ (a : Answer). a.visits) owed_out
@@ -128,8 +127,8 @@ module _ (z : Served) (k n m : ℕ) (cells : List ℕ) (literals : List ℤ) whe
               ∙ ap (λ (r : DayStepped). record { day = r.day; shown = set z.shown (k - 1) (card_after (state_in o).formula.prefix c r.out.reply (shown_at z k)) }) (sym stepped)
 
 -- ---- where the accounts do not stand, a call is 22
-refused_22 : (D : Prefix) (c : Call) (n : ℕ) → placed_text D c n (answer (refusal 22 c) 0) ≡ refusal_text 22 n
-unfolding placed_text answer_text
+refused_22 : (D : Prefix) (c : Call) (n : ℕ) → answer_text D c n (answer (refusal 22 c) 0) ≡ refusal_text 22 n
+unfolding answer_text
 refused_22 D (rule ls) n = refl
 refused_22 D (query m on off) n = refl
 refused_22 D (card m size) n = refl
@@ -160,7 +159,7 @@ module _ (z : Served) (k n : ℕ) (x : Read) (here : book_at z.day k ≡ some x)
   refused_step = step_refused z.day k x here c over
 
   pub over_text : refusal_text 22 n ≡ (answer_at x z n k (call c)).text
-  over_text = sym (ap (λ (r : DayStepped). placed_text x.formula.prefix c n r.out) refused_step ∙ refused_22 x.formula.prefix c n)
+  over_text = sym (ap (λ (r : DayStepped). answer_text x.formula.prefix c n r.out) refused_step ∙ refused_22 x.formula.prefix c n)
 
   over_left : (answer_at x z n k (call c)).left ≡ record { day = z.day; shown = set z.shown (k - 1) (card_22 (kind_call c) (shown_at z k)) }
   over_left =

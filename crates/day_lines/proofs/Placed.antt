@@ -9,7 +9,7 @@ use mathlib.Core.Option.{Option, none, some}
 use lib.IntN.{ℤ}
 use lib.ListN.{get_or, set, take}
 use lib.Seq.{set-get_or}
-use Rattle.std.specs.Prelude.{Result, Ok, Err, Some}
+use Rattle.std.specs.Prelude.{Result, Ok, Err}
 use Rattle.refusal.specs.declared.Refusal.{Refusal}
 use Rattle.refusal.specs.Refusal.{number_of}
 use Rattle.qbf.specs.Calls.{Call, rule, query, card, forget, withdraw, keep_card, one, closest, State as Read}
@@ -153,7 +153,7 @@ module _ (s : Kept) (cells : List ℕ) (literals : List ℤ) (cards : List Bytes
     served_here (page p) w = reads_page false b n m s' cells' literals' cards' r d p w
 
   -- ---- by what the line asks for
-  module _ (q : Option Request) (κ : Kind) (asked : AskedIs q (Some κ)) (n : ℕ) where
+  module _ (q : Option Request) (κ : Kind) (asked : AskedIs q κ) (n : ℕ) where
     placed_for : {z' : Served} {r : ℕ} {d : Bytes} → PlaceServed n z k (some asked.0) z' r d → PlaceServed n z k q z' r d
     placed_for {z'} {r} {d} t = subst (λ (o : Option Request). PlaceServed n z k o z' r d) (sym asked.1) t
 

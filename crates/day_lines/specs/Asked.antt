@@ -1,10 +1,12 @@
 -- What the line at a place asks for, as the code tells it.
-use Rattle.std.specs.Prelude.{◌≡◌, Option as Answer, Some, None}
-use Rattle.std.proofs.Math.Option.{Option, none, some}
+use Rattle.std.specs.Prelude.{◌≡◌}
+use Rattle.std.proofs.Math.Option.{Option, some}
 use Rattle.qbf.specs.Calls.{Call, rule, query, card, forget, withdraw, keep_card, one, closest}
 use Rattle.sessions.specs.Session.{Request, call, write, page}
 use Rattle.reader.specs.declared.call.CallLine.{CallLine}
 use Rattle.reader.specs.declared.call.CallLine.TheVariants as line
+use Rattle.session_lines.specs.declared.asked.SessionLine.{SessionLine}
+use Rattle.session_lines.specs.declared.asked.SessionLine.TheVariants as read
 use Rattle.day_lines.specs.declared.asked.Kind.{Kind}
 use Rattle.day_lines.specs.declared.asked.Kind.TheVariants as kind
 
@@ -35,6 +37,9 @@ kind_in line.Withdraw = kind.Calls
 kind_in (line.One n) = kind.Calls
 kind_in (line.Closest n size) = kind.Lists
 
-abbrev pub AskedIs : Option Request → Answer Kind → Type 0
-AskedIs q None = q ≡ none
-AskedIs q (Some k) = (r : Request) × (q ≡ some r) × (k ≡ kind_request r)
+abbrev pub kind_read : SessionLine → Kind
+kind_read (read.Reads l) = kind.Reads
+kind_read (read.Makes z) = kind_in z.line
+
+abbrev pub AskedIs : Option Request → Kind → Type 0
+AskedIs q k = (r : Request) × (q ≡ some r) × (k ≡ kind_request r)

@@ -1,11 +1,9 @@
-// What the line at a place asks for, if it is one of a session.
+// What the line at a place asks for, as the accounts that do not stand tell it apart.
 ghost use Rattle.std.specs.Prelude.{◌≡◌};
-ghost use Rattle.sessions.specs.Session.{request_of};
-ghost use Rattle.day_lines.specs.Asked.{AskedIs, kind_in};
+ghost use Rattle.day_lines.specs.Asked.{kind_in, kind_read};
 
 use reader::call::CallLine;
-use reader::ceiling::read_call;
-use reader::request::read_request;
+use session_lines::asked::SessionLine;
 
 // The book's text or a page; a call whose lines are a card; any other call.
 #[derive(Clone, Copy)]
@@ -15,7 +13,7 @@ pub enum Kind {
     Calls,
 }
 
-fn kind_of(line: CallLine) -> Kind
+fn kind_of_call(line: CallLine) -> Kind
     ensures { result ≡ kind_in line }
 {
     match line {
@@ -24,13 +22,11 @@ fn kind_of(line: CallLine) -> Kind
     }
 }
 
-pub fn asked(line: &[u8]) -> Option<Kind>
-    ensures { AskedIs (request_of line.now) result }
+pub fn kind_of(line: SessionLine) -> Kind
+    ensures { result ≡ kind_read line }
 {
-    if read_request(line).is_some() {
-        return Some(Kind::Reads);
+    match line {
+        SessionLine::Reads(_) => Kind::Reads,
+        SessionLine::Makes(read) => kind_of_call(read.line),
     }
-    let mut lits = [0i16; tables::BY_NUMBER];
-    let read = read_call(line, &mut lits)?;
-    Some(kind_of(read.line))
 }

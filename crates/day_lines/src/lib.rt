@@ -10,7 +10,6 @@ ghost use Rattle.day_lines.specs.Served.{served_in, LineServed};
 
 use answer_text::refused::write_refusal;
 use answer_text::shown::Shown;
-use asked::asked;
 use day_reader::at::read_at;
 use day_reader::total::is_shares;
 use day_writer::lines::{write_at, write_shares};
@@ -19,6 +18,7 @@ use places::{Accounts, Rooms};
 use reader::call::TABLE;
 use refusal::Refusal;
 use search_entry::workspace::Workspace;
+use session_lines::asked::{Asked, read_line};
 use shares::BOOKS;
 
 mod asked; // what the line at a place asks for
@@ -79,13 +79,17 @@ pub fn serve_day_line(
     let Some(at) = read_at(line.bytes) else {
         return write_refusal(out, Refusal::NotInLayout.number(), line.number);
     };
-    let Some(kind) = asked(at.call) else {
+    let mut lits = [0i16; tables::BY_NUMBER];
+    let Some(read) = read_line(at.call, &mut lits) else {
         return write_refusal(out, Refusal::NotInLayout.number(), line.number);
     };
     let request = Request {
         place: at.place,
-        call: at.call,
-        kind,
+        asked: Asked {
+            bytes: at.call,
+            line: read,
+            lits: &lits,
+        },
         number: line.number,
     };
     let before = write_place(out, at.place);

@@ -17,7 +17,7 @@ use Rattle.booktext.specs.Texts.{body_text, line_of, form_text, forms_text}
 use Rattle.booktext.specs.Books.{book_forms, book_text, write_call, text_room}
 use Rattle.sessions.specs.Session.{request_from, request_of}
 use Rattle.day_text.specs.Lines.{total_of, behind, is_place, place_of, cut_of, at_of, asked_of}
-use Rattle.day_text.specs.Output.{at_text, placed_text, share_text, shares_from, shares_text}
+use Rattle.day_text.specs.Output.{at_text, share_text, shares_from, shares_text}
 use Rattle.day_text.specs.Program.{day_lines, day_program}
 
 -- book A, eight lines, whose card takes 11 visits, and book B, six lines, without a line on its card
@@ -120,17 +120,17 @@ pages =
     ∷ []
 
 total_rows : printed totals ≡ expected totals
-unfolding split same digits number items consed closed inside form_from form_of rule_from line_from line_said read_lines read_editions open_editions formula_place last_digits decimal literal_text items_text line_text lines_text visits_text card_text refusal_text overflow_text query_text call_from number_up_to ended sized_call ceiled_call answer_text request_from request_of body_text line_of form_text forms_text book_forms book_text text_room write_call total_of behind is_place place_of cut_of at_of asked_of at_text placed_text share_text shares_from shares_text day_lines day_program
+unfolding split same digits number items consed closed inside form_from form_of rule_from line_from line_said read_lines read_editions open_editions formula_place last_digits decimal literal_text items_text line_text lines_text visits_text card_text refusal_text overflow_text query_text call_from number_up_to ended sized_call ceiled_call answer_text request_from request_of body_text line_of form_text forms_text book_forms book_text text_room write_call total_of behind is_place place_of cut_of at_of asked_of at_text share_text shares_from shares_text day_lines day_program
 total_rows = refl
 
 loading_rows : printed loads ≡ expected loads
-unfolding split same digits number items consed closed inside form_from form_of rule_from line_from line_said read_lines read_editions open_editions formula_place last_digits decimal literal_text items_text line_text lines_text visits_text card_text refusal_text overflow_text query_text call_from number_up_to ended sized_call ceiled_call answer_text request_from request_of body_text line_of form_text forms_text book_forms book_text text_room write_call total_of behind is_place place_of cut_of at_of asked_of at_text placed_text share_text shares_from shares_text day_lines day_program
+unfolding split same digits number items consed closed inside form_from form_of rule_from line_from line_said read_lines read_editions open_editions formula_place last_digits decimal literal_text items_text line_text lines_text visits_text card_text refusal_text overflow_text query_text call_from number_up_to ended sized_call ceiled_call answer_text request_from request_of body_text line_of form_text forms_text book_forms book_text text_room write_call total_of behind is_place place_of cut_of at_of asked_of at_text share_text shares_from shares_text day_lines day_program
 loading_rows = refl
 
 call_rows : printed asks ≡ expected asks
-unfolding split same digits number items consed closed inside form_from form_of rule_from line_from line_said read_lines read_editions open_editions formula_place last_digits decimal literal_text items_text line_text lines_text visits_text card_text refusal_text overflow_text query_text call_from number_up_to ended sized_call ceiled_call answer_text request_from request_of body_text line_of form_text forms_text book_forms book_text text_room write_call total_of behind is_place place_of cut_of at_of asked_of at_text placed_text share_text shares_from shares_text day_lines day_program aligned sign_of page_of no_page
+unfolding split same digits number items consed closed inside form_from form_of rule_from line_from line_said read_lines read_editions open_editions formula_place last_digits decimal literal_text items_text line_text lines_text visits_text card_text refusal_text overflow_text query_text call_from number_up_to ended sized_call ceiled_call answer_text request_from request_of body_text line_of form_text forms_text book_forms book_text text_room write_call total_of behind is_place place_of cut_of at_of asked_of at_text share_text shares_from shares_text day_lines day_program aligned sign_of page_of no_page
 call_rows = refl
 
 page_rows : printed pages ≡ expected pages
-unfolding split same digits number items consed closed inside form_from form_of rule_from line_from line_said read_lines read_editions open_editions formula_place last_digits decimal literal_text items_text line_text lines_text visits_text card_text refusal_text overflow_text query_text call_from number_up_to ended sized_call ceiled_call answer_text request_from request_of body_text line_of form_text forms_text book_forms book_text text_room write_call total_of behind is_place place_of cut_of at_of asked_of at_text placed_text share_text shares_from shares_text day_lines day_program aligned sign_of page_of no_page
+unfolding split same digits number items consed closed inside form_from form_of rule_from line_from line_said read_lines read_editions open_editions formula_place last_digits decimal literal_text items_text line_text lines_text visits_text card_text refusal_text overflow_text query_text call_from number_up_to ended sized_call ceiled_call answer_text request_from request_of body_text line_of form_text forms_text book_forms book_text text_room write_call total_of behind is_place place_of cut_of at_of asked_of at_text share_text shares_from shares_text day_lines day_program aligned sign_of page_of no_page
 page_rows = refl

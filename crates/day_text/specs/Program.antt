@@ -7,14 +7,14 @@ use Rattle.layout.specs.Words.{Bytes, newline, split, same}
 use Rattle.layout.specs.Forms.{then}
 use Rattle.layout.specs.Output.{refusal_text}
 use Rattle.layout.specs.Opening.{text_bytes, Opened, refused, opened}
-use Rattle.layout.specs.Session.{end_line}
+use Rattle.layout.specs.Session.{end_line, answer_text}
 use Rattle.editions.specs.Opening.{both, open_editions}
 use Rattle.sessions.specs.Session.{Request, call, write, page, Card, card_after, turn_of}
 use Rattle.feeding.specs.Lines.{Part, begun, overlong, Answered, as_line}
 use Rattle.days.specs.Accounts.{books}
 use Rattle.days.specs.Day.{Day, loaded, book_at, day_step}
 use Rattle.day_text.specs.Lines.{total_of, is_place, Place, place_of, Asked, at, shares, asked_of}
-use Rattle.day_text.specs.Output.{at_text, opening_text, placed_text, shares_text}
+use Rattle.day_text.specs.Output.{at_text, opening_text, shares_text}
 
 -- ---- the lines behind the loading
 -- the day, and the card answered last at each place
@@ -32,7 +32,7 @@ with_shown z k d c = record { day = d; shown = set z.shown (k - 1) c }
 abbrev pub answer_at : State → Served → ℕ → ℕ → Request → Answered Served
 answer_at x z n k (call c) =
     let r = day_step z.day (record { place = k; call = c }) in
-    record { text = placed_text x.formula.prefix c n r.out; left = with_shown z k r.day (card_after x.formula.prefix c r.out.reply (shown_at z k)) }
+    record { text = answer_text x.formula.prefix c n r.out; left = with_shown z k r.day (card_after x.formula.prefix c r.out.reply (shown_at z k)) }
 answer_at x z n k (write size) = record { text = (turn_of x (shown_at z k) n (some (write size))).text; left = z }
 answer_at x z n k (page p) = record { text = (turn_of x (shown_at z k) n (some (page p))).text; left = z }
 

@@ -21,40 +21,7 @@ use lib.Seq.{get_or-set_same}
 use Rattle.days.specs.Accounts.{books}
 use Rattle.days_laws.proofs.Days.{inside, below_eight, here_step, here_book}
 use Rattle.days_laws.proofs.Limited.{limited_same, reply_own}
-use Rattle.day_text.specs.Output.{stopped_by_share, placed_text}
 use Rattle.day_text.specs.Program.{Served, shown_at, answer_at}
-
--- an answer that is no stop by the share has a session's text
-same_text : (D : Prefix) (c : Call) (n : ℕ) (a : Answer) → stopped_by_share a.reply ≡ false → placed_text D c n a ≡ answer_text D c n a
-unfolding placed_text
-same_text D c n a e = ap (λ (t : Bool). cond t (overflow_text 37 n a.visits) (answer_text D c n a)) e
-
--- no call of a book alone is refused with 37
-none_37 : (c : Call) → any (λ n. eqb n 37) (refusals c) ≡ false
-none_37 (rule ls) = refl
-none_37 (query n on off) = refl
-none_37 (card n size) = refl
-none_37 (keep_card n size) = refl
-none_37 forget = refl
-none_37 withdraw = refl
-none_37 (one ls) = refl
-none_37 (closest n size on off) = refl
-
-own_refusal : (x : State) (c : Call) (n : ℕ) → refusal_of (step x c).out.reply ≡ some n → eqb n 37 ≡ false
-own_refusal x c n e = any_false→ (λ k. eqb k 37) (refusals c) (none_37 c) n (refused_known x c n e)
-
-pub own_reply : (x : State) (c : Call) → stopped_by_share (step x c).out.reply ≡ false
-own_reply x c = by (step x c).out.reply refl
-  where
-    by : (r : Reply) → (step x c).out.reply ≡ r → stopped_by_share r ≡ false
-    by done e = refl
-    by (refused n) e = own_refusal x c n (ap refusal_of e)
-    by swap e = refl
-    by keep e = refl
-    by unsettled e = refl
-    by (lines ls tb) e = refl
-    by (card_refused n tb) e = own_refusal x c n (ap refusal_of e)
-    by (found ls tb r) e = refl
 
 module _ (z : Served) (s : Sound z.day) (k : ℕ) (x : State) (e : book_at z.day k ≡ some x) (n : ℕ) where
   module _ (c : Call) (fits : (i : ℕ) → ceiling_of c ≡ some i → i ≤ share_at z.day k) where
@@ -74,7 +41,7 @@ module _ (z : Served) (s : Sound z.day) (k : ℕ) (x : State) (e : book_at z.day
 
     -- its text is the session's, on that state and with the card that this place has shown
     pub call_alone : (answer_at x z n k (call c)).text ≡ (turn_of x (shown_at z k) n (some (call c))).text
-    call_alone = ap (placed_text x.formula.prefix c n) same_out ∙ same_text x.formula.prefix c n (step x c).out (own_reply x c)
+    call_alone = ap (answer_text x.formula.prefix c n) same_out
 
     -- and the card that is shown there is then the session's
     pub same_shown : length z.shown ≡ books → shown_at (answer_at x z n k (call c)).left k ≡ (turn_of x (shown_at z k) n (some (call c))).shown

@@ -4,8 +4,9 @@ use mathlib.Core.Path.{◌≡◌, refl}
 use mathlib.Core.List.{List, [], ◌∷◌}
 use mathlib.Core.Option.{Option, none, some}
 use lib.IntN.{pos}
-use Rattle.qbf.specs.Formula.{paper, place_of}
+use Rattle.qbf.specs.Formula.{Prefix, paper, place_of}
 use Rattle.qbf.specs.Calls.{Call, query, step}
+use Rattle.qbf.specs.Calls as calls
 use Rattle.qbf.specs.Runs.{fresh}
 use Rattle.layout.specs.Words.{Bytes, ascii, split, same, digits, number, closed, inside}
 use Rattle.layout.specs.Forms.{items, consed, form_from, form_of}
@@ -103,3 +104,8 @@ rows =
 query_answers : answers rows ≡ texts rows
 unfolding split same digits number items consed closed inside form_from form_of read_lines open_text place_of number_up_to ended call_from sized_call ceiled_call call_of last_digits decimal refusal_text overflow_text query_text answer_text
 query_answers = refl
+
+-- .. and where the share of a day's place stopped it
+share_stop : (D : Prefix) → answer_text D (query 9 [] []) 13 (calls.answer (calls.refused 37) 2) ≡ ascii "(refused 37 13 (visits 2))\n"
+unfolding last_digits decimal overflow_text answer_text
+share_stop D = refl

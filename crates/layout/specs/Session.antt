@@ -149,20 +149,24 @@ lists_yes (keep_card n size) = false
 lists_yes (one ls) = true
 lists_yes (closest n size on off) = true
 
--- "Visits are returned .. with 21, 34, 35": a card too large, a stopped call and a card without a line, from which a closest reading was asked, tell their visits
-abbrev pub search_refusal_text : ℕ → ℕ → ℕ → Bytes
-search_refusal_text n line visits = cond (eqb n 21 || (eqb n 34 || eqb n 35)) (overflow_text n line visits) (refusal_text n line)
+-- what is refused after a search tells its visits: a card too large (21), a stopped call (34, or 37 where the share of a day's place stopped it), and a card without a line,
+-- from which a closest reading was asked (35)
+abbrev pub tells_visits : ℕ → Bool
+tells_visits n = eqb n 21 || (eqb n 34 || (eqb n 35 || eqb n 37))
 
--- a refused call; only a query has searched
+abbrev pub search_refusal_text : ℕ → ℕ → ℕ → Bytes
+search_refusal_text n line visits = cond (tells_visits n) (overflow_text n line visits) (refusal_text n line)
+
+-- a refused call; the others have not searched
 abbrev pub refused_text : Call → ℕ → ℕ → ℕ → Bytes
 refused_text (query m on off) n line visits = search_refusal_text n line visits
 refused_text (rule ls) n line visits = refusal_text n line
 refused_text forget n line visits = refusal_text n line
 refused_text withdraw n line visits = refusal_text n line
-refused_text (card m size) n line visits = refusal_text n line
-refused_text (keep_card m size) n line visits = refusal_text n line
+refused_text (card m size) n line visits = search_refusal_text n line visits
+refused_text (keep_card m size) n line visits = search_refusal_text n line visits
 refused_text (one ls) n line visits = refusal_text n line
-refused_text (closest m size on off) n line visits = refusal_text n line
+refused_text (closest m size on off) n line visits = search_refusal_text n line visits
 
 -- the reply to a call on some line
 abbrev pub reply_printed : Prefix → Call → ℕ → Reply → ℕ → Bytes

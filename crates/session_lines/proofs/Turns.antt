@@ -120,6 +120,10 @@ module _ {cells : List ℕ} {literals : List ℤ} {l : Bytes} {n : ℕ} {s₀ : 
   pub not_served : length d₀ < answer_bytes → TooShort r.refusal r.length d₀ d → r.shown ≡ s₀ → ServesLineAt cells literals l n s₀ t₀ d₀ r cells literals t₀ d
   not_served h e j = record { short = λ q. (e, j, refl, refl, refl); served = λ q. absurd (omega (arith, h, q)) }
 
-  pub line_served : {cells' : List ℕ} {literals' : List ℤ} {t : Bytes} → answer_bytes ≤ length d₀ → r.refusal ≡ 0 → RequestTurnedAt cells literals (request_of l) n s₀ t₀ (spoken_turn r) cells' literals' t d
+  line_served : {cells' : List ℕ} {literals' : List ℤ} {t : Bytes} → answer_bytes ≤ length d₀ → r.refusal ≡ 0 → RequestTurnedAt cells literals (request_of l) n s₀ t₀ (spoken_turn r) cells' literals' t d
       → ServesLineAt cells literals l n s₀ t₀ d₀ r cells' literals' t d
   line_served h e u = record { short = λ q. absurd (omega (arith, h, q)); served = λ q. (e, u) }
+
+  pub line_answered : {u : Turn} {cells' : List ℕ} {literals' : List ℤ} {t : Bytes} → answer_bytes ≤ length d₀ → (r.refusal ≡ 0) × (spoken_turn r ≡ u) → RequestTurnedAt cells literals (request_of l) n s₀ t₀ u cells' literals' t d
+      → ServesLineAt cells literals l n s₀ t₀ d₀ r cells' literals' t d
+  line_answered {u} {cells'} {literals'} {t} h e w = line_served h e.0 (subst (λ (v : Turn). RequestTurnedAt cells literals (request_of l) n s₀ t₀ v cells' literals' t d) (sym e.1) w)

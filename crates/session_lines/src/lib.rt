@@ -2,18 +2,21 @@
 // The lines of the card answered last stay in a table of their own, from which `(page 1)` prints.
 #![tactic(auto)]
 
-ghost use Rattle.session_lines.specs.Line.{ServesLineAt};
+ghost use Rattle.std.specs.Prelude.{◌≡◌};
+ghost use Rattle.session_lines.specs.Line.{ServesLineAt, spoken_turn};
 
 use answer_text::shown::Shown;
 use answer_text::{ANSWER, Answer};
+use asked::{Asked, read_line};
 use book_writer::NONE;
-use call_lines::Line;
-use line_turns::At;
+use call_lines::Under;
+use line_turns::{At, Turn, no_call};
 use reader::call::TABLE;
 use refusal::Refusal;
 use request::serve_request;
 use search_entry::workspace::Workspace;
 
+pub mod asked; // what a line asks for
 pub mod request; // the book's text, a page, or a call
 mod rows; // a page of the card answered last
 
@@ -26,6 +29,17 @@ pub struct Spoken {
     pub refusal: u16,
     pub length: usize,
     pub shown: Shown,
+}
+
+// A turn whose answer was written.
+fn answered(turn: Turn) -> Spoken
+    ensures { (result.refusal ≡ 0) × (spoken_turn result ≡ turn) }
+{
+    Spoken {
+        refusal: NONE,
+        length: turn.length,
+        shown: turn.shown,
+    }
 }
 
 // The line of a session, without its byte 10. In a table of fewer than answer_text::ANSWER bytes nothing is served.
@@ -63,15 +77,19 @@ pub fn serve_line(
         };
     }
     let mut answer = Answer { bytes: out };
-    let line = Line {
-        bytes: line,
+    let mut lits = [0i16; tables::BY_NUMBER];
+    let Some(read) = read_line(line, &mut lits) else {
+        return answered(no_call(at, &mut answer));
+    };
+    let under = Under {
         at,
         share: tables::HIGHEST_CEILING,
     };
-    let turn = serve_request(cells, literals, work, line, cards, &mut answer).turn;
-    Spoken {
-        refusal: NONE,
-        length: turn.length,
-        shown: turn.shown,
-    }
+    let asked = Asked {
+        bytes: line,
+        line: read,
+        lits: &lits,
+    };
+    let turn = serve_request(cells, literals, work, under, asked, cards, &mut answer).turn;
+    answered(turn)
 }
