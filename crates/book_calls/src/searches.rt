@@ -1,7 +1,7 @@
 // The calls that search, each in a workspace that the caller lends with any content.
 ghost use Rattle.std.specs.Prelude.{◌≡◌, [], length, take};
 ghost use Rattle.qbf.specs.Truth.{free_variables};
-ghost use Rattle.qbf.specs.Calls.{query, card, keep_card, closest};
+ghost use Rattle.qbf.specs.Calls.{query, card, keep_card, card_of, closest};
 ghost use Rattle.state.specs.Reading.{prefix_in};
 ghost use Rattle.state_parts.specs.Parts.{state_at};
 ghost use Rattle.serving.specs.Serves.{fault_of};
@@ -31,6 +31,28 @@ pub fn bullacetop_book_query(
     Reply::from(ruled)
 }
 
+// A card, or a keep card.
+// stays (C): as the exports over it
+pub fn card_of(
+    cells: &mut [u16],
+    literals: &mut [i16],
+    work: &mut Workspace,
+    table: &mut [u8],
+    yes: bool,
+    ceiling: u32,
+) -> Reply
+    ensures { ServesAt
+        cells.old
+        literals.old
+        (card_of yes ceiling (length table.old))
+        (reply_said result table.new)
+        cells.new
+        literals.new }
+{
+    let shown = search_calls::card_of(cells, literals, work, table, yes, ceiling);
+    Reply::from(shown)
+}
+
 // stays (C): one function for each export; this and `bullacetop_book_keep_card` differ in a constant
 pub fn bullacetop_book_card(
     cells: &mut [u16],
@@ -47,8 +69,7 @@ pub fn bullacetop_book_card(
         cells.new
         literals.new }
 {
-    let shown = search_calls::card_of(cells, literals, work, table, true, ceiling);
-    Reply::from(shown)
+    card_of(cells, literals, work, table, true, ceiling)
 }
 
 // stays (C): one function for each export, as `bullacetop_book_card`
@@ -67,8 +88,7 @@ pub fn bullacetop_book_keep_card(
         cells.new
         literals.new }
 {
-    let shown = search_calls::card_of(cells, literals, work, table, false, ceiling);
-    Reply::from(shown)
+    card_of(cells, literals, work, table, false, ceiling)
 }
 
 // The reading on the card that differs from a given one in the fewest flags. Its bytes stand first in the lent reading, and zeros behind them.

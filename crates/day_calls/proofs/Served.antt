@@ -7,7 +7,7 @@ use mathlib.Core.Option.{Option, none, some}
 use lib.Dec.{eqb, ltb}
 use Rattle.days.specs.Accounts.{stop_number}
 use Rattle.days.specs.Day.{stop_as}
-use Rattle.serving.specs.Serves.{Said, said_with, fault_of}
+use Rattle.serving.specs.Serves.{Said, said, said_with, fault_of}
 use Rattle.serving_days.specs.Serves.{renamed, said_at}
 use Rattle.reply_numbers.specs.declared.Reply.{Reply}
 use Rattle.reply_numbers.specs.declared.Closest.{Closest}
@@ -18,7 +18,8 @@ use lib.ListN.{length, take, drop}
 use Rattle.std.specs.Prelude.{min, ◌-◌, Ok, Err}
 use Rattle.refusal.specs.declared.Refusal.{Refusal}
 use Rattle.refusal.specs.Refusal.{number_of}
-use Rattle.qbf.specs.Calls.{Call, forget, answer, ceiling_of, refusal}
+use Rattle.qbf.specs.Card.{zero_table}
+use Rattle.qbf.specs.Calls.{Call, forget, card_of, answer, ceiling_of, refusal}
 use Rattle.qbf.specs.Truth.{free_variables}
 use Rattle.state.specs.Reading.{prefix_in}
 use Rattle.state_parts.specs.Parts.{state_at}
@@ -75,6 +76,19 @@ module _ (own m : ℕ) where
   closest_at r n e table bytes =
       ap (λ (f : Option ℕ). said_with f 0 r.lines r.visits table (unless_refused (fault_of r.refusal) bytes) r.differs) (renamed_fault r.refusal ∙ ap fault_of (sym e))
       ∙ ap (λ (s : List ℕ). said_with (fault_of n) 0 r.lines r.visits table s r.differs) (returned_at r.refusal n e bytes)
+
+-- ---- a card of either verdict
+pub card_ceiling : (yes : Bool) (k n : ℕ) → ceiling_of (card_of yes k n) ≡ some k
+card_ceiling true k n = refl
+card_ceiling false k n = refl
+
+pub card_limited : (yes : Bool) (m k n : ℕ) → limited m (card_of yes k n) ≡ card_of yes (min k m) n
+card_limited true m k n = refl
+card_limited false m k n = refl
+
+pub card_refused : (yes : Bool) (k n r : ℕ) → said (some r) 0 0 0 (zero_table n) ≡ said_of (answer (refusal r (card_of yes k n)) 0)
+card_refused true k n r = refl
+card_refused false k n r = refl
 
 module _ (R : Rooms) (a : Accounts) (cells : List ℕ) (literals : List ℤ) (place : ℕ) where
   -- a call that the day refuses, told in plain numbers
