@@ -55,6 +55,11 @@ module _ (lits : List ℤ) (places : List ℕ) (at m : ℕ) (cells ys : List ℕ
       all : take (length lits) ys ≡ ys
       all = ap (λ (n : ℕ). take n ys) (sym long) ∙ take-length ys
 
+-- the part that the code takes is the row
+pub row_taken : (lits : List ℤ) (at m : ℕ) (cells : List ℕ) → m ≡ length lits → take m (drop (at + 1) cells) ≡ row_behind lits at cells
+row_taken lits at m cells is =
+    ap (λ (n : ℕ). take n (drop (at + 1) cells)) is ∙ ap (λ (a : ℕ). take (length lits) (drop a cells)) (add-one at)
+
 -- the row in the slot of its number is put behind the others
 module _ {stride slots : ℕ} {cells links : List ℕ} (shelf : Shelf stride slots cells links) (some : 0 < slots) (lits : List ℤ) (places : List ℕ) (s m : ℕ) (cells₁ links₁ : List ℕ)
     (slot_is : s ≡ newest_of links % slots) (fits : length lits ≤ stride) (new : RowCoded lits places (s * (stride + 1)) cells cells₁) (is : m ≡ length lits) where
@@ -67,7 +72,7 @@ module _ {stride slots : ℕ} {cells links : List ℕ} (shelf : Shelf stride slo
   pub coded_pushed : {code : ℕ} → code ≡ last_code (take m (drop (at + 1) cells₁)) → code < mark_of links → links₁ ≡ relinked links code s (newest_of links) → Pushed shelf some made s cells₁ links₁
   coded_pushed {code} code_is above links_are =
       let last : code ≡ last_code made =
-      code_is ∙ ap (λ (n : ℕ). last_code (take n (drop (at + 1) cells₁))) is ∙ ap (λ (a : ℕ). last_code (take (length lits) (drop a cells₁))) (add-one at)
+      code_is ∙ ap last_code (row_taken lits at m cells₁ is)
       in
       pushing shelf some made s code cells₁ links₁ slot_is last (omega (arith, last, new.low)) above (omega (arith, new.long))
       (new.written ∙ ap (λ (n : ℕ). paste (set cells at n) (suc at) made n) (sym new.long)) links_are

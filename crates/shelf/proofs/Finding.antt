@@ -13,10 +13,11 @@ use Rattle.tables.specs.Shelves.{code_count, row_at, head_of, newest_of, link_of
 use Rattle.std.specs.Prelude.{Some, None}
 use Rattle.std.specs.Prelude as value
 use Rattle.shelf.specs.Standing.{FoundIn}
+use Rattle.shelf.specs.Masks.{Noted}
 use Rattle.shelf.proofs.Newest.{points_same, newest_le, none_match, Latest, latest, points_above, points_none, points_le}
 use Rattle.shelf.proofs.Ring.{ring_length, ring_at}
 
-module _ (stride slots : ℕ) (cells links statuses : List ℕ) (code want : ℕ) where
+module _ (stride slots : ℕ) (cells links statuses : List ℕ) (code want word : ℕ) where
   abbrev rows : List (List ℕ)
   rows = shelf_rows stride slots cells links
 
@@ -29,9 +30,9 @@ module _ (stride slots : ℕ) (cells links statuses : List ℕ) (code want : ℕ
     pub m : ℕ
     pub within : m ≤ length rows
     pub points : Points base (newest test (take m rows)) number
-    pub same : FoundIn stride slots cells found (first_match code statuses want (drop m rows))
+    pub same : Noted statuses want word → FoundIn stride slots cells found (first_match code statuses want (drop m rows))
 
-module _ {stride slots : ℕ} {cells links : List ℕ} (statuses : List ℕ) (code want : ℕ) (shelf : Shelf stride slots cells links) where
+module _ {stride slots : ℕ} {cells links : List ℕ} (statuses : List ℕ) (code want word : ℕ) (shelf : Shelf stride slots cells links) where
   abbrev all : List (List ℕ)
   all = shelf_rows stride slots cells links
 
@@ -43,28 +44,28 @@ module _ {stride slots : ℕ} {cells links : List ℕ} (statuses : List ℕ) (co
 
   -- at the start no row has been passed
   pub find_start : (base number : ℕ) → base ≡ base_of slots links → code < code_count → number ≡ head_of links code
-      → Finding stride slots cells links statuses code want base number None
+      → Finding stride slots cells links statuses code want word base number None
   find_start base number e low h = record {
     based = e;
     m = length all;
     within = omega arith;
     points = rw (take-length, e, h) (shelf.head code low);
-    same = ap (first_match code statuses want) (drop-length all);
+    same = λ noted. ap (first_match code statuses want) (drop-length all);
   }
 
-  module _ {base number : ℕ} {found : value.Option ℕ} (inv : Finding stride slots cells links statuses code want base number found) where
+  module _ {base number : ℕ} {found : value.Option ℕ} (inv : Finding stride slots cells links statuses code want word base number found) where
     -- no row is left that ends in the code
-    pub find_end : number ≤ base → FoundIn stride slots cells found (first_match code statuses want all)
-    find_end h =
+    pub find_end : number ≤ base → Noted statuses want word → FoundIn stride slots cells found (first_match code statuses want all)
+    find_end h noted =
         subst (FoundIn stride slots cells found)
         (sym (none_match is has (take inv.m all) (drop inv.m all) (points_none base (newest is (take inv.m all)) number inv.points h))
         ∙ ap (first_match code statuses want) (take-append-drop inv.m all))
-        inv.same
+        (inv.same noted)
 
     -- one turn, at a row that ends in the code
     module _ (above : base < number) (slot : ℕ) (hit : Bool) (next : ℕ) (found' : value.Option ℕ)
         (slot_is : slot ≡ (number - 1) % slots) (slot_low : slot < slots)
-        (hit_is : hit ≡ all_are statuses want (row_at stride cells slot))
+        (hit_is : Noted statuses want word → hit ≡ all_are statuses want (row_at stride cells slot))
         (next_is : next ≡ link_of links slot)
         (found_is : found' ≡ cond hit (Some slot) found) where
       abbrev before : List (List ℕ)
@@ -131,15 +132,15 @@ module _ {stride slots : ℕ} {cells links : List ℕ} (statuses : List ℕ) (co
       found_by true o h = (slot_low, refl)
       found_by false o h = h
 
-      pub find_more : Finding stride slots cells links statuses code want base next found'
+      pub find_more : Finding stride slots cells links statuses code want word base next found'
       find_more = record {
         based = inv.based;
         m = n;
         within = omega (arith, n_within);
         points = link;
-        same =
+        same = λ noted.
             subst (λ (f : value.Option ℕ). FoundIn stride slots cells f (first_match code statuses want (drop n all))) (sym found_is)
             (subst (FoundIn stride slots cells (cond hit (Some slot) found))
-            (ap (λ (b : Bool). cond b (some (row_at stride cells slot)) (first_match code statuses want (drop inv.m all))) hit_is ∙ sym tail)
-            (found_by hit _ inv.same));
+            (ap (λ (b : Bool). cond b (some (row_at stride cells slot)) (first_match code statuses want (drop inv.m all))) (hit_is noted) ∙ sym tail)
+            (found_by hit _ (inv.same noted)));
       }

@@ -1,3 +1,4 @@
+pub mod Masking
 pub mod Newest
 pub mod Ring
 pub mod Slots

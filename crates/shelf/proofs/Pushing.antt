@@ -151,6 +151,8 @@ module _ {stride slots : ℕ} {cells links : List ℕ} (shelf : Shelf stride slo
 
   -- ---- as the code writes them
   pub record Pushed (row : List ℕ) (s : ℕ) (cells₁ links₁ : List ℕ) : Type 0 where
+    pub is : row_at stride cells₁ s ≡ row
+    pub others : (j : ℕ) → (j ≡ s → ⊥) → row_at stride cells₁ j ≡ row_at stride cells j
     pub stands : Shelf stride slots cells₁ links₁
     pub rows : shelf_rows stride slots cells₁ links₁ ≡ push slots row all
     pub newest : newest_of links₁ ≡ suc n
@@ -170,6 +172,8 @@ module _ {stride slots : ℕ} {cells links : List ℕ} (shelf : Shelf stride slo
       subst (λ (x : List ℕ). Pushed row s x links₁) (sym e)
       (subst (λ (y : List ℕ). Pushed row s (cells' row s slot_is fits low' above') y) (sym e')
       (record {
+        is = written_row stride slots cells row s shelf.room (s_low row s slot_is fits low' above') fits;
+        others = other_row stride slots cells row s shelf.room (s_low row s slot_is fits low' above') fits;
         stands = pushed_shelf row s slot_is fits low' above';
         rows = pushed_rows row s slot_is fits low' above';
         newest = pushed_newest row s slot_is fits low' above';

@@ -1,3 +1,4 @@
+pub mod Masks
 pub mod Linked
 pub mod Marked
 pub mod Coded

@@ -1,4 +1,5 @@
-// A shelf without a row, in tables whose content before is free: nothing is cleared but the newest row's number and the mark.
+// A shelf without a row, in tables whose content before is free: nothing is cleared but the newest row's number, the mark and
+// the words of the slots.
 ghost use Rattle.std.specs.Prelude.{◌≡◌, [], ◌*◌, length, get_or, suc};
 ghost use Rattle.tables.specs.Shelves.{code_count, newest_of, mark_of};
 ghost use Rattle.shelf.specs.Standing.{rows, newest};
@@ -19,10 +20,16 @@ impl<'a> Shelf<'a> {
     pub fn empty(
         cells: &'a mut [u16; tables::CONSTRAINT_CODES],
         links: &'a mut [u64; tables::CONSTRAINT_LINKS],
+        masks: &'a mut [u64; tables::CONSTRAINTS],
     ) -> Shelf<'a>
         ensures { (newest result ≡ 0) × (rows result ≡ []) }
     {
         clear_marks(&mut *links);
-        Shelf { cells, links }
+        *masks = [0; tables::CONSTRAINTS];
+        Shelf {
+            cells,
+            links,
+            masks,
+        }
     }
 }

@@ -3,6 +3,8 @@
 ghost use Rattle.std.specs.Prelude.{◌≡◌, suc, ◌-◌, ◌*◌, ◌%◌, ◌≤◌, ◌<◌, length};
 ghost use Rattle.qbf.specs.Formula.{paper, highest};
 ghost use Rattle.tables.specs.Shelves.{code_count, head_of, shelf_rows, row_at, first_match};
+ghost use Rattle.tables.specs.Codes.{all_are};
+ghost use Rattle.shelf.specs.Masks.{Noted};
 ghost use Rattle.shelf.specs.Standing.{rows, newest, Found, FoundIn};
 
 use crate::row::all_are;
@@ -44,11 +46,27 @@ impl<'a> LentShelf<'a> {
         &self.cells[from + 1..from + 1 + len]
     }
 
+    // Whether the codes of the row in a slot all have one status: where its word does not lie within that of the codes that have it, not all do.
+    fn hits(self, slot: usize, statuses: &[u8; tables::CODES], want: u8, word: u64) -> bool
+        requires { slot < self.slots }
+        ensures { Noted statuses.now want word → result ≡ all_are statuses.now want (row_at self.entry.stride self.entry.cells.now slot) }
+    {
+        let mask = self.masks[slot];
+        mask & word == mask && all_are(self.row_in(slot), statuses, want)
+    }
+
     // stays (no plainer): `u16 < code_count` is of a number that is made of a place or read from a row's cell, and is an index of a table: a type of it would be made at each of those, and opened at each index
-    // The slot of the oldest match.
-    pub fn find(self, code: u16, statuses: &[u8; tables::CODES], want: u8) -> Option<usize>
+    // The slot of the oldest match, by the word of the codes that have the status.
+    pub fn find(
+        self,
+        code: u16,
+        statuses: &[u8; tables::CODES],
+        want: u8,
+        word: u64,
+    ) -> Option<usize>
         requires { code < code_count }
-        ensures { FoundIn
+        ensures { Noted statuses.now want word
+            → FoundIn
             self.entry.stride
             self.entry.slots
             self.entry.cells.now
@@ -61,8 +79,7 @@ impl<'a> LentShelf<'a> {
         // stays (no plainer): the rows are those that the links lead to, and no list's
         while base < number {
             let slot = self.slot_of(number);
-            let row = self.row_in(slot);
-            let hit = all_are(row, statuses, want);
+            let hit = self.hits(slot, statuses, want, word);
             found = if hit { Some(slot) } else { found };
             number = self.links[tables::CODES + 2 + slot];
         }
@@ -75,12 +92,14 @@ impl Shelf<'_> {
     fn lent<'a>(&'a self) -> LentShelf<'a>
         ensures { (result.cells.now ≡ self.now.cells.now)
             × (result.links.now ≡ self.now.links.now)
+            × (result.masks.now ≡ self.now.masks.now)
             × (result.stride ≡ highest.numbers)
             × (result.slots ≡ paper.constraints) }
     {
         LentShelf {
             cells: &*self.cells,
             links: &*self.links,
+            masks: &*self.masks,
             stride: tables::HIGHEST_NUMBERS,
             slots: tables::CONSTRAINTS,
         }
@@ -108,10 +127,12 @@ impl Shelf<'_> {
         code: u16,
         statuses: &'a [u8; tables::CODES],
         want: u8,
+        word: u64,
     ) -> Option<usize>
         requires { code < code_count }
-        ensures { Found self.now result (first_match code statuses.now want (rows self.now)) }
+        ensures { Noted statuses.now want word
+            → Found self.now result (first_match code statuses.now want (rows self.now)) }
     {
-        self.lent().find(code, statuses, want)
+        self.lent().find(code, statuses, want, word)
     }
 }

@@ -7,11 +7,13 @@ ghost use Rattle.tables.specs.Views.{Places};
 ghost use Rattle.tables.specs.Codes.{codes, last_code};
 ghost use Rattle.tables.specs.Shelves.{shelf_rows, newest_of, code_count};
 ghost use Rattle.shelf.specs.Linked.{Agree};
+ghost use Rattle.shelf.specs.Masks.{Masked};
 ghost use Rattle.shelf.specs.Marked.{PartCleared, Marked};
 ghost use Rattle.shelf.specs.Coded.{RowCoded};
 ghost use Rattle.shelf.specs.Standing.{rows, newest, Room};
 
 use crate::Shelf;
+use crate::mask::mask_of;
 use coding::code::encode;
 use coding::list::last_code;
 
@@ -82,16 +84,25 @@ fn write_links(links: &mut [u64], code: u16, slot: usize, newest: u64)
 
 // One row more, in lent tables of any width and for any number of rows. It takes the slot of its number, which is that of the oldest row where all slots
 // are taken, and which is handed back.
-// stays (no plainer): its one caller, `Shelf::push`, would make a struct of both tables, the width and the slots for this one call; and unlike the facts that `Clauses` and `Left` keep,
-// which hold after each cell that they write, `Agree` holds only once both tables are written
-pub fn push(cells: &mut [u16], links: &mut [u64], stride: usize, slots: usize, row: &[u16]) -> usize
+// stays (no plainer): its one caller, `Shelf::push`, would make a struct of the three tables, the width and the slots for this one call; and unlike the facts that `Clauses` and `Left` keep,
+// which hold after each cell that they write, `Agree` holds only once all are written
+pub fn push(
+    cells: &mut [u16],
+    links: &mut [u64],
+    masks: &mut [u64],
+    stride: usize,
+    slots: usize,
+    row: &[u16],
+) -> usize
     requires { Agree stride slots cells.old links.old
+        × Masked stride slots cells.old masks.old
         × (0 < slots)
         × (slots * suc stride < 65536)
         × (length row.now ≤ stride)
         × (last_code row.now < code_count)
         × (newest_of links.old < 2 ^ 63) }
     ensures { Agree stride slots cells.new links.new
+        × Masked stride slots cells.new masks.new
         × (shelf_rows stride slots cells.new links.new
         ≡ push slots row.now (shelf_rows stride slots cells.old links.old))
         × (newest_of links.new ≡ suc (newest_of links.old))
@@ -102,27 +113,31 @@ pub fn push(cells: &mut [u16], links: &mut [u64], stride: usize, slots: usize, r
     let slot = next_slot(newest, slots);
     let code = last_code(row);
     write_row(cells, slot * (stride + 1), row);
+    masks[slot] = mask_of(row);
     mark_up_to(links, code);
     write_links(links, code, slot, newest);
     slot
 }
 
 // .. of literals.
-// stays (no plainer): its one caller, `Shelf::push_literals`, would make a struct of both tables, the width and the slots for this one call, as above
+// stays (no plainer): its one caller, `Shelf::push_literals`, would make a struct of the three tables, the width and the slots for this one call, as above
 fn push_literals<'a>(
     cells: &mut [u16],
     links: &mut [u64],
+    masks: &mut [u64],
     stride: usize,
     slots: usize,
     literals: &'a [i16],
     places: &'a [u16],
 )
     requires { Agree stride slots cells.old links.old
+        × Masked stride slots cells.old masks.old
         × (0 < slots)
         × (slots * suc stride < 65536)
         × (length literals.now ≤ stride)
         × (newest_of links.old < 2 ^ 63) }
     ensures { Agree stride slots cells.new links.new
+        × Masked stride slots cells.new masks.new
         × (newest_of links.new ≡ suc (newest_of links.old))
         × ((D : Prefix)
         → Places D places.now
@@ -134,7 +149,9 @@ fn push_literals<'a>(
     let slot = next_slot(newest, slots);
     let at = slot * (stride + 1);
     encode_row(cells, at, literals, places);
-    let code = last_code(&cells[at + 1..at + 1 + literals.len()]);
+    let row = &cells[at + 1..at + 1 + literals.len()];
+    let code = last_code(row);
+    masks[slot] = mask_of(row);
     mark_up_to(links, code);
     write_links(links, code, slot, newest);
 }
@@ -153,7 +170,8 @@ impl Shelf<'_> {
         let (stride, slots) = (tables::HIGHEST_NUMBERS, tables::CONSTRAINTS);
         let cells = &mut *self.cells;
         let links = &mut *self.links;
-        push_literals(cells, links, stride, slots, literals, places);
+        let masks = &mut *self.masks;
+        push_literals(cells, links, masks, stride, slots, literals, places);
     }
 
     // One row more, in the shelf's tables.
@@ -169,6 +187,7 @@ impl Shelf<'_> {
         let (stride, slots) = (tables::HIGHEST_NUMBERS, tables::CONSTRAINTS);
         let cells = &mut *self.cells;
         let links = &mut *self.links;
-        push(cells, links, stride, slots, row)
+        let masks = &mut *self.masks;
+        push(cells, links, masks, stride, slots, row)
     }
 }

@@ -4,7 +4,7 @@ use Rattle.shelf.proofs.Finding.{Finding}
 use Rattle.shelf.proofs.LentShelf.find.Given as goal
 
 abbrev pub invariant-loop-number : goal.invariant-loop-number
-invariant-loop-number l = Finding l.self.stride l.self.slots l.self.cells.now l.self.links.now l.statuses l.code l.want l.base l.number l.found
+invariant-loop-number l = Finding l.self.stride l.self.slots l.self.cells.now l.self.links.now l.statuses l.code l.want l.word l.base l.number l.found
 
 abbrev pub decreases-loop-number : goal.decreases-loop-number
 decreases-loop-number l = l.number
