@@ -1,18 +1,20 @@
 -- The code that is looked up at an inner node, and what the lookup found.
-use Prim.Native.Nat.{ℕ, zero, suc, ◌+◌, ◌*◌, ◌%◌, ◌≤◌}
+use Prim.Native.Nat.{ℕ, zero, suc, ◌+◌, ◌*◌, ◌/◌, ◌%◌, ◌≤◌}
 use native.Mathlib.Omega.{arith}
 use native.Mathlib.Numerals.{add-one}
-use mathlib.Core.Path.{◌≡◌, refl, sym, ap, ◌∙◌}
-use mathlib.Core.Bool.{Bool, true, false, not, beq, true≢false}
+use mathlib.Core.Path.{◌≡◌, refl, sym, ap, ap₂, subst, ◌∙◌}
+use mathlib.Core.Bool.{Bool, true, false, not, beq, true≢false, false≢true}
 use mathlib.Core.List.{List, [], ◌∷◌, map}
 use mathlib.Core.Option.{Option, none, some}
 use lib.Dec.{eqb}
-use lib.ListN.{length, take, drop}
+use lib.Bits.{bit_and}
+use lib.ListN.{length, get_or, take, drop}
 use Rattle.qbf.specs.Formula.{highest, Prefix, Node, value_at}
 use Rattle.qbf.specs.Learning.{Constraint, eligible_match}
-use Rattle.tables.specs.Codes.{code_at, codes, wanted, Statuses}
+use Rattle.tables.specs.Codes.{code_at, codes, wanted, status_of, Statuses}
 use Rattle.tables.specs.Shelves.{length_at, row_at, first_match}
-use Rattle.inner.specs.Inner.{LastGiven}
+use Rattle.shelf.specs.Masks.{bit, Noted}
+use Rattle.inner.specs.Inner.{LastGiven, Worded}
 use Rattle.inner.proofs.LastLiteral.{coded, last_literal}
 
 -- ---- the code of a literal and of its opposite
@@ -24,6 +26,38 @@ pub fails_in : (p : ℕ) (b cube : Bool) → cube ≡ false → {code : ℕ} →
 fails_in p true false e is = is
 fails_in p false false e is = is
 fails_in p b true e is = absurd (true≢false e)
+
+-- ---- the word of the codes that have a status, by that of the literals that have a truth value
+-- a code is its place's and its sign's
+code_is : (c : ℕ) → (b : Bool) × (c ≡ code_at (c / 2) b)
+code_is c = by (c % 2) refl
+  where
+    by : (m : ℕ) → c % 2 ≡ m → (b : Bool) × (c ≡ code_at (c / 2) b)
+    by zero e = (false, omega (arith, e))
+    by (suc m) e = (true, omega (arith, e))
+
+-- the sign of a literal that has the status
+status_sign : (v b : Bool) (o : Option Bool) → eqb (status_of b o) (wanted v) ≡ true → (a : Bool) × (o ≡ some a) × (b ≡ beq a v)
+status_sign true b none e = absurd (false≢true e)
+status_sign false b none e = absurd (false≢true e)
+status_sign true true (some true) e = (true, refl, refl)
+status_sign true true (some false) e = absurd (false≢true e)
+status_sign true false (some true) e = absurd (false≢true e)
+status_sign true false (some false) e = (false, refl, refl)
+status_sign false true (some true) e = absurd (false≢true e)
+status_sign false true (some false) e = (false, refl, refl)
+status_sign false false (some true) e = (true, refl, refl)
+status_sign false false (some false) e = absurd (false≢true e)
+
+pub noted_word : {s : Node} {t : List ℕ} → Statuses s t → {v : Bool} {word : ℕ} → Worded s v word → {want : ℕ} → want ≡ wanted v → Noted t want word
+noted_word {s} {t} shown {v} {word} w {want} is = record { has = λ c e. by c (code_is c) e }
+  where
+    by : (c : ℕ) → (b : Bool) × (c ≡ code_at (c / 2) b) → eqb (get_or t c 0) want ≡ true → bit_and (bit c) word ≡ bit c
+    by c (b, same) e =
+        let status : get_or t c 0 ≡ status_of b (value_at s (c / 2)) = ap (λ (k : ℕ). get_or t k 0) same ∙ shown.at (c / 2) b in
+        let x = status_sign v b (value_at s (c / 2)) (sym (ap₂ eqb status is) ∙ e) in
+        let code : c ≡ code_at (c / 2) (beq x.0 v) = same ∙ ap (code_at (c / 2)) x.2 in
+        subst (λ (k : ℕ). bit_and (bit k) word ≡ bit k) (sym code) (w.has (c / 2) x.0 x.1)
 
 -- ---- the constraint of the codes that were found
 uncoded : (D : Prefix) (o : Option Constraint) {row : List ℕ} → some row ≡ coded D o → (e : Constraint) × (o ≡ some e) × (row ≡ codes D e)

@@ -1,9 +1,12 @@
 -- What steps 1 to 4 say at an inner node, with the constraint as codes in the tables, by its bounds.
 use Rattle.std.specs.Prelude.{ℕ, suc, ◌-◌, ◌*◌, ◌≤◌, ◌<◌, ◌≡◌, Bool, true, false, List, length, take, eqb}
+use Rattle.std.specs.Bool.{beq}
+use Rattle.std.specs.Int.Bits.{bit_and}
 use Rattle.std.proofs.Math.Option.{Option, none, some}
 use Rattle.qbf.specs.Formula.{highest, Prefix, Clause, Node, value_at}
 use Rattle.qbf.specs.Truth.{Outcome, decided}
 use Rattle.qbf.specs.Learning.{Constraint, Store, leaf, first_dead}
+use Rattle.shelf.specs.Masks.{bit}
 use Rattle.bitset.specs.Rows.{outside}
 use Rattle.tables.specs.Codes.{code_at, codes, Statuses, Quantified}
 use Rattle.inner.specs.Formed.{Formed}
@@ -36,6 +39,10 @@ pub record LastGiven (s : Node) (at code : ℕ) : Type 0 where
   pub last : value_at s at ≡ some value
   pub coded : code ≡ code_at at value
 
+-- the word has the bit of each code whose literal has the truth value v at the node s
+pub record Worded (s : Node) (v : Bool) (word : ℕ) : Type 0 where
+  pub has : (p : ℕ) (b : Bool) → value_at s p ≡ some b → bit_and (bit (code_at p (beq b v))) word ≡ bit (code_at p (beq b v))
+
 -- what the rows of clauses are read by: the place and the code of the value given last, and the words of a row
 pub record Inside (at code wc : ℕ) : Type 0 where
   pub inner : 1 ≤ at
@@ -54,14 +61,16 @@ pub record Entered (D : Prefix) (s : Node) (R : List Clause) (wc : ℕ) (sat mar
   pub alive : first_dead D (take k s) R ≡ none
   pub known : Descended D s R wc sat marks k
 
--- the tables show the prefix D, the clauses R, the store st and the node s of `at` places
-pub record NodeShown (D : Prefix) (R : List Clause) (s : Node) (st : Store) (at wc : ℕ) (clauses sets quantifiers statuses cs cl qs ql : List ℕ) : Type 0 where
+-- the tables show the prefix D, the clauses R, the store st and the node s of `at` places, and the words the literals that are true and false there
+pub record NodeShown (D : Prefix) (R : List Clause) (s : Node) (st : Store) (at wc held failed : ℕ) (clauses sets quantifiers statuses cs cl qs ql : List ℕ) : Type 0 where
   pub quantified : Quantified D quantifiers
   pub statused : Statuses s statuses
   pub long : length s ≡ at
   pub matrix : MatrixShown D R wc clauses sets
   pub stored : StoreShown D st cs cl qs ql
   pub formed : Formed D R st
+  pub trues : Worded s true held
+  pub falses : Worded s false failed
 
 -- ---- what is known of the node after the steps
 -- where it is open, its own row and mark too

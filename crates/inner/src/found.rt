@@ -8,7 +8,7 @@ ghost use Rattle.qbf.specs.Learning.{Constraint, eligible_match};
 ghost use Rattle.tables.specs.Codes.{code_at, codes, Statuses};
 ghost use Rattle.tables.specs.Shelves.{code_count};
 ghost use Rattle.shelf.specs.Standing.{rows};
-ghost use Rattle.inner.specs.Inner.{FoundCoded, LastGiven};
+ghost use Rattle.inner.specs.Inner.{FoundCoded, LastGiven, Worded};
 
 use coding::code::opposite;
 use literal::wanted;
@@ -44,23 +44,25 @@ fn last_in(code: u16, cube: bool) -> u16
 }
 
 // The oldest of the learned constraints of a polarity that is eligible at an inner node, whose last value makes the code's literal true, and
-// whose literals all have the truth value asked for.
+// whose literals all have the truth value asked for; the word is of the literals that have it.
 pub fn lookup<'a>(
     shelf: &'a Shelf,
     statuses: &'a [u8; tables::CODES],
     code: u16,
     cube: bool,
+    word: u64,
 ) -> Option<Bounds>
     requires { code < code_count }
     ensures { (D : Prefix) (s : Node) (at : ℕ) (es : List Constraint) (clauses area : List ℕ)
         → Statuses s statuses.now
         → LastGiven s at code
+        → Worded s cube word
         → 1 ≤ at
         → rows shelf.now ≡ map (codes D) es
         → FoundCoded D result clauses shelf.now.cells.now area (eligible_match D eqb cube s es) }
 {
     // stays (no plainer): with `map` the goal `invariant_of-result` stays open until the closure has `requires { slot < paper.constraints }`, which the arm has of `find`; then it is as long
-    match shelf.find(last_in(code, cube), statuses, wanted(cube)) {
+    match shelf.find(last_in(code, cube), statuses, wanted(cube), word) {
         Some(slot) => {
             let row = shelf.row_in(slot);
             Some(Bounds {

@@ -17,7 +17,7 @@ ghost use Rattle.tables.specs.Matrices.{MatrixShown};
 ghost use Rattle.tables.specs.Sets.{ClauseSets, Descended, RowsKept};
 ghost use Rattle.shelf.specs.Standing.{rows};
 ghost use Rattle.inner.specs.Steps.{first_of, matched, satisfied_or};
-ghost use Rattle.inner.specs.Inner.{FoundCoded, LeafCoded, Inside, LastGiven, Entered, NodeShown, Concluded};
+ghost use Rattle.inner.specs.Inner.{FoundCoded, LeafCoded, Inside, LastGiven, Worded, Entered, NodeShown, Concluded};
 
 use cube::cube;
 use dying::dead;
@@ -36,12 +36,15 @@ pub enum Leaf {
     Open,
 }
 
-// The value given last: its place, the code of the literal that it makes true, and the words of a row of clauses.
+// The value given last: its place, the code of the literal that it makes true, and the words of a row of clauses; and the words of the literals that are
+// true and of those that are false.
 #[derive(Clone, Copy)]
 pub struct Given {
     pub at: usize,
     pub code: u16,
     pub words: usize,
+    pub held: u64,
+    pub failed: u64,
     pub ghost inside: { Inside at code words },
 }
 
@@ -56,6 +59,7 @@ fn conflict<'a>(
     ensures { (D : Prefix) (R : List Clause) (s : Node) (st : Store) (k : ℕ) (marks area : List ℕ)
         → Statuses s statuses.now
         → LastGiven s g.at g.code
+        → Worded s false g.failed
         → MatrixShown D R g.words matrix.now.rows matrix.now.sets
         → Formed D R st
         → Entered D s R g.words sat.now marks k
@@ -72,7 +76,7 @@ fn conflict<'a>(
     // own the closure would say `lookup`'s contract a second time
     match dead(matrix, sat, g) {
         Some(b) => Some(b),
-        None => lookup(learned, statuses, g.code, false),
+        None => lookup(learned, statuses, g.code, false, g.failed),
     }
 }
 
@@ -81,10 +85,11 @@ fn stored_cube<'a>(statuses: &'a [u8; tables::CODES], cubes: &'a Shelf, g: Given
     ensures { (D : Prefix) (s : Node) (qs : List Constraint) (clauses learned area : List ℕ)
         → Statuses s statuses.now
         → LastGiven s g.at g.code
+        → Worded s true g.held
         → rows cubes.now ≡ map (codes D) qs
         → LeafCoded D result clauses learned cubes.now.cells.now area (matched D eqb s qs) }
 {
-    match lookup(cubes, statuses, g.code, true) {
+    match lookup(cubes, statuses, g.code, true, g.held) {
         Some(b) => Leaf::Yes(b),
         None => Leaf::Open,
     }
@@ -104,6 +109,7 @@ fn solution<'a>(
         → Statuses s statuses.now
         → Formed D R st
         → LastGiven s g.at g.code
+        → Worded s true g.held
         → rows cubes.now ≡ map (codes D) st.cubes
         → ClauseSets D R g.words matrix.now.sets
         → Entered D s R g.words trail.old.sat trail.old.marks k
@@ -128,12 +134,15 @@ fn solution<'a>(
 }
 
 // The four steps in order, at a node that is not the start.
+// stays (no plainer): the two words are the position's, of which `Depth` has what `start_rows` reads too; a struct of them would be made for this one call
 pub fn conclude<'a>(
     matrix: &'a Matrix,
     learned: &'a Learned,
     statuses: &'a [u8; tables::CODES],
     trail: &mut Trail,
     here: Depth,
+    held: u64,
+    failed: u64,
 ) -> Leaf
     requires { 1 ≤ here.at }
     ensures rows_kept { RowsKept here.at here.words trail.old.sat trail.new.sat trail.old.marks trail.new.marks }
@@ -145,6 +154,8 @@ pub fn conclude<'a>(
         st
         here.at
         here.words
+        held
+        failed
         matrix.now.rows
         matrix.now.sets
         matrix.now.quantifiers
@@ -172,6 +183,8 @@ pub fn conclude<'a>(
         at: here.at,
         code: true_at(statuses, here.at),
         words: here.words,
+        held,
+        failed,
     };
     match conflict(matrix, &trail.sat, &learned.clauses, statuses, g) {
         Some(b) => Leaf::No(b),

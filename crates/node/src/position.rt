@@ -7,7 +7,7 @@ use crate::Answer;
 
 // Where a visit stands: the node's length, the count of the free variables, the budget, the lines so far, and the words of a row of clauses; and
 // whether the lines are Yes nodes or No nodes. The budget is one more than the visits that may still be made: a search that ends leaves 1 at least,
-// and one that was stopped leaves 0.
+// and one that was stopped leaves 0. A word has a bit of each literal that is true there, and another of each that is false; it may have more.
 #[derive(Clone, Copy)]
 pub struct Position {
     pub at: usize,
@@ -16,6 +16,8 @@ pub struct Position {
     pub lines: usize,
     pub words: usize,
     pub yes: bool,
+    pub held: u64,
+    pub failed: u64,
     pub ghost few: { free ≤ highest.numbers },
     pub ghost long: { RowLength words },
 }

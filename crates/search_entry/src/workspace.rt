@@ -17,6 +17,8 @@ pub struct Workspace {
     pub aside: [u16; ASIDE],
     pub places: [u16; tables::HIGHEST_BY_NUMBER],
     pub kinds: [u16; tables::HIGHEST_BY_NUMBER],
+    pub clause_masks: [u64; tables::CONSTRAINTS],
+    pub cube_masks: [u64; tables::CONSTRAINTS],
     pub values: [u8; tables::HIGHEST_BY_NUMBER],
 }
 
@@ -42,6 +44,8 @@ impl Workspace {
         aside: [0; ASIDE],
         places: [0; tables::HIGHEST_BY_NUMBER],
         kinds: [0; tables::HIGHEST_BY_NUMBER],
+        clause_masks: [0; tables::CONSTRAINTS],
+        cube_masks: [0; tables::CONSTRAINTS],
         values: [0; tables::HIGHEST_BY_NUMBER],
     };
 }

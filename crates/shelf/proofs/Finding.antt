@@ -12,7 +12,7 @@ use Rattle.tables.specs.Codes.{last_code, all_are}
 use Rattle.tables.specs.Shelves.{code_count, row_at, head_of, newest_of, link_of, base_of, shelf_rows, ends_in, newest, Points, Shelf, first_match}
 use Rattle.std.specs.Prelude.{Some, None}
 use Rattle.std.specs.Prelude as value
-use Rattle.shelf.specs.Standing.{FoundIn}
+use Rattle.shelf.specs.Standing.{SlotIn, FoundIn}
 use Rattle.shelf.specs.Masks.{Noted}
 use Rattle.shelf.proofs.Newest.{points_same, newest_le, none_match, Latest, latest, points_above, points_none, points_le}
 use Rattle.shelf.proofs.Ring.{ring_length, ring_at}
@@ -30,7 +30,8 @@ module _ (stride slots : ℕ) (cells links statuses : List ℕ) (code want word 
     pub m : ℕ
     pub within : m ≤ length rows
     pub points : Points base (newest test (take m rows)) number
-    pub same : Noted statuses want word → FoundIn stride slots cells found (first_match code statuses want (drop m rows))
+    pub low : SlotIn slots found
+    pub same : Noted statuses want word → FoundIn stride cells found (first_match code statuses want (drop m rows))
 
 module _ {stride slots : ℕ} {cells links : List ℕ} (statuses : List ℕ) (code want word : ℕ) (shelf : Shelf stride slots cells links) where
   abbrev all : List (List ℕ)
@@ -50,14 +51,15 @@ module _ {stride slots : ℕ} {cells links : List ℕ} (statuses : List ℕ) (co
     m = length all;
     within = omega arith;
     points = rw (take-length, e, h) (shelf.head code low);
+    low = tt;
     same = λ noted. ap (first_match code statuses want) (drop-length all);
   }
 
   module _ {base number : ℕ} {found : value.Option ℕ} (inv : Finding stride slots cells links statuses code want word base number found) where
     -- no row is left that ends in the code
-    pub find_end : number ≤ base → Noted statuses want word → FoundIn stride slots cells found (first_match code statuses want all)
+    pub find_end : number ≤ base → Noted statuses want word → FoundIn stride cells found (first_match code statuses want all)
     find_end h noted =
-        subst (FoundIn stride slots cells found)
+        subst (FoundIn stride cells found)
         (sym (none_match is has (take inv.m all) (drop inv.m all) (points_none base (newest is (take inv.m all)) number inv.points h))
         ∙ ap (first_match code statuses want) (take-append-drop inv.m all))
         (inv.same noted)
@@ -128,9 +130,13 @@ module _ {stride slots : ℕ} {cells links : List ℕ} (statuses : List ℕ) (co
           ∙ the.match
           ∙ ap (λ (r : List ℕ). cond (has r) (some r) (first_match code statuses want (drop inv.m all))) row_before
 
-      found_by : (b : Bool) (o : Option (List ℕ)) → FoundIn stride slots cells found o → FoundIn stride slots cells (cond b (Some slot) found) (cond b (some (row_at stride cells slot)) o)
-      found_by true o h = (slot_low, refl)
+      found_by : (b : Bool) (o : Option (List ℕ)) → FoundIn stride cells found o → FoundIn stride cells (cond b (Some slot) found) (cond b (some (row_at stride cells slot)) o)
+      found_by true o h = refl
       found_by false o h = h
+
+      low_by : (b : Bool) → SlotIn slots (cond b (Some slot) found)
+      low_by true = slot_low
+      low_by false = inv.low
 
       pub find_more : Finding stride slots cells links statuses code want word base next found'
       find_more = record {
@@ -138,9 +144,10 @@ module _ {stride slots : ℕ} {cells links : List ℕ} (statuses : List ℕ) (co
         m = n;
         within = omega (arith, n_within);
         points = link;
+        low = subst (SlotIn slots) (sym found_is) (low_by hit);
         same = λ noted.
-            subst (λ (f : value.Option ℕ). FoundIn stride slots cells f (first_match code statuses want (drop n all))) (sym found_is)
-            (subst (FoundIn stride slots cells (cond hit (Some slot) found))
+            subst (λ (f : value.Option ℕ). FoundIn stride cells f (first_match code statuses want (drop n all))) (sym found_is)
+            (subst (FoundIn stride cells (cond hit (Some slot) found))
             (ap (λ (b : Bool). cond b (some (row_at stride cells slot)) (first_match code statuses want (drop inv.m all))) (hit_is noted) ∙ sym tail)
             (found_by hit _ (inv.same noted)));
       }

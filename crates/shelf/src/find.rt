@@ -5,7 +5,7 @@ ghost use Rattle.qbf.specs.Formula.{paper, highest};
 ghost use Rattle.tables.specs.Shelves.{code_count, head_of, shelf_rows, row_at, first_match};
 ghost use Rattle.tables.specs.Codes.{all_are};
 ghost use Rattle.shelf.specs.Masks.{Noted};
-ghost use Rattle.shelf.specs.Standing.{rows, newest, Found, FoundIn};
+ghost use Rattle.shelf.specs.Standing.{rows, newest, SlotIn, Found, FoundIn};
 
 use crate::row::all_are;
 use crate::{LentShelf, Shelf};
@@ -65,10 +65,10 @@ impl<'a> LentShelf<'a> {
         word: u64,
     ) -> Option<usize>
         requires { code < code_count }
-        ensures { Noted statuses.now want word
+        ensures slot { SlotIn self.entry.slots result }
+        ensures found { Noted statuses.now want word
             → FoundIn
             self.entry.stride
-            self.entry.slots
             self.entry.cells.now
             result
             (first_match code statuses.now want (shelf_rows self.entry.stride self.entry.slots self.entry.cells.now self.entry.links.now)) }
@@ -130,7 +130,8 @@ impl Shelf<'_> {
         word: u64,
     ) -> Option<usize>
         requires { code < code_count }
-        ensures { Noted statuses.now want word
+        ensures slot { SlotIn paper.constraints result }
+        ensures found { Noted statuses.now want word
             → Found self.now result (first_match code statuses.now want (rows self.now)) }
     {
         self.lent().find(code, statuses, want, word)

@@ -12,7 +12,7 @@ pub returns-then-step_down-clause-leaf_coded : goal.returns-then-step_down-claus
 returns-then-step_down-clause-leaf_coded c =
     let short = c.cube-n.ensures.0 in
     let at : Bounds = record { source = Area; start = 0; len = c.cube-n.result; inside = record { short = short; inside = omega (arith, short) } } in
-    λ D R s st k cls cs quantified shown formed given rows by entered.
+    λ D R s st k cls cs quantified shown formed given worded rows by entered.
     let down = c.step_down.ensures.descended D R s k given by entered in (
       down.0,
       reached_all D R s (matched D eqb s st.cubes) down.1 cls cs c.args.cubes.now.cells.now c.cube-n.new.up c.if-step_down.true at

@@ -20,5 +20,5 @@ loop-number-preserved c = find_more c.args.statuses.now c.args.code c.args.want 
       | else-hit w ↦ w.found-is ∙ ap (λ (b : Bool). cond b (Some c.slot_of-slot.result) c.loop-number.found) (sym w.if-hit.false)
     ])
 
-pub returns : goal.returns
-returns c = find_end c.args.statuses.now c.args.code c.args.want c.args.word c.args.self.agree c.loop-number.invariant (omega arith)
+pub returns-clause-found : goal.returns-clause-found
+returns-clause-found c = find_end c.args.statuses.now c.args.code c.args.want c.args.word c.args.self.agree c.loop-number.invariant (omega arith)
