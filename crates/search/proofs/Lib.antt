@@ -1,5 +1,6 @@
 pub mod Counts
 pub mod Keeping
+pub mod Words
 pub mod Branching
 pub mod Returns
 pub mod FreeReturns

@@ -106,7 +106,7 @@ module _ {cls sets kd ss cs cl qs ql tb sat mk : List ℕ} (κ : Quantifier) (ki
         (side_at_lem D R (s ▹ false) st eq
         (offs.result D s false ls R g st p.at
         (subst (Task D s ls R g st cls sets kd ss cs cl qs ql tb p.at) (sym eq)
-        (record { shown = task.shown; formed = task.formed; matrix = task.matrix; stored = task.stored; ruled = task.ruled; frees = task.frees; covers = task.covers; counted = task.counted }))
+        (record { shown = task.shown; formed = task.formed; matrix = task.matrix; stored = task.stored; ruled = task.ruled; frees = task.frees; covers = task.covers; counted = task.counted; trues = task.trues; falses = task.falses }))
         (opened_at p q (p.budget - 1) p.lines eq opened) inside (at_side q (p.budget - 1) p.lines eq) refl)))
 
     ended_off : Ended D (suc p.at) off_r.outcome
@@ -152,7 +152,7 @@ module _ {cls sets kd ss cs cl qs ql tb sat mk : List ℕ} (κ : Quantifier) (ki
             (side_at_lem D R (s ▹ true) off_r.store eq'
             (ons.result D s true ls₁ R g off_r.store p.at
             (subst (Task D s ls₁ R g off_r.store cls sets kd ss₁ cs₁ cl₁ qs₁ ql₁ tbₐ p.at) (sym eq')
-            (record { shown = shown_on; formed = formed_off; matrix = task.matrix; stored = w.stored; ruled = task.ruled; frees = task.frees; covers = cov; counted = cnt }))
+            (record { shown = shown_on; formed = formed_off; matrix = task.matrix; stored = w.stored; ruled = task.ruled; frees = task.frees; covers = cov; counted = cnt; trues = task.trues; falses = task.falses }))
             (opened_at p q' off.budget l eq' open_on) inside (at_side q' off.budget l eq') refl)))
 
         module _ (saved : List ℕ) (aside : saved ≡ entry_of off cls cs₁ qs₁ up₁) (r : Answer) {cs₃ cl₃ qs₃ ql₃ : List ℕ}

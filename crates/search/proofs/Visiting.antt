@@ -3,10 +3,11 @@ use Prim.Native.Nat.{ℕ, suc, ◌+◌, ◌-◌, ◌≤◌, ◌<◌}
 use native.Mathlib.Omega.{arith}
 use mathlib.Core.Path.{◌≡◌, refl, sym, ap, ◌∙◌, subst}
 use mathlib.Core.Logic.{◌⊎◌, inl, inr}
-use mathlib.Core.Bool.{Bool, true, false, true≢false}
+use mathlib.Core.Bool.{Bool, true, false, not, true≢false}
 use mathlib.Core.List.{List, [], ◌∷◌, append-nil}
 use mathlib.Core.Option.{Option, none, some}
 use lib.ListN.{length, take, drop, length-map, drop_of_length-le}
+use lib.Bits.{bit_or}
 use lib.Dec.{eqb}
 use Rattle.qbf.specs.Formula.{paper, highest, Quantifier, Prefix, Clause, Node, ◌▹◌, quantifiers, quantifier_at}
 use Rattle.qbf.specs.Truth.{Outcome, decided}
@@ -20,12 +21,13 @@ use Rattle.theory.proofs.Lowest.{lowest_none}
 use Rattle.theory.proofs.CeilingLaws.{raise_nothing_within}
 use Rattle.inner.specs.Formed.{Formed}
 use Rattle.tables.specs.Views.{quantifier_code}
-use Rattle.tables.specs.Codes.{codes, given}
+use Rattle.shelf.specs.Masks.{bit}
+use Rattle.tables.specs.Codes.{code_at, codes, given}
 use Rattle.tables.specs.Shelves.{code_count}
 use Rattle.tables.specs.Sets.{Descended}
 use Rattle.tables.specs.Records.{Ledger}
 use Rattle.coding.proofs.Given.{statuses_below}
-use Rattle.inner.specs.Inner.{Concluded, LeafCoded, NodeShown, OpenKnown}
+use Rattle.inner.specs.Inner.{Worded, Concluded, LeafCoded, NodeShown, OpenKnown}
 use Rattle.inner.specs.declared.Leaf.{Leaf}
 use Rattle.inner.specs.declared.Leaf.TheVariants as found
 use Rattle.search_entry.specs.Entry.{table_of, entry_at}
@@ -33,13 +35,14 @@ use Rattle.search_entry.specs.declared.bounds.Bounds.{Bounds}
 use Rattle.cover.specs.Cover.{Covers}
 use Rattle.node.specs.Node.{stored_by, Reads, Shown, NextKind}
 use Rattle.node.proofs.NextPlace.{code_known, next_inside, kind_here}
-use Rattle.search.specs.Search.{Task, Opened, Result, Visited, Followed, visit_of, below_of, branch_of, is_open, concluded_of}
+use Rattle.search.specs.Search.{given_at, Task, Opened, Result, Visited, Followed, visit_of, below_of, branch_of, is_open, concluded_of}
 use Rattle.node.specs.declared.Verdict.{Verdict}
 use Rattle.node.specs.declared.Verdict.TheVariants.{Yes, No}
 use Rattle.node.specs.declared.position.Position.{Position}
 use Rattle.node.specs.declared.answer.Answer.{Answer}
 use Rattle.search.proofs.Counts as counts
 use Rattle.search.proofs.Keeping.{entered_below}
+use Rattle.search.proofs.Words.{given_result, worded_below, on_is, held_sign, failed_sign}
 use Rattle.inner.proofs.Stepping.{facts, rising}
 use Rattle.search.proofs.Branching.{shaped, rest, one}
 
@@ -91,7 +94,7 @@ module _ {D : Prefix} {R : List Clause} {s : Node} {st : Store} {r : Leaf} {wc :
 module _ {D : Prefix} {s : Node} {ls : List Node} {R : List Clause} {g : Ledger} {st : Store} {cls sets kd ss cs cl qs ql tb : List ℕ} (p : Position)
     (task : Task D s ls R g st cls sets kd ss cs cl qs ql tb p.at p) where
   -- what steps 1 to 4 ask
-  pub node_shown : NodeShown D R s st p.at p.words cls sets kd ss cs cl qs ql
+  pub node_shown : NodeShown D R s st p.at p.words p.held p.failed cls sets kd ss cs cl qs ql
   node_shown = record {
     quantified = task.shown.quantified;
     statused = task.shown.statused;
@@ -99,6 +102,8 @@ module _ {D : Prefix} {s : Node} {ls : List Node} {R : List Clause} {g : Ledger}
     matrix = task.matrix;
     stored = task.stored.shown;
     formed = task.formed;
+    trues = task.trues;
+    falses = task.falses;
   }
 
   -- the visit is made
@@ -209,10 +214,11 @@ open_is found.Open e = refl
 -- a side is the visit of the node one place longer
 pub side_result : (D : Prefix) (s : Node) (b : Bool) (ls : List Node) (R : List Clause) (g : Ledger) (st : Store) (k : ℕ) {cls sets kd ss cs cl qs ql tb sat mk : List ℕ} (p : Position)
     → Task D s ls R g st cls sets kd ss cs cl qs ql tb k p → Opened D s R p sat mk → k < length D → suc k ≡ p.at → p.at ≤ highest.numbers → length ss ≡ code_count
-    → (value : ℕ) → value ≡ byte_of b → {ss' : List ℕ} → ss' ≡ given p.at value ss → {r : Answer} {up cs' cl' qs' ql' tb' : List ℕ}
-    → Visited p r cls sets kd ss' cs cl qs ql tb sat mk up cs' cl' qs' ql' tb' → Result D g ls (visit_of D R p (s ▹ b) st) p r cls up cs' cl' qs' ql' tb'
-side_result D s b ls R g st k {kd = kd} {ss = ss} p task opened inside e within full value v changed vis =
-    vis.result D (s ▹ b) ls R g st (length s)
+    → (value : ℕ) → value ≡ byte_of b → {ss' : List ℕ} → ss' ≡ given p.at value ss → {q : Position} → q ≡ given_at value p → {r : Answer} {up cs' cl' qs' ql' tb' : List ℕ}
+    → Visited q r cls sets kd ss' cs cl qs ql tb sat mk up cs' cl' qs' ql' tb' → Result D g ls (visit_of D R p (s ▹ b) st) p r cls up cs' cl' qs' ql' tb'
+side_result D s b ls R g st k {cls} {sets} {kd} {ss} {cs} {cl} {qs} {ql} {tb} {sat} {mk} p task opened inside e within full value v {ss'} changed {q} is {r} {up} {cs'} {cl'} {qs'} {ql'} {tb'} vis =
+    given_result value p (visit_of D R p (s ▹ b) st)
+    ((subst (λ (x : Position). Visited x r cls sets kd ss' cs cl qs ql tb sat mk up cs' cl' qs' ql' tb') is vis).result D (s ▹ b) ls R g st (length s)
     (record {
       shown = subst (λ (x : List ℕ). Shown D (s ▹ b) kd x p.at) (sym changed) shown_below;
       formed = task.formed;
@@ -222,8 +228,10 @@ side_result D s b ls R g st k {kd = kd} {ss = ss} p task opened inside e within 
       frees = task.frees;
       covers = task.covers;
       counted = task.counted;
+      trues = subst (λ (c : Bool). Worded (s ▹ b) true (bit_or p.held (bit (code_at p.at c)))) (sym (on_is b value v ∙ held_sign b)) (worded_below s true b p.at task.trues next);
+      falses = subst (λ (c : Bool). Worded (s ▹ b) false (bit_or p.failed (bit (code_at p.at c)))) (sym (ap not (on_is b value v) ∙ failed_sign b)) (worded_below s false b p.at task.falses next);
     })
-    (entered_below opened (omega (arith, inside, task.shown.long)) b)
+    (entered_below opened (omega (arith, inside, task.shown.long)) b))
   where
     next : suc (length s) ≡ p.at
     next = ap suc task.shown.long ∙ e

@@ -1,6 +1,6 @@
 -- What a visitor asks of the lent tables, what it leaves of them, and what its answer says: safety without a prefix, and the learning search for
 -- every prefix, clauses, store, node and list of lines that the tables show.
-use Rattle.std.specs.Prelude.{ℕ, suc, ◌+◌, ◌-◌, ◌^◌, ◌≤◌, ◌<◌, ◌≡◌, Bool, true, false, List, ◌++◌, length, take, drop, eqb}
+use Rattle.std.specs.Prelude.{ℕ, suc, ◌+◌, ◌-◌, ◌^◌, ◌≤◌, ◌<◌, ◌≡◌, Bool, true, false, not, List, ◌++◌, length, take, drop, eqb}
 use Rattle.std.proofs.Math.Option.{none}
 use Rattle.qbf.specs.Formula.{paper, highest, Quantifier, Prefix, Clause, Node, ◌▹◌, quantifiers}
 use Rattle.qbf.specs.Truth.{free_variables}
@@ -9,11 +9,14 @@ use Rattle.qbf.specs.Ceiling.{Attempt, finished, stopped, visit_within, below_wi
 use Rattle.qbf.specs.Card.{byte_of}
 use Rattle.cover.specs.Cover.{Covers}
 use Rattle.inner.specs.Formed.{Formed}
+use Rattle.std.specs.Int.Bits.{bit_or}
+use Rattle.tables.specs.Codes.{code_at}
+use Rattle.shelf.specs.Masks.{bit}
 use Rattle.tables.specs.Shelves.{newest_of}
 use Rattle.tables.specs.Records.{Ledger, StoreKept}
 use Rattle.tables.specs.Matrices.{MatrixShown}
 use Rattle.tables.specs.Sets.{Descended, RowsKept}
-use Rattle.inner.specs.Inner.{Entered}
+use Rattle.inner.specs.Inner.{Worded, Entered}
 use Rattle.inner.specs.declared.Leaf.{Leaf}
 use Rattle.inner.specs.declared.Leaf.TheVariants.{No, Yes, Open}
 use Rattle.search_entry.specs.Within.{nowhere}
@@ -27,6 +30,10 @@ use Rattle.node.specs.declared.answer.Answer.{Answer}
 -- the position of a side, with that budget and those lines
 abbrev pub side_at : Position → ℕ → ℕ → Position
 side_at p v l = record p { at = p.at + 1; budget = v; lines = l }
+
+-- the position where its last place has the value: the words have the bits of its two literals
+abbrev pub given_at : ℕ → Position → Position
+given_at value p = record p { held = bit_or p.held (bit (code_at p.at (eqb value 2))); failed = bit_or p.failed (bit (code_at p.at (not (eqb value 2)))) }
 
 -- of the counts: room for the lines and for the numbers of stored rows, which grow no faster than the budget falls
 pub record Room (cl ql : List ℕ) (p : Position) : Type 0 where
@@ -86,6 +93,8 @@ pub record Task (D : Prefix) (s : Node) (ls : List Node) (R : List Clause) (g : 
   pub frees : p.free ≡ free_variables D
   pub covers : Covers p.free table ls
   pub counted : p.lines ≡ length ls
+  pub trues : Worded s true p.held
+  pub falses : Worded s false p.failed
 
 -- at the node s no clause is dead, and what is known of the clauses there
 pub record Opened (D : Prefix) (s : Node) (R : List Clause) (p : Position) (sat marks : List ℕ) : Type 0 where

@@ -1,8 +1,10 @@
-// The positions of a node's two sides.
-ghost use Rattle.std.specs.Prelude.{◌≡◌, suc, ◌+◌, ◌-◌, ◌<◌};
+// The positions of a node's two sides, and where its last place has a value.
+ghost use Rattle.std.specs.Prelude.{◌≡◌, suc, ◌+◌, ◌-◌, ◌≤◌, ◌<◌};
 ghost use Rattle.qbf.specs.Formula.{highest};
+ghost use Rattle.search.specs.Search.{given_at};
 
 use node::Position;
+use shelf::mask::bit;
 
 // That of the off side, where this visit is counted, and that of the on side.
 pub fn to_off(p: Position) -> Position
@@ -24,4 +26,19 @@ pub fn to_on(p: Position, budget: u64, lines: usize) -> Position
     below.budget = budget;
     below.lines = lines;
     below
+}
+
+// The position where its last place has the value: its two literals have their bits.
+pub fn given(p: Position, value: u8) -> Position
+    requires { p.at ≤ highest.numbers }
+    ensures { result ≡ given_at value p }
+{
+    let on = value == tables::ON;
+    let off = !on;
+    let holds = bit((p.at * 2 + on as usize) as u16);
+    let fails = bit((p.at * 2 + off as usize) as u16);
+    let mut here = p;
+    here.held = p.held | holds;
+    here.failed = p.failed | fails;
+    here
 }

@@ -14,7 +14,7 @@ ghost use Rattle.qbf.specs.Formula.{exists, forall, free};
 ghost use Rattle.tables.specs.Views.{quantifier_code};
 ghost use Rattle.search.specs.Visitors.{MayVisit, MayBranch, MayTurn, MayGoDown, Leaves, Follows, Reaches, GoesDown};
 
-use below::{to_off, to_on};
+use below::{given, to_off, to_on};
 use both_sides::{finish, put_by};
 use coding::statuses::restore;
 use inner::{Leaf, conclude};
@@ -27,7 +27,7 @@ use search_entry::{Bounds, Matrix, Search, Source};
 use steps::{concluded, is_open};
 use value::give_value;
 
-mod below; // the positions of a node's two sides
+mod below; // the positions of a node's two sides, and where its last place has a value
 mod steps; // what steps 1 to 4 of a visit say
 mod value; // the value of a side's last place
 
@@ -67,7 +67,15 @@ fn visit<'a>(
         };
         let statuses = &*search.statuses;
         let trail = &mut *search.trail;
-        conclude(matrix, &search.learned, statuses, trail, here)
+        conclude(
+            matrix,
+            &search.learned,
+            statuses,
+            trail,
+            here,
+            p.held,
+            p.failed,
+        )
     };
     if is_open(leaf) {
         let below = branch(matrix, search, table, p);
@@ -205,7 +213,7 @@ fn side<'a>(
 {
     let statuses = &mut *search.statuses;
     let above = give_value(statuses, p.at, value);
-    let below = visit(matrix, search, table, p, false);
+    let below = visit(matrix, search, table, given(p, value), false);
     let statuses = &mut *search.statuses;
     restore(statuses, p.at, above);
     with_lines(below, below.lines) // field by field: copied whole, a struct takes its padding along, and the processor waits for that

@@ -7,12 +7,14 @@ use mathlib.Core.List.{List}
 use Prim.Native.Nat.{ℕ}
 use Rattle.qbf.specs.Formula.{highest}
 use Rattle.node.specs.declared.Verdict.TheVariants.{No}
+use Rattle.node.specs.declared.position.Position.{Position}
 use Rattle.inner.specs.declared.Leaf.{Leaf}
 use Rattle.search_entry.specs.declared.Search.{Search}
 use Rattle.search.specs.Search.{AsideKept, is_open, concluded_of}
 use Rattle.search.specs.Visitors.{Leaves}
 use Rattle.search.proofs.Counts.{counts_up, counts_sides, counts_settled, counts_concluded, counts_as, result_as}
 use Rattle.search.proofs.Keeping.{statuses_back, rows_same, kept_up, kept_both}
+use Rattle.search.proofs.Words.{given_asked, given_counts, given_kept, given_aside}
 use Rattle.search.proofs.Setting.{aside_less, aside_then, aside_up, aside_row}
 use Rattle.search.proofs.Returns.{up_result}
 use Rattle.search.proofs.SidesReturns.{sides_result}
@@ -96,25 +98,29 @@ sides-returns t c = let more = more_places _ c.args.p.at c.args.kind c.requires.
       };
     }
 
+pub side-visit-below-requires : goal.side-visit-below-requires
+side-visit-below-requires t c =
+    (omega (arith, ap (λ (x : Position). x.at) c.given.ensures), given_asked c.args.value c.args.p c.given.result c.given.ensures c.requires)
+
 pub side-returns : goal.side-returns
-side-returns t c = record {
+side-returns t c = let kept = given_kept c.args.value c.args.p c.given.result c.given.ensures c.visit-below.ensures.left.0.kept in record {
   left = (
     record {
-      counts = counts_as (sym c.with_lines.ensures) c.visit-below.ensures.left.0.counts;
+      counts = counts_as (sym c.with_lines.ensures) (given_counts c.args.value c.args.p c.given.result c.given.ensures c.visit-below.ensures.left.0.counts);
       kept = record {
         statuses_restored =
             c.restore.ensures
-            ∙ statuses_back c.args.p.at c.args.value _ _ c.args.search.now.statuses.now _ (omega (arith, c.requires.room.within, c.give_value-above.ensures.long)) (c.visit-below.ensures.left.0.kept.statuses_restored ∙ c.give_value-above.ensures.given.0) c.give_value-above.ensures.given.1 c.give_value-above.ensures.given.2;
-        size = c.visit-below.ensures.left.0.kept.size;
-        rows = c.visit-below.ensures.left.0.kept.rows;
+            ∙ statuses_back c.args.p.at c.args.value _ _ c.args.search.now.statuses.now _ (omega (arith, c.requires.room.within, c.give_value-above.ensures.long)) (kept.statuses_restored ∙ c.give_value-above.ensures.given.0) c.give_value-above.ensures.given.1 c.give_value-above.ensures.given.2;
+        size = kept.size;
+        rows = kept.rows;
       };
     },
-    c.visit-below.ensures.left.1,
+    given_aside c.args.value c.args.p c.given.result c.given.ensures c.visit-below.ensures.left.1,
   );
   side_visited = record {
     result = λ D s b ls R g st k task opened inside e v.
         result_as (sym c.with_lines.ensures)
-        (side_result D s b ls R g st k c.args.p task opened inside e c.requires.room.within c.give_value-above.ensures.long c.args.value v c.give_value-above.ensures.given.0 (c.visit-below.ensures.reached.visited refl));
+        (side_result D s b ls R g st k c.args.p task opened inside e c.requires.room.within c.give_value-above.ensures.long c.args.value v c.give_value-above.ensures.given.0 c.given.ensures (c.visit-below.ensures.reached.visited refl));
   };
 }
 
