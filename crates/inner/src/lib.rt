@@ -36,30 +36,29 @@ pub enum Leaf {
     Open,
 }
 
-// The value given last: its place, the code of the literal that it makes true, and the words of a row of clauses; and the words of the literals that are
-// true and of those that are false.
+// The value given last: its place, the code of the literal that it makes true, and the words of a row of clauses.
 #[derive(Clone, Copy)]
 pub struct Given {
     pub at: usize,
     pub code: u16,
     pub words: usize,
-    pub held: u64,
-    pub failed: u64,
     pub ghost inside: { Inside at code words },
 }
 
 // Steps 1 and 2: the clause that dies at the node, or the learned clause that is false there.
+// stays (no plainer): the word of the literals that are false, as in `conclude`
 fn conflict<'a>(
     matrix: &'a Matrix,
     sat: &'a [u64; tables::SATISFIED],
     learned: &'a Shelf,
     statuses: &'a [u8; tables::CODES],
     g: Given,
+    failed: u64,
 ) -> Option<Bounds>
     ensures { (D : Prefix) (R : List Clause) (s : Node) (st : Store) (k : ℕ) (marks area : List ℕ)
         → Statuses s statuses.now
         → LastGiven s g.at g.code
-        → Worded s false g.failed
+        → Worded s false failed
         → MatrixShown D R g.words matrix.now.rows matrix.now.sets
         → Formed D R st
         → Entered D s R g.words sat.now marks k
@@ -76,32 +75,39 @@ fn conflict<'a>(
     // own the closure would say `lookup`'s contract a second time
     match dead(matrix, sat, g) {
         Some(b) => Some(b),
-        None => lookup(learned, statuses, g.code, false, g.failed),
+        None => lookup(learned, statuses, g.code, false, failed),
     }
 }
 
 // Step 4: the oldest eligible cube that is true.
-fn stored_cube<'a>(statuses: &'a [u8; tables::CODES], cubes: &'a Shelf, g: Given) -> Leaf
+fn stored_cube<'a>(
+    statuses: &'a [u8; tables::CODES],
+    cubes: &'a Shelf,
+    g: Given,
+    held: u64,
+) -> Leaf
     ensures { (D : Prefix) (s : Node) (qs : List Constraint) (clauses learned area : List ℕ)
         → Statuses s statuses.now
         → LastGiven s g.at g.code
-        → Worded s true g.held
+        → Worded s true held
         → rows cubes.now ≡ map (codes D) qs
         → LeafCoded D result clauses learned cubes.now.cells.now area (matched D eqb s qs) }
 {
-    match lookup(cubes, statuses, g.code, true, g.held) {
+    match lookup(cubes, statuses, g.code, true, held) {
         Some(b) => Leaf::Yes(b),
         None => Leaf::Open,
     }
 }
 
 // Steps 3 and 4: the cube of a node that satisfies all clauses, or a cube that is true there.
+// stays (no plainer): the word of the literals that are true, as in `conclude`
 fn solution<'a>(
     matrix: &'a Matrix,
     cubes: &'a Shelf,
     statuses: &'a [u8; tables::CODES],
     trail: &mut Trail,
     g: Given,
+    held: u64,
 ) -> Leaf
     ensures rows_kept { RowsKept g.at g.words trail.old.sat trail.new.sat trail.old.marks trail.new.marks }
     ensures leaf_coded { (D : Prefix) (R : List Clause) (s : Node) (st : Store) (k : ℕ) (clauses learned : List ℕ)
@@ -109,7 +115,7 @@ fn solution<'a>(
         → Statuses s statuses.now
         → Formed D R st
         → LastGiven s g.at g.code
-        → Worded s true g.held
+        → Worded s true held
         → rows cubes.now ≡ map (codes D) st.cubes
         → ClauseSets D R g.words matrix.now.sets
         → Entered D s R g.words trail.old.sat trail.old.marks k
@@ -130,11 +136,11 @@ fn solution<'a>(
             len: n,
         });
     }
-    stored_cube(statuses, cubes, g)
+    stored_cube(statuses, cubes, g, held)
 }
 
 // The four steps in order, at a node that is not the start.
-// stays (no plainer): the two words are the position's, of which `Depth` has what `start_rows` reads too; a struct of them would be made for this one call
+// stays (no plainer): the two words are the position's, and one goes to either lookup: `Depth` and `Given` have what the start node's rows are read by too, where there is no word
 pub fn conclude<'a>(
     matrix: &'a Matrix,
     learned: &'a Learned,
@@ -183,11 +189,9 @@ pub fn conclude<'a>(
         at: here.at,
         code: true_at(statuses, here.at),
         words: here.words,
-        held,
-        failed,
     };
-    match conflict(matrix, &trail.sat, &learned.clauses, statuses, g) {
+    match conflict(matrix, &trail.sat, &learned.clauses, statuses, g, failed) {
         Some(b) => Leaf::No(b),
-        None => solution(matrix, &learned.cubes, statuses, trail, g),
+        None => solution(matrix, &learned.cubes, statuses, trail, g, held),
     }
 }

@@ -23,6 +23,8 @@ impl<'a> Lent<'a> {
                 clause_links: &mut work.clause_links,
                 cube_cells: &mut work.cube_cells,
                 cube_links: &mut work.cube_links,
+                clause_masks: &mut work.clause_masks,
+                cube_masks: &mut work.cube_masks,
                 trail: &mut work.trail,
                 statuses: &mut work.statuses,
                 aside: &mut work.aside,

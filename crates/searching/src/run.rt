@@ -1,12 +1,14 @@
 // The search: the start node by its steps 1 to 4 over the tables themselves, and below it over the tables that are derived from them.
-ghost use Rattle.std.specs.Prelude.{◌≡◌, ◌^◌, ◌≤◌, ◌<◌, length, get_or};
-ghost use Rattle.qbf.specs.Formula.{paper, highest};
+ghost use Rattle.std.specs.Prelude.{◌≡◌, Bool, ◌^◌, ◌≤◌, ◌<◌, length, get_or};
+ghost use Rattle.qbf.specs.Formula.{paper, highest, Node};
+ghost use Rattle.inner.specs.Inner.{Worded};
 ghost use Rattle.shelf.specs.Standing.{newest};
 ghost use Rattle.search_entry.specs.Within.{nowhere};
 ghost use Rattle.searching.specs.Run.{ended_at, Below, OpenedAs, Ran};
 
 use crate::given::Given;
 use crate::task::Task;
+use bitset::rows::ALL;
 use coding::quantifiers::quantifiers_of;
 use coding::statuses::statuses_of;
 use literal::{ByNumber, cell_at};
@@ -27,6 +29,8 @@ pub struct Scratch<'a> {
     pub clause_links: &'a mut [u64; tables::CONSTRAINT_LINKS],
     pub cube_cells: &'a mut [u16; tables::CONSTRAINT_CODES],
     pub cube_links: &'a mut [u64; tables::CONSTRAINT_LINKS],
+    pub clause_masks: &'a mut [u64; tables::CONSTRAINTS],
+    pub cube_masks: &'a mut [u64; tables::CONSTRAINTS],
     pub trail: &'a mut Trail,
     pub statuses: &'a mut [u8; tables::CODES],
     pub aside: &'a mut [u16; ASIDE],
@@ -40,6 +44,8 @@ impl<'a> Scratch<'a> {
             clause_links: &mut work.clause_links,
             cube_cells: &mut work.cube_cells,
             cube_links: &mut work.cube_links,
+            clause_masks: &mut work.clause_masks,
+            cube_masks: &mut work.cube_masks,
             trail: &mut work.trail,
             statuses: &mut work.statuses,
             aside: &mut work.aside,
@@ -77,6 +83,16 @@ fn decided<'a>(verdict: Verdict, budget: u64) -> Found<'a>
         answer,
         learned: None,
     }
+}
+
+// A word that has the bits of the literals that are true or false at the start node: of none where it has no place, and else of all.
+fn start_word(at: usize) -> u64
+    ensures { (s : Node) (v : Bool) → length s ≡ at → Worded s v result }
+{
+    if at == 0 {
+        return 0;
+    }
+    ALL
 }
 
 // The search below an open start node, with what it knows of the clauses there.
@@ -135,6 +151,7 @@ fn below(
         Depth { at, words },
         search.trail,
     );
+    let word = start_word(at);
     let start = Position {
         at,
         free,
@@ -142,12 +159,14 @@ fn below(
         lines: 0,
         words,
         yes,
+        held: word,
+        failed: word,
     };
     search::start(matrix, search, table, start)
 }
 
 // .. over the tables that are lent: those of the clauses are derived here, and the learned constraints put onto empty shelves.
-// stays (no plainer): of the lent tables these three go on to the search as they are, and the other five become the matrix and the shelves
+// stays (no plainer): of the lent tables these three go on to the search as they are, and the other seven become the matrix and the shelves
 // stays (no plainer): `Task.at ≤ get_or Given.numbers 0 0` is of the two together: a struct that kept it would hold both for three functions, and name each of their fields through itself
 fn opened<'a>(given: Given<'_>, task: Task<'_>, scratch: Scratch<'a>, table: &mut [u8]) -> Found<'a>
     requires { (task.at ≤ get_or given.numbers.now 0 0) × (2 ≤ task.budget) }
@@ -165,8 +184,12 @@ fn opened<'a>(given: Given<'_>, task: Task<'_>, scratch: Scratch<'a>, table: &mu
         cell_at(numbers, 0) as usize,
         matrix,
     );
-    let mut clauses = Shelf::empty(scratch.clause_cells, scratch.clause_links);
-    let mut cubes = Shelf::empty(scratch.cube_cells, scratch.cube_links);
+    let mut clauses = Shelf::empty(
+        scratch.clause_cells,
+        scratch.clause_links,
+        scratch.clause_masks,
+    );
+    let mut cubes = Shelf::empty(scratch.cube_cells, scratch.cube_links, scratch.cube_masks);
     load(given.learned_clauses, task.places, &mut clauses);
     load(given.learned_cubes, task.places, &mut cubes);
     let mut search = Search {
