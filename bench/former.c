@@ -52,7 +52,7 @@ struct side {
 };
 
 enum { ALL = 0xFFFFFFFF };
-static uint64_t work[5005928 / 8]; // of struct bullacetop_workspace
+static uint64_t work[5006952 / 8]; // of struct bullacetop_workspace
 static uint8_t table[65536];
 static struct state nine;
 static struct slices two;

@@ -134,8 +134,10 @@ struct bullacetop_workspace {
     } rules;
     uint16_t bar_cells[BULLACETOP_ENTRIES * (BULLACETOP_HIGHEST_NUMBERS + 1)];
     uint64_t bar_links[BULLACETOP_CODES + 2 + BULLACETOP_ENTRIES];
+    uint64_t bar_masks[BULLACETOP_ENTRIES];
     uint16_t pass_cells[BULLACETOP_ENTRIES * (BULLACETOP_HIGHEST_NUMBERS + 1)];
     uint64_t pass_links[BULLACETOP_CODES + 2 + BULLACETOP_ENTRIES];
+    uint64_t pass_masks[BULLACETOP_ENTRIES];
     struct {
         uint64_t satisfied[(BULLACETOP_HIGHEST_NUMBERS + 1) * BULLACETOP_ROW_WORDS];
         uint8_t marks[BULLACETOP_HIGHEST_NUMBERS + 1];
@@ -625,7 +627,7 @@ struct bullacetop_closest bullacetop_day_closest(
 typedef char bullacetop_usual_cells_are_as_here[BULLACETOP_BOOK_CELLS(BULLACETOP_NUMBERS, BULLACETOP_RULES) == 575 ? 1 : -1];
 typedef char bullacetop_usual_literals_are_as_here[BULLACETOP_BOOK_LITERALS(BULLACETOP_NUMBERS, BULLACETOP_RULES) == 9200 ? 1 : -1];
 typedef char bullacetop_accounts_are_as_here[sizeof(struct bullacetop_accounts) == 44 ? 1 : -1];
-typedef char bullacetop_workspace_is_as_here[sizeof(struct bullacetop_workspace) == 5005928 ? 1 : -1];
+typedef char bullacetop_workspace_is_as_here[sizeof(struct bullacetop_workspace) == 5006952 ? 1 : -1];
 
 #ifdef __cplusplus
 }

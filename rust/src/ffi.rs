@@ -17,7 +17,7 @@ const CODES: usize = (HIGHEST_NUMBERS + 1) * 2;
 const ROW_WORDS: usize = (HIGHEST_RULES / 256 + 1) * 4;
 
 // As at the end of the header; and a length there is a `size_t`, which has 64 bits.
-const _: () = assert!(std::mem::size_of::<Workspace>() == 5_005_928);
+const _: () = assert!(std::mem::size_of::<Workspace>() == 5_006_952);
 const _: () = assert!(usize::BITS == 64);
 
 /// `rules` of `struct bullacetop_workspace`.
@@ -46,8 +46,10 @@ pub struct Workspace {
     rules: Matrix,
     bar_cells: [u16; ENTRIES * (HIGHEST_NUMBERS + 1)],
     bar_links: [u64; CODES + 2 + ENTRIES],
+    bar_masks: [u64; ENTRIES],
     pass_cells: [u16; ENTRIES * (HIGHEST_NUMBERS + 1)],
     pass_links: [u64; CODES + 2 + ENTRIES],
+    pass_masks: [u64; ENTRIES],
     trail: Trail,
     statuses: [u8; CODES],
     aside: [u16; HIGHEST_NUMBERS * HIGHEST_NUMBERS],

@@ -80,12 +80,7 @@ fn conflict<'a>(
 }
 
 // Step 4: the oldest eligible cube that is true.
-fn stored_cube<'a>(
-    statuses: &'a [u8; tables::CODES],
-    cubes: &'a Shelf,
-    g: Given,
-    held: u64,
-) -> Leaf
+fn stored_cube<'a>(statuses: &'a [u8; tables::CODES], cubes: &'a Shelf, g: Given, held: u64) -> Leaf
     ensures { (D : Prefix) (s : Node) (qs : List Constraint) (clauses learned area : List ℕ)
         → Statuses s statuses.now
         → LastGiven s g.at g.code

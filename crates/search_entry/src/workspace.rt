@@ -10,15 +10,15 @@ pub struct Workspace {
     pub matrix: Matrix,
     pub clause_cells: [u16; tables::CONSTRAINT_CODES],
     pub clause_links: [u64; tables::CONSTRAINT_LINKS],
+    pub clause_masks: [u64; tables::CONSTRAINTS],
     pub cube_cells: [u16; tables::CONSTRAINT_CODES],
     pub cube_links: [u64; tables::CONSTRAINT_LINKS],
+    pub cube_masks: [u64; tables::CONSTRAINTS],
     pub trail: Trail,
     pub statuses: [u8; tables::CODES],
     pub aside: [u16; ASIDE],
     pub places: [u16; tables::HIGHEST_BY_NUMBER],
     pub kinds: [u16; tables::HIGHEST_BY_NUMBER],
-    pub clause_masks: [u64; tables::CONSTRAINTS],
-    pub cube_masks: [u64; tables::CONSTRAINTS],
     pub values: [u8; tables::HIGHEST_BY_NUMBER],
 }
 
@@ -32,8 +32,10 @@ impl Workspace {
         },
         clause_cells: [0; tables::CONSTRAINT_CODES],
         clause_links: [0; tables::CONSTRAINT_LINKS],
+        clause_masks: [0; tables::CONSTRAINTS],
         cube_cells: [0; tables::CONSTRAINT_CODES],
         cube_links: [0; tables::CONSTRAINT_LINKS],
+        cube_masks: [0; tables::CONSTRAINTS],
         trail: Trail {
             sat: [0; tables::SATISFIED],
             marks: [0; tables::HIGHEST_BY_NUMBER],
@@ -44,8 +46,6 @@ impl Workspace {
         aside: [0; ASIDE],
         places: [0; tables::HIGHEST_BY_NUMBER],
         kinds: [0; tables::HIGHEST_BY_NUMBER],
-        clause_masks: [0; tables::CONSTRAINTS],
-        cube_masks: [0; tables::CONSTRAINTS],
         values: [0; tables::HIGHEST_BY_NUMBER],
     };
 }

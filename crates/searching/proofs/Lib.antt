@@ -1,2 +1,2 @@
 pub mod Running
-pub mod StartWord
+pub mod StartWords

@@ -49,15 +49,15 @@ pub ended_few : {w : Verdict} {k n : ℕ} {r : Found} → r ≡ ended_at w k →
 ended_few {w} {k} {n} {r} e h = (omega (arith, ap (λ (a : Found). a.answer.lines) e), omega (arith, h, ap (λ (a : Found). a.answer.budget) e))
 
 -- where a search starts
-abbrev pub start_at : (at free budget words : ℕ) → Bool → (word : ℕ) → free ≤ highest.numbers → RowLength words → Position
-start_at at free budget words p word small long = record { at = at; free = free; budget = budget; lines = 0; words = words; yes = p; held = word; failed = word; few = small; long = long }
+abbrev pub start_at : (at free budget words : ℕ) → Bool → (held failed : ℕ) → free ≤ highest.numbers → RowLength words → Position
+start_at at free budget words p held failed small long = record { at = at; free = free; budget = budget; lines = 0; words = words; yes = p; held = held; failed = failed; few = small; long = long }
 
-pub room : {p : Bool} (cl ql : List ℕ) (at free budget words : ℕ) {word : ℕ} {small : free ≤ highest.numbers} {long : RowLength words} → at ≤ highest.numbers
-    → newest_of cl ≤ paper.constraints → newest_of ql ≤ paper.constraints → budget ≤ suc highest_ceiling → Room cl ql (start_at at free budget words p word small long)
+pub room : {p : Bool} (cl ql : List ℕ) (at free budget words : ℕ) {held failed : ℕ} {small : free ≤ highest.numbers} {long : RowLength words} → at ≤ highest.numbers
+    → newest_of cl ≤ paper.constraints → newest_of ql ≤ paper.constraints → budget ≤ suc highest_ceiling → Room cl ql (start_at at free budget words p held failed small long)
 room cl ql at free budget words within learned cubes bounded =
     record { within = within; lines = omega (arith, bounded); clauses = omega (arith, learned, bounded); cubes = omega (arith, cubes, bounded) }
 
-pub few_lines : {p : Bool} (cl ql : List ℕ) (at free budget words : ℕ) {word : ℕ} {small : free ≤ highest.numbers} {long : RowLength words} (r : Answer) (cl' ql' : List ℕ) → Counts cl ql (start_at at free budget words p word small long) r cl' ql' → budget ≤ suc highest_ceiling
+pub few_lines : {p : Bool} (cl ql : List ℕ) (at free budget words : ℕ) {held failed : ℕ} {small : free ≤ highest.numbers} {long : RowLength words} (r : Answer) (cl' ql' : List ℕ) → Counts cl ql (start_at at free budget words p held failed small long) r cl' ql' → budget ≤ suc highest_ceiling
     → (r.lines < 2 ^ 63) × (r.budget ≤ budget)
 few_lines cl ql at free budget words r cl' ql' c bounded = (omega (arith, c.lines_fewer, bounded), omega (arith, c.lines_fewer, c.lines_more))
 
@@ -72,14 +72,14 @@ numbered {D} {R} {st} form = and_left (numbers_are_ok highest [] D) (free_first 
 
 -- the search below an open start node, from what the branch there gives
 pub below_shown : {p : Bool} (rows sets : List ℕ) (count words : ℕ) (numbers quantifiers values statuses cs cl qs ql table sat marks : List ℕ) (at free budget : ℕ) (a : Answer)
-    (up cs' cl' qs' ql' table' : List ℕ) {word : ℕ} {small : free ≤ highest.numbers} {fits : RowLength words}
+    (up cs' cl' qs' ql' table' : List ℕ) {held failed : ℕ} {small : free ≤ highest.numbers} {fits : RowLength words}
     → at ≤ get_or numbers 0 0 → words ≡ words_of count
     → ((D : Prefix) (s : Node) → Numbers D numbers → Values D s values → numbers_are_ok highest [] D ≡ true → length s ≡ at → length s ≤ length D → Statuses s statuses)
     → ((D : Prefix) (R : List Clause) (s : Node) → StartShown D R s words at sets statuses → length R ≡ count → Descended D s R words sat marks (length s))
-    → ((s : Node) (v : Bool) → length s ≡ at → Worded s v word)
-    → Followed (start_at at free budget words p word small fits) a rows sets quantifiers statuses cs cl qs ql table sat marks up cs' cl' qs' ql' table'
+    → ((s : Node) → Statuses s statuses → length s ≡ at → Worded s true held × Worded s false failed)
+    → Followed (start_at at free budget words p held failed small fits) a rows sets quantifiers statuses cs cl qs ql table sat marks up cs' cl' qs' ql' table'
     → Below p rows sets count numbers quantifiers values cs cl qs ql table at free budget a cs' cl' qs' ql' table'
-below_shown {p} rows sets count words numbers quantifiers values statuses cs cl qs ql table sat marks at free budget a up cs' cl' qs' ql' table' {word} {small} {fits} within is coded known worded follow =
+below_shown {p} rows sets count words numbers quantifiers values statuses cs cl qs ql table sat marks at free budget a up cs' cl' qs' ql' table' {held} {failed} {small} {fits} within is coded known worded follow =
     record { by = shown }
   where
     shown : (D : Prefix) (R : List Clause) (s : Node) (g : Ledger) (st : Store)
@@ -89,7 +89,7 @@ below_shown {p} rows sets count words numbers quantifiers values statuses cs cl 
     shown D R s g st ns vs qs_shown m counted stored ruled form long frees cov alive =
         by (below_start D R at budget s st) r.says
       where
-        by : (t : Attempt) → Says D g [] t (start_at at free budget words p word small fits) a rows up cs' cl' qs' ql' table' → BelowBy p D g t free budget a cs' cl' qs' ql' table'
+        by : (t : Attempt) → Says D g [] t (start_at at free budget words p held failed small fits) a rows up cs' cl' qs' ql' table' → BelowBy p D g t free budget a cs' cl' qs' ql' table'
         by (finished o) h =
             record {
               tried = record { verdict = ends D a.verdict (entry_of a rows cs' qs' up) o.outcome h.verdict; visits = h.visited; left = h.left; covers = h.covers; lines = h.counted };
@@ -106,7 +106,7 @@ below_shown {p} rows sets count words numbers quantifiers values statuses cs cl 
         matrix : MatrixShown D R words rows sets
         matrix = matrix_words (sym is) m
 
-        r : Result D g [] (below_start D R at budget s st) (start_at at free budget words p word small fits) a rows up cs' cl' qs' ql' table'
+        r : Result D g [] (below_start D R at budget s st) (start_at at free budget words p held failed small fits) a rows up cs' cl' qs' ql' table'
         r =
             follow.result D s [] R g st
             (record {
@@ -118,8 +118,8 @@ below_shown {p} rows sets count words numbers quantifiers values statuses cs cl 
               frees = frees;
               covers = cov;
               counted = refl;
-              trues = worded s true long;
-              falses = worded s false long;
+              trues = (worded s statused long).0;
+              falses = (worded s statused long).1;
             })
             (record {
               alive = alive;

@@ -5,3 +5,4 @@
 pub mod given; // the tables that are searched
 pub mod run; // the search
 pub mod task; // what it is asked
+pub mod words; // the words of the literals at the start node

@@ -1,14 +1,13 @@
 // The search: the start node by its steps 1 to 4 over the tables themselves, and below it over the tables that are derived from them.
-ghost use Rattle.std.specs.Prelude.{◌≡◌, Bool, ◌^◌, ◌≤◌, ◌<◌, length, get_or};
-ghost use Rattle.qbf.specs.Formula.{paper, highest, Node};
-ghost use Rattle.inner.specs.Inner.{Worded};
+ghost use Rattle.std.specs.Prelude.{◌≡◌, ◌^◌, ◌≤◌, ◌<◌, length, get_or};
+ghost use Rattle.qbf.specs.Formula.{paper, highest};
 ghost use Rattle.shelf.specs.Standing.{newest};
 ghost use Rattle.search_entry.specs.Within.{nowhere};
 ghost use Rattle.searching.specs.Run.{ended_at, Below, OpenedAs, Ran};
 
 use crate::given::Given;
 use crate::task::Task;
-use bitset::rows::ALL;
+use crate::words::words_at;
 use coding::quantifiers::quantifiers_of;
 use coding::statuses::statuses_of;
 use literal::{ByNumber, cell_at};
@@ -27,9 +26,9 @@ pub struct Scratch<'a> {
     pub matrix: &'a mut Matrix,
     pub clause_cells: &'a mut [u16; tables::CONSTRAINT_CODES],
     pub clause_links: &'a mut [u64; tables::CONSTRAINT_LINKS],
+    pub clause_masks: &'a mut [u64; tables::CONSTRAINTS],
     pub cube_cells: &'a mut [u16; tables::CONSTRAINT_CODES],
     pub cube_links: &'a mut [u64; tables::CONSTRAINT_LINKS],
-    pub clause_masks: &'a mut [u64; tables::CONSTRAINTS],
     pub cube_masks: &'a mut [u64; tables::CONSTRAINTS],
     pub trail: &'a mut Trail,
     pub statuses: &'a mut [u8; tables::CODES],
@@ -42,9 +41,9 @@ impl<'a> Scratch<'a> {
             matrix: &mut work.matrix,
             clause_cells: &mut work.clause_cells,
             clause_links: &mut work.clause_links,
+            clause_masks: &mut work.clause_masks,
             cube_cells: &mut work.cube_cells,
             cube_links: &mut work.cube_links,
-            clause_masks: &mut work.clause_masks,
             cube_masks: &mut work.cube_masks,
             trail: &mut work.trail,
             statuses: &mut work.statuses,
@@ -83,16 +82,6 @@ fn decided<'a>(verdict: Verdict, budget: u64) -> Found<'a>
         answer,
         learned: None,
     }
-}
-
-// A word that has the bits of the literals that are true or false at the start node: of none where it has no place, and else of all.
-fn start_word(at: usize) -> u64
-    ensures { (s : Node) (v : Bool) → length s ≡ at → Worded s v result }
-{
-    if at == 0 {
-        return 0;
-    }
-    ALL
 }
 
 // The search below an open start node, with what it knows of the clauses there.
@@ -151,7 +140,7 @@ fn below(
         Depth { at, words },
         search.trail,
     );
-    let word = start_word(at);
+    let (held, failed) = words_at(search.statuses, at);
     let start = Position {
         at,
         free,
@@ -159,8 +148,8 @@ fn below(
         lines: 0,
         words,
         yes,
-        held: word,
-        failed: word,
+        held,
+        failed,
     };
     search::start(matrix, search, table, start)
 }

@@ -15,4 +15,4 @@ pub returns-clause-below : goal.returns-clause-below
 returns-clause-below c =
     below_as c.count-count.ensures
     (below_shown _ _ c.count-count.result c.words_of-words.result _ _ _ _ _ _ _ _ _ _ _ c.args.task.at c.args.task.free c.args.task.budget c.start.result _ _ _ _ _ _ c.requires.0 c.words_of-words.ensures
-    c.statuses_of.ensures c.start_rows.ensures c.start_word-word.ensures c.start.ensures.followed)
+    c.statuses_of.ensures c.start_rows.ensures c.words_at-held.ensures c.start.ensures.followed)
