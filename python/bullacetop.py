@@ -152,6 +152,16 @@ class _Workspace(ctypes.Structure):
     ]
 
 
+class _Lent(threading.local):
+    """The workspace of a thread: one serves any number of books, and no call in it begins before the last one has ended."""
+
+    def __init__(self):
+        self.work = _Workspace()
+
+
+_LENT = _Lent()
+
+
 class _Reply(ctypes.Structure):
     _fields_ = [("refusal", c_uint16), ("verdict", c_uint16), ("lines", c_size_t), ("visits", c_uint64)]
 
@@ -386,7 +396,6 @@ class Book:
 
     def _keep(self, tables):
         self._tables, self._lock = tables, threading.Lock()
-        self._work = _Workspace()
 
     def copy(self):
         """Another book with the same rules and the same learned."""
@@ -438,7 +447,7 @@ class Book:
 
     def query(self, on=(), off=(), ceiling=HIGHEST_CEILING):
         """What the rules say where these flags are on, those off, and the others open. Refusals 8, 34."""
-        told = self._on("query", self._work, *_list(on), *_list(off), _ceiling(ceiling))
+        told = self._on("query", _LENT.work, *_list(on), *_list(off), _ceiling(ceiling))
         return Answer(_VERDICTS[told.verdict], told.visits)
 
     def card(self, ceiling=HIGHEST_CEILING, size=_CARD_TABLE):
@@ -451,14 +460,14 @@ class Book:
 
     def _card(self, name, ceiling, size):
         table, size = _table(size)
-        told = self._on(name, self._work, table, size, _ceiling(ceiling))
+        told = self._on(name, _LENT.work, table, size, _ceiling(ceiling))
         return Card(table, told.lines, self.flags, told.visits)
 
     def closest(self, on=(), off=(), ceiling=HIGHEST_CEILING, size=_CARD_TABLE):
         """The reading on the card that differs from the given one in the fewest flags; each flag is on or off. Refusals 8, 34, 21, 35."""
         table, size = _table(size)
         reading = (c_uint8 * _FLAGS)()
-        told = self._on("closest", self._work, *_list(on), *_list(off), table, size, reading, _ceiling(ceiling))
+        told = self._on("closest", _LENT.work, *_list(on), *_list(off), table, size, reading, _ceiling(ceiling))
         card = Card(table, told.lines, self.flags, told.visits)
         return Closest(_literals(self.flags, bytes(reading)), told.differs, card)
 
@@ -477,7 +486,7 @@ class Place(Book):
     def __init__(self, day, place):
         """As Day.at."""
         self._day, self._place = day, place
-        self._tables, self._work = _Part(day, place), day._work
+        self._tables = _Part(day, place)
 
     def copy(self):
         """A place is of its day alone."""
@@ -486,7 +495,7 @@ class Place(Book):
     def _on(self, name, *arguments):
         day = self._day
         # The workspace comes before the place.
-        first = [argument for argument in arguments[:1] if argument is self._work]
+        first = [argument for argument in arguments[:1] if argument is _LENT.work]
         told = day._call("day_" + name, *first, self._place, *arguments[len(first):])
         _unless_refused(told)
         return told
@@ -525,7 +534,7 @@ class Day:
 
     def __init__(self, total, limits=(USUAL_LIMITS,) * _PLACES):
         """A day with no book yet and nothing used; `limits` are those of the eight places."""
-        self._accounts, self._rooms, self._lock, self._work = _Accounts(), _Rooms(), threading.Lock(), _Workspace()
+        self._accounts, self._rooms, self._lock = _Accounts(), _Rooms(), threading.Lock()
         self._limits = [[_count(limit) for limit in own] for own in limits]
         for index, (numbers, rules) in enumerate(self._limits):
             self._rooms.cells[index] = _call("book_cells", numbers, rules)
@@ -579,7 +588,7 @@ class Session:
         """Serves one line, without its newline."""
         with self._lock:
             self._lines += 1
-            work, tables = self._book._work, self._book._tables.lent()
+            work, tables = _LENT.work, self._book._tables.lent()
             spoken = _call("book_line", *tables, work, *_text(line), self._lines, self._shown, self._cards, *self._out)
             self._shown = _Shown.from_buffer_copy(spoken.shown)
             return _string(self._out[0], spoken.length)
@@ -606,7 +615,7 @@ def page(table, lines, flags, number):
 def print_card(text, limits=USUAL_LIMITS):
     """What the program `card` prints for a text; a refused text prints its refusal."""
     out, size = _table(_call("room"))
-    return _string(out, _Tables(limits).read("book_print", text, _Workspace(), out, size).length)
+    return _string(out, _Tables(limits).read("book_print", text, _LENT.work, out, size).length)
 
 
 def tag(text, limits=USUAL_LIMITS):

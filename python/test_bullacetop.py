@@ -205,6 +205,18 @@ class Examples(unittest.TestCase):
     def test_the_docstring(self):
         self.assertEqual(doctest.testmod(bullacetop).failed, 0)
 
+    def test_all_books_of_a_thread_have_one_workspace(self):
+        books, work = [Book.open(read("examples/a.book")) for _ in range(300)], bullacetop._LENT.work
+        self.assertEqual({tuple(map(tuple, book.card().lines)) for book in books}, {((-1, 2), (1, 2))})
+        self.assertIs(bullacetop._LENT.work, work)
+        self.assertFalse(any(isinstance(kept, bullacetop._Workspace) for kept in vars(books[0]).values()))
+        others = []
+        thread = threading.Thread(target=lambda: others.append((books[0].card().lines, bullacetop._LENT.work)))
+        thread.start()
+        thread.join()
+        self.assertEqual(others[0][0], [[-1, 2], [1, 2]])
+        self.assertIsNot(others[0][1], work)
+
     def test_the_workspace_has_the_header_s_size(self):
         self.assertIn(f"== {ctypes.sizeof(bullacetop._Workspace)} ?", read("include/bullacetop.h"))
 

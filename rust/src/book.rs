@@ -1,7 +1,7 @@
 //! A book on the heap and the calls on it.
 
 use crate::card::{Card, Lines};
-use crate::ffi::{self, Tables, Workspace};
+use crate::ffi::{self, with_workspace, Tables};
 use crate::lent::{self, Answer, Closest, LentBook};
 use crate::limits::Limits;
 use crate::refusal::Refused;
@@ -39,14 +39,11 @@ pub struct Book {
     // As long as its limits ask.
     cells: Box<[u16]>,
     literals: Box<[i16]>,
-    // For its searches; nothing in it is kept from one call to the next.
-    work: Box<Workspace>,
 }
 
 impl Clone for Book {
     fn clone(&self) -> Book {
-        let (cells, literals) = (self.cells.clone(), self.literals.clone());
-        Book { cells, literals, work: Workspace::boxed() }
+        Book { cells: self.cells.clone(), literals: self.literals.clone() }
     }
 }
 
@@ -88,7 +85,6 @@ impl Book {
         let mut book = Book {
             cells: vec![0; limits.cells()].into_boxed_slice(),
             literals: vec![0; limits.literals()].into_boxed_slice(),
-            work: Workspace::boxed(),
         };
         let tables = Tables { cells: &mut book.cells, literals: &mut book.literals };
         let opened = open(limits.pair(), tables);
@@ -96,10 +92,11 @@ impl Book {
         Ok(book)
     }
 
-    /// Its tables, lent: every call is made so. They do not leave this crate, so that it stays a book.
-    pub(crate) fn lend(&mut self) -> LentBook<'_> {
+    /// A call on its tables, lent with the workspace of the thread: every call is made so. They do not leave
+    /// this crate, so that it stays a book.
+    pub(crate) fn lent<R>(&mut self, call: impl FnOnce(&mut LentBook<'_>) -> R) -> R {
         let tables = Tables { cells: &mut self.cells, literals: &mut self.literals };
-        LentBook::left_in(tables, &mut self.work)
+        with_workspace(|work| call(&mut LentBook::left_in(tables, work)))
     }
 
     /// The limits that it was opened under, lowered to the highest.
@@ -125,28 +122,28 @@ impl Book {
 
     /// Adds a rule of 1 to 16 literals, in any order. Refusals 20, 7, then from the left 3, 5, 6.
     pub fn rule(&mut self, literals: &[i16]) -> Result<(), Refused> {
-        self.lend().rule(literals)
+        self.lent(|book| book.rule(literals))
     }
 
     /// Adds the rules of `exactly one of these 2 to 16 literals`: all of them, or none. Refusals 7, 20, then
     /// from the left 3, 5, 6.
     pub fn one(&mut self, literals: &[i16]) -> Result<(), Refused> {
-        self.lend().one(literals)
+        self.lent(|book| book.one(literals))
     }
 
     /// Takes the rule back that was added last. Refusal 32.
     pub fn withdraw(&mut self) -> Result<(), Refused> {
-        self.lend().withdraw()
+        self.lent(|book| book.withdraw())
     }
 
     /// Forgets what was learned.
     pub fn forget(&mut self) -> Result<(), Refused> {
-        self.lend().forget()
+        self.lent(|book| book.forget())
     }
 
     /// What the rules say where these flags are on, those off, and the others open. Refusals 8, 34.
     pub fn query(&mut self, on: &[i16], off: &[i16], ceiling: u32) -> Result<Answer, Refused> {
-        self.lend().query(on, off, ceiling)
+        self.lent(|book| book.query(on, off, ceiling))
     }
 
     /// The readings that condemn a board, in a lent table. Refusals 34, 21.
@@ -162,7 +159,7 @@ impl Book {
     /// # }
     /// ```
     pub fn card<'t>(&mut self, table: &'t mut [u8], ceiling: u32) -> Result<Card<'t>, Refused> {
-        self.lend().card(table, ceiling)
+        self.lent(|book| book.card(table, ceiling))
     }
 
     /// The readings that clear a board, in the same way.
@@ -171,7 +168,7 @@ impl Book {
         table: &'t mut [u8],
         ceiling: u32,
     ) -> Result<Card<'t>, Refused> {
-        self.lend().keep_card(table, ceiling)
+        self.lent(|book| book.keep_card(table, ceiling))
     }
 
     /// [`Book::card`] with a table of 65,536 bytes, as a session has, and its lines as literals.
@@ -202,7 +199,7 @@ impl Book {
         table: &'t mut [u8],
         ceiling: u32,
     ) -> Result<Closest<'t>, Refused> {
-        self.lend().closest(on, off, table, ceiling)
+        self.lent(|book| book.closest(on, off, table, ceiling))
     }
 
     /// Writes the book as text into a lent table; [`Book::room`] bytes hold it. Refusal 31.

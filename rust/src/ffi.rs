@@ -5,6 +5,8 @@
 //! each function here hands on pointers that it got from them, with the slice's own length. The library
 //! checks what stands in the tables itself, and keeps no pointer.
 
+use std::cell::Cell;
+
 const HIGHEST_NUMBERS: usize = 1_000;
 const HIGHEST_RULES: usize = 4_000;
 const LITERALS: usize = 16;
@@ -85,6 +87,22 @@ impl Workspace {
             Box::from_raw(made)
         }
     }
+}
+
+thread_local! {
+    // The workspace of a thread, but while a call has it.
+    static LENT: Cell<Option<Box<Workspace>>> = const { Cell::new(None) };
+}
+
+/// A call with the workspace of this thread, which serves all its books: nothing in it is kept from one call
+/// to the next. It is made at the thread's first call.
+pub(crate) fn with_workspace<R>(call: impl FnOnce(&mut Workspace) -> R) -> R {
+    let kept = LENT.try_with(Cell::take).ok().flatten();
+    let mut work = kept.unwrap_or_else(Workspace::boxed);
+    let told = call(&mut work);
+    // Where the thread is ending there is no place to keep it.
+    let _ = LENT.try_with(|lent| lent.set(Some(work)));
+    told
 }
 
 /// The two tables of a book, lent: of as many cells and literals as [`Limits`](crate::Limits) say, or

@@ -52,7 +52,8 @@ impl Session {
     pub fn line(&mut self, line: &[u8]) -> &[u8] {
         self.lines = self.lines.saturating_add(1);
         let mut last = LastCard { shown: self.shown, cards: &mut self.cards };
-        let told = self.book.lend().line(line, self.lines, &mut last, &mut self.answer);
+        let (number, answer) = (self.lines, &mut self.answer);
+        let told = self.book.lent(|book| book.line(line, number, &mut last, answer));
         self.shown = last.shown;
         // The table has the room that every answer needs, so that none is refused.
         told.unwrap_or_default()

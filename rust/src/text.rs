@@ -1,7 +1,7 @@
 //! Texts without a book that stays: the card of a text, and a text in the other edition.
 
 use crate::card::first;
-use crate::ffi::{self, Tables, Workspace};
+use crate::ffi::{self, with_workspace, Tables, Workspace};
 use crate::limits::Limits;
 use crate::refusal::Refused;
 
@@ -80,7 +80,8 @@ pub fn printed(text: &[u8]) -> Vec<u8> {
 /// .. under limits of its own.
 pub fn printed_under(limits: Limits, text: &[u8]) -> Vec<u8> {
     let mut out = vec![0; room()];
-    let told = print(text, limits, Own::of(limits).lend(), &mut Workspace::boxed(), &mut out);
+    let mut own = Own::of(limits);
+    let told = with_workspace(|work| print(text, limits, own.lend(), work, &mut out));
     // The table has the room that every answer needs, so that none is refused.
     told.unwrap_or_default().to_vec()
 }

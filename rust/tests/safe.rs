@@ -129,3 +129,25 @@ fn on_the_stack_that_the_header_asks_for() {
     });
     assert_eq!(Book::open(&text).unwrap().text().unwrap(), text);
 }
+
+/// Each thread has one workspace for all its books; a book that goes to another thread is served there.
+#[test]
+fn many_books_in_many_threads() {
+    let served: Vec<Vec<Book>> = (0..4)
+        .map(|_| {
+            thread::spawn(|| {
+                let mut books: Vec<Book> = (0..200).map(|_| Book::open(BOOK).unwrap()).collect();
+                let cards: Vec<_> =
+                    books.iter_mut().map(|book| book.card_lines(u32::MAX).unwrap().lines).collect();
+                assert!(cards.windows(2).all(|two| two[0] == two[1]));
+                books
+            })
+        })
+        .map(|thread| thread.join().unwrap())
+        .collect();
+    let mut fresh = Book::open(BOOK).unwrap();
+    let lines = fresh.card_lines(u32::MAX).unwrap().lines;
+    for book in served.iter().flatten() {
+        assert_eq!(book.clone().card_lines(u32::MAX).unwrap().lines, lines);
+    }
+}
