@@ -12,7 +12,7 @@ ghost use Rattle.bitset.specs.Rows.{width, some_below, row};
 ghost use Rattle.inner.specs.Inner.{FoundCoded, LastGiven, Entered, killing};
 
 use crate::Given;
-use bitset::rows::{WIDTH, any_outside, first_outside};
+use bitset::rows::{WIDTH, first_outside};
 use search_entry::{Bounds, Matrix, Source};
 
 // How many codes universal reduction leaves of clause k.
@@ -62,7 +62,8 @@ fn row_above<'a>(sat: &'a [u64; tables::SATISFIED], g: Given) -> &'a [u64]
     &sat[from..end]
 }
 
-// Whether a clause dies at an inner node: one that can die by the value given last, and that was not satisfied above.
+// Whether a clause dies at an inner node: one that can die by the value given last, and that was not satisfied above. The rows are passed word by word, as in `dead`: of rows as
+// short as a search's the words cost less one by one than what sets out to take several at a time.
 pub fn any_dies<'a>(
     sets: &'a [u64; tables::CLAUSE_SETS],
     sat: &'a [u64; tables::SATISFIED],
@@ -72,7 +73,7 @@ pub fn any_dies<'a>(
 {
     let dying = dying_row(sets, g);
     let above = row_above(sat, g);
-    any_outside(dying, above)
+    first_outside(dying, above) < g.words * WIDTH
 }
 
 // The clause that dies at an inner node, under universal reduction. The rows are passed once, word by word: the row above was written so, just before.

@@ -22,12 +22,12 @@ use verdicts::{Finding, counted, found, joined};
 
 pub mod verdicts; // the verdicts of two sides, and what a visit hands up
 
-// Where a visit stands: the node's length, the words of a row of clauses, and the budget.
+// Where a visit stands: the node's length, and the words of a row of clauses. The budget goes beside it, since two words are handed on in registers and three are not: with the
+// budget in it a visit takes three times as long.
 #[derive(Clone, Copy)]
 pub struct Place {
     pub at: usize,
     pub words: usize,
-    pub budget: u64,
     pub ghost inside: { Inside at words },
 }
 
@@ -36,12 +36,11 @@ impl Place {
     // stays (no plainer): a struct that keeps a fact is made field by field
     fn fork(self) -> Fork
         requires { self.at < highest.numbers }
-        ensures { (result.at ≡ self.at) × (result.words ≡ self.words) × (result.budget ≡ self.budget) }
+        ensures { (result.at ≡ self.at) × (result.words ≡ self.words) }
     {
         Fork {
             at: self.at,
             words: self.words,
-            budget: self.budget,
         }
     }
 }
@@ -51,22 +50,18 @@ impl Place {
 pub struct Fork {
     pub at: usize,
     pub words: usize,
-    pub budget: u64,
     pub ghost next: { at < highest.numbers },
     pub ghost long: { RowLength words },
 }
 
 impl Fork {
-    // Where its sides stand: this visit is counted.
+    // Where its sides stand.
     fn below(self) -> Place
-        ensures { (result.at ≡ self.at + 1)
-            × (result.words ≡ self.words)
-            × (result.budget ≡ self.budget - 1) }
+        ensures { (result.at ≡ self.at + 1) × (result.words ≡ self.words) }
     {
         Place {
             at: self.at + 1,
             words: self.words,
-            budget: counted(self.budget),
         }
     }
 
@@ -108,12 +103,8 @@ pub fn start<'a>(
         recorded.now
         sat.old }
 {
-    let empty = Place {
-        at: 0,
-        words,
-        budget,
-    };
-    branch(matrix, recorded, sat, empty)
+    let empty = Place { at: 0, words };
+    branch(matrix, recorded, sat, empty, budget)
 }
 
 // "A visit counts one. If a rule is dead: No. Else if every rule is satisfied: Yes. Else the next place decides". "The walk stops before the visit
@@ -124,14 +115,15 @@ fn visit<'a>(
     recorded: &'a [u8; tables::HIGHEST_BY_NUMBER],
     sat: &mut [u64; tables::SATISFIED],
     p: Place,
+    budget: u64,
     on: bool,
 ) -> Finding
     requires { 1 ≤ p.at }
-    ensures { Left p.at p.words p.budget result sat.old sat.new
+    ensures { Left p.at p.words budget result sat.old sat.new
         × Visited
         p.at
         p.words
-        p.budget
+        budget
         on
         result
         matrix.now.sets
@@ -139,7 +131,7 @@ fn visit<'a>(
         recorded.now
         sat.old }
 {
-    let spent = p.budget <= 1;
+    let spent = budget <= 1;
     if spent {
         return found(Verdict::Mixed, 0);
     }
@@ -149,13 +141,13 @@ fn visit<'a>(
         words: p.words,
     };
     if any_dies(&matrix.sets, sat, given) {
-        return found(Verdict::No, counted(p.budget));
+        return found(Verdict::No, counted(budget));
     }
     let step = row_down(&matrix.sets, sat, given);
     if step.all {
-        return found(Verdict::Yes, counted(p.budget));
+        return found(Verdict::Yes, counted(budget));
     }
-    branch(matrix, recorded, sat, p)
+    branch(matrix, recorded, sat, p, budget)
 }
 
 // "Else the next place decides, off first." Where no place is left a clause is dead or all are satisfied.
@@ -165,12 +157,13 @@ fn branch<'a>(
     recorded: &'a [u8; tables::HIGHEST_BY_NUMBER],
     sat: &mut [u64; tables::SATISFIED],
     p: Place,
+    budget: u64,
 ) -> Finding
-    ensures { Left (suc p.at) p.words p.budget result sat.old sat.new
+    ensures { Left (suc p.at) p.words budget result sat.old sat.new
         × Followed
         p.at
         p.words
-        p.budget
+        budget
         result
         matrix.now.sets
         matrix.now.quantifiers
@@ -179,13 +172,13 @@ fn branch<'a>(
 {
     let kind = next_kind(&matrix.quantifiers, p.at);
     if kind == tables::EXISTS {
-        exists(matrix, recorded, sat, p.fork())
+        exists(matrix, recorded, sat, p.fork(), budget)
     } else if kind == tables::FORALL {
-        forall(matrix, recorded, sat, p.fork())
+        forall(matrix, recorded, sat, p.fork(), budget)
     } else if kind == tables::FREE {
-        free(matrix, recorded, sat, p.fork())
+        free(matrix, recorded, sat, p.fork(), budget)
     } else {
-        found(Verdict::No, counted(p.budget))
+        found(Verdict::No, counted(budget))
     }
 }
 
@@ -199,20 +192,21 @@ fn exists<'a>(
     recorded: &'a [u8; tables::HIGHEST_BY_NUMBER],
     sat: &mut [u64; tables::SATISFIED],
     p: Fork,
+    budget: u64,
 ) -> Finding
-    ensures { Left (suc p.at) p.words p.budget result sat.old sat.new
+    ensures { Left (suc p.at) p.words budget result sat.old sat.new
         × Branched
         (quantifier_code exists)
         p.at
         p.words
-        p.budget
+        budget
         result
         matrix.now.sets
         matrix.now.quantifiers
         recorded.now
         sat.old }
 {
-    sides(matrix, recorded, sat, p, tables::EXISTS)
+    sides(matrix, recorded, sat, p, budget, tables::EXISTS)
 }
 
 // "A forall node visits the off side and stops on No".
@@ -223,20 +217,21 @@ fn forall<'a>(
     recorded: &'a [u8; tables::HIGHEST_BY_NUMBER],
     sat: &mut [u64; tables::SATISFIED],
     p: Fork,
+    budget: u64,
 ) -> Finding
-    ensures { Left (suc p.at) p.words p.budget result sat.old sat.new
+    ensures { Left (suc p.at) p.words budget result sat.old sat.new
         × Branched
         (quantifier_code forall)
         p.at
         p.words
-        p.budget
+        budget
         result
         matrix.now.sets
         matrix.now.quantifiers
         recorded.now
         sat.old }
 {
-    sides(matrix, recorded, sat, p, tables::FORALL)
+    sides(matrix, recorded, sat, p, budget, tables::FORALL)
 }
 
 // "entering one side only at a recorded flag": its verdict is the node's. An open one: "A flag node visits both".
@@ -247,12 +242,13 @@ fn free<'a>(
     recorded: &'a [u8; tables::HIGHEST_BY_NUMBER],
     sat: &mut [u64; tables::SATISFIED],
     p: Fork,
+    budget: u64,
 ) -> Finding
-    ensures { Left (suc p.at) p.words p.budget result sat.old sat.new
+    ensures { Left (suc p.at) p.words budget result sat.old sat.new
         × Entered
         p.at
         p.words
-        p.budget
+        budget
         result
         matrix.now.sets
         matrix.now.quantifiers
@@ -262,10 +258,11 @@ fn free<'a>(
     let value = p.recorded_in(recorded);
     let open = value == tables::OPEN;
     if open {
-        return sides(matrix, recorded, sat, p, tables::FREE);
+        return sides(matrix, recorded, sat, p, budget, tables::FREE);
     }
     let below = p.below();
-    visit(matrix, recorded, sat, below, value == tables::ON)
+    let left = counted(budget);
+    visit(matrix, recorded, sat, below, left, value == tables::ON)
 }
 
 // What they share: the off side is enough, or the on side is visited too. A stop of the off side leaves no budget for it.
@@ -275,14 +272,15 @@ fn sides<'a>(
     recorded: &'a [u8; tables::HIGHEST_BY_NUMBER],
     sat: &mut [u64; tables::SATISFIED],
     p: Fork,
+    budget: u64,
     kind: u16,
 ) -> Finding
-    ensures { Left (suc p.at) p.words p.budget result sat.old sat.new
+    ensures { Left (suc p.at) p.words budget result sat.old sat.new
         × Branched
         kind
         p.at
         p.words
-        p.budget
+        budget
         result
         matrix.now.sets
         matrix.now.quantifiers
@@ -290,12 +288,11 @@ fn sides<'a>(
         sat.old }
 {
     let below = p.below();
-    let off = visit(matrix, recorded, sat, below, false);
+    let left = counted(budget);
+    let off = visit(matrix, recorded, sat, below, left, false);
     if is_enough(off.verdict, kind) {
         return off;
     }
-    let mut rest = below;
-    rest.budget = off.budget;
-    let on = visit(matrix, recorded, sat, rest, true);
+    let on = visit(matrix, recorded, sat, below, off.budget, true);
     found(joined(kind, off.verdict, on.verdict), on.budget)
 }
