@@ -6,6 +6,7 @@ ghost use Rattle.state.specs.Reading.{prefix_in};
 ghost use Rattle.state_parts.specs.Parts.{state_at};
 ghost use Rattle.serving.specs.Serves.{fault_of};
 ghost use Rattle.rule_calls.specs.ServesAt.{ServesAt};
+ghost use Rattle.rule_calls.specs.StaysAt.{search_writes, StaysAt};
 ghost use Rattle.closest_call.specs.Nearest.{padded};
 ghost use Rattle.reply_numbers.specs.Answers.{reply_said, closest_said, unless_refused};
 
@@ -19,13 +20,14 @@ pub fn bullacetop_book_query(
     work: &mut Workspace,
     asked: Asked<'_>,
 ) -> Reply
-    ensures { ServesAt
+    ensures serves { ServesAt
         cells.old
         literals.old
         (query asked.entry.ceiling asked.entry.on.now asked.entry.off.now)
         (reply_said result [])
         cells.new
         literals.new }
+    ensures frame { StaysAt search_writes cells.old literals.old cells.new literals.new }
 {
     let ruled = search_calls::query(cells, literals, work, asked);
     Reply::from(ruled)
@@ -41,13 +43,14 @@ pub fn card_of(
     yes: bool,
     ceiling: u32,
 ) -> Reply
-    ensures { ServesAt
+    ensures serves { ServesAt
         cells.old
         literals.old
         (card_of yes ceiling (length table.old))
         (reply_said result table.new)
         cells.new
         literals.new }
+    ensures frame { StaysAt search_writes cells.old literals.old cells.new literals.new }
 {
     let shown = search_calls::card_of(cells, literals, work, table, yes, ceiling);
     Reply::from(shown)
@@ -61,13 +64,14 @@ pub fn bullacetop_book_card(
     table: &mut [u8],
     ceiling: u32,
 ) -> Reply
-    ensures { ServesAt
+    ensures serves { ServesAt
         cells.old
         literals.old
         (card ceiling (length table.old))
         (reply_said result table.new)
         cells.new
         literals.new }
+    ensures frame { StaysAt search_writes cells.old literals.old cells.new literals.new }
 {
     card_of(cells, literals, work, table, true, ceiling)
 }
@@ -80,13 +84,14 @@ pub fn bullacetop_book_keep_card(
     table: &mut [u8],
     ceiling: u32,
 ) -> Reply
-    ensures { ServesAt
+    ensures serves { ServesAt
         cells.old
         literals.old
         (keep_card ceiling (length table.old))
         (reply_said result table.new)
         cells.new
         literals.new }
+    ensures frame { StaysAt search_writes cells.old literals.old cells.new literals.new }
 {
     card_of(cells, literals, work, table, false, ceiling)
 }
@@ -116,6 +121,7 @@ pub fn bullacetop_book_closest(
         (unless_refused
         (fault_of result.refusal)
         (take (free_variables (prefix_in (state_at cells.old literals.old))) reading.new)) }
+    ensures frame { StaysAt search_writes cells.old literals.old cells.new literals.new }
 {
     let found = search_calls::closest(cells, literals, work, asked, table, reading);
     let reply = Closest::from(found);

@@ -6,6 +6,7 @@ ghost use Rattle.state.specs.Reading.{prefix_in};
 ghost use Rattle.state_parts.specs.Parts.{state_at};
 ghost use Rattle.serving.specs.Serves.{fault_of};
 ghost use Rattle.rule_calls.specs.ServesAt.{ServesAt};
+ghost use Rattle.rule_calls.specs.StaysAt.{search_writes, StaysAt};
 ghost use Rattle.closest_call.specs.Nearest.{padded};
 ghost use Rattle.reply_numbers.specs.Answers.{reply_said, closest_said, unless_refused};
 
@@ -23,13 +24,14 @@ pub extern "C" fn bullacetop_book_query<'a>(
     off: &'a [i16],
     ceiling: u32,
 ) -> Reply
-    ensures { ServesAt
+    ensures serves { ServesAt
         cells.old
         literals.old
         (query ceiling on.now off.now)
         (reply_said result [])
         cells.new
         literals.new }
+    ensures frame { StaysAt search_writes cells.old literals.old cells.new literals.new }
 {
     let asked = Asked { on, off, ceiling };
     book_calls::searches::bullacetop_book_query(cells, literals, work, asked)
@@ -43,13 +45,14 @@ pub extern "C" fn bullacetop_book_card(
     table: &mut [u8],
     ceiling: u32,
 ) -> Reply
-    ensures { ServesAt
+    ensures serves { ServesAt
         cells.old
         literals.old
         (card ceiling (length table.old))
         (reply_said result table.new)
         cells.new
         literals.new }
+    ensures frame { StaysAt search_writes cells.old literals.old cells.new literals.new }
 {
     book_calls::searches::bullacetop_book_card(cells, literals, work, table, ceiling)
 }
@@ -62,13 +65,14 @@ pub extern "C" fn bullacetop_book_keep_card(
     table: &mut [u8],
     ceiling: u32,
 ) -> Reply
-    ensures { ServesAt
+    ensures serves { ServesAt
         cells.old
         literals.old
         (keep_card ceiling (length table.old))
         (reply_said result table.new)
         cells.new
         literals.new }
+    ensures frame { StaysAt search_writes cells.old literals.old cells.new literals.new }
 {
     book_calls::searches::bullacetop_book_keep_card(cells, literals, work, table, ceiling)
 }
@@ -101,6 +105,7 @@ pub extern "C" fn bullacetop_book_closest<'a>(
         (unless_refused
         (fault_of result.refusal)
         (take (free_variables (prefix_in (state_at cells.old literals.old))) reading.new)) }
+    ensures frame { StaysAt search_writes cells.old literals.old cells.new literals.new }
 {
     let asked = Asked { on, off, ceiling };
     book_calls::searches::bullacetop_book_closest(cells, literals, work, asked, table, reading)

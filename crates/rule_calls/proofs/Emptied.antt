@@ -7,7 +7,7 @@ use mathlib.Core.List.{List, []}
 use mathlib.Core.Option.{some}
 use lib.IntN.{ℤ}
 use lib.ListN.{get_or, set, length-set}
-use lib.Seq.{get_or-set_same, get_or-set_other}
+use lib.Seq.{get_or-set_same, get_or-set_other, drop-set-lt}
 use lib.Dec.{leb}
 use borrow.Author.Tests.{le-leb}
 use Rattle.std.specs.Prelude.{Ok}
@@ -19,13 +19,15 @@ use Rattle.tables.specs.Views.{rows, rows_of}
 use Rattle.tables.proofs.Laws.{rows_zero}
 use Rattle.state.specs.State.{State}
 use Rattle.state.specs.Reading.{own, state_of, at_most, listing, entry_at, record_at, records_of, rows_fit, prefix_fits, fits_under, formula_under, state_under}
-use Rattle.state_parts.specs.Parts.{part, limits_of, by_number, clause_count, cube_sizes, recorded, numbers_at, levels_at, kinds_at, clause_sizes_at, learned_clause_sizes_at, learned_cube_sizes_at, parts_under, state_at, read_at, valid_at, Whole}
+use Rattle.state_parts.specs.Parts.{part, limits_of, by_number, clause_count, cube_sizes, recorded, numbers_at, levels_at, kinds_at, clause_sizes_at, learned_clause_sizes_at, learned_cube_sizes_at, cell_count, parts_under, state_at, read_at, valid_at, Whole}
 use Rattle.state_parts.proofs.Cutting.{part_set, part_set_before, part_set_after}
 use Rattle.state_parts.proofs.Written.{same_state}
 use Rattle.state_parts.proofs.Accepted.{valid_whole, valid_state}
 use Rattle.rule_calls.specs.ServesAt.{ServesAt, change_said}
+use Rattle.rule_calls.specs.StaysAt.{forget_writes, StaysAt}
 use Rattle.rule_calls.proofs.Calls.{served}
 use Rattle.rule_calls.proofs.Reading.{parts_read}
+use Rattle.rule_calls.proofs.Stays.{left_stays, count_stays}
 
 -- ---- a table whose count is 0
 module _ (w cap : ℕ) (s : List ℕ) (empty : get_or s 0 0 ≡ 0) where
@@ -145,11 +147,37 @@ module _ (cells : List ℕ) (literals : List ℤ) (v : valid_at cells literals �
   forgotten : ServesAt cells literals forget (change_said (Ok tt)) t₂ literals
   forgotten = served cells literals forget v t₂ literals read_after refl
 
+  -- nothing but the two counts is written
+  kept : StaysAt forget_writes cells literals t₂ literals
+  kept =
+      left_stays forget_writes limits_kept parts_are
+      (record {
+        numbers = refl;
+        levels = refl;
+        kinds = refl;
+        clauses = refl;
+        clause_sizes = refl;
+        learned_clauses = refl;
+        learned_clause_sizes = count_stays x.learned_clause_sizes 0;
+        learned_cubes = refl;
+        learned_cube_sizes = count_stays x.learned_cube_sizes 0;
+      })
+      (record {
+        cells_behind = drop-set-lt (cell_count L) t₁ (learned_cube_sizes_at L + 0) 0 (omega arith) ∙ drop-set-lt (cell_count L) cells (learned_clause_sizes_at L + 0) 0 (omega arith);
+        literals_behind = refl;
+      })
+
   -- where the counts stand, as they were computed
-  pub forgotten_at : {a b : ℕ} → a ≡ learned_clause_sizes_at L → b ≡ learned_cube_sizes_at L → ServesAt cells literals forget (change_said (Ok tt)) (set (set cells a 0) b 0) literals
-  forgotten_at {a} {b} e f =
-      subst (λ (k : ℕ). ServesAt cells literals forget (change_said (Ok tt)) (set (set cells a 0) k 0) literals) (plain (learned_cube_sizes_at L) ∙ sym f)
-      (subst (λ (k : ℕ). ServesAt cells literals forget (change_said (Ok tt)) (set (set cells k 0) (learned_cube_sizes_at L + 0) 0) literals) (plain (learned_clause_sizes_at L) ∙ sym e) forgotten)
+  at_counts : (P : List ℕ → Type 0) → {a b : ℕ} → a ≡ learned_clause_sizes_at L → b ≡ learned_cube_sizes_at L → P t₂ → P (set (set cells a 0) b 0)
+  at_counts P {a} {b} e f h =
+      subst (λ (k : ℕ). P (set (set cells a 0) k 0)) (plain (learned_cube_sizes_at L) ∙ sym f)
+      (subst (λ (k : ℕ). P (set (set cells k 0) (learned_cube_sizes_at L + 0) 0)) (plain (learned_clause_sizes_at L) ∙ sym e) h)
     where
       plain : (n : ℕ) → n + 0 ≡ n
       plain n = omega arith
+
+  pub forgotten_at : {a b : ℕ} → a ≡ learned_clause_sizes_at L → b ≡ learned_cube_sizes_at L → ServesAt cells literals forget (change_said (Ok tt)) (set (set cells a 0) b 0) literals
+  forgotten_at e f = at_counts (λ (t : List ℕ). ServesAt cells literals forget (change_said (Ok tt)) t literals) e f forgotten
+
+  pub forgotten_stays : {a b : ℕ} → a ≡ learned_clause_sizes_at L → b ≡ learned_cube_sizes_at L → StaysAt forget_writes cells literals (set (set cells a 0) b 0) literals
+  forgotten_stays e f = at_counts (λ (t : List ℕ). StaysAt forget_writes cells literals t literals) e f kept

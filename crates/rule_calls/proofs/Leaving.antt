@@ -6,14 +6,15 @@ use mathlib.Core.List.{List}
 use borrow.Rule.Slice.PartMut.{put_mid, same_len_mid}
 use lib.IntN.{ℤ}
 use lib.ListN.{length, get_or, set, length-set}
-use lib.Seq.{get_or-set_other}
+use lib.Seq.{get_or-set_other, drop-set-lt}
 use Rattle.qbf.specs.Formula.{Limits, paper}
 use Rattle.state.specs.State.{State}
 use Rattle.state.specs.Reading.{own, state_of}
-use Rattle.state_parts.specs.Parts.{part, limits_of, by_number, clause_count, cube_sizes, recorded, numbers_at, levels_at, kinds_at, clause_sizes_at, learned_clause_sizes_at, learned_cube_sizes_at, clause_cells, learned_cells, parts_under, Whole}
-use Rattle.state_parts.proofs.Cutting.{part_set, part_set_before, part_set_after}
+use Rattle.state_parts.specs.Parts.{part, limits_of, by_number, clause_count, cube_sizes, recorded, numbers_at, levels_at, kinds_at, clause_sizes_at, learned_clause_sizes_at, learned_cube_sizes_at, clause_cells, learned_cells, cell_count, literal_count, parts_under, Whole}
+use Rattle.state_parts.proofs.Cutting.{part_set, part_set_before, part_set_after, put_behind}
 use Rattle.state_parts.proofs.Written.{same_state, whole_exact, learned_clauses_put, learned_clause_sizes_put, limits_put}
 use Rattle.withdrawal.specs.Learned.{Room, Kept}
+use Rattle.rule_calls.specs.StaysAt.{BehindAt}
 use Rattle.rule_calls.specs.WithdrawnAt.{Learned, with_learned, WithdrawnAt}
 
 -- ---- the count of the clauses, set to n
@@ -82,6 +83,16 @@ module _ (L : Limits) (cells : List ℕ) (literals : List ℤ) (w : Whole L cell
     parts_after : parts_under L (set cells' (clause_sizes_at L + 0) n) literals' ≡ with_learned x n rows sizes
     parts_after = count_set L cells' literals' n ∙ ap (λ (z : State). with_learned z n z.learned_clauses z.learned_clause_sizes) parts_written
 
+    -- what lies behind the parts lies behind both, and behind the count
+    behind_kept : BehindAt L cells literals (set cells' (clause_sizes_at L + 0) n) literals'
+    behind_kept =
+        record {
+          cells_behind =
+              drop-set-lt (cell_count L) cells' (clause_sizes_at L + 0) n (omega arith)
+              ∙ put_behind (cell_count L) (learned_clause_sizes_at L) (recorded L) cells sizes (omega arith) (omega (arith, w.cells_room)) sizes_long;
+          literals_behind = put_behind (literal_count L) (clause_cells L) (learned_cells L) literals rows (omega arith) (omega (arith, w.literals_room)) rows_long;
+        }
+
     left : WithdrawnAt L cells literals n (set cells' (clause_sizes_at L + 0) n) literals'
     left =
         record {
@@ -90,6 +101,7 @@ module _ (L : Limits) (cells : List ℕ) (literals : List ℤ) (w : Whole L cell
           kept = a;
           parts = parts_after;
           limits = count_limits cells' (clause_sizes_at L + 0) n (omega arith) ∙ limits_put cells (learned_clause_sizes_at L) (recorded L) sizes (omega arith) (omega (arith, w.cells_room));
+          behind = behind_kept;
           whole =
               record {
                 cells_room = omega (arith, w.cells_room, cells_long, length-set cells' (clause_sizes_at L + 0) n);

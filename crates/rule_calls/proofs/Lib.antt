@@ -1,4 +1,5 @@
 pub mod Lists
+pub mod Stays
 pub mod Calls
 pub mod Emptied
 pub mod Reading

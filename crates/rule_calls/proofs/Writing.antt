@@ -6,15 +6,16 @@ use mathlib.Core.List.{List}
 use borrow.Rule.Slice.PartMut.{put_mid, same_len_mid}
 use lib.IntN.{ℤ}
 use lib.ListN.{length, get_or, set, length-set}
-use lib.Seq.{get_or-set_other}
+use lib.Seq.{get_or-set_other, drop-set-lt}
 use Rattle.qbf.specs.Formula.{Limits, paper, Literal}
 use Rattle.tables.specs.Views.{Table}
 use Rattle.rule_rows.specs.Accepted.{Added}
 use Rattle.state.specs.State.{State}
 use Rattle.state.specs.Reading.{own, state_of}
-use Rattle.state_parts.specs.Parts.{part, limits_of, by_number, clause_count, cube_sizes, recorded, numbers_at, levels_at, kinds_at, clause_sizes_at, learned_clause_sizes_at, learned_cube_sizes_at, clause_cells, parts_under, Whole}
-use Rattle.state_parts.proofs.Cutting.{part_set, part_set_after}
+use Rattle.state_parts.specs.Parts.{part, limits_of, by_number, clause_count, cube_sizes, recorded, numbers_at, levels_at, kinds_at, clause_sizes_at, learned_clause_sizes_at, learned_cube_sizes_at, clause_cells, cell_count, literal_count, parts_under, Whole}
+use Rattle.state_parts.proofs.Cutting.{part_set, part_set_after, put_behind}
 use Rattle.state_parts.proofs.Written.{same_state, whole_exact, clauses_put, clause_sizes_put, limits_put}
+use Rattle.rule_calls.specs.StaysAt.{BehindAt}
 use Rattle.rule_calls.specs.AddedAt.{Room, with_clauses, AddedAt}
 
 -- ---- the count of the cubes, set to 0
@@ -80,6 +81,16 @@ module _ (L : Limits) (cells : List ℕ) (literals : List ℤ) (w : Whole L cell
     parts_after : parts_under L (set cells' (learned_cube_sizes_at L + 0) 0) literals' ≡ with_clauses x rows sizes
     parts_after = cubes_cleared L cells' literals' ∙ ap (λ (z : State). with_clauses z z.clauses z.clause_sizes) parts_written
 
+    -- what lies behind the parts lies behind both, and behind the count
+    behind_kept : BehindAt L cells literals (set cells' (learned_cube_sizes_at L + 0) 0) literals'
+    behind_kept =
+        record {
+          cells_behind =
+              drop-set-lt (cell_count L) cells' (learned_cube_sizes_at L + 0) 0 (omega arith)
+              ∙ put_behind (cell_count L) (clause_sizes_at L) (clause_count L) cells sizes (omega arith) (omega (arith, w.cells_room)) sizes_long;
+          literals_behind = put_behind (literal_count L) 0 (clause_cells L) literals rows (omega arith) (omega (arith, w.literals_room)) rows_long;
+        }
+
     written : AddedAt L cells literals cs places (set cells' (learned_cube_sizes_at L + 0) 0) literals'
     written =
         record {
@@ -88,6 +99,7 @@ module _ (L : Limits) (cells : List ℕ) (literals : List ℤ) (w : Whole L cell
           added = a;
           parts = parts_after;
           limits = clear_limits cells' (learned_cube_sizes_at L + 0) (omega arith) ∙ limits_put cells (clause_sizes_at L) (clause_count L) sizes (omega arith) (omega (arith, w.cells_room));
+          behind = behind_kept;
           whole =
               record {
                 cells_room = omega (arith, w.cells_room, cells_long, length-set cells' (learned_cube_sizes_at L + 0) 0);

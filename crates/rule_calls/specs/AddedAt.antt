@@ -6,6 +6,7 @@ use Rattle.rule_rows.specs.Accepted.{Added}
 use Rattle.state.specs.State.{State}
 use Rattle.state.specs.Reading.{state_of}
 use Rattle.state_parts.specs.Parts.{limits_of, parts_under, Whole}
+use Rattle.rule_calls.specs.StaysAt.{BehindAt}
 
 -- there is room for n clauses more
 pub record Room (L : Limits) (cells : List ℕ) (literals : List ℤ) (n : ℕ) : Type 0 where
@@ -25,4 +26,5 @@ pub record AddedAt (L : Limits) (cells : List ℕ) (literals : List ℤ) (cs : L
   pub added : Added L.clauses (parts_under L cells literals).clauses (parts_under L cells literals).clause_sizes cs places clauses sizes
   pub parts : parts_under L cells' literals' ≡ with_clauses (parts_under L cells literals) clauses sizes
   pub limits : limits_of cells' ≡ limits_of cells
+  pub behind : BehindAt L cells literals cells' literals'
   pub whole : Whole L cells' literals'

@@ -1,4 +1,5 @@
 pub mod ServesAt
+pub mod StaysAt
 pub mod AddedAt
 pub mod WithdrawnAt
 pub mod Served

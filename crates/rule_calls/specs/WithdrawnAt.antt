@@ -5,6 +5,7 @@ use Rattle.state.specs.State.{State}
 use Rattle.state.specs.Reading.{state_of}
 use Rattle.state_parts.specs.Parts.{limits_of, parts_under, Whole}
 use Rattle.withdrawal.specs.Learned.{Room, Kept}
+use Rattle.rule_calls.specs.StaysAt.{BehindAt}
 
 -- the learned clauses stand within their part
 pub record Learned (L : Limits) (cells : List ℕ) (literals : List ℤ) : Type 0 where
@@ -22,4 +23,5 @@ pub record WithdrawnAt (L : Limits) (cells : List ℕ) (literals : List ℤ) (n 
   pub kept : Kept L.numbers (parts_under L cells literals).learned_clauses (parts_under L cells literals).learned_clause_sizes n clauses sizes
   pub parts : parts_under L cells' literals' ≡ with_learned (parts_under L cells literals) n clauses sizes
   pub limits : limits_of cells' ≡ limits_of cells
+  pub behind : BehindAt L cells literals cells' literals'
   pub whole : Whole L cells' literals'

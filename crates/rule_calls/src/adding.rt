@@ -3,6 +3,7 @@ ghost use Rattle.std.specs.Prelude.{[], ◌∷◌};
 ghost use Rattle.qbf.specs.Calls.{rule};
 ghost use Rattle.state_parts.specs.Layout.{limits_in};
 ghost use Rattle.rule_calls.specs.ServesAt.{ServesAt, change_said};
+ghost use Rattle.rule_calls.specs.StaysAt.{rule_writes, StaysAt};
 ghost use Rattle.rule_calls.specs.AddedAt.{Room, AddedAt};
 
 use refusal::Refusal;
@@ -39,13 +40,14 @@ fn accept(layout: Layout, cells: &mut [u16], literals: &mut [i16], rule: Rule<'_
 
 // "Rule adds a rule; if accepted, all passes go and bars remain."
 pub fn rule(cells: &mut [u16], literals: &mut [i16], lits: &[i16]) -> Result<(), Refusal>
-    ensures { ServesAt
+    ensures serves { ServesAt
         cells.old
         literals.old
         (rule lits.now)
         (change_said result)
         cells.new
         literals.new }
+    ensures frame { StaysAt rule_writes cells.old literals.old cells.new literals.new }
 {
     let mut places = [0u16; tables::HIGHEST_BY_NUMBER];
     let mut by_number = [0u16; tables::HIGHEST_BY_NUMBER];

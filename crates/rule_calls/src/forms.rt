@@ -5,6 +5,7 @@ ghost use Rattle.qbf.specs.Calls.{one};
 ghost use Rattle.rule_rows.specs.Accepted.{Named};
 ghost use Rattle.state_parts.specs.Layout.{limits_in};
 ghost use Rattle.rule_calls.specs.ServesAt.{ServesAt, change_said};
+ghost use Rattle.rule_calls.specs.StaysAt.{rule_writes, StaysAt};
 ghost use Rattle.rule_calls.specs.AddedAt.{Room, AddedAt};
 
 use form_rows::add_one;
@@ -51,13 +52,14 @@ fn accept_form(
 // "An exactly-one form added by a call .. All of its rules are added, or none."
 // stays (no plainer): the refusals and what is added are each call's own; a function of both would take them as two closures
 pub fn one(cells: &mut [u16], literals: &mut [i16], lits: &[i16]) -> Result<(), Refusal>
-    ensures { ServesAt
+    ensures serves { ServesAt
         cells.old
         literals.old
         (one lits.now)
         (change_said result)
         cells.new
         literals.new }
+    ensures frame { StaysAt rule_writes cells.old literals.old cells.new literals.new }
 {
     let mut places = [0u16; tables::HIGHEST_BY_NUMBER];
     let mut by_number = [0u16; tables::HIGHEST_BY_NUMBER];

@@ -3,6 +3,7 @@
 
 ghost use Rattle.qbf.specs.Calls.{forget};
 ghost use Rattle.rule_calls.specs.ServesAt.{ServesAt, change_said};
+ghost use Rattle.rule_calls.specs.StaysAt.{forget_writes, StaysAt};
 
 mod adding; // a rule
 mod forms; // an exactly-one form
@@ -15,13 +16,14 @@ pub use withdrawing::withdraw;
 
 // "Forget empties the store."
 pub fn forget(cells: &mut [u16], literals: &[i16]) -> Result<(), Refusal>
-    ensures { ServesAt
+    ensures serves { ServesAt
         cells.old
         literals.now
         forget
         (change_said result)
         cells.new
         literals.now }
+    ensures frame { StaysAt forget_writes cells.old literals.now cells.new literals.now }
 {
     let mut places = [0u16; tables::HIGHEST_BY_NUMBER];
     let mut by_number = [0u16; tables::HIGHEST_BY_NUMBER];

@@ -2,6 +2,7 @@
 ghost use Rattle.qbf.specs.Calls.{withdraw};
 ghost use Rattle.state_parts.specs.Layout.{limits_in};
 ghost use Rattle.rule_calls.specs.ServesAt.{ServesAt, change_said};
+ghost use Rattle.rule_calls.specs.StaysAt.{withdraw_writes, StaysAt};
 ghost use Rattle.rule_calls.specs.WithdrawnAt.{Learned, WithdrawnAt};
 
 use refusal::Refusal;
@@ -35,13 +36,14 @@ fn take_last(layout: Layout, cells: &mut [u16], literals: &mut [i16], remain: u1
 
 // "Add a call that withdraws the rule added last."
 pub fn withdraw(cells: &mut [u16], literals: &mut [i16]) -> Result<(), Refusal>
-    ensures { ServesAt
+    ensures serves { ServesAt
         cells.old
         literals.old
         withdraw
         (change_said result)
         cells.new
         literals.new }
+    ensures frame { StaysAt withdraw_writes cells.old literals.old cells.new literals.new }
 {
     let mut places = [0u16; tables::HIGHEST_BY_NUMBER];
     let mut by_number = [0u16; tables::HIGHEST_BY_NUMBER];

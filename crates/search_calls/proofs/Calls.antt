@@ -25,7 +25,9 @@ use Rattle.state_parts.specs.Layout.{limits_in}
 use Rattle.state_parts.proofs.Accepted.{read_roomy, accepted_whole, valid_accepted, valid_state, valid_read}
 use Rattle.state_parts.proofs.Written.{whole_exact, exact_roomy}
 use Rattle.rule_calls.specs.ServesAt.{ServesAt}
+use Rattle.rule_calls.specs.StaysAt.{search_writes, StaysAt}
 use Rattle.rule_calls.proofs.Calls.{capped, malformed, unchanged}
+use Rattle.rule_calls.proofs.Stays.{left_stays}
 use Rattle.search_entry.specs.declared.Learned.{Learned}
 use Rattle.asking.specs.declared.checked.Checked.{Checked}
 use Rattle.asking.specs.Answered.{called, Answered, state_of}
@@ -124,3 +126,22 @@ module _ (l : Layout) (cells : List ℕ) (literals : List ℤ) {places kinds : L
     served_kept {cells'} {literals'} b =
         kept cells literals c a (valid_shown l cells literals s) d (own_at l cells literals s (λ (L : Limits). Answered L (parts_under L cells literals) c a (Some d)) by)
         (own_at l cells literals s (λ (L : Limits). BackAt L cells literals d cells' literals') b)
+
+-- ---- what was learned is all that is written
+module _ (l : Layout) {cells : List ℕ} {literals : List ℤ} {places kinds : List ℕ} (s : ShownAt l cells literals places kinds) where
+  pub back_stays : {d : Learned} {cells' : List ℕ} {literals' : List ℤ} → BackAt (limits_in l) cells literals d cells' literals' → StaysAt search_writes cells literals cells' literals'
+  back_stays {d} {cells'} {literals'} b =
+      let a : BackAt (limits_of cells) cells literals d cells' literals' = own_at l cells literals s (λ (L : Limits). BackAt L cells literals d cells' literals') b in
+      left_stays search_writes a.limits a.parts
+      (record {
+        numbers = refl;
+        levels = refl;
+        kinds = refl;
+        clauses = refl;
+        clause_sizes = refl;
+        learned_clauses = tt;
+        learned_clause_sizes = tt;
+        learned_cubes = tt;
+        learned_cube_sizes = tt;
+      })
+      a.behind

@@ -10,10 +10,11 @@ use Rattle.qbf.specs.Formula.{Limits}
 use Rattle.state.specs.State.{State}
 use Rattle.state.specs.Reading.{own}
 use Rattle.search_entry.specs.declared.Learned.{Learned}
-use Rattle.state_parts.specs.Parts.{part, by_number, clause_count, cube_sizes, recorded, levels_at, clause_sizes_at, learned_clause_sizes_at, learned_cube_sizes_at, clause_cells, learned_cells, learned_cubes_at, parts_under, Whole, Exact}
-use Rattle.state_parts.proofs.Cutting.{part_at, put_after}
+use Rattle.state_parts.specs.Parts.{part, by_number, clause_count, cube_sizes, recorded, levels_at, clause_sizes_at, learned_clause_sizes_at, learned_cube_sizes_at, clause_cells, learned_cells, learned_cubes_at, cell_count, literal_count, parts_under, Whole, Exact}
+use Rattle.state_parts.proofs.Cutting.{part_at, put_after, put_behind}
 use Rattle.state_parts.proofs.Written.{whole_exact, learned_clauses_put, learned_clause_sizes_put, learned_cubes_put, learned_cube_sizes_put, limits_put}
 use Rattle.asking.specs.Stored.{with_learned, ClausesStored, CubesStored}
+use Rattle.rule_calls.specs.StaysAt.{BehindAt}
 use Rattle.search_calls.specs.Back.{BackAt}
 
 module _ (L : Limits) (cells : List ℕ) (literals : List ℤ) (w : Whole L cells literals) (l : Learned) where
@@ -87,6 +88,18 @@ module _ (L : Limits) (cells : List ℕ) (literals : List ℤ) (w : Whole L cell
     all : parts_under L cells₂ literals₂ ≡ with_learned x cs css qs qss
     all = learned_cube_sizes_put L cells₁ literals₂ w₃ qss qss_long ∙ ap (λ (z : State). with_learned z z.learned_clauses z.learned_clause_sizes z.learned_cubes qss) third
 
+    -- what lies behind the parts lies behind all four
+    behind_kept : BehindAt L cells literals cells₂ literals₂
+    behind_kept =
+        record {
+          cells_behind =
+              put_behind (cell_count L) (learned_cube_sizes_at L) (cube_sizes L) cells₁ qss (omega arith) (omega (arith, w₂.cells_room)) qss_long
+              ∙ put_behind (cell_count L) (learned_clause_sizes_at L) (recorded L) cells css (omega arith) (omega (arith, w.cells_room)) css_long;
+          literals_behind =
+              put_behind (literal_count L) (learned_cubes_at L) (learned_cells L) literals₁ qs (omega arith) (omega (arith, w₁.literals_room)) qs_long
+              ∙ put_behind (literal_count L) (clause_cells L) (learned_cells L) literals cs (omega arith) (omega (arith, w.literals_room)) cs_long;
+        }
+
     pub back_at : BackAt L cells literals l cells₂ literals₂
     back_at =
         record {
@@ -100,6 +113,7 @@ module _ (L : Limits) (cells : List ℕ) (literals : List ℤ) (w : Whole L cell
           limits =
               limits_put cells₁ (learned_cube_sizes_at L) (cube_sizes L) qss (omega arith) (omega (arith, w₂.cells_room))
               ∙ limits_put cells (learned_clause_sizes_at L) (recorded L) css (omega arith) (omega (arith, w.cells_room));
+          behind = behind_kept;
           whole = record { cells_room = omega (arith, w₂.cells_room, cells₂_long); literals_room = w₃.literals_room };
         }
 

@@ -5,6 +5,7 @@ use Rattle.state_parts.specs.Parts.{limits_of, parts_under, Whole}
 use Rattle.search_entry.specs.declared.Learned.{Learned}
 use Rattle.unloading.specs.Written.{Narrow}
 use Rattle.asking.specs.Stored.{with_learned, ClausesStored, CubesStored}
+use Rattle.rule_calls.specs.StaysAt.{BehindAt}
 
 -- both tables hold every part, and the rows on the shelves those of the limits
 pub record Writable (L : Limits) (cells : List ℕ) (literals : List ℤ) (l : Learned) : Type 0 where
@@ -23,4 +24,5 @@ pub record BackAt (L : Limits) (cells : List ℕ) (literals : List ℤ) (l : Lea
   pub cubes : CubesStored L.numbers l.cubes (parts_under L cells literals).numbers (parts_under L cells literals).learned_cubes (parts_under L cells literals).learned_cube_sizes qs qss
   pub parts : parts_under L cells' literals' ≡ with_learned (parts_under L cells literals) cs css qs qss
   pub limits : limits_of cells' ≡ limits_of cells
+  pub behind : BehindAt L cells literals cells' literals'
   pub whole : Whole L cells' literals'

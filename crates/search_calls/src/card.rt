@@ -3,6 +3,7 @@ ghost use Rattle.std.specs.Prelude.{length};
 ghost use Rattle.qbf.specs.Calls.{card_of};
 ghost use Rattle.replies.specs.Replies.{card_said};
 ghost use Rattle.rule_calls.specs.ServesAt.{ServesAt};
+ghost use Rattle.rule_calls.specs.StaysAt.{search_writes, StaysAt};
 ghost use Rattle.search_calls.specs.Checked.{ShownAt};
 
 use crate::back::write_back;
@@ -28,13 +29,14 @@ pub fn card_on(
     ceiling: u32,
 ) -> Listed
     requires { ShownAt layout cells.old literals.old places.old kinds.now }
-    ensures { ServesAt
+    ensures serves { ServesAt
         cells.old
         literals.old
         (card_of yes ceiling (length table.old))
         (card_said result.lines result.visits table.new)
         cells.new
         literals.new }
+    ensures frame { StaysAt search_writes cells.old literals.old cells.new literals.new }
 {
     let checked = checked(layout, cells, literals, places, kinds);
     let Made { listed, learned } = asking::card::card_of(

@@ -5,6 +5,7 @@ ghost use Rattle.std.specs.Prelude.{length};
 ghost use Rattle.qbf.specs.Calls.{query, card_of};
 ghost use Rattle.replies.specs.Replies.{ruling_said, card_said};
 ghost use Rattle.rule_calls.specs.ServesAt.{ServesAt};
+ghost use Rattle.rule_calls.specs.StaysAt.{search_writes, StaysAt};
 
 use asking::asked::Asked;
 use asking::query::Told;
@@ -30,13 +31,14 @@ pub fn query(
     work: &mut Workspace,
     asked: Asked<'_>,
 ) -> Ruled
-    ensures { ServesAt
+    ensures serves { ServesAt
         cells.old
         literals.old
         (query asked.entry.ceiling asked.entry.on.now asked.entry.off.now)
         (ruling_said result.ruling result.visits)
         cells.new
         literals.new }
+    ensures frame { StaysAt search_writes cells.old literals.old cells.new literals.new }
 {
     let Lent {
         places,
@@ -69,13 +71,14 @@ pub fn card_of(
     yes: bool,
     ceiling: u32,
 ) -> Listed
-    ensures { ServesAt
+    ensures serves { ServesAt
         cells.old
         literals.old
         (card_of yes ceiling (length table.old))
         (card_said result.lines result.visits table.new)
         cells.new
         literals.new }
+    ensures frame { StaysAt search_writes cells.old literals.old cells.new literals.new }
 {
     let Lent {
         places,

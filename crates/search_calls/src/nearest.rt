@@ -5,6 +5,7 @@ ghost use Rattle.qbf.specs.Calls.{closest};
 ghost use Rattle.state.specs.Reading.{prefix_in};
 ghost use Rattle.state_parts.specs.Parts.{state_at};
 ghost use Rattle.rule_calls.specs.ServesAt.{ServesAt};
+ghost use Rattle.rule_calls.specs.StaysAt.{search_writes, StaysAt};
 ghost use Rattle.closest_call.specs.Nearest.{nearest_said, returned, padded};
 ghost use Rattle.asking.specs.Answered.{state_of};
 ghost use Rattle.search_calls.specs.Full.{FullAs};
@@ -81,6 +82,7 @@ pub fn closest(
         (returned
         result.told
         (take (free_variables (prefix_in (state_at cells.old literals.old))) reading.new)) }
+    ensures frame { StaysAt search_writes cells.old literals.old cells.new literals.new }
 {
     clear_reading(reading);
     let Lent {

@@ -43,14 +43,14 @@ module _ {A : Type 0} where
       ∙ ap (drop from) (sym (take-take (from + len) a (put_mid a k t ys) h) ∙ ap (take (from + len)) (take_put a k t ys g) ∙ take-take (from + len) a t h)
       ∙ drop-take from len t
 
-  pub put_after : (from len a k : ℕ) (t ys : List A) → a + k ≤ from → a + k ≤ length t → length ys ≡ k → part from len (put_mid a k t ys) ≡ part from len t
-  put_after from len a k t ys i g l =
-      ap (take len)
-      (ap (λ (j : ℕ). drop j (put_mid a k t ys)) q
+  -- all that lies behind it, and so each part there
+  pub put_behind : (from a k : ℕ) (t ys : List A) → a + k ≤ from → a + k ≤ length t → length ys ≡ k → drop from (put_mid a k t ys) ≡ drop from t
+  put_behind from a k t ys i g l =
+      ap (λ (j : ℕ). drop j (put_mid a k t ys)) q
       ∙ sym (drop-drop (from - (a + k)) (a + k) (put_mid a k t ys))
       ∙ ap (drop (from - (a + k))) behind
       ∙ drop-drop (from - (a + k)) (a + k) t
-      ∙ ap (λ (j : ℕ). drop j t) (sym q))
+      ∙ ap (λ (j : ℕ). drop j t) (sym q)
     where
       q : from ≡ (a + k) + (from - (a + k))
       q = omega (arith, i)
@@ -62,3 +62,6 @@ module _ {A : Type 0} where
       behind =
           ap (λ (j : ℕ). drop (a + k) (put_mid a j t ys)) (sym size)
           ∙ drop_put a (a + k) t ys (omega arith) g (l ∙ sym size)
+
+  pub put_after : (from len a k : ℕ) (t ys : List A) → a + k ≤ from → a + k ≤ length t → length ys ≡ k → part from len (put_mid a k t ys) ≡ part from len t
+  put_after from len a k t ys i g l = ap (take len) (put_behind from a k t ys i g l)

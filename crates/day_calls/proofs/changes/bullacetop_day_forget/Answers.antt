@@ -9,4 +9,4 @@ returns-in-Err c = refused_call c.args.rooms.now c.args.accounts.now c.args.cell
 
 pub returns : goal.returns
 returns c =
-    forgotten c.args.rooms.now c.args.accounts.now c.args.cells.now c.args.literals.now c.args.place c.in-Ok.at.may c.in-Ok.at.cells c.in-Ok.at.literals c.in-Ok.ensures c.bullacetop_book_forget.new.cells c.bullacetop_book_forget.auto.cells _ c.bullacetop_book_forget.ensures
+    forgotten c.args.rooms.now c.args.accounts.now c.args.cells.now c.args.literals.now c.args.place c.in-Ok.at.may c.in-Ok.at.cells c.in-Ok.at.literals c.in-Ok.ensures c.bullacetop_book_forget.new.cells c.bullacetop_book_forget.auto.cells _ c.bullacetop_book_forget.ensures.serves

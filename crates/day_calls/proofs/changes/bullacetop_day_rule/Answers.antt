@@ -10,4 +10,4 @@ returns-in-Err c = refused_call c.args.rooms.now c.args.accounts.now c.args.cell
 
 pub returns : goal.returns
 returns c =
-    changed c.args.rooms.now c.args.accounts.now c.args.cells.now c.args.literals.now c.args.place c.in-Ok.at.may c.in-Ok.at.cells c.in-Ok.at.literals c.in-Ok.ensures c.bullacetop_book_rule.new.cells c.bullacetop_book_rule.new.literals c.bullacetop_book_rule.auto.cells c.bullacetop_book_rule.auto.literals (rule c.args.lits.now) refl _ c.bullacetop_book_rule.ensures
+    changed c.args.rooms.now c.args.accounts.now c.args.cells.now c.args.literals.now c.args.place c.in-Ok.at.may c.in-Ok.at.cells c.in-Ok.at.literals c.in-Ok.ensures c.bullacetop_book_rule.new.cells c.bullacetop_book_rule.new.literals c.bullacetop_book_rule.auto.cells c.bullacetop_book_rule.auto.literals (rule c.args.lits.now) refl _ c.bullacetop_book_rule.ensures.serves

@@ -1,19 +1,27 @@
--- `rule` meets its contract: a malformed state, a fault, and what is accepted.
+-- `rule` meets its contract: a malformed state, a fault, and what is accepted. No more is written than a rule may.
 use mathlib.Core.Path.{refl}
 use Rattle.std.proofs.lemmas.Result.{err_from_is_err_and}
 use Rattle.qbf.specs.Calls.{rule}
+use Rattle.rule_calls.specs.StaysAt.{rule_writes}
 use Rattle.rule_calls.proofs.Calls.{malformed, malformed_by}
+use Rattle.rule_calls.proofs.Stays.{same_stays, added_stays}
 use Rattle.rule_calls.proofs.Adds.{found_at}
 use Rattle.rule_calls.proofs.Called.{rule_found, rule_refused, rule_short, rule_room, rule_accepted}
 use Rattle.rule_calls.proofs.adding.rule.Goals as goal
 
-pub returns-in_default : goal.returns-in_default
-returns-in_default c = malformed c.args.cells.now c.args.literals.now (rule c.args.lits.now) (malformed_by _ _ c.check.result _ _ c.check.ensures c.in_default.not-Ok)
+pub returns-in_default-clause-serves : goal.returns-in_default-clause-serves
+returns-in_default-clause-serves c = malformed c.args.cells.now c.args.literals.now (rule c.args.lits.now) (malformed_by _ _ c.check.result _ _ c.check.ensures c.in_default.not-Ok)
 
-pub returns-in_err-judge_rule : goal.returns-in_err-judge_rule
-returns-in_err-judge_rule c =
+pub returns-in_default-clause-frame : goal.returns-in_default-clause-frame
+returns-in_default-clause-frame c = same_stays rule_writes c.args.cells.now c.args.literals.now
+
+pub returns-in_err-judge_rule-clause-serves : goal.returns-in_err-judge_rule-clause-serves
+returns-in_err-judge_rule-clause-serves c =
     let p = err_from_is_err_and c.from_residual.result c.from_residual.ensures.1 in
     rw (p.1, p.2) (rule_refused c.args.lits.now (found_at c.args.cells.now c.args.literals.now (rule_found c.args.lits.now) c.in-Ok.ensures.0 c.in-Ok.ensures.1 c.clause_sizes_at.ensures c.cell_at-standing.ensures c.in-Ok.ensures.2 refl c.in_err-judge_rule.ensures) _ refl)
+
+pub returns-in_err-judge_rule-clause-frame : goal.returns-in_err-judge_rule-clause-frame
+returns-in_err-judge_rule-clause-frame c = same_stays rule_writes c.args.cells.now c.args.literals.now
 
 pub invariant_of-rule : goal.invariant_of-rule
 invariant_of-rule c = record { short = rule_short c.args.lits.now (found_at c.args.cells.now c.args.literals.now (rule_found c.args.lits.now) c.in-Ok.ensures.0 c.in-Ok.ensures.1 c.clause_sizes_at.ensures c.cell_at-standing.ensures c.in-Ok.ensures.2 refl c.in_ok-judge_rule.ensures) refl }
@@ -21,5 +29,8 @@ invariant_of-rule c = record { short = rule_short c.args.lits.now (found_at c.ar
 pub accept-requires : goal.accept-requires
 accept-requires c = rule_room c.args.lits.now (found_at c.args.cells.now c.args.literals.now (rule_found c.args.lits.now) c.in-Ok.ensures.0 c.in-Ok.ensures.1 c.clause_sizes_at.ensures c.cell_at-standing.ensures c.in-Ok.ensures.2 refl c.in_ok-judge_rule.ensures) refl
 
-pub returns : goal.returns
-returns c = rule_accepted c.args.lits.now (found_at c.args.cells.now c.args.literals.now (rule_found c.args.lits.now) c.in-Ok.ensures.0 c.in-Ok.ensures.1 c.clause_sizes_at.ensures c.cell_at-standing.ensures c.in-Ok.ensures.2 refl c.in_ok-judge_rule.ensures) refl c.accept.ensures
+pub returns-clause-serves : goal.returns-clause-serves
+returns-clause-serves c = rule_accepted c.args.lits.now (found_at c.args.cells.now c.args.literals.now (rule_found c.args.lits.now) c.in-Ok.ensures.0 c.in-Ok.ensures.1 c.clause_sizes_at.ensures c.cell_at-standing.ensures c.in-Ok.ensures.2 refl c.in_ok-judge_rule.ensures) refl c.accept.ensures
+
+pub returns-clause-frame : goal.returns-clause-frame
+returns-clause-frame c = added_stays c.in-Ok.ensures.0 c.in-Ok.ensures.1 c.accept.ensures

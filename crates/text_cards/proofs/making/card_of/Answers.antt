@@ -10,7 +10,7 @@ use Rattle.text_cards.proofs.making.card_of.Goals as goal
 
 pub returns-in-Ok : goal.returns-in-Ok
 returns-in-Ok c = λ b e ok.
-    let s = c.card_of-listed.ensures in
+    let s = c.card_of-listed.ensures.serves in
     let o = read_at c.args.cells.now c.args.literals.now in
     let size = length c.args.table.now in
     let r = c.card_of-listed.result in
