@@ -46,7 +46,7 @@ pub fn any_outside(a: &[u64], b: &[u64]) -> bool
 }
 
 // The least such number; the first number behind the row where there is none.
-// stays (no plainer): the definition `least_below` is the limit where none is below it, and the caller asks only behind `any_outside`, so that of an Option it would have no case of none
+// stays (no plainer): the definition `least_below` is the limit where none is below it, by which its caller, `inner::dying::dead`, tells that there is none
 pub fn first_outside(a: &[u64], b: &[u64]) -> usize
     requires { (length a.now ≤ length b.now) × (length a.now * width < 2 ^ 64) }
     ensures { result ≡ least_below (outside a.now 0 b.now 0) (length a.now * width) }
