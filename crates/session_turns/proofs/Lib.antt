@@ -3,3 +3,4 @@ pub mod Books
 pub mod Calls
 pub mod Turns
 pub mod Runs
+pub mod Ample

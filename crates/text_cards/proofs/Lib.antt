@@ -1,3 +1,4 @@
 pub mod Cards
 pub mod Texts
 pub mod Paging
+pub mod Ample
