@@ -1,6 +1,12 @@
 // The program `card`: a book on standard input, its card on standard output.
 #![tactic(auto)]
 
+ghost use Rattle.qbf.specs.Formula.{capped};
+ghost use Rattle.layout.specs.Program.{table_bytes};
+ghost use Rattle.editions.specs.Program.{card_program};
+ghost use Rattle.book_writer.specs.declared.Written.{Written};
+ghost use Rattle.answer_text.specs.Books.{Prints};
+
 use answer_text::ANSWER;
 use program::{CELLS, LITERALS};
 use search_entry::workspace::Workspace;
@@ -8,6 +14,7 @@ use state::parts::Limits;
 use std::io;
 use text_cards::printing::print_card;
 
+// The answer's table holds the text's card then, whatever stood in the others.
 // stays (proof): where the tables are made and lent in one function the check runs out of stack over their zeros
 fn print_text(
     rt: &impl Print,
@@ -17,7 +24,14 @@ fn print_text(
     literals: &mut [i16; LITERALS],
     work: &mut Workspace,
     answer: &mut [u8; ANSWER],
-) -> io::Result<()> {
+) -> io::Result<()>
+    ensures { (written : Written)
+        × Prints
+        (card_program (capped limits.numbers limits.clauses) table_bytes text.now)
+        answer.old
+        written
+        answer.new }
+{
     let written = print_card(text, limits, cells, literals, work, answer);
     rt.write_all(answer.get(..written.length).unwrap_or(&[]))
 }

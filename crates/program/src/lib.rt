@@ -2,6 +2,8 @@
 #![tactic(auto)]
 
 ghost use Rattle.std.specs.Prelude.{◌≤◌, length};
+ghost use Rattle.qbf.specs.Formula.{capped};
+ghost use Rattle.state_parts.specs.Parts.{Whole};
 ghost use Rattle.arguments.specs.Arguments.{longest_name};
 
 pub use lent_texts::{CELLS, LITERALS};
@@ -19,6 +21,22 @@ pub fn read<'a>(rt: &impl Input, room: &'a mut [u8; ROOM]) -> &'a [u8] {
     &room[..held]
 }
 
+// What `print` writes onto tables of the programs' sizes: they are whole under any limits, whatever stands in them.
+// stays (form): the two tables of a state are lent one by one, since no clause says what a struct of loans ends as
+fn lend<F: FnOnce(&[u8], Limits, &mut [u16], &mut [i16], &mut [u8; reader::text::TEXT]) -> usize>(
+    print: F,
+    text: &[u8],
+    limits: Limits,
+    cells: &mut [u16; CELLS],
+    literals: &mut [i16; LITERALS],
+    out: &mut [u8; reader::text::TEXT],
+) -> usize
+    requires { F.IsAlwaysCallable print }
+    ensures { Whole (capped limits.numbers limits.clauses) cells.old literals.old }
+{
+    print(text, limits, cells, literals, out)
+}
+
 // What is printed of the text under the limits of the program's arguments: what `print` writes into a table of a text's size, where it has so many bytes.
 // stays (no plainer): `length [u8] ≤ longest_name` is of a word that each program writes once; a type for it would be made there and taken off where it is printed
 pub fn print_text<
@@ -34,6 +52,6 @@ pub fn print_text<
         return Ok(());
     };
     let text = read(rt, &mut room);
-    let length = print(text, limits, &mut cells, &mut literals, &mut out);
+    let length = lend(print, text, limits, &mut cells, &mut literals, &mut out);
     rt.write_all(out.get(..length).unwrap_or(&[]))
 }

@@ -1,6 +1,9 @@
 // The program `session`: a book on standard input, then one call to a line, each answered as soon as its line is read.
 #![tactic(auto)]
 
+ghost use Rattle.qbf.specs.Formula.{capped};
+ghost use Rattle.state_parts.specs.Parts.{Whole};
+
 use answer_text::ANSWER;
 use input::read_more;
 use program::{CELLS, LITERALS};
@@ -12,6 +15,7 @@ use std::io;
 use std::io::{Input, Read};
 
 // A turn after the other, as many as no session uses up. Where the program does not wait, what it holds is used first.
+// The tables of the state that it begins with are whole under any limits.
 // stays (no plainer): each table is lent to the turn; a struct of loans would be made for this one call, and no clause could say what it ends as
 fn run<R: Read>(
     rt: &impl Print,
@@ -23,7 +27,9 @@ fn run<R: Read>(
     work: &mut Workspace,
     cards: &mut [u8; TABLE],
     answer: &mut [u8; ANSWER],
-) -> io::Result<()> {
+) -> io::Result<()>
+    ensures { Whole (capped limits.numbers limits.clauses) cells.old literals.old }
+{
     let mut s = session_turns::start();
     for _ in 0..u64::MAX {
         let got = if s.stage.waits() {
