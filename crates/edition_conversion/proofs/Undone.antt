@@ -10,21 +10,20 @@ use lib.IntN.{ℤ}
 use lib.ListN.{length, take, replicate}
 use lib.Seq.{take-append_seam}
 use lib.Dec.{ltb}
-use Rattle.std.specs.Prelude.{Result}
-use Rattle.qbf.specs.Formula.{Limits, Formula}
+use Rattle.std.specs.Prelude.{Result, Ok}
+use Rattle.qbf.specs.Formula.{Limits}
 use Rattle.layout.specs.Words.{Bytes, newline, split}
 use Rattle.layout.specs.Opening.{text_bytes, Opened, opened}
 use Rattle.layout.specs.Opening as opening
 use Rattle.opening.specs.declared.text.RefusedAt.{RefusedAt}
 use Rattle.opening.proofs.Apart.{NumberedText}
 use Rattle.opening.specs.Opened.{OpenedAt}
-use Rattle.opening.proofs.Closed.{opened_alike}
 use Rattle.state_parts.specs.Parts.{read_at, Whole}
 use Rattle.editions.specs.Opening.{only, both, open_editions}
 use Rattle.editions.specs.Converting.{Converted, converted, refused, lost_line, tagged_text, untagged_text, fitted, unlost, after_opening, to_tagged, to_untagged}
-use Rattle.editions_laws.proofs.Converting.{tags_undone, untags_undone, same_tagged, same_untagged}
-use Rattle.editions_laws.proofs.Readers.{equal_tagged, equal_untagged}
+use Rattle.editions_laws.proofs.Converting.{tags_undone, untags_undone}
 use Rattle.edition_opening.proofs.Apart.{edition_numbered}
+use Rattle.edition_opening.proofs.Books.{tagged_alike, untagged_alike}
 use Rattle.edition_conversion.specs.declared.Converted.{Converted as Answer}
 use Rattle.edition_conversion.specs.Converted.{ConvertedAs, Numbered, refusal_of}
 use Rattle.edition_conversion.specs.Converting.{TaggedUnder, UntaggedUnder}
@@ -46,11 +45,11 @@ judged_numbered (opening.refused zero k) c n m = absurd n
 judged_numbered (opening.refused (suc j) k) c n m = tt
 judged_numbered (opened b) c n m = m
 
-tag_numbered : (L : Limits) (size : ℕ) (s : Bytes) → Numbered (to_tagged L size s)
+pub tag_numbered : (L : Limits) (size : ℕ) (s : Bytes) → Numbered (to_tagged L size s)
 unfolding to_tagged
 tag_numbered L size s = judged_numbered (open_editions (only 1) L s) (fitted size (tagged_text s)) (edition_numbered (only 1) L s) (fitted_numbered size (tagged_text s))
 
-untag_numbered : (L : Limits) (size : ℕ) (s : Bytes) → Numbered (to_untagged L size s)
+pub untag_numbered : (L : Limits) (size : ℕ) (s : Bytes) → Numbered (to_untagged L size s)
 unfolding to_untagged
 untag_numbered L size s =
     judged_numbered (open_editions (only 2) L s) (unlost (lost_line (split newline s)) (fitted size (untagged_text s))) (edition_numbered (only 2) L s)
@@ -84,19 +83,10 @@ module _ (L : Limits) (few : L.clauses ≤ 65535) {cells : List ℕ} {literals :
     pub untag_undone : UntaggedUnder L cells literals s size r d → r.refusal ≡ 0 → length s ≤ size' → TaggedUnder L cells' literals' (take r.length d) size' q e → (q.refusal ≡ 0) × (take q.length e ≡ s)
     untag_undone told h g back = unrefused (back.whole v) s (untags_undone L few size size' s (take r.length d) (made (told.whole w) (untag_numbered L size s) h) g)
 
-  -- ---- "finds equal rules, so cards agree whether or not a book is tagged": what the two texts open reads alike
+  -- ---- "finds equal rules, so cards agree whether or not a book is tagged": neither text is refused, and what the two open reads alike
   module _ (size : ℕ) (s : Bytes) (r : Answer) (d : Bytes) {o p : Result (Unit {0}) RefusedAt} {a b a' b' : List ℕ} {c e c' e' : List ℤ} (was : OpenedAt L (open_editions both L s) a c o a' c') (is : OpenedAt L (open_editions both L (take r.length d)) b e p b' e') (h : Whole L a c) (g : Whole L b e) where
-    alike : (f : Formula) → open_editions both L s ≡ opened f → open_editions both L (take r.length d) ≡ opened f → read_at a' c' ≡ read_at b' e'
-    alike f i j = opened_alike f i j h was g is
+    pub tag_alike : TaggedUnder L cells literals s size r d → r.refusal ≡ 0 → (o ≡ Ok tt) × (p ≡ Ok tt) × (read_at a' c' ≡ read_at b' e')
+    tag_alike told z = tagged_alike L few size s (take r.length d) was is h g (made (told.whole w) (tag_numbered L size s) z)
 
-    pub tag_alike : TaggedUnder L cells literals s size r d → r.refusal ≡ 0 → read_at a' c' ≡ read_at b' e'
-    tag_alike told z =
-        let t = made (told.whole w) (tag_numbered L size s) z in
-        let x = same_tagged L few size s (take r.length d) t in
-        alike x.0 (equal_tagged L few size s (take r.length d) t ∙ x.2) x.2
-
-    pub untag_alike : UntaggedUnder L cells literals s size r d → r.refusal ≡ 0 → read_at a' c' ≡ read_at b' e'
-    untag_alike told z =
-        let t = made (told.whole w) (untag_numbered L size s) z in
-        let x = same_untagged L few size s (take r.length d) t in
-        alike x.0 (equal_untagged L few size s (take r.length d) t ∙ x.2) x.2
+    pub untag_alike : UntaggedUnder L cells literals s size r d → r.refusal ≡ 0 → (o ≡ Ok tt) × (p ≡ Ok tt) × (read_at a' c' ≡ read_at b' e')
+    untag_alike told z = untagged_alike L few size s (take r.length d) was is h g (made (told.whole w) (untag_numbered L size s) z)

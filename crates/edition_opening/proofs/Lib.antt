@@ -3,3 +3,4 @@ pub mod Lines
 pub mod Turns
 pub mod Served
 pub mod Apart
+pub mod Books

@@ -28,7 +28,7 @@ edition_served_at a n m s b e cells literals w cells' literals' o =
     demands_served_at b (opened_formula a (capped n m) (capped_ok n m) s b e) (lists cells' literals')
     (subst (λ (p : Opened). AnsweredAt p (Ok tt) cells' literals') e (o.whole w))
 
--- What a reader of edition 1 alone opens, a reader that takes edition 1 opens too: what is left reads alike.
+-- What a reader of edition 1 alone opens, a reader that takes edition 1 opens too: neither refuses it, and what is left reads alike.
 pub opened_as_before_at : (a : Editions) → a 1 ≡ true → (L : Limits) (s : Bytes) (b : Formula) → open_text L s ≡ opened b → {r q : Result (Unit {0}) RefusedAt} {c k c' k' : List ℕ} {d e d' e' : List ℤ}
-    → Whole L c d → OpenedAt L (open_editions a L s) c d r c' d' → Whole L k e → OpenedAt L (open_text L s) k e q k' e' → read_at c' d' ≡ read_at k' e'
+    → Whole L c d → OpenedAt L (open_editions a L s) c d r c' d' → Whole L k e → OpenedAt L (open_text L s) k e q k' e' → (r ≡ Ok tt) × (q ≡ Ok tt) × (read_at c' d' ≡ read_at k' e')
 opened_as_before_at a h L s b is = opened_alike b (opens_as_before a h L s b is) is

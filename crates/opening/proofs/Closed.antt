@@ -82,16 +82,18 @@ pub short_text_at : (L : Limits) (o : Opened) (cells : List ℕ) (literals : Lis
 short_text_at L o cells literals w r cells' literals' a = closed_served_at (lists cells' literals') (a.short w).1
 
 -- ---- what an opened text leaves
-read_opened : (b : Formula) (r : Result (Unit {0}) RefusedAt) (cells : List ℕ) (literals : List ℤ) → AnsweredAt (opened b) r cells literals → read_at cells literals ≡ some (fresh b)
-read_opened b (Ok u) cells literals h = h
+-- it is not refused, and what is left reads as its formula with an empty store
+pub read_opened : (b : Formula) (r : Result (Unit {0}) RefusedAt) (cells : List ℕ) (literals : List ℤ) → AnsweredAt (opened b) r cells literals → (r ≡ Ok tt) × (read_at cells literals ≡ some (fresh b))
+read_opened b (Ok u) cells literals h = (refl, h)
 read_opened b (Err q) cells literals h = absurd h
 
--- what two texts that open one formula leave reads alike, whatever opened them
+-- Of two texts that open one formula neither is refused, and what they leave reads alike, whatever opened them.
 pub opened_alike : {L : Limits} {o p : Opened} (b : Formula) → o ≡ opened b → p ≡ opened b → {r q : Result (Unit {0}) RefusedAt} {cells cells' tables tables' : List ℕ} {literals literals' cubes cubes' : List ℤ}
-    → Whole L cells literals → OpenedAt L o cells literals r cells' literals' → Whole L tables cubes → OpenedAt L p tables cubes q tables' cubes' → read_at cells' literals' ≡ read_at tables' cubes'
+    → Whole L cells literals → OpenedAt L o cells literals r cells' literals' → Whole L tables cubes → OpenedAt L p tables cubes q tables' cubes' → (r ≡ Ok tt) × (q ≡ Ok tt) × (read_at cells' literals' ≡ read_at tables' cubes')
 opened_alike b e f {r} {q} {cells' = cells'} {tables' = tables'} {literals' = literals'} {cubes' = cubes'} w o v p =
-    read_opened b r cells' literals' (subst (λ (x : Opened). AnsweredAt x r cells' literals') e (o.whole w))
-    ∙ sym (read_opened b q tables' cubes' (subst (λ (x : Opened). AnsweredAt x q tables' cubes') f (p.whole v)))
+    let x = read_opened b r cells' literals' (subst (λ (x : Opened). AnsweredAt x r cells' literals') e (o.whole w)) in
+    let y = read_opened b q tables' cubes' (subst (λ (x : Opened). AnsweredAt x q tables' cubes') f (p.whole v)) in
+    (x.0, y.0, x.1 ∙ sym y.1)
 
 -- .. is served with all demands
 read_so : (o : Opened) (b : Formula) → o ≡ opened b → (r : Result (Unit {0}) RefusedAt) (cells' : List ℕ) (literals' : List ℤ) → AnsweredAt o r cells' literals' → AnsweredAt (opened b) r cells' literals'

@@ -25,9 +25,9 @@ use Rattle.booktext_laws.proofs.Texts.{AllLegible, legible_append, forms_read, t
 use Rattle.qdimacs_form.specs.Lines.{Line, comment, header, group, clause}
 use Rattle.qdimacs_form.specs.Opening.{flags_up_to, start, read_qdimacs, open_qdimacs}
 use Rattle.qdimacs_form.specs.Translation.{parsed, count_of, quantified, forms_of, translated, unnumbered, Plain}
-use Rattle.qdimacs_laws.proofs.Translated.{AllSpoken, plain_forms}
+use Rattle.qdimacs_laws.proofs.Translated.{AllSpoken, read_parsed, FewFlags, plain_forms}
 use Rattle.qdimacs_laws.proofs.Spoken.{parsed_spoken}
-use Rattle.qdimacs_laws.proofs.Plain.{opened_parsed, parsed_read, opened_plain}
+use Rattle.qdimacs_laws.proofs.Plain.{opened_parsed, parsed_read, opened_plain, opened_few}
 use Rattle.qdimacs_laws.proofs.Room.{forms_room}
 
 -- ---- the translated text can be written
@@ -62,12 +62,13 @@ unfolding translated
 translated_legible ls h = (omega arith, (flags_short (quantified ls) (count_of ls) (count_short ls h), legible_append (forms_of ls) (end ∷ []) (forms_legible ls h) (tt, tt)))
 
 -- ---- the same result
--- Where the lines are in the form and in order, and the header's counts hold, the two readers agree, refusals included.
-pub same_result : (L : Limits) → L.numbers ≤ most_free → (s : Bytes) (ls : List Line) → parsed (split newline s) ≡ some ls → Plain L ls → unnumbered (read_qdimacs L s) ≡ unnumbered (read_text L (forms_text (translated ls)))
+-- Where the lines are in the form and in order, the header's counts hold and there are at most 40 flags, the two readers agree, refusals included. Under limits
+-- of at most 40 numbers there are never more flags (`few_under`). A flag too many is 33 in both, but here at the end, behind what a rule is refused for.
+pub same_result : (L : Limits) (s : Bytes) (ls : List Line) → parsed (split newline s) ≡ some ls → Plain L ls → FewFlags ls → unnumbered (read_qdimacs L s) ≡ unnumbered (read_text L (forms_text (translated ls)))
 unfolding read_qdimacs read_text
-same_result L low s ls e p =
+same_result L s ls e p most =
     let sp = parsed_spoken (split newline s) ls e in
-    ap unnumbered (parsed_read 1 (start L) (split newline s) ls e) ∙ plain_forms L low 1 ls sp p ∙ ap unnumbered (sym (forms_read 1 0 (empty_formula L) (translated ls) (translated_legible ls sp)))
+    ap unnumbered (parsed_read 1 (start L) (split newline s) ls e) ∙ plain_forms L 1 ls sp p most ∙ ap unnumbered (sym (forms_read 1 0 (empty_formula L) (translated ls) (translated_legible ls sp)))
 
 opened_alone : (o : Opened) (b : Formula) → unnumbered o ≡ opened b → o ≡ opened b
 opened_alone (refused k n) b e = absurd (let z : ◌≡◌ {A = ℕ} 0 1 = cc in omega arith)
@@ -81,9 +82,10 @@ pub record Translates (L : Limits) (s : Bytes) (b : Formula) : Type 0 where
   pub plain : Plain L lines
   pub same : read_text L (forms_text (translated lines)) ≡ opened b
 
-pub same_book : (L : Limits) → L.numbers ≤ most_free → (s : Bytes) (b : Formula) → read_qdimacs L s ≡ opened b → Translates L s b
+-- Under any limits: a text that opens has at most 40 flags.
+pub same_book : (L : Limits) (s : Bytes) (b : Formula) → read_qdimacs L s ≡ opened b → Translates L s b
 unfolding read_qdimacs
-same_book L low s b e = record { lines = ls; are = w.1; plain = p; same = opened_alone (read_text L (forms_text (translated ls))) b (sym (same_result L low s ls w.1 p) ∙ ap unnumbered e) }
+same_book L s b e = record { lines = ls; are = w.1; plain = p; same = opened_alone (read_text L (forms_text (translated ls))) b (sym (same_result L s ls w.1 p (opened_few b L 1 ls once)) ∙ ap unnumbered e) }
   where
     w : (ls : List Line) × (parsed (split newline s) ≡ some ls)
     w = opened_parsed 1 (start L) (split newline s) b e
@@ -91,8 +93,11 @@ same_book L low s b e = record { lines = ls; are = w.1; plain = p; same = opened
     ls : List Line
     ls = w.0
 
+    once : read_parsed 1 (start L) ls ≡ opened b
+    once = sym (parsed_read 1 (start L) (split newline s) ls w.1) ∙ e
+
     p : Plain L ls
-    p = opened_plain b L 1 ls (sym (parsed_read 1 (start L) (split newline s) ls w.1) ∙ e)
+    p = opened_plain b L 1 ls once
 
 -- ---- with the bound on the bytes
 module _ (L : Limits) (s : Bytes) (b : Formula) (e : open_qdimacs L s ≡ opened b) where
@@ -104,35 +109,39 @@ module _ (L : Limits) (s : Bytes) (b : Formula) (e : open_qdimacs L s ≡ opened
       by true z = absurd (let y : ◌≡◌ {A = ℕ} 0 1 = cc in omega arith)
       by false z = z
 
-  pub translates : L.numbers ≤ most_free → Translates L s b
-  translates low = same_book L low s b read_opened
+  pub translates : Translates L s b
+  translates = same_book L s b read_opened
 
-  few : opening_ok L ≡ true → L.numbers ≤ most_free
-  few room = leb-true L.numbers most_free (and_right (limits_are_ok L) (leb L.numbers most_free) room)
+  -- our own text opens the same book where it is no longer than a text may be
+  pub own_fits : (t : Translates L s b) → length (forms_text (translated t.lines)) ≤ text_bytes → open_text L (forms_text (translated t.lines)) ≡ opened b
+  own_fits t fits = text_fits L (forms_text (translated t.lines)) fits ∙ t.same
 
-  -- and it is well formed
-  facts : opening_ok L ≡ true → FormulaFacts b × (b.limits ≡ L)
-  unfolding read_text
-  facts room =
-      let t = translates (few room) in
-      lines_facts 1 0 (empty_formula L) (split newline (forms_text (translated t.lines))) b (reached_none L (and_left (limits_are_ok L) (leb L.numbers most_free) room)) t.same
+  -- and the book is well formed, under limits that are
+  module _ (room : limits_are_ok L ≡ true) where
+    facts : FormulaFacts b × (b.limits ≡ L)
+    unfolding read_text
+    facts = lines_facts 1 0 (empty_formula L) (split newline (forms_text (translated translates.lines))) b (reached_none L room) translates.same
 
-  pub opened_formula : opening_ok L ≡ true → formula_is_ok b ≡ true
-  opened_formula room = facts_formula b (facts room).0
+    pub opened_formula : formula_is_ok b ≡ true
+    opened_formula = facts_formula b facts.0
 
-  pub opened_limits : opening_ok L ≡ true → b.limits ≡ L
-  opened_limits room = (facts room).1
+    pub opened_limits : b.limits ≡ L
+    opened_limits = facts.1
 
-  pub opened_state : opening_ok L ≡ true → well_formed (fresh b) ≡ true
-  opened_state room = fresh_formed b (facts room).0
+    pub opened_state : well_formed (fresh b) ≡ true
+    opened_state = fresh_formed b facts.0
 
   -- our own text is no longer than the text of a book under these limits can be
-  text_most : (t : Translates L s b) → opening_ok L ≡ true → length (forms_text (translated t.lines)) ≤ text_room L
+  pub text_most : (t : Translates L s b) → limits_are_ok L ≡ true → length (forms_text (translated t.lines)) ≤ text_room L
   unfolding read_text
   text_most t room =
       let legible = translated_legible t.lines (parsed_spoken (split newline s) t.lines t.are) in
       forms_room 1 L (translated t.lines) b legible (sym (forms_read 1 0 (empty_formula L) (translated t.lines) legible) ∙ t.same) (facts room).0 (facts room).1
 
-  -- and opens the same book
-  pub own_text : (t : Translates L s b) → opening_ok L ≡ true → text_room L ≤ text_bytes → open_text L (forms_text (translated t.lines)) ≡ opened b
-  own_text t room fits = text_fits L (forms_text (translated t.lines)) (omega (arith, text_most t room, fits)) ∙ t.same
+  -- so that it opens the same book under all limits whose books fit a text
+  pub own_text : (t : Translates L s b) → limits_are_ok L ≡ true → text_room L ≤ text_bytes → open_text L (forms_text (translated t.lines)) ≡ opened b
+  own_text t room fits = own_fits t (omega (arith, text_most t room, fits))
+
+-- ---- limits under which no text has more flags than there may be
+pub opening_few : (L : Limits) → opening_ok L ≡ true → (limits_are_ok L ≡ true) × (L.numbers ≤ most_free)
+opening_few L h = (and_left (limits_are_ok L) (leb L.numbers most_free) h, leb-true L.numbers most_free (and_right (limits_are_ok L) (leb L.numbers most_free) h))

@@ -1,5 +1,5 @@
 -- The flags of a QDIMACS text are declared without a fault, and no group declares one of them.
-use Prim.Native.Nat.{ℕ, zero, suc, ◌≤◌, ◌<◌, zero-le}
+use Prim.Native.Nat.{ℕ, zero, suc, ◌+◌, ◌≤◌, ◌<◌, zero-le}
 use native.Mathlib.Nat.{le_refl}
 use mathlib.Core.Path.{◌≡◌, refl, sym, ap, ◌∙◌, subst}
 use mathlib.Core.Logic.{inl, inr}
@@ -18,7 +18,7 @@ use Rattle.theory.proofs.Basics.{and_left, and_right, and_both, or_false, or_fal
 use Rattle.theory.proofs.Starting.{free_fit}
 use Rattle.theory.proofs.Prefixes.{numbers}
 use Rattle.layout.specs.Opening.{variable, crowded, declare_fault}
-use Rattle.layout_laws.proofs.Blocks.{block_numbers}
+use Rattle.layout_laws.proofs.Blocks.{in_range, number_declared}
 use Rattle.qdimacs_form.specs.Opening.{flags_up_to, flag_variables, group_fault}
 
 -- ---- which numbers are declared
@@ -103,7 +103,7 @@ declare_append L κ D (x ∷ xs) ys =
     by false false true o h = refl
     by false false false o h = h
 
--- so few flags find room
+-- there are no more flags than numbers up to the count
 pub flags_most : (D : Prefix) (v : ℕ) → length (flags_up_to D v) ≤ v
 flags_most D zero = zero-le
 flags_most D (suc v) = omega (arith, length-append (flags_up_to D v) (cond (eqb (place_of D (suc v)) 0) (suc v ∷ []) []), flags_most D v, one (eqb (place_of D (suc v)) 0))
@@ -112,28 +112,32 @@ flags_most D (suc v) = omega (arith, length-append (flags_up_to D v) (cond (eqb 
     one true = le_refl 1
     one false = zero-le
 
-flags_room : (D : Prefix) (v : ℕ) → v < most_free → crowded free (flag_variables D v) ≡ false
+-- and fewer than there may be find room for one more
+flags_room : (D : Prefix) (v : ℕ) → length (flags_up_to D v) < most_free → crowded free (flag_variables D v) ≡ false
 flags_room D v h =
     lt-leb most_free (free_variables (flag_variables D v))
     (omega (
       arith,
       h,
-      flags_most D v,
       free_fit (quantifiers (flag_variables D v)),
       length-map (flag_variables D v) (λ d. d.quantifier),
       length-map (flags_up_to D v) (variable free),
     ))
 
-pub flags_none : (L : Limits) → L.numbers ≤ most_free → (D : Prefix) (v : ℕ) → v ≤ L.numbers → declare_fault L free [] (flags_up_to D v) ≡ none
-flags_none L low D zero h = refl
-flags_none L low D (suc v) h =
+-- No more flags than there may be are declared without a fault.
+pub flags_none : (L : Limits) (D : Prefix) (v : ℕ) → length (flags_up_to D v) ≤ most_free → v ≤ L.numbers → declare_fault L free [] (flags_up_to D v) ≡ none
+flags_none L D zero few h = refl
+flags_none L D (suc v) few h =
     declare_append L free [] (flags_up_to D v) (cond (eqb (place_of D (suc v)) 0) (suc v ∷ []) [])
-    ∙ ap (λ (o : Option ℕ). o or_else declare_fault L free (flag_variables D v) (cond (eqb (place_of D (suc v)) 0) (suc v ∷ []) [])) (flags_none L low D v (omega (arith, h)))
-    ∙ last (eqb (place_of D (suc v)) 0)
+    ∙ ap (λ (o : Option ℕ). o or_else declare_fault L free (flag_variables D v) (cond (eqb (place_of D (suc v)) 0) (suc v ∷ []) [])) (flags_none L D v (omega (arith, together)) (omega (arith, h)))
+    ∙ last (eqb (place_of D (suc v)) 0) together
   where
-    last : (t : Bool) → declare_fault L free (flag_variables D v) (cond t (suc v ∷ []) []) ≡ none
-    last true = rw (or_false (eqb (suc v) 0) (ltb L.numbers (suc v)) (ne_eqb (suc v) 0 (λ e. omega (arith, e))) (le-ltb L.numbers (suc v) h), flag_new D v) (ap (λ (c : Bool). given c 33 or_else none) (flags_room D v (omega (arith, h, low))))
-    last false = refl
+    together : length (flags_up_to D v) + length (cond (eqb (place_of D (suc v)) 0) (suc v ∷ []) []) ≤ most_free
+    together = omega (arith, few, length-append (flags_up_to D v) (cond (eqb (place_of D (suc v)) 0) (suc v ∷ []) []))
+
+    last : (t : Bool) → length (flags_up_to D v) + length (cond t (suc v ∷ []) []) ≤ most_free → declare_fault L free (flag_variables D v) (cond t (suc v ∷ []) []) ≡ none
+    last true room = rw (or_false (eqb (suc v) 0) (ltb L.numbers (suc v)) (ne_eqb (suc v) 0 (λ e. omega (arith, e))) (le-ltb L.numbers (suc v) h), flag_new D v) (ap (λ (c : Bool). given c 33 or_else none) (flags_room D v (omega (arith, room))))
+    last false room = refl
 
 -- ---- flags and groups together
 -- numbers are judged alike after lists that hold the same of them
@@ -159,9 +163,21 @@ numbers_join L s (x ∷ F) D f d h =
     own : Bool
     own = leb 1 x.number && leb x.number L.numbers && not (any (eqb x.number) s)
 
+-- the numbers of the flags, however many there are
+flag_numbers : (L : Limits) (D : Prefix) (v : ℕ) → v ≤ L.numbers → numbers_are_ok L [] (flag_variables D v) ≡ true
+flag_numbers L D zero h = refl
+flag_numbers L D (suc v) h = by (eqb (place_of D (suc v)) 0) (flag_numbers L D v (omega (arith, h)))
+  where
+    by : (t : Bool) → numbers_are_ok L [] (flag_variables D v) ≡ true → numbers_are_ok L [] (map (variable free) (flags_up_to D v ++ cond t (suc v ∷ []) [])) ≡ true
+    by true ih =
+        ap (numbers_are_ok L []) (map-append (variable free) (flags_up_to D v) (suc v ∷ []))
+        ∙ number_declared L free (flag_variables D v) (suc v) ih
+        (in_range L (flag_variables D v) (suc v) (or_false (eqb (suc v) 0) (ltb L.numbers (suc v)) (ne_eqb (suc v) 0 (λ e. omega (arith, e))) (le-ltb L.numbers (suc v) h)) (ap not (flag_new D v)))
+    by false ih = ap (λ (ns : List ℕ). numbers_are_ok L [] (map (variable free) ns)) (append-nil (flags_up_to D v)) ∙ ih
+
 -- the numbers of a completed prefix
-pub completed_numbers : (L : Limits) → L.numbers ≤ most_free → (D : Prefix) (v : ℕ) → v ≤ L.numbers → numbers_are_ok L [] D ≡ true → numbers_are_ok L [] (flag_variables D v ++ D) ≡ true
-completed_numbers L low D v few d = numbers_join L [] (flag_variables D v) D (block_numbers L free [] (flags_up_to D v) refl (flags_none L low D v few)) d (λ n m. (refl, group_lacks D v n m))
+pub completed_numbers : (L : Limits) (D : Prefix) (v : ℕ) → v ≤ L.numbers → numbers_are_ok L [] D ≡ true → numbers_are_ok L [] (flag_variables D v ++ D) ≡ true
+completed_numbers L D v few d = numbers_join L [] (flag_variables D v) D (flag_numbers L D v few) d (λ n m. (refl, group_lacks D v n m))
 
 -- ---- a group's line
 -- a group of numbers up to the count, none of which is a flag, is judged as our own group after the flags

@@ -1,17 +1,18 @@
--- A QDIMACS text that opens has its lines in order, and the header's counts hold.
-use Prim.Native.Nat.{ℕ, suc, ◌+◌, ◌≤◌}
+-- A QDIMACS text that opens has its lines in order, the header's counts hold, and it has no more flags than there may be.
+use Prim.Native.Nat.{ℕ, suc, ◌+◌, ◌≤◌, zero-le}
 use mathlib.Core.Path.{◌≡◌, refl, sym, ap, ◌∙◌}
 use mathlib.Core.Logic.{◌⊎◌, inl, inr}
 use mathlib.Core.Bool.{Bool, true, false, cond, not, ◌||◌, true≢false}
-use mathlib.Core.List.{List, [], ◌∷◌, ◌++◌, map}
+use mathlib.Core.List.{List, [], ◌∷◌, ◌++◌, map, append_assoc, append-nil}
 use mathlib.Core.Option.{Option, none, some}
 use native.Mathlib.Omega.{arith}
 use borrow.Author.Tests.{eqb-true, ltb-false}
 use lib.ListN.{length, length-append}
 use lib.Dec.{eqb, ltb}
-use Rattle.qbf.specs.Formula.{Limits, Quantifier, Prefix, Formula, place_of}
+use Rattle.qbf.specs.Formula.{Limits, most_free, Quantifier, free, Prefix, Formula, place_of}
+use Rattle.qbf.specs.Truth.{free_variables}
 use Rattle.qbf.specs.Card.{Mem}
-use Rattle.qbf.specs.Calls.{given, rule_fault, clause_of, ◌or_else◌}
+use Rattle.qbf.specs.Calls.{given, rule_fault, clause_of, with_rule, ◌or_else◌}
 use Rattle.theory.proofs.Basics.{and_both, not_false}
 use Rattle.theory.proofs.AcceptedRule.{given_none}
 use Rattle.theory.proofs.Prefixes.{numbers}
@@ -20,9 +21,9 @@ use Rattle.layout.specs.Forms.{consed}
 use Rattle.layout.specs.Opening.{variable, opened, refused_or}
 use Rattle.layout_laws.proofs.Opened.{never_opened, went}
 use Rattle.qdimacs_form.specs.Lines.{Line, comment, header, group, clause, line_of}
-use Rattle.qdimacs_form.specs.Opening.{completed, Reading, group_fault, whole, line_fault, after, crowded, end_fault, read_line, read_lines, start}
+use Rattle.qdimacs_form.specs.Opening.{flags_up_to, flag_variables, completed, Reading, group_fault, whole, line_fault, after, crowded, end_fault, read_line, read_lines, start}
 use Rattle.qdimacs_form.specs.Translation.{parsed, quantified, in_the_form, clauses_inside, Plain}
-use Rattle.qdimacs_laws.proofs.Translated.{read_parsed}
+use Rattle.qdimacs_laws.proofs.Translated.{read_parsed, formula, reading, late_groups, FewFlags}
 
 -- ---- the lines are in the form
 pub opened_parsed : (n : ℕ) (r : Reading) (ps : List Bytes) (b : Formula) → read_lines n r ps ≡ opened b → (ls : List Line) × (parsed ps ≡ some ls)
@@ -161,3 +162,56 @@ module _ (b : Formula) where
       fits false z = refl
   opened_plain L n (group κ ns ∷ ls) e = absurd (never_opened 1 n b e)
   opened_plain L n (clause l ∷ ls) e = absurd (never_opened 1 n b e)
+
+  -- ---- no more flags than there may be
+  late_few : (n v c : ℕ) (x : Formula) (ls : List Line) → read_parsed n (reading 2 v c x) ls ≡ opened b → ltb most_free (free_variables x.prefix) ≡ false
+  unfolding read_parsed
+  late_few n v c x [] e = (given_none (ltb most_free (free_variables x.prefix)) 33 (given (not (eqb (length x.clauses) c)) 30) (went n (end_fault (reading 2 v c x)) (opened x) b e).0).0
+  late_few n v c x (comment ∷ ls) e = late_few (suc n) v c x ls e
+  late_few n v c x (header y z ∷ ls) e = absurd (never_opened 1 n b e)
+  late_few n v c x (group κ ns ∷ ls) e = absurd (never_opened 1 n b e)
+  late_few n v c x (clause l ∷ ls) e =
+      late_few (suc n) v c (with_rule none x l) ls (went n (line_fault (reading 2 v c x) (clause l)) (read_parsed (suc n) (reading 2 v c (with_rule none x l)) ls) b e).1
+
+  -- whether the flags and the groups of a prefix have too many flags
+  abbrev many : ℕ → Prefix → Bool
+  many v D = ltb most_free (free_variables (flag_variables D v ++ D))
+
+  early_few : (n v c : ℕ) (L : Limits) (D : Prefix) (ls : List Line) → read_parsed n (reading 1 v c (formula L D [])) ls ≡ opened b → many v (D ++ quantified ls) ≡ false
+  unfolding read_parsed
+  early_few n v c L D [] e =
+      ap (many v) (append-nil D)
+      ∙ (given_none (many v D) 33 (given (not (eqb 0 c)) 30) (went n (end_fault (reading 1 v c (formula L D []))) (opened (whole (reading 1 v c (formula L D [])))) b e).0).0
+  early_few n v c L D (comment ∷ ls) e = early_few (suc n) v c L D ls e
+  early_few n v c L D (header x y ∷ ls) e = absurd (never_opened 1 n b e)
+  early_few n v c L D (group κ ns ∷ ls) e =
+      ap (many v) (sym (append_assoc D (map (variable κ) ns) (quantified ls)))
+      ∙ early_few (suc n) v c L (D ++ map (variable κ) ns) ls
+      (went n (line_fault (reading 1 v c (formula L D [])) (group κ ns)) (read_parsed (suc n) (reading 1 v c (formula L (D ++ map (variable κ) ns) [])) ls) b e).1
+  early_few n v c L D (clause l ∷ ls) e =
+      ap (λ (X : Prefix). many v (D ++ X)) (late_groups ls (order (suc n) r ls w.1)) ∙ ap (many v) (append-nil D) ∙ late_few (suc n) v c r.formula ls w.1
+    where
+      r : Reading
+      r = after (reading 1 v c (formula L D [])) (clause l)
+
+      w : (line_fault (reading 1 v c (formula L D [])) (clause l) ≡ none) × (read_parsed (suc n) r ls ≡ opened b)
+      w = went n (line_fault (reading 1 v c (formula L D [])) (clause l)) (read_parsed (suc n) r ls) b e
+
+  -- flags stand before all else
+  flags_first : (ns : List ℕ) (D : Prefix) → length ns ≤ free_variables (map (variable free) ns ++ D)
+  flags_first [] D = zero-le
+  flags_first (n ∷ ns) D = omega (arith, flags_first ns D)
+
+  pub opened_few : (L : Limits) (n : ℕ) (ls : List Line) → read_parsed n (start L) ls ≡ opened b → FewFlags ls
+  unfolding read_parsed
+  opened_few L n [] e = absurd (never_opened 1 n b e)
+  opened_few L n (comment ∷ ls) e = opened_few L (suc n) ls e
+  opened_few L n (header v c ∷ ls) e =
+      let w = went n (line_fault (start L) (header v c)) (read_parsed (suc n) (after (start L) (header v c)) ls) b e in
+      omega (
+        arith,
+        ltb-false most_free (free_variables (flag_variables (quantified ls) v ++ quantified ls)) (early_few (suc n) v c L [] ls w.1),
+        flags_first (flags_up_to (quantified ls) v) (quantified ls),
+      )
+  opened_few L n (group κ ns ∷ ls) e = absurd (never_opened 1 n b e)
+  opened_few L n (clause l ∷ ls) e = absurd (never_opened 1 n b e)

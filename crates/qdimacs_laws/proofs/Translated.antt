@@ -25,7 +25,7 @@ use Rattle.qdimacs_form.specs.Opening.{flags_up_to, flag_variables, Reading, who
 use Rattle.qdimacs_form.specs.Translation.{count_of, quantified, forms_of, translated, unnumbered, in_the_form, promised_of, clauses_inside, Plain}
 use Rattle.qdimacs_laws.proofs.Flags.{flags_most, flags_none, group_lacks, group_same}
 
-abbrev formula : Limits → Prefix → List Clause → Formula
+abbrev pub formula : Limits → Prefix → List Clause → Formula
 formula L D R = record { limits = L; prefix = D; clauses = R }
 
 -- ---- line by line
@@ -91,7 +91,7 @@ numbered_read n stage b (x ∷ xs) = by (ours.line_fault stage b x.form) (is_end
     by none false h = h
 
 -- ---- after the first clause
-abbrev reading : ℕ → ℕ → ℕ → Formula → Reading
+abbrev pub reading : ℕ → ℕ → ℕ → Formula → Reading
 reading s v c b = record { stage = s; variables = v; clauses = c; formula = b }
 
 module _ (v c : ℕ) where
@@ -133,7 +133,7 @@ group_read n b free ns xs e = absurd (true≢false e)
 group_read n b exists ns xs e = refl
 group_read n b forall ns xs e = refl
 
-late_groups : (ls : List Line) → in_the_form 2 ls ≡ true → quantified ls ≡ []
+pub late_groups : (ls : List Line) → in_the_form 2 ls ≡ true → quantified ls ≡ []
 late_groups [] h = refl
 late_groups (comment ∷ ls) h = late_groups ls h
 late_groups (header x y ∷ ls) h = absurd (false≢true h)
@@ -185,11 +185,19 @@ text_forms : (n : ℕ) (ls : List Line) → map (λ x. x.form) (numbered_text n 
 unfolding translated
 text_forms n ls = ap (λ (fs : List Form). book 1 ∷ block free (flags_up_to (quantified ls) (count_of ls)) ∷ fs) (forms_numbered n ls)
 
+-- "flags stay at most 40": there are no more of them
+abbrev pub FewFlags : List Line → Type 0
+FewFlags ls = length (flags_up_to (quantified ls) (count_of ls)) ≤ most_free
+
+-- Under limits of no more numbers than there may be flags that is so of every text.
+pub few_under : (L : Limits) → L.numbers ≤ most_free → (ls : List Line) → Plain L ls → FewFlags ls
+few_under L low ls p = omega (arith, low, p.few, flags_most (quantified ls) (count_of ls))
+
 -- the flags' line is without a fault
-flags_read : (L : Limits) → L.numbers ≤ most_free → (ls : List Line) (xs : List Numbered) → count_of ls ≤ L.numbers
+flags_read : (L : Limits) (ls : List Line) → FewFlags ls → (xs : List Numbered) → count_of ls ≤ L.numbers
     → read_numbered 0 (empty_formula L) (at 0 (book 1) ∷ at 0 (block free (flags_up_to (quantified ls) (count_of ls))) ∷ xs) ≡ read_numbered 2 (formula L (flag_variables (quantified ls) (count_of ls)) []) xs
 unfolding read_numbered
-flags_read L low ls xs few = rw (flags_none L low (quantified ls) (count_of ls) few)
+flags_read L ls most xs few = rw (flags_none L (quantified ls) (count_of ls) most few)
 
 -- groups have no flag
 bound_count : (κ : Quantifier) → is_free κ ≡ false → (ns : List ℕ) (E : Prefix) → free_count (quantifiers E) ≡ 0 → free_count (quantifiers (map (variable κ) ns ++ E)) ≡ 0
@@ -211,35 +219,35 @@ count_after (free ∷ ks) ms = omega (arith, count_after ks ms)
 count_after (exists ∷ ks) ms = zero-le
 count_after (forall ∷ ks) ms = zero-le
 
-few_flags : (Q : Prefix) (v : ℕ) → v ≤ most_free → free_count (quantifiers Q) ≡ 0 → ltb most_free (free_variables (flag_variables Q v ++ Q)) ≡ false
+few_flags : (Q : Prefix) (v : ℕ) → length (flags_up_to Q v) ≤ most_free → free_count (quantifiers Q) ≡ 0 → ltb most_free (free_variables (flag_variables Q v ++ Q)) ≡ false
 few_flags Q v h e =
     le-ltb most_free (free_variables (flag_variables Q v ++ Q))
     (omega (
       arith,
       h,
       e,
-      flags_most Q v,
       length-map (flags_up_to Q v) (variable free),
       length-map (flag_variables Q v) (λ d. d.quantifier),
       count_after (quantifiers (flag_variables Q v)) (quantifiers Q),
       ap free_count (map-append (λ d. d.quantifier) (flag_variables Q v) Q),
     ))
 
-header_read : (L : Limits) → L.numbers ≤ most_free → (n : ℕ) (ls : List Line) → in_the_form 0 ls ≡ true → AllSpoken ls → count_of ls ≤ L.numbers → ((m : ℕ) → Mem m (numbers (quantified ls)) → m ≤ count_of ls) → clauses_inside ls ≡ promised_of ls
+header_read : (L : Limits) (n : ℕ) (ls : List Line) → FewFlags ls → in_the_form 0 ls ≡ true → AllSpoken ls → count_of ls ≤ L.numbers → ((m : ℕ) → Mem m (numbers (quantified ls)) → m ≤ count_of ls) → clauses_inside ls ≡ promised_of ls
     → read_parsed n (start L) ls ≡ read_numbered 2 (formula L (flag_variables (quantified ls) (count_of ls)) []) (numbered_from n ls)
 unfolding read_parsed
-header_read L most n [] h sp few low e = absurd (false≢true h)
-header_read L most n (comment ∷ ls) h sp few low e = header_read L most (suc n) ls h sp.1 few low e
-header_read L most n (header v c ∷ ls) h sp few low e =
+header_read L n [] most h sp few low e = absurd (false≢true h)
+header_read L n (comment ∷ ls) most h sp few low e = header_read L (suc n) ls most h sp.1 few low e
+header_read L n (header v c ∷ ls) most h sp few low e =
     rw (le-ltb L.numbers v few)
-    (early_read L v c (quantified ls) (few_flags (quantified ls) v (omega (arith, few, most)) (none_counted ls sp.1)) (suc n) [] ls refl h sp.1 low e ∙ ap (λ (X : Prefix). read_numbered 2 (formula L X []) (numbered_from (suc n) ls)) (append-nil (flag_variables (quantified ls) v)))
-header_read L most n (group κ ns ∷ ls) h sp few low e = absurd (false≢true h)
-header_read L most n (clause l ∷ ls) h sp few low e = absurd (false≢true h)
+    (early_read L v c (quantified ls) (few_flags (quantified ls) v most (none_counted ls sp.1)) (suc n) [] ls refl h sp.1 low e ∙ ap (λ (X : Prefix). read_numbered 2 (formula L X []) (numbered_from (suc n) ls)) (append-nil (flag_variables (quantified ls) v)))
+header_read L n (group κ ns ∷ ls) most h sp few low e = absurd (false≢true h)
+header_read L n (clause l ∷ ls) most h sp few low e = absurd (false≢true h)
 
--- Line by line, with the numbers of the QDIMACS lines: the same result, the same refusal at the line that it comes from.
-pub plain_read : (L : Limits) → L.numbers ≤ most_free → (n : ℕ) (ls : List Line) → AllSpoken ls → Plain L ls → read_parsed n (start L) ls ≡ read_numbered 0 (empty_formula L) (numbered_text n ls)
-plain_read L low n ls sp p = header_read L low n ls p.in_form sp p.few p.bounded p.counted ∙ sym (flags_read L low ls (numbered_from n ls) p.few)
+-- Line by line, with the numbers of the QDIMACS lines: the same result, the same refusal at the line that it comes from. With a flag too many a QDIMACS text is
+-- refused at its end, and our own at the flags' line.
+pub plain_read : (L : Limits) (n : ℕ) (ls : List Line) → AllSpoken ls → Plain L ls → FewFlags ls → read_parsed n (start L) ls ≡ read_numbered 0 (empty_formula L) (numbered_text n ls)
+plain_read L n ls sp p most = header_read L n ls most p.in_form sp p.few p.bounded p.counted ∙ sym (flags_read L ls most (numbered_from n ls) p.few)
 
-pub plain_forms : (L : Limits) → L.numbers ≤ most_free → (n : ℕ) (ls : List Line) → AllSpoken ls → Plain L ls → unnumbered (read_parsed n (start L) ls) ≡ unnumbered (read_forms 1 0 (empty_formula L) (translated ls))
-plain_forms L low n ls sp p =
-    ap unnumbered (plain_read L low n ls sp p) ∙ numbered_read 1 0 (empty_formula L) (numbered_text n ls) ∙ ap (λ (fs : List Form). unnumbered (read_forms 1 0 (empty_formula L) fs)) (text_forms n ls)
+pub plain_forms : (L : Limits) (n : ℕ) (ls : List Line) → AllSpoken ls → Plain L ls → FewFlags ls → unnumbered (read_parsed n (start L) ls) ≡ unnumbered (read_forms 1 0 (empty_formula L) (translated ls))
+plain_forms L n ls sp p most =
+    ap unnumbered (plain_read L n ls sp p most) ∙ numbered_read 1 0 (empty_formula L) (numbered_text n ls) ∙ ap (λ (fs : List Form). unnumbered (read_forms 1 0 (empty_formula L) fs)) (text_forms n ls)

@@ -12,7 +12,8 @@ use lib.Dec.{eqb, leb, ltb}
 use lib.ListN.{length}
 use Rattle.qbf.specs.Formula.{Limits, most_free, Quantifier, Prefix, quantifiers, Formula, place_of}
 use Rattle.qbf.specs.Truth.{free_variables}
-use Rattle.qbf.specs.Calls.{given, no_free, free_first, limits_are_ok, numbers_are_ok, formula_is_ok, rule_fault, with_rule, ◌or_else◌}
+use Rattle.qbf.specs.Calls.{given, no_free, free_first, limits_are_ok, numbers_are_ok, formula_is_ok, well_formed, rule_fault, with_rule, ◌or_else◌}
+use Rattle.qbf.specs.Runs.{fresh}
 use Rattle.theory.proofs.Basics.{and_both, not_false}
 use Rattle.theory.proofs.AcceptedRule.{given_none, rule_formula}
 use Rattle.theory.proofs.WellFormed.{FormulaFacts, facts_formula}
@@ -20,7 +21,7 @@ use Rattle.state.specs.Reading.{quantifier_of}
 use Rattle.layout.specs.Words.{Bytes, newline, split}
 use Rattle.layout.specs.Opening.{text_bytes, variable, refused, opened, refused_or}
 use Rattle.layout_laws.proofs.Blocks.{number_declared, in_range}
-use Rattle.layout_laws.proofs.Opened.{never_opened}
+use Rattle.layout_laws.proofs.Opened.{never_opened, fresh_formed}
 use Rattle.qdimacs_form.specs.Lines.{Line, comment, header, group, clause, line_of}
 use Rattle.qdimacs_form.specs.Opening.{flags_up_to, completed, Reading, group_fault, whole, line_fault, after, read_line, crowded, end_fault, at_end, read_lines, start, read_qdimacs, open_qdimacs}
 use Rattle.qdimacs_laws.proofs.Spoken.{line_spoken}
@@ -222,12 +223,19 @@ module _ (L : Limits) (low : limits_are_ok L ≡ true) where
       by x y none s ih z = absurd (never_opened 1 n b (ap (λ (o : Option Line). read_line n r o (λ q. read_lines (suc n) q (m ∷ ls))) (sym s) ∙ z))
       by x y (some f) s ih z = go x f s (line_fault r f) refl (ap (λ (o : Option Line). read_line n r o (λ q. read_lines (suc n) q (m ∷ ls))) (sym s) ∙ z) ih
 
-  pub opened_formula : (s : Bytes) (b : Formula) → open_qdimacs L s ≡ opened b → formula_is_ok b ≡ true
+  opened_facts : (s : Bytes) (b : Formula) → open_qdimacs L s ≡ opened b → FormulaFacts b
   unfolding open_qdimacs read_qdimacs
-  opened_formula s b e = facts_formula b (by (ltb text_bytes (length s)) e)
+  opened_facts s b e = by (ltb text_bytes (length s)) e
     where
       by : (t : Bool) → cond t (refused 9 0) (read_lines 1 (start L) (split newline s)) ≡ opened b → FormulaFacts b
       by true z = absurd (never_opened 9 0 b z)
       by false z =
           lines_known 1 (start L) (split newline s) b
           (record { limits = refl; early = λ h. record { few = zero-le; clauses = refl; numbers_ok = refl; none_free = refl }; later = λ h. absurd (omega (arith, h)) }) z
+
+  pub opened_formula : (s : Bytes) (b : Formula) → open_qdimacs L s ≡ opened b → formula_is_ok b ≡ true
+  opened_formula s b e = facts_formula b (opened_facts s b e)
+
+  -- with an empty store it is a well-formed state
+  pub opened_state : (s : Bytes) (b : Formula) → open_qdimacs L s ≡ opened b → well_formed (fresh b) ≡ true
+  opened_state s b e = fresh_formed b (opened_facts s b e)
