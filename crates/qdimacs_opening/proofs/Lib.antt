@@ -7,4 +7,5 @@ pub mod Taking
 pub mod Judging
 pub mod Turns
 pub mod Formed
+pub mod Apart
 pub mod Served
