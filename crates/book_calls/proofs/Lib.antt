@@ -1,0 +1,3 @@
+pub mod Apart
+pub mod Served
+pub mod Books
