@@ -1,6 +1,6 @@
 -- What follows from the contract of writing, for whatever meets it, whichever way the state is read. Paper 02, wish 2. "Not refused" is the answer 0.
 use Prim.Native.Nat.{ℕ, zero, suc, ◌-◌, ◌≤◌}
-use mathlib.Core.Path.{◌≡◌, refl, sym, ap, ◌∙◌}
+use mathlib.Core.Path.{◌≡◌, refl, sym, ap, subst, ◌∙◌}
 use mathlib.Core.Logic.{◌↔◌}
 use mathlib.Core.Bool.{Bool, true, false, cond}
 use mathlib.Core.List.{List, ◌++◌}
@@ -10,7 +10,7 @@ use lib.IntN.{ℤ}
 use lib.ListN.{length, take, replicate, length-append, length-take}
 use lib.Seq.{take_at}
 use lib.Dec.{leb}
-use Rattle.qbf.specs.Formula.{Formula}
+use Rattle.qbf.specs.Formula.{Limits, paper, Formula}
 use Rattle.qbf.specs.Card.{zero_table}
 use Rattle.qbf.specs.Calls.{formula_is_ok, State as Read, well_formed}
 use Rattle.theory.proofs.Basics.{and_left}
@@ -24,7 +24,7 @@ use Rattle.layout.specs.Opening.{text_bytes, opened, open_text}
 use Rattle.booktext.specs.Texts.{read_text}
 use Rattle.booktext.specs.Books.{written, write_refused, written_to, book_text, text_room}
 use Rattle.booktext_laws.proofs.Books.{ShortNumbers, read_back, open_back, equal_texts, SameBook}
-use Rattle.booktext_laws.proofs.Room.{text_room_lem}
+use Rattle.booktext_laws.proofs.Room.{text_room_lem, paper_room}
 use Rattle.book_writer.specs.Writes.{Answer, answered, told, WritesRead, WritesAt}
 use Rattle.book_writer.proofs.Answers.{fits, malformed_is, formed_is}
 
@@ -112,6 +112,18 @@ module _ {o : Option Read} {size count : ℕ} {table : Bytes} (w : WritesRead o 
   opens_back h =
       ap (open_text book.limits) shown.is
       ∙ open_back book (formula_ok shown.y shown.formed) short (omega (arith, h, ap length shown.is, length-take count table))
+
+  -- Under limits whose books all fit a text every book that is written opens again,
+  pub opens_back_within : text_room book.limits ≤ text_bytes → open_text book.limits (take count table) ≡ opened book
+  opens_back_within room =
+      ap (open_text book.limits) shown.is
+      ∙ open_back book (formula_ok shown.y shown.formed) short (omega (arith, room, text_room_lem book (formula_ok shown.y shown.formed)))
+
+  -- and so it does under those of paper 01.
+  pub opens_back_paper : book.limits ≡ paper → open_text paper (take count table) ≡ opened book
+  opens_back_paper e =
+      subst (λ (L : Limits). open_text L (take count table) ≡ opened book) e
+      (opens_back_within (subst (λ (L : Limits). text_room L ≤ text_bytes) (sym e) paper_room))
 
 -- "Two books that are not refused give equal texts exactly when they have the same flags in order, the same kinds and places, and the same rules in
 -- order." Each may have its own limits.
