@@ -10,7 +10,7 @@ use Rattle.qbf.specs.Formula.{Limits, Formula}
 use Rattle.qbf.specs.Runs.{fresh}
 use Rattle.layout.specs.Words.{Bytes}
 use Rattle.layout.specs.Opening as text
-use Rattle.editions.specs.Opening.{both, open_editions}
+use Rattle.editions.specs.Opening.{Editions, open_editions}
 use Rattle.qdimacs_form.specs.Opening.{open_qdimacs}
 use Rattle.state_parts.specs.Parts.{read_at, Whole}
 use Rattle.opening.proofs.Apart.{NumberedText, whole_or}
@@ -33,8 +33,10 @@ module _ {L : Limits} {cells cells' : List ℕ} {literals literals' : List ℤ} 
       by (inl w) = of o refl n (told.whole w)
       by (inr short) = absurd (omega (arith, z, (told.short short).0))
 
-  pub edition_apart : (s : Bytes) → OpenedIn L (open_editions both L s) cells literals r cells' literals' → r.refusal ≡ 0 → (b : Formula) × (open_editions both L s ≡ text.opened b) × (read_at cells' literals' ≡ some (fresh b))
-  edition_apart s = told_apart (open_editions both L s) (edition_numbered both L s)
+  -- a text of the editions that are taken: both, by the export
+  pub edition_apart : (a : Editions) (s : Bytes) → OpenedIn L (open_editions a L s) cells literals r cells' literals' → r.refusal ≡ 0 → (b : Formula) × (open_editions a L s ≡ text.opened b) × (read_at cells' literals' ≡ some (fresh b))
+  edition_apart a s = told_apart (open_editions a L s) (edition_numbered a L s)
 
+  -- and one in QDIMACS
   pub qdimacs_apart : (s : Bytes) → OpenedIn L (open_qdimacs L s) cells literals r cells' literals' → r.refusal ≡ 0 → (b : Formula) × (open_qdimacs L s ≡ text.opened b) × (read_at cells' literals' ≡ some (fresh b))
   qdimacs_apart s = told_apart (open_qdimacs L s) (qdimacs_numbered L s)

@@ -14,7 +14,7 @@ use Rattle.refusal.specs.declared.Refusal.TheVariants.{Malformed}
 use Rattle.refusal.proofs.Apart.{number_apart, number_some}
 use Rattle.layout.specs.Words.{Bytes}
 use Rattle.layout.specs.Opening as text
-use Rattle.editions.specs.Opening.{both, open_editions}
+use Rattle.editions.specs.Opening.{Editions, open_editions}
 use Rattle.qdimacs_form.specs.Opening.{open_qdimacs}
 use Rattle.state_parts.specs.Parts.{valid_at, Whole}
 use Rattle.serving.specs.Serves.{Said}
@@ -81,10 +81,10 @@ module _ {L : Limits} {o : text.Opened} {cells cells' : List ℕ} {literals lite
 
 -- ---- the demands on what is opened
 module _ (n m : ℕ) (s : Bytes) (b : Formula) {cells cells' : List ℕ} {literals literals' : List ℤ} {r : Opened} (w : Whole (capped n m) cells literals) where
-  -- all three, for a text of either edition
-  pub edition_served_in : open_editions both (capped n m) s ≡ text.opened b → OpenedIn (capped n m) (open_editions both (capped n m) s) cells literals r cells' literals'
+  -- all three, for a text of the editions that are taken: both, by the export
+  pub edition_served_in : (a : Editions) → open_editions a (capped n m) s ≡ text.opened b → OpenedIn (capped n m) (open_editions a (capped n m) s) cells literals r cells' literals'
       → (cs : List Call) (qs : List Said) (served : ServedAt (lists cells' literals') cs qs) → DemandsAt b (lists cells' literals') cs qs (served_by (lists cells' literals') cs qs served)
-  edition_served_in e v = edition_served_at both n m s b e cells literals w cells' literals' (told_opened v b e w).2
+  edition_served_in a e v = edition_served_at a n m s b e cells literals w cells' literals' (told_opened v b e w).2
 
   -- and for one in QDIMACS
   pub qdimacs_served_in : open_qdimacs (capped n m) s ≡ text.opened b → OpenedIn (capped n m) (open_qdimacs (capped n m) s) cells literals r cells' literals'

@@ -92,19 +92,24 @@ whole_or L cells literals = by (dec_lt (length cells) (cell_count L)) (dec_lt (l
     by (no p) (yes q) = inr (λ w. omega (arith, q, w.literals_room))
     by (no p) (no q) = inl (record { cells_room = omega (arith, p); literals_room = omega (arith, q) })
 
-pub text_apart : (L : Limits) (s : Bytes) {r : Result (Unit {0}) RefusedAt} {cells cells' : List ℕ} {literals literals' : List ℤ} → OpenedAt L (open_text L s) cells literals r cells' literals' → r ≡ Ok tt
-    → (b : Formula) × (open_text L s ≡ opened b) × Whole L cells literals
-text_apart L s {r} {cells} {cells'} {literals} {literals'} told e = by (whole_or L cells literals)
+-- whatever reads it
+pub result_apart : {L : Limits} (o : Opened) {r : Result (Unit {0}) RefusedAt} {cells cells' : List ℕ} {literals literals' : List ℤ} → OpenedAt L o cells literals r cells' literals' → r ≡ Ok tt → (b : Formula) × (o ≡ opened b) × Whole L cells literals
+result_apart {L} o {r} {cells} {cells'} {literals} {literals'} told e = by (whole_or L cells literals)
   where
     -- a result without a refusal
     Fine : Result (Unit {0}) RefusedAt → Type 0
     Fine (Ok u) = Unit {0}
     Fine (Err q) = ⊥
 
-    of : Whole L cells literals → (x : Opened) → open_text L s ≡ x → AnsweredAt x (Ok tt) cells' literals' → (b : Formula) × (open_text L s ≡ opened b) × Whole L cells literals
+    of : Whole L cells literals → (x : Opened) → o ≡ x → AnsweredAt x (Ok tt) cells' literals' → (b : Formula) × (o ≡ opened b) × Whole L cells literals
     of w (refused n k) i t = absurd t
     of w (opened b) i t = (b, i, w)
 
-    by : Whole L cells literals ⊎ (Whole L cells literals → ⊥) → (b : Formula) × (open_text L s ≡ opened b) × Whole L cells literals
-    by (inl w) = of w (open_text L s) refl (subst (λ (q : Result (Unit {0}) RefusedAt). AnsweredAt (open_text L s) q cells' literals') e (told.whole w))
+    by : Whole L cells literals ⊎ (Whole L cells literals → ⊥) → (b : Formula) × (o ≡ opened b) × Whole L cells literals
+    by (inl w) = of w o refl (subst (λ (q : Result (Unit {0}) RefusedAt). AnsweredAt o q cells' literals') e (told.whole w))
     by (inr n) = absurd (subst Fine (sym e ∙ (told.short n).0) tt)
+
+-- so the reader of edition 1 alone
+pub text_apart : (L : Limits) (s : Bytes) {r : Result (Unit {0}) RefusedAt} {cells cells' : List ℕ} {literals literals' : List ℤ} → OpenedAt L (open_text L s) cells literals r cells' literals' → r ≡ Ok tt
+    → (b : Formula) × (open_text L s ≡ opened b) × Whole L cells literals
+text_apart L s = result_apart (open_text L s)

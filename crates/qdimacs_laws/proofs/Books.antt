@@ -1,33 +1,36 @@
 -- WISH 1: "Read that form and give the same book that our own text would give."
 use Prim.Native.Nat.{ℕ, zero, suc, ◌≤◌, ◌<◌}
-use mathlib.Core.Path.{◌≡◌, sym, ap, ◌∙◌}
+use mathlib.Core.Path.{◌≡◌, refl, sym, ap, ◌∙◌}
+use mathlib.Core.Logic.{◌↔◌}
 use mathlib.Core.Bool.{Bool, true, false, cond}
-use mathlib.Core.List.{List, [], ◌∷◌, ◌++◌, map}
+use mathlib.Core.List.{List, [], ◌∷◌, ◌++◌, map, append-nil}
 use mathlib.Core.Option.{some}
 use native.Mathlib.Omega.{arith}
 use lib.IntN.{pos}
 use lib.ListN.{length}
 use lib.Dec.{eqb, leb, ltb}
 use borrow.Author.Tests.{leb-true}
-use Rattle.qbf.specs.Formula.{Limits, most_free, Prefix, Formula, place_of}
+use Rattle.qbf.specs.Formula.{Limits, most_free, free, Prefix, Formula, place_of}
 use Rattle.qbf.specs.Calls.{limits_are_ok, formula_is_ok, well_formed}
+use Rattle.qbf.specs.Truth.{free_variables}
 use Rattle.theory.proofs.Basics.{and_left, and_right}
 use Rattle.qbf.specs.Runs.{fresh}
 use Rattle.theory.proofs.WellFormed.{FormulaFacts, facts_formula}
 use Rattle.layout.specs.Words.{Bytes, newline, split}
 use Rattle.layout.specs.Forms.{end}
-use Rattle.layout.specs.Opening.{text_bytes, Opened, refused, opened, empty_formula, open_text, opening_ok}
-use Rattle.layout_laws.proofs.Opened.{lines_facts, reached_none, fresh_formed}
-use Rattle.booktext.specs.Texts.{forms_text, read_text}
+use Rattle.layout.specs.Opening.{text_bytes, declare_fault, Opened, refused, opened, empty_formula, open_text, opening_ok}
+use Rattle.layout_laws.proofs.Blocks.{block_free}
+use Rattle.layout_laws.proofs.Opened.{lines_facts, reached_none, fresh_formed, went}
+use Rattle.booktext.specs.Texts.{forms_text, read_forms, read_text}
 use Rattle.booktext.specs.Books.{text_room}
 use Rattle.booktext_laws.proofs.Lines.{Short}
 use Rattle.booktext_laws.proofs.Texts.{AllLegible, legible_append, forms_read, text_fits}
 use Rattle.qdimacs_form.specs.Lines.{Line, comment, header, group, clause}
-use Rattle.qdimacs_form.specs.Opening.{flags_up_to, start, read_qdimacs, open_qdimacs}
+use Rattle.qdimacs_form.specs.Opening.{flags_up_to, flag_variables, start, read_qdimacs, open_qdimacs}
 use Rattle.qdimacs_form.specs.Translation.{parsed, count_of, quantified, forms_of, translated, unnumbered, Plain}
 use Rattle.qdimacs_laws.proofs.Translated.{AllSpoken, read_parsed, FewFlags, plain_forms}
 use Rattle.qdimacs_laws.proofs.Spoken.{parsed_spoken}
-use Rattle.qdimacs_laws.proofs.Plain.{opened_parsed, parsed_read, opened_plain, opened_few}
+use Rattle.qdimacs_laws.proofs.Plain.{opened_parsed, parsed_read, opened_plain, flags_first, opened_few}
 use Rattle.qdimacs_laws.proofs.Room.{forms_room}
 
 -- ---- the translated text can be written
@@ -73,6 +76,26 @@ same_result L s ls e p most =
 opened_alone : (o : Opened) (b : Formula) → unnumbered o ≡ opened b → o ≡ opened b
 opened_alone (refused k n) b e = absurd (let z : ◌≡◌ {A = ℕ} 0 1 = cc in omega arith)
 opened_alone (opened c) b e = e
+
+-- our own text opens with no more flags than there may be
+own_few : (L : Limits) (ls : List Line) (b : Formula) → read_forms 1 0 (empty_formula L) (translated ls) ≡ opened b → FewFlags ls
+unfolding read_forms translated
+own_few L ls b e =
+    omega (
+      arith,
+      leb-true (free_variables (flag_variables (quantified ls) (count_of ls))) most_free
+          (block_free L free [] (flags_up_to (quantified ls) (count_of ls)) refl (went 2 (declare_fault L free [] (flags_up_to (quantified ls) (count_of ls))) _ b e).0),
+      flags_first b (flags_up_to (quantified ls) (count_of ls)) [],
+      ap free_variables (append-nil (flag_variables (quantified ls) (count_of ls))),
+    )
+
+-- Under any limits one opens where the other does, to the same formula: the two differ in the number of a refusal only, where there are too many flags.
+pub same_opening : (L : Limits) (s : Bytes) (ls : List Line) → parsed (split newline s) ≡ some ls → Plain L ls → (b : Formula) → (read_qdimacs L s ≡ opened b) ↔ (read_text L (forms_text (translated ls)) ≡ opened b)
+unfolding read_qdimacs read_text
+same_opening L s ls e p b = (
+  λ h. opened_alone (read_text L (forms_text (translated ls))) b (sym (same_result L s ls e p (opened_few b L 1 ls (sym (parsed_read 1 (start L) (split newline s) ls e) ∙ h))) ∙ ap unnumbered h),
+  λ h. opened_alone (read_qdimacs L s) b (same_result L s ls e p (own_few L ls b (sym (forms_read 1 0 (empty_formula L) (translated ls) (translated_legible ls (parsed_spoken (split newline s) ls e))) ∙ h)) ∙ ap unnumbered h),
+)
 
 -- ---- the same book
 -- what is known of a text that opens

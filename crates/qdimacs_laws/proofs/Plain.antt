@@ -198,7 +198,7 @@ module _ (b : Formula) where
       w = went n (line_fault (reading 1 v c (formula L D [])) (clause l)) (read_parsed (suc n) r ls) b e
 
   -- flags stand before all else
-  flags_first : (ns : List ℕ) (D : Prefix) → length ns ≤ free_variables (map (variable free) ns ++ D)
+  pub flags_first : (ns : List ℕ) (D : Prefix) → length ns ≤ free_variables (map (variable free) ns ++ D)
   flags_first [] D = zero-le
   flags_first (n ∷ ns) D = omega (arith, flags_first ns D)
 
