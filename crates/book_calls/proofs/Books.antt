@@ -1,15 +1,17 @@
 -- Texts that give the same book, as the exports open them (`OpenedIn`): neither is refused, and what the two leave reads as the same state.
 use Prim.Native.Nat.{ℕ, ◌≤◌}
 use mathlib.Core.Path.{◌≡◌, refl, ◌∙◌}
+use mathlib.Core.Bool.{true}
 use mathlib.Core.List.{List}
 use lib.IntN.{ℤ}
 use lib.ListN.{length}
+use Rattle.std.specs.Prelude.{Result, Ok}
 use Rattle.qbf.specs.Formula.{Limits, Formula}
 use Rattle.layout.specs.Words.{Bytes}
-use Rattle.layout.specs.Opening.{text_bytes}
+use Rattle.layout.specs.Opening.{text_bytes, open_text}
 use Rattle.layout.specs.Opening as text
 use Rattle.booktext.specs.Texts.{forms_text}
-use Rattle.editions.specs.Opening.{both, open_editions}
+use Rattle.editions.specs.Opening.{Editions, both, open_editions}
 use Rattle.editions.specs.Converting.{converted, to_tagged, to_untagged}
 use Rattle.editions_laws.proofs.Converting.{same_tagged, same_untagged}
 use Rattle.editions_laws.proofs.Readers.{opens_as_before, equal_tagged, equal_untagged}
@@ -17,7 +19,10 @@ use Rattle.qdimacs_form.specs.Opening.{open_qdimacs}
 use Rattle.qdimacs_form.specs.Translation.{translated}
 use Rattle.qdimacs_laws.proofs.Books.{Translates, own_fits}
 use Rattle.state_parts.specs.Parts.{read_at, Whole}
+use Rattle.opening.specs.declared.text.RefusedAt.{RefusedAt}
+use Rattle.opening.specs.Opened.{OpenedAt}
 use Rattle.opening.proofs.Closed.{opened_alike}
+use Rattle.edition_opening.proofs.Served.{opened_as_before_at}
 use Rattle.book_calls.specs.declared.text.Opened.{Opened}
 use Rattle.book_calls.specs.Opened.{OpenedIn}
 use Rattle.book_calls.proofs.Served.{told_opened}
@@ -48,3 +53,11 @@ module _ (L : Limits) {r q : Opened} {cells cells' tables tables' : List ℕ} {l
     untagged_alike_in e =
         let x = same_untagged L few size s t e in
         alike x.0 (equal_untagged L few size s t e ∙ x.2) x.2 was is
+
+-- WISH 13: what a reader of edition 1 alone opens, is opened still
+module _ (L : Limits) {r : Opened} {q : Result (Unit {0}) RefusedAt} {cells cells' tables tables' : List ℕ} {literals literals' cubes cubes' : List ℤ} (w : Whole L cells literals) (v : Whole L tables cubes) where
+  pub opened_as_before_in : (a : Editions) → a 1 ≡ true → (s : Bytes) (b : Formula) → open_text L s ≡ text.opened b → OpenedIn L (open_editions a L s) cells literals r cells' literals' → OpenedAt L (open_text L s) tables cubes q tables' cubes'
+      → (r.refusal ≡ 0) × (q ≡ Ok tt) × (read_at cells' literals' ≡ read_at tables' cubes')
+  opened_as_before_in a h s b is x y =
+      let z = told_opened x b (opens_as_before a h L s b is) w in
+      (z.0, (opened_as_before_at a h L s b is w z.2 v y).1, (opened_as_before_at a h L s b is w z.2 v y).2)
