@@ -6,8 +6,8 @@ use mathlib.Core.List.{List, [], ◌∷◌, ◌++◌, append_assoc, append-nil}
 use mathlib.Core.Bool.{Bool, true, false, cond}
 use lib.ListN.{length, drop, replicate, length-append, length-drop}
 use lib.Seq.{drop-append-le, drop-drop}
-use Rattle.qbf.specs.Formula.{paper}
-use Rattle.qbf.specs.Learning.{push}
+use Rattle.qbf.specs.Formula.{Limits, paper}
+use Rattle.qbf.specs.Learning.{Constraint, Store, learn, push}
 use Rattle.tables.specs.Records.{Ledger, grown, records_at}
 
 pub grown_none : (most n : ℕ) (ks : List ℕ) → grown most n 0 ks ≡ ks
@@ -19,6 +19,14 @@ pub grown_add : (most n a b : ℕ) (ks : List ℕ) → grown most n (a + b) ks �
 unfolding grown
 grown_add most n zero b ks = let e : 0 + b ≡ b = omega arith in ap (λ (i : ℕ). grown most n i ks) e
 grown_add most n (suc a) b ks = let e : suc a + b ≡ suc (a + b) = omega arith in ap (λ (i : ℕ). grown most n i ks) e ∙ grown_add most n a b (push most n ks)
+
+-- a learned clause is one more, a cube none
+pub learn_clause : (L : Limits) (n : ℕ) (e : Constraint) (st : Store) → (learn L n false e st).records ≡ grown L.constraints n 1 st.records
+unfolding grown
+learn_clause L n e st = refl
+
+pub learn_cube : (L : Limits) (n : ℕ) (e : Constraint) (st : Store) → (learn L n true e st).records ≡ st.records
+learn_cube L n e st = refl
 
 -- ---- all at once
 -- the last of the old records and the new ones, as many as may stand

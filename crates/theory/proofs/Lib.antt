@@ -8,6 +8,7 @@ pub mod Shape
 pub mod Lowest
 pub mod Dying
 pub mod Stepwise
+pub mod Resumed
 pub mod Uniting
 pub mod Stores
 pub mod Induction
@@ -51,5 +52,6 @@ pub mod Distance
 pub mod Closest
 pub mod ClosestCall
 pub mod Widths
+pub mod Levels
 pub mod Demands
 pub mod FreeCount

@@ -6,12 +6,13 @@ use mathlib.Core.Path.{◌≡◌, refl, sym, ap, ◌∙◌, subst}
 use mathlib.Core.Logic.{◌⊎◌, inl, inr}
 use mathlib.Core.Bool.{Bool, true, false, cond, not, ◌&&◌}
 use mathlib.Core.List.{List, [], ◌∷◌, map}
+use mathlib.Core.Option.{some}
 use lib.ListN.{length, get_or}
 use lib.Dec.{eqb, leb, leb→le}
-use Rattle.qbf.specs.Formula.{Limits, Prefix, Variable, any, place_from, place_of}
+use Rattle.qbf.specs.Formula.{Limits, Node, Prefix, Variable, ◌▹◌, any, place_from, place_of, value_at}
 use Rattle.qbf.specs.Card.{Mem}
 use Rattle.qbf.specs.Calls.{numbers_are_ok}
-use Rattle.theory.proofs.Basics.{≡→T, and_left, and_right, not_true, or_false_right, any_false→, dichotomy, eqb_true, true_eqb, false_eqb}
+use Rattle.theory.proofs.Basics.{≡→T, and_left, and_right, not_true, or_false_right, any_false→, dichotomy, eqb_true, true_eqb, false_eqb, le_or_lt, length-▹, value_low, value_top, value_high}
 
 abbrev pub numbers : Prefix → List ℕ
 numbers D = map (λ d. d.number) D
@@ -144,3 +145,30 @@ module _ (L : Limits) (D : Prefix) (ok : numbers_are_ok L [] D ≡ true) where
 
   pub number_range : (i : ℕ) → i < length D → (1 ≤ get_or (numbers D) i 0) × (get_or (numbers D) i 0 ≤ L.numbers)
   number_range i h = (fine L [] D ok).ranged (get_or (numbers D) i 0) (mem_number D i h)
+
+  -- the value of each number one place on: that of the next place's variable is new
+  pub value_new : (s : Node) (b : Bool) (n : ℕ) → length s < length D → n ≡ get_or (numbers D) (length s) 0 → value_at (s ▹ b) (place_of D n) ≡ some b
+  value_new s b n h e = ap (value_at (s ▹ b)) (ap (place_of D) e ∙ place_of_number (length s) h) ∙ value_top s b
+
+-- that of any other stays
+pub value_old : (D : Prefix) (s : Node) (b : Bool) (n : ℕ) → (n ≡ get_or (numbers D) (length s) 0 → ⊥) → value_at (s ▹ b) (place_of D n) ≡ value_at s (place_of D n)
+value_old D s b n h = by (place_of D n) refl (le_or_lt (place_of D n) (length s))
+  where
+    by : (p : ℕ) → place_of D n ≡ p → (place_of D n ≤ length s) ⊎ (length s < place_of D n) → value_at (s ▹ b) p ≡ value_at s p
+    by p e (inl q) = value_low s b p (omega (arith, e, q))
+    by p e (inr q) = value_high (s ▹ b) p (beyond p e q) ∙ sym (value_high s p (omega (arith, e, q)))
+      where
+        apart : (k : ℕ) → place_of D n ≡ k → (k ≡ suc (length s) → ⊥)
+        apart k z y = h (sym (number_at D n (length s) (z ∙ y)).1)
+
+        beyond : (k : ℕ) → place_of D n ≡ k → length s < place_of D n → length (s ▹ b) < k
+        beyond k z y = omega (arith, z, y, apart k z, length-▹ s b)
+
+-- both in one
+pub value_step : (L : Limits) (D : Prefix) → numbers_are_ok L [] D ≡ true → (s : Node) (b : Bool) (n : ℕ) → length s < length D
+    → value_at (s ▹ b) (place_of D n) ≡ cond (eqb n (get_or (numbers D) (length s) 0)) (some b) (value_at s (place_of D n))
+value_step L D ok s b n h = by (eqb n (get_or (numbers D) (length s) 0)) refl
+  where
+    by : (x : Bool) → eqb n (get_or (numbers D) (length s) 0) ≡ x → value_at (s ▹ b) (place_of D n) ≡ cond x (some b) (value_at s (place_of D n))
+    by true e = value_new L D ok s b n h (eqb_true n (get_or (numbers D) (length s) 0) e)
+    by false e = value_old D s b n (false_eqb n (get_or (numbers D) (length s) 0) e)

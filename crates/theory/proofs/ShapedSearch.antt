@@ -4,16 +4,16 @@ use mathlib.Core.Path.{◌≡◌, refl}
 use mathlib.Core.Bool.{Bool, true, false}
 use mathlib.Core.List.{List, [], ◌∷◌}
 use lib.ListN.{length}
-use lib.Dec.{eqb}
+use lib.Dec.{eqb, leb}
 use Rattle.qbf.specs.Formula.{Clause, Limits, Node, Prefix, Quantifier, ◌▹◌}
 use Rattle.qbf.specs.Truth.{Outcome, decided, mixed}
-use Rattle.qbf.specs.Learning.{Constraint, LearningResult, Store, below, branch, going_up, raise, visit}
+use Rattle.qbf.specs.Learning.{Constraint, LearningResult, Store, below, branch, going_up, learning_search, raise, visit}
 use Rattle.qbf.specs.Card.{Mem}
 use Rattle.theory.proofs.Rest.{Rest, rest_up, rest_kind}
 use Rattle.theory.proofs.Game.{Rising}
 use Rattle.theory.proofs.Shape.{Formed, Shaped, goes_up_same, shaped_empty, shaped_up, ends_above, shaped_resolvent}
 use Rattle.theory.proofs.Stores.{ShapedStore, stored_learn}
-use Rattle.theory.proofs.Induction.{Gives, BranchCases, SearchCases, visit_by, branching_by, raise_same}
+use Rattle.theory.proofs.Induction.{Gives, BranchCases, SearchCases, visit_by, branch_by, branching_by, raise_same}
 use Rattle.theory.proofs.Leaves.{shaped_leaves}
 use Rattle.theory.proofs.Laws.{branch_same}
 
@@ -53,6 +53,11 @@ module _ (L : Limits) (one : 1 ≤ L.constraints) (D : Prefix) (R : List Clause)
         raised = λ ks s o h. raised D s o h;
       }
 
+  -- a branch over shaped sides
+  pub shaped_branch : (κ : Quantifier) (ks : List Quantifier) (s : Node) → Rest D s (κ ∷ ks) → (f : Node → Store → LearningResult)
+      → ((c : Bool) (st : Store) → ShapedStore L D st → ShapedResult L D (s ▹ c) (f (s ▹ c) st)) → (st : Store) → ShapedStore L D st → ShapedResult L D s (branch L D R κ f s st)
+  shaped_branch κ ks s rest f sides st h = branch_by L D R κ s (ShapedStore L D) (λ c o. ShapedOutcome D (s ▹ c) o) (ShapedOutcome D s) (shaped_branches κ ks s rest) f sides st h
+
   pub shaped_below : (ks : List Quantifier) (s : Node) (st : Store) → Rest D s ks → ShapedStore L D st → ShapedResult L D s (below L D R ks s st)
   shaped_below [] s st rest h = record { store_ok = h; answer_ok = shaped_empty D false s }
   shaped_below (κ ∷ ks) s st rest h = branching_by L D R (λ qs t. Rest D t qs) (ShapedStore L D) (λ qs t o. ShapedOutcome D t o) shaped_search κ ks s st rest h
@@ -60,6 +65,9 @@ module _ (L : Limits) (one : 1 ≤ L.constraints) (D : Prefix) (R : List Clause)
   pub shaped_visit : (eligible : ℕ → ℕ → Bool) (ks : List Quantifier) (s : Node) (st : Store) → Rest D s ks → ShapedStore L D st → ShapedResult L D s (visit D R eligible (below L D R ks) s st)
   shaped_visit eligible ks s st rest h =
       visit_by D R s (ShapedStore L D) (ShapedOutcome D s) eligible (below L D R ks) st (shaped_leaves D R ok L s st h eligible) h (λ nd ns. shaped_below ks s st rest h)
+
+  pub shaped_found : (ks : List Quantifier) (s : Node) (st : Store) → Rest D s ks → ShapedStore L D st → ShapedResult L D s (learning_search L D R ks s st)
+  shaped_found ks s st rest h = shaped_visit leb ks s st rest h
 
   -- what a visit goes on to, without the reducing of what goes up
   pub raise_nothing : (κ : Quantifier) (ks : List Quantifier) (s : Node) (st : Store) → Rest D s (κ ∷ ks) → ShapedStore L D st

@@ -9,7 +9,7 @@ use mathlib.Core.Option.{Option, none, some}
 use lib.ListN.{length, get_or}
 use lib.Dec.{eqb}
 use Rattle.qbf.specs.Formula.{Clause, Literal, Node, Prefix, ◌▹◌, all, any, dead, equals, has, place, positive, quantifier_at, satisfied, value_at}
-use Rattle.qbf.specs.Learning.{Constraint, dropped, first_dead, last_place, last_place_from, reduce}
+use Rattle.qbf.specs.Learning.{Constraint, dropped, first, first_dead, last_place, last_place_from, reduce}
 use Rattle.qbf.specs.Card.{Mem}
 use Rattle.theory.proofs.Basics.{all→, and_both, and_left, and_right, any_false→, beq→≡, beq_refl, dichotomy, eqb_true, false_eqb, has_low, has_le, has_up, le_or_lt, length-▹, not_true, true_eqb, value_high, value_some, value_top, →all, →any_false}
 use Rattle.theory.proofs.Constraints.{reduce_rest, reduce_rising, reduce_sub}
@@ -36,6 +36,11 @@ module _ {A : Type 0} (f g : A → Bool) where
   any_or : (h : A → Bool) → ((x : A) → h x ≡ (f x || g x)) → (xs : List A) → any h xs ≡ (any f xs || any g xs)
   any_or h e [] = refl
   any_or h e (x ∷ xs) = rw (e x, any_or h e xs) (or_pairs (f x) (g x) (any f xs) (any g xs))
+
+  -- two tests that agree at every element find the same
+  pub first_same : (xs : List A) → ((x : A) → Mem x xs → f x ≡ g x) → first f xs ≡ first g xs
+  first_same [] h = refl
+  first_same (x ∷ xs) h = rw (h x (inl refl), first_same xs (λ y m. h y (inr m)))
 
 -- ---- the literal of a place with a value
 module _ (D : Prefix) where
@@ -212,3 +217,7 @@ module _ (D : Prefix) (R : List Clause) (up : (r : Clause) → Mem r R → Risin
   -- a clause dies if the value makes its last literal under universal reduction false and it was not satisfied
   pub dead_step : (r : Clause) → Mem r R → dead D (s ▹ b) r ≡ (ends_at D (suc (length s)) (not b) (reduce D false r) && not (satisfied D s r))
   dead_step r m = dies_step D s b r (up r m) (none_dead D s R alive r m)
+
+  -- the first dead clause is the first for which that test passes
+  pub first_dead_step : first_dead D (s ▹ b) R ≡ first (λ r. ends_at D (suc (length s)) (not b) (reduce D false r) && not (satisfied D s r)) R
+  first_dead_step = first_same (dead D (s ▹ b)) (λ r. ends_at D (suc (length s)) (not b) (reduce D false r) && not (satisfied D s r)) R dead_step
