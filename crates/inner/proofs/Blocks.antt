@@ -1,4 +1,4 @@
--- Four words of a union at once: what is read is as it was, since it stands before what is written.
+-- Four words at once: of a union what is read is as it was, since it stands before what is written; of a row what is not in another is gathered.
 use Prim.Native.Nat.{ℕ, ◌+◌, ◌<◌}
 use native.Mathlib.Omega.{arith}
 use mathlib.Core.Path.{◌≡◌, refl, sym, ◌∙◌, subst}
@@ -6,6 +6,9 @@ use mathlib.Core.List.{List}
 use lib.ListN.{get_or, set}
 use lib.Seq.{get_or-set_other}
 use lib.Bits.{bit_and, bit_or, bit_xor}
+use Rattle.bitset.specs.Words.{rest}
+use Rattle.bitset.proofs.Gathered.{gathered, gathered_more}
+use Rattle.bitset.proofs.Outside.{rests}
 use Rattle.bitset.proofs.Uniting.{Uniting, uniting_more}
 
 -- a cell before the one that is written
@@ -39,3 +42,14 @@ module _ (t : List ℕ) (from to : ℕ) (by : List ℕ) where
       (unread l (from + (j + 1 + 1 + 1)) (to + j) (word l j) (omega (arith, h))
       ∙ unread l1 (from + (j + 1 + 1 + 1)) (to + (j + 1)) (word l (j + 1)) (omega (arith, h))
       ∙ unread l2 (from + (j + 1 + 1 + 1)) (to + (j + 1 + 1)) (word l (j + 1 + 1)) (omega (arith, h))) refl
+
+module _ (a b : List ℕ) where
+  -- what is in a word of the first row and not in that of the second
+  abbrev out : ℕ → ℕ
+  out i = rest (get_or a i 0) (get_or b i 0)
+
+  pub gathered_block : (j w : ℕ) → w ≡ gathered bit_or 0 (rests a b) j
+      → bit_or (bit_or (bit_or (bit_or w (out j)) (out (j + 1))) (out (j + 1 + 1))) (out (j + 1 + 1 + 1)) ≡ gathered bit_or 0 (rests a b) (j + 1 + 1 + 1 + 1)
+  gathered_block j w e =
+      let f : ℕ → ℕ = rests a b in
+      gathered_more bit_or 0 f (j + 1 + 1 + 1) _ _ (gathered_more bit_or 0 f (j + 1 + 1) _ _ (gathered_more bit_or 0 f (j + 1) _ _ (gathered_more bit_or 0 f j _ _ e refl) refl) refl) refl

@@ -12,6 +12,7 @@ ghost use Rattle.bitset.specs.Rows.{width, some_below, row};
 ghost use Rattle.inner.specs.Inner.{FoundCoded, LastGiven, Entered, killing};
 
 use crate::Given;
+use crate::union::any_outside_blocks;
 use bitset::rows::{WIDTH, first_outside};
 use search_entry::{Bounds, Matrix, Source};
 
@@ -62,8 +63,8 @@ fn row_above<'a>(sat: &'a [u64; tables::SATISFIED], g: Given) -> &'a [u64]
     &sat[from..end]
 }
 
-// Whether a clause dies at an inner node: one that can die by the value given last, and that was not satisfied above. The rows are passed word by word, as in `dead`: of rows as
-// short as a search's the words cost less one by one than what sets out to take several at a time.
+// Whether a clause dies at an inner node: one that can die by the value given last, and that was not satisfied above. Where rows are no whole blocks, which
+// none of a search are, they are passed word by word, as in `dead`.
 pub fn any_dies<'a>(
     sets: &'a [u64; tables::CLAUSE_SETS],
     sat: &'a [u64; tables::SATISFIED],
@@ -73,6 +74,10 @@ pub fn any_dies<'a>(
 {
     let dying = dying_row(sets, g);
     let above = row_above(sat, g);
+    let whole = dying.len() % tables::BLOCK == 0;
+    if whole {
+        return any_outside_blocks(dying, above);
+    }
     first_outside(dying, above) < g.words * WIDTH
 }
 

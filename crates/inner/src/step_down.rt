@@ -32,6 +32,7 @@ fn satisfying_row<'a>(sets: &'a [u64; tables::CLAUSE_SETS], g: Given) -> &'a [u6
 }
 
 // The node's row: its parent's, united with the clauses that the value given last satisfies.
+#[inline(always)] // a part of each search's visit: handed over by a call, what was given last lies in memory
 pub fn row_down<'a>(
     sets: &'a [u64; tables::CLAUSE_SETS],
     sat: &mut [u64; tables::SATISFIED],
