@@ -18,7 +18,15 @@ fn put_digits(bytes: &mut [u8], at: usize, n: u64) -> usize
         bytes[at] = ZERO + n as u8;
         return at + 1;
     }
-    let last = put_digits(bytes, at, n / 10);
+    let tenth = n / 10;
+    if tenth < 10 {
+        // two digits, as most numbers have, take no call
+        bytes[at] = ZERO + tenth as u8;
+        let last = at + 1;
+        bytes[last] = ZERO + (n % 10) as u8;
+        return last + 1;
+    }
+    let last = put_digits(bytes, at, tenth);
     bytes[last] = ZERO + (n % 10) as u8;
     last + 1
 }
