@@ -153,10 +153,15 @@ class _Workspace(ctypes.Structure):
 
 
 class _Lent(threading.local):
-    """The workspace of a thread: one serves any number of books, and no call in it begins before the last one has ended."""
+    """The workspace of a thread, made at its first search: one serves any number of books, and no call in it begins before the last one has ended."""
 
-    def __init__(self):
-        self.work = _Workspace()
+    @property
+    def work(self):
+        try:
+            return self._made
+        except AttributeError:
+            self._made = _Workspace()
+            return self._made
 
 
 _LENT = _Lent()
