@@ -500,7 +500,7 @@ class Place(Book):
     def _on(self, name, *arguments):
         day = self._day
         # The workspace comes before the place.
-        first = [argument for argument in arguments[:1] if argument is _LENT.work]
+        first = [argument for argument in arguments[:1] if isinstance(argument, _Workspace)]
         told = day._call("day_" + name, *first, self._place, *arguments[len(first):])
         _unless_refused(told)
         return told

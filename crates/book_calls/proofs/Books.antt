@@ -4,7 +4,7 @@ use mathlib.Core.Path.{◌≡◌, refl, ◌∙◌}
 use mathlib.Core.Bool.{true}
 use mathlib.Core.List.{List}
 use lib.IntN.{ℤ}
-use lib.ListN.{length}
+use lib.ListN.{length, take}
 use Rattle.std.specs.Prelude.{Result, Ok}
 use Rattle.qbf.specs.Formula.{Limits, Formula}
 use Rattle.layout.specs.Words.{Bytes}
@@ -15,6 +15,9 @@ use Rattle.editions.specs.Opening.{Editions, both, open_editions}
 use Rattle.editions.specs.Converting.{converted, to_tagged, to_untagged}
 use Rattle.editions_laws.proofs.Converting.{same_tagged, same_untagged}
 use Rattle.editions_laws.proofs.Readers.{opens_as_before, equal_tagged, equal_untagged}
+use Rattle.edition_conversion.specs.declared.Converted.{Converted as Answer}
+use Rattle.edition_conversion.specs.Converting.{TaggedUnder, UntaggedUnder}
+use Rattle.edition_conversion.proofs.Undone.{made, tag_numbered, untag_numbered}
 use Rattle.qdimacs_form.specs.Opening.{open_qdimacs}
 use Rattle.qdimacs_form.specs.Translation.{translated}
 use Rattle.qdimacs_laws.proofs.Books.{Translates, own_fits}
@@ -53,6 +56,14 @@ module _ (L : Limits) {r q : Opened} {cells cells' tables tables' : List ℕ} {l
     untagged_alike_in e =
         let x = same_untagged L few size s t e in
         alike x.0 (equal_untagged L few size s t e ∙ x.2) x.2 was is
+
+  -- .. of what the exports answer: the text and the converted one, opened
+  module _ (few : L.clauses ≤ 65535) (size : ℕ) (s : Bytes) (a : Answer) (d : Bytes) {lent : List ℕ} {lits : List ℤ} (u : Whole L lent lits) (was : OpenedIn L (open_editions both L s) cells literals r cells' literals') (is : OpenedIn L (open_editions both L (take a.length d)) tables cubes q tables' cubes') where
+    pub tag_alike_in : TaggedUnder L lent lits s size a d → a.refusal ≡ 0 → (r.refusal ≡ 0) × (q.refusal ≡ 0) × (read_at cells' literals' ≡ read_at tables' cubes')
+    tag_alike_in told z = tagged_alike_in few size s (take a.length d) was is (made (told.whole u) (tag_numbered L size s) z)
+
+    pub untag_alike_in : UntaggedUnder L lent lits s size a d → a.refusal ≡ 0 → (r.refusal ≡ 0) × (q.refusal ≡ 0) × (read_at cells' literals' ≡ read_at tables' cubes')
+    untag_alike_in told z = untagged_alike_in few size s (take a.length d) was is (made (told.whole u) (untag_numbered L size s) z)
 
 -- WISH 13: what a reader of edition 1 alone opens, is opened still
 module _ (L : Limits) {r : Opened} {q : Result (Unit {0}) RefusedAt} {cells cells' tables tables' : List ℕ} {literals literals' cubes cubes' : List ℤ} (w : Whole L cells literals) (v : Whole L tables cubes) where

@@ -62,7 +62,7 @@ module _ {size : ℕ} {c : Converted} {r : Answer} {d : Bytes} (told : Converted
       let w = subst (λ (x : Converted). ConvertedAs size x r d) e told in
       ap (λ (n : ℕ). take n d) w.count ∙ ap (take (length t)) w.stands ∙ take-append_seam t (replicate (size - length t) 0)
 
-  made : Numbered c → r.refusal ≡ 0 → c ≡ converted (take r.length d)
+  pub made : Numbered c → r.refusal ≡ 0 → c ≡ converted (take r.length d)
   made n h = by c refl n
     where
       by : (x : Converted) → c ≡ x → Numbered x → c ≡ converted (take r.length d)

@@ -32,7 +32,7 @@ fn satisfying_row<'a>(sets: &'a [u64; tables::CLAUSE_SETS], g: Given) -> &'a [u6
 }
 
 // The node's row: its parent's, united with the clauses that the value given last satisfies.
-#[inline(always)] // a part of each search's visit: handed over by a call, what was given last lies in memory
+#[inline(always)] // a part of an open search's visit: handed over by a call, what was given last lies in memory
 pub fn row_down<'a>(
     sets: &'a [u64; tables::CLAUSE_SETS],
     sat: &mut [u64; tables::SATISFIED],
@@ -59,6 +59,7 @@ pub fn row_down<'a>(
 }
 
 // The node's row and mark; whether every clause is satisfied there.
+#[inline(never)] // in the visit of the search that learns its words would lie on the stack of each level
 pub fn step_down<'a>(sets: &'a [u64; tables::CLAUSE_SETS], trail: &mut Trail, g: Given) -> bool
     ensures rows_kept { RowsKept g.at g.words trail.old.sat trail.new.sat trail.old.marks trail.new.marks }
     ensures descended { (D : Prefix) (R : List Clause) (s : Node) (k : ℕ)

@@ -23,7 +23,7 @@ use verdicts::{Finding, counted, found, joined};
 pub mod verdicts; // the verdicts of two sides, and what a visit hands up
 
 // Where a visit stands: the node's length, and the words of a row of clauses. The budget goes beside it, since two words are handed on in registers and three are not: with the
-// budget in it a visit takes three times as long.
+// budget in it a query with every flag open took 1.3 to 1.8 times as long.
 #[derive(Clone, Copy)]
 pub struct Place {
     pub at: usize,
