@@ -15,7 +15,7 @@ use Rattle.state_parts.proofs.Cutting.{part_set, part_set_before, part_set_after
 use Rattle.state_parts.proofs.Written.{same_state, whole_exact, learned_clauses_put, learned_clause_sizes_put, limits_put}
 use Rattle.withdrawal.specs.Learned.{Room, Kept}
 use Rattle.rule_calls.specs.StaysAt.{BehindAt}
-use Rattle.rule_calls.specs.WithdrawnAt.{Learned, with_learned, WithdrawnAt}
+use Rattle.rule_calls.specs.WithdrawnAt.{Learned, with_learned, WithdrawnAt, WithdrawnWithin}
 
 -- ---- the count of the clauses, set to n
 module _ (L : Limits) (cells : List ℕ) (literals : List ℤ) (n : ℕ) where
@@ -101,7 +101,6 @@ module _ (L : Limits) (cells : List ℕ) (literals : List ℤ) (w : Whole L cell
           kept = a;
           parts = parts_after;
           limits = count_limits cells' (clause_sizes_at L + 0) n (omega arith) ∙ limits_put cells (learned_clause_sizes_at L) (recorded L) sizes (omega arith) (omega (arith, w.cells_room));
-          behind = behind_kept;
           whole =
               record {
                 cells_room = omega (arith, w.cells_room, cells_long, length-set cells' (clause_sizes_at L + 0) n);
@@ -109,11 +108,14 @@ module _ (L : Limits) (cells : List ℕ) (literals : List ℤ) (w : Whole L cell
               };
         }
 
+    within : WithdrawnWithin L cells literals n (set cells' (clause_sizes_at L + 0) n) literals'
+    within = record { at = left; behind = behind_kept }
+
   -- where the parts stand, as they were computed: the sizes' i from a on, the rows' j from b on, and the count at k
   abbrev Left : ℕ → ℕ → ℕ → ℕ → ℕ → Type 0
   Left a i b j k =
       (rows : List ℤ) (sizes : List ℕ) → Kept L.numbers (part b j literals) (part a i cells) n rows sizes
-      → WithdrawnAt L cells literals n (set (put_mid a i cells sizes) k n) (put_mid b j literals rows)
+      → WithdrawnWithin L cells literals n (set (put_mid a i cells sizes) k n) (put_mid b j literals rows)
 
   pub left_at : {a i b j k : ℕ} → a ≡ learned_clause_sizes_at L → i ≡ recorded L → b ≡ clause_cells L → j ≡ learned_cells L → k ≡ clause_sizes_at L → Left a i b j k
   left_at {a} {i} {b} {j} {k} p q r s t =
@@ -121,7 +123,7 @@ module _ (L : Limits) (cells : List ℕ) (literals : List ℤ) (w : Whole L cell
       (subst (λ (m : ℕ). Left (learned_clause_sizes_at L) m b j k) (sym q)
       (subst (λ (m : ℕ). Left (learned_clause_sizes_at L) (recorded L) m j k) (sym r)
       (subst (λ (m : ℕ). Left (learned_clause_sizes_at L) (recorded L) (clause_cells L) m k) (sym s)
-      (subst (λ (m : ℕ). Left (learned_clause_sizes_at L) (recorded L) (clause_cells L) (learned_cells L) m) (plain ∙ sym t) left))))
+      (subst (λ (m : ℕ). Left (learned_clause_sizes_at L) (recorded L) (clause_cells L) (learned_cells L) m) (plain ∙ sym t) within))))
     where
       plain : clause_sizes_at L + 0 ≡ clause_sizes_at L
       plain = omega arith

@@ -11,8 +11,8 @@ use Rattle.state.specs.State.{State}
 use Rattle.state.specs.Reading.{own}
 use Rattle.state_parts.specs.Parts.{limits_of, parts_under, state_at}
 use Rattle.rule_calls.specs.StaysAt.{Extent, nothing, count, all, Stays, Writes, rule_writes, withdraw_writes, StaysIn, BehindAt, StaysAt}
-use Rattle.rule_calls.specs.AddedAt.{AddedAt}
-use Rattle.rule_calls.specs.WithdrawnAt.{WithdrawnAt}
+use Rattle.rule_calls.specs.AddedAt.{AddedWithin}
+use Rattle.rule_calls.specs.WithdrawnAt.{WithdrawnWithin}
 
 -- a part that is not written stays, however much of it may be written
 stays : {A : Type 0} (e : Extent) (t : List A) → Stays e t t
@@ -64,10 +64,10 @@ limits_are : (cells : List ℕ) {n m : ℕ} → n ≡ get_or cells 0 0 → m ≡
 limits_are cells is_n is_m = λ i. own (is_n i) (is_m i)
 
 module _ {cells : List ℕ} {literals : List ℤ} {n m : ℕ} (is_n : n ≡ get_or cells 0 0) (is_m : m ≡ get_or cells 1 0) {cells' : List ℕ} {literals' : List ℤ} where
-  pub added_stays : {cs : List (List Literal)} {places : List ℕ} → AddedAt (own n m) cells literals cs places cells' literals' → StaysAt rule_writes cells literals cells' literals'
+  pub added_stays : {cs : List (List Literal)} {places : List ℕ} → AddedWithin (own n m) cells literals cs places cells' literals' → StaysAt rule_writes cells literals cells' literals'
   added_stays {cs} {places} added =
-      let a : AddedAt (limits_of cells) cells literals cs places cells' literals' = subst (λ (L : Limits). AddedAt L cells literals cs places cells' literals') (limits_are cells is_n is_m) added in
-      left_stays rule_writes a.limits a.parts
+      let a : AddedWithin (limits_of cells) cells literals cs places cells' literals' = subst (λ (L : Limits). AddedWithin L cells literals cs places cells' literals') (limits_are cells is_n is_m) added in
+      left_stays rule_writes a.at.limits a.at.parts
       (record {
         numbers = refl;
         levels = refl;
@@ -81,10 +81,10 @@ module _ {cells : List ℕ} {literals : List ℤ} {n m : ℕ} (is_n : n ≡ get_
       })
       a.behind
 
-  pub withdrawn_stays : {r : ℕ} → WithdrawnAt (own n m) cells literals r cells' literals' → StaysAt withdraw_writes cells literals cells' literals'
+  pub withdrawn_stays : {r : ℕ} → WithdrawnWithin (own n m) cells literals r cells' literals' → StaysAt withdraw_writes cells literals cells' literals'
   withdrawn_stays {r} withdrawn =
-      let a : WithdrawnAt (limits_of cells) cells literals r cells' literals' = subst (λ (L : Limits). WithdrawnAt L cells literals r cells' literals') (limits_are cells is_n is_m) withdrawn in
-      left_stays withdraw_writes a.limits a.parts
+      let a : WithdrawnWithin (limits_of cells) cells literals r cells' literals' = subst (λ (L : Limits). WithdrawnWithin L cells literals r cells' literals') (limits_are cells is_n is_m) withdrawn in
+      left_stays withdraw_writes a.at.limits a.at.parts
       (record {
         numbers = refl;
         levels = refl;

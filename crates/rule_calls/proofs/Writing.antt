@@ -16,7 +16,7 @@ use Rattle.state_parts.specs.Parts.{part, limits_of, by_number, clause_count, cu
 use Rattle.state_parts.proofs.Cutting.{part_set, part_set_after, put_behind}
 use Rattle.state_parts.proofs.Written.{same_state, whole_exact, clauses_put, clause_sizes_put, limits_put}
 use Rattle.rule_calls.specs.StaysAt.{BehindAt}
-use Rattle.rule_calls.specs.AddedAt.{Room, with_clauses, AddedAt}
+use Rattle.rule_calls.specs.AddedAt.{Room, with_clauses, AddedAt, AddedWithin}
 
 -- ---- the count of the cubes, set to 0
 module _ (L : Limits) (cells : List ℕ) (literals : List ℤ) where
@@ -99,7 +99,6 @@ module _ (L : Limits) (cells : List ℕ) (literals : List ℤ) (w : Whole L cell
           added = a;
           parts = parts_after;
           limits = clear_limits cells' (learned_cube_sizes_at L + 0) (omega arith) ∙ limits_put cells (clause_sizes_at L) (clause_count L) sizes (omega arith) (omega (arith, w.cells_room));
-          behind = behind_kept;
           whole =
               record {
                 cells_room = omega (arith, w.cells_room, cells_long, length-set cells' (learned_cube_sizes_at L + 0) 0);
@@ -107,18 +106,21 @@ module _ (L : Limits) (cells : List ℕ) (literals : List ℤ) (w : Whole L cell
               };
         }
 
+    within : AddedWithin L cells literals cs places (set cells' (learned_cube_sizes_at L + 0) 0) literals'
+    within = record { at = written; behind = behind_kept }
+
   -- where the parts stand, as they were computed: the rows' first b cells, the sizes' n from a on, and the cubes' count at k
   abbrev Written : ℕ → ℕ → ℕ → ℕ → Type 0
   Written a n b k =
       (rows : List ℤ) (sizes : List ℕ) → Added L.clauses (part 0 b literals) (part a n cells) cs places rows sizes
-      → AddedAt L cells literals cs places (set (put_mid a n cells sizes) k 0) (put_mid 0 b literals rows)
+      → AddedWithin L cells literals cs places (set (put_mid a n cells sizes) k 0) (put_mid 0 b literals rows)
 
   pub written_at : L.literals ≡ paper.literals → {a n b k : ℕ} → a ≡ clause_sizes_at L → n ≡ clause_count L → b ≡ clause_cells L → k ≡ learned_cube_sizes_at L → Written a n b k
   written_at four {a} {n} {b} {k} p q r s =
       subst (λ (i : ℕ). Written i n b k) (sym p)
       (subst (λ (i : ℕ). Written (clause_sizes_at L) i b k) (sym q)
       (subst (λ (i : ℕ). Written (clause_sizes_at L) (clause_count L) i k) (sym r)
-      (subst (λ (i : ℕ). Written (clause_sizes_at L) (clause_count L) (clause_cells L) i) (plain ∙ sym s) (written four))))
+      (subst (λ (i : ℕ). Written (clause_sizes_at L) (clause_count L) (clause_cells L) i) (plain ∙ sym s) (within four))))
     where
       plain : learned_cube_sizes_at L + 0 ≡ learned_cube_sizes_at L
       plain = omega arith

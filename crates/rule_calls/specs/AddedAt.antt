@@ -26,5 +26,9 @@ pub record AddedAt (L : Limits) (cells : List ℕ) (literals : List ℤ) (cs : L
   pub added : Added L.clauses (parts_under L cells literals).clauses (parts_under L cells literals).clause_sizes cs places clauses sizes
   pub parts : parts_under L cells' literals' ≡ with_clauses (parts_under L cells literals) clauses sizes
   pub limits : limits_of cells' ≡ limits_of cells
-  pub behind : BehindAt L cells literals cells' literals'
   pub whole : Whole L cells' literals'
+
+-- .. and what lies behind the parts stays
+pub record AddedWithin (L : Limits) (cells : List ℕ) (literals : List ℤ) (cs : List (List Literal)) (places : List ℕ) (cells' : List ℕ) (literals' : List ℤ) : Type 0 where
+  pub at : AddedAt L cells literals cs places cells' literals'
+  pub behind : BehindAt L cells literals cells' literals'

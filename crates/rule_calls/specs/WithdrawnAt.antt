@@ -23,5 +23,9 @@ pub record WithdrawnAt (L : Limits) (cells : List ℕ) (literals : List ℤ) (n 
   pub kept : Kept L.numbers (parts_under L cells literals).learned_clauses (parts_under L cells literals).learned_clause_sizes n clauses sizes
   pub parts : parts_under L cells' literals' ≡ with_learned (parts_under L cells literals) n clauses sizes
   pub limits : limits_of cells' ≡ limits_of cells
-  pub behind : BehindAt L cells literals cells' literals'
   pub whole : Whole L cells' literals'
+
+-- .. and what lies behind the parts stays
+pub record WithdrawnWithin (L : Limits) (cells : List ℕ) (literals : List ℤ) (n : ℕ) (cells' : List ℕ) (literals' : List ℤ) : Type 0 where
+  pub at : WithdrawnAt L cells literals n cells' literals'
+  pub behind : BehindAt L cells literals cells' literals'

@@ -4,7 +4,7 @@ ghost use Rattle.qbf.specs.Calls.{rule};
 ghost use Rattle.state_parts.specs.Layout.{limits_in};
 ghost use Rattle.rule_calls.specs.ServesAt.{ServesAt, change_said};
 ghost use Rattle.rule_calls.specs.StaysAt.{rule_writes, StaysAt};
-ghost use Rattle.rule_calls.specs.AddedAt.{Room, AddedAt};
+ghost use Rattle.rule_calls.specs.AddedAt.{Room, AddedWithin};
 
 use refusal::Refusal;
 use rule_faults::refusals::judge_rule;
@@ -15,7 +15,7 @@ use state_parts::limits::Layout;
 // "if accepted, all passes go and bars remain"
 fn accept(layout: Layout, cells: &mut [u16], literals: &mut [i16], rule: Rule<'_>, places: &[u16])
     requires { Room (limits_in layout) cells.old literals.old 1 }
-    ensures { AddedAt
+    ensures { AddedWithin
         (limits_in layout)
         cells.old
         literals.old

@@ -6,7 +6,7 @@ ghost use Rattle.rule_rows.specs.Accepted.{Named};
 ghost use Rattle.state_parts.specs.Layout.{limits_in};
 ghost use Rattle.rule_calls.specs.ServesAt.{ServesAt, change_said};
 ghost use Rattle.rule_calls.specs.StaysAt.{rule_writes, StaysAt};
-ghost use Rattle.rule_calls.specs.AddedAt.{Room, AddedAt};
+ghost use Rattle.rule_calls.specs.AddedAt.{Room, AddedWithin};
 
 use form_rows::add_one;
 use refusal::Refusal;
@@ -26,7 +26,7 @@ fn accept_form(
 )
     requires { Room (limits_in layout) cells.old literals.old (one_count (length rule.lits.now))
         × Named rule.lits.now }
-    ensures { AddedAt
+    ensures { AddedWithin
         (limits_in layout)
         cells.old
         literals.old

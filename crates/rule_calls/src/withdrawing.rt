@@ -3,7 +3,7 @@ ghost use Rattle.qbf.specs.Calls.{withdraw};
 ghost use Rattle.state_parts.specs.Layout.{limits_in};
 ghost use Rattle.rule_calls.specs.ServesAt.{ServesAt, change_said};
 ghost use Rattle.rule_calls.specs.StaysAt.{withdraw_writes, StaysAt};
-ghost use Rattle.rule_calls.specs.WithdrawnAt.{Learned, WithdrawnAt};
+ghost use Rattle.rule_calls.specs.WithdrawnAt.{Learned, WithdrawnWithin};
 
 use refusal::Refusal;
 use state_parts::limits::Layout;
@@ -12,7 +12,7 @@ use withdrawal::leave;
 // That many clauses remain; "Passes remain valid and are kept."
 fn take_last(layout: Layout, cells: &mut [u16], literals: &mut [i16], remain: u16)
     requires { Learned (limits_in layout) cells.old literals.old }
-    ensures { WithdrawnAt
+    ensures { WithdrawnWithin
         (limits_in layout)
         cells.old
         literals.old

@@ -34,7 +34,7 @@ use Rattle.asking.specs.Answered.{called, Answered, state_of}
 use Rattle.asking.proofs.Accepting.{facts}
 use Rattle.asking.proofs.Storing.{clauses_narrow, cubes_narrow, stored_back}
 use Rattle.search_calls.specs.Checked.{ShownAt, CheckedOf}
-use Rattle.search_calls.specs.Back.{Writable, BackAt}
+use Rattle.search_calls.specs.Back.{Writable, BackAt, BackWithin}
 use Rattle.search_calls.proofs.Checks.{valid_shown, accepted_in, answered_in, own_at}
 
 -- a malformed state: 22; a card's table is zero
@@ -129,10 +129,10 @@ module _ (l : Layout) (cells : List ℕ) (literals : List ℤ) {places kinds : L
 
 -- ---- what was learned is all that is written
 module _ (l : Layout) {cells : List ℕ} {literals : List ℤ} {places kinds : List ℕ} (s : ShownAt l cells literals places kinds) where
-  pub back_stays : {d : Learned} {cells' : List ℕ} {literals' : List ℤ} → BackAt (limits_in l) cells literals d cells' literals' → StaysAt search_writes cells literals cells' literals'
+  pub back_stays : {d : Learned} {cells' : List ℕ} {literals' : List ℤ} → BackWithin (limits_in l) cells literals d cells' literals' → StaysAt search_writes cells literals cells' literals'
   back_stays {d} {cells'} {literals'} b =
-      let a : BackAt (limits_of cells) cells literals d cells' literals' = own_at l cells literals s (λ (L : Limits). BackAt L cells literals d cells' literals') b in
-      left_stays search_writes a.limits a.parts
+      let a : BackWithin (limits_of cells) cells literals d cells' literals' = own_at l cells literals s (λ (L : Limits). BackWithin L cells literals d cells' literals') b in
+      left_stays search_writes a.at.limits a.at.parts
       (record {
         numbers = refl;
         levels = refl;

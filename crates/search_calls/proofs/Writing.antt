@@ -15,7 +15,7 @@ use Rattle.state_parts.proofs.Cutting.{part_at, put_after, put_behind}
 use Rattle.state_parts.proofs.Written.{whole_exact, learned_clauses_put, learned_clause_sizes_put, learned_cubes_put, learned_cube_sizes_put, limits_put}
 use Rattle.asking.specs.Stored.{with_learned, ClausesStored, CubesStored}
 use Rattle.rule_calls.specs.StaysAt.{BehindAt}
-use Rattle.search_calls.specs.Back.{BackAt}
+use Rattle.search_calls.specs.Back.{BackAt, BackWithin}
 
 module _ (L : Limits) (cells : List ℕ) (literals : List ℤ) (w : Whole L cells literals) (l : Learned) where
   abbrev x : State
@@ -113,9 +113,11 @@ module _ (L : Limits) (cells : List ℕ) (literals : List ℤ) (w : Whole L cell
           limits =
               limits_put cells₁ (learned_cube_sizes_at L) (cube_sizes L) qss (omega arith) (omega (arith, w₂.cells_room))
               ∙ limits_put cells (learned_clause_sizes_at L) (recorded L) css (omega arith) (omega (arith, w.cells_room));
-          behind = behind_kept;
           whole = record { cells_room = omega (arith, w₂.cells_room, cells₂_long); literals_room = w₃.literals_room };
         }
+
+    pub back_within : BackWithin L cells literals l cells₂ literals₂
+    back_within = record { at = back_at; behind = behind_kept }
 
 -- ---- where the parts stand, as they were computed
 module _ (n m : ℕ) (cells : List ℕ) (literals : List ℤ) (w : Whole (own n m) cells literals) (l : Learned) where
@@ -129,11 +131,11 @@ module _ (n m : ℕ) (cells : List ℕ) (literals : List ℤ) (w : Whole (own n 
   Written nums count a₁ k₁ a₂ k₂ s₁ j₁ s₂ j₂ =
       (cs : List ℤ) (css : List ℕ) (qs : List ℤ) (qss : List ℕ) → ClausesStored n l.clauses nums count (part a₁ k₁ literals) (part s₁ j₁ cells) cs css
       → CubesStored n l.cubes nums (part a₂ k₂ (put_mid a₁ k₁ literals cs)) (part s₂ j₂ (put_mid s₁ j₁ cells css)) qs qss
-      → BackAt O cells literals l (put_mid s₂ j₂ (put_mid s₁ j₁ cells css) qss) (put_mid a₂ k₂ (put_mid a₁ k₁ literals cs) qs)
+      → BackWithin O cells literals l (put_mid s₂ j₂ (put_mid s₁ j₁ cells css) qss) (put_mid a₂ k₂ (put_mid a₁ k₁ literals cs) qs)
 
   at_parts : Written z.numbers (get_or z.clause_sizes 0 0) (clause_cells O) (learned_cells O) (learned_cubes_at O) (learned_cells O) (learned_clause_sizes_at O) (recorded O) (learned_cube_sizes_at O) (cube_sizes O)
   at_parts cs css qs qss clauses cubes =
-      back_at O cells literals w l cs css qs qss clauses
+      back_within O cells literals w l cs css qs qss clauses
       (subst (λ (f : List ℤ). CubesStored n l.cubes z.numbers f z.learned_cube_sizes qs qss)
       (put_after (learned_cubes_at O) (learned_cells O) (clause_cells O) (learned_cells O) literals cs (omega arith) (omega (arith, w.literals_room)) (clauses.stored.cells_room ∙ (whole_exact O cells literals w).learned_clauses_room))
       (subst (λ (g : List ℕ). CubesStored n l.cubes z.numbers (part (learned_cubes_at O) (learned_cells O) (put_mid (clause_cells O) (learned_cells O) literals cs)) g qs qss)

@@ -24,5 +24,9 @@ pub record BackAt (L : Limits) (cells : List ℕ) (literals : List ℤ) (l : Lea
   pub cubes : CubesStored L.numbers l.cubes (parts_under L cells literals).numbers (parts_under L cells literals).learned_cubes (parts_under L cells literals).learned_cube_sizes qs qss
   pub parts : parts_under L cells' literals' ≡ with_learned (parts_under L cells literals) cs css qs qss
   pub limits : limits_of cells' ≡ limits_of cells
-  pub behind : BehindAt L cells literals cells' literals'
   pub whole : Whole L cells' literals'
+
+-- .. and what lies behind the parts stays
+pub record BackWithin (L : Limits) (cells : List ℕ) (literals : List ℤ) (l : Learned) (cells' : List ℕ) (literals' : List ℤ) : Type 0 where
+  pub at : BackAt L cells literals l cells' literals'
+  pub behind : BehindAt L cells literals cells' literals'

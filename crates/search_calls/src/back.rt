@@ -1,6 +1,6 @@
 // What a search learned is written back into the parts of its state. Paper 02, wish 8: "its limit for the literals of a stored entry is that for numbers".
 ghost use Rattle.state_parts.specs.Layout.{limits_in};
-ghost use Rattle.search_calls.specs.Back.{Writable, BackAt};
+ghost use Rattle.search_calls.specs.Back.{Writable, BackWithin};
 
 use asking::back::{clauses_back, cubes_back};
 use search_entry::Learned;
@@ -16,7 +16,7 @@ pub fn write_back(
     places: &mut [u16; tables::HIGHEST_BY_NUMBER],
 )
     requires { Writable (limits_in layout) cells.old literals.old learned.now }
-    ensures { BackAt (limits_in layout) cells.old literals.old learned.now cells.new literals.new }
+    ensures { BackWithin (limits_in layout) cells.old literals.old learned.now cells.new literals.new }
 {
     let width = layout.numbers;
     let numbers = &mut places[..width + 1];

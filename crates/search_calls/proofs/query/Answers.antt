@@ -19,7 +19,7 @@ pub returns-in-Some-clause-frame : goal.returns-in-Some-clause-frame
 returns-in-Some-clause-frame c = back_stays c.in-Ok.layout c.in-Ok.ensures c.write_back.ensures
 
 pub returns-in-Some-clause-serves : goal.returns-in-Some-clause-serves
-returns-in-Some-clause-serves c = served_kept c.in-Ok.layout c.args.cells.now c.args.literals.now c.in-Ok.ensures c.checked-checked.ensures (query c.args.asked.ceiling _ _) _ _ c.query-learned.ensures _ c.in-Some.is c.write_back.ensures
+returns-in-Some-clause-serves c = served_kept c.in-Ok.layout c.args.cells.now c.args.literals.now c.in-Ok.ensures c.checked-checked.ensures (query c.args.asked.ceiling _ _) _ _ c.query-learned.ensures _ c.in-Some.is c.write_back.ensures.at
 
 pub returns-in-None-clause-serves : goal.returns-in-None-clause-serves
 returns-in-None-clause-serves c = served_same c.in-Ok.layout c.args.cells.now c.args.literals.now c.in-Ok.ensures c.checked-checked.ensures (query c.args.asked.ceiling _ _) _ _ c.query-learned.ensures c.in-None.is

@@ -33,4 +33,4 @@ pub returns-clause-frame : goal.returns-clause-frame
 returns-clause-frame c = added_stays c.in-Ok.ensures.0 c.in-Ok.ensures.1 c.accept_form.ensures
 
 pub returns-clause-serves : goal.returns-clause-serves
-returns-clause-serves c = one_accepted c.args.lits.now (found_at c.args.cells.now c.args.literals.now (one_found c.args.lits.now) c.in-Ok.ensures.0 c.in-Ok.ensures.1 c.clause_sizes_at.ensures c.cell_at-standing.ensures c.in-Ok.ensures.2 refl c.in_ok-judge_form.ensures) refl c.accept_form.ensures
+returns-clause-serves c = one_accepted c.args.lits.now (found_at c.args.cells.now c.args.literals.now (one_found c.args.lits.now) c.in-Ok.ensures.0 c.in-Ok.ensures.1 c.clause_sizes_at.ensures c.cell_at-standing.ensures c.in-Ok.ensures.2 refl c.in_ok-judge_form.ensures) refl c.accept_form.ensures.at

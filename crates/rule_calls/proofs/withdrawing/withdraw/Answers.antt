@@ -30,4 +30,4 @@ returns-clause-frame c = withdrawn_stays c.in-Ok.ensures.0 c.in-Ok.ensures.1 c.t
 
 pub returns-clause-serves : goal.returns-clause-serves
 returns-clause-serves c =
-    withdrawn_read c.args.cells.now c.args.literals.now (sym c.in-Ok.ensures.2.said) c.in-Ok.ensures.0 c.in-Ok.ensures.1 c.clause_sizes_at.ensures c.cell_at-standing.ensures (omega (arith, c.if-standing-eq0.false)) c.take_last.ensures
+    withdrawn_read c.args.cells.now c.args.literals.now (sym c.in-Ok.ensures.2.said) c.in-Ok.ensures.0 c.in-Ok.ensures.1 c.clause_sizes_at.ensures c.cell_at-standing.ensures (omega (arith, c.if-standing-eq0.false)) c.take_last.ensures.at

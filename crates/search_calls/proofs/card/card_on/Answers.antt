@@ -12,7 +12,7 @@ pub returns-in-Some-clause-frame : goal.returns-in-Some-clause-frame
 returns-in-Some-clause-frame c = back_stays c.args.layout c.requires c.write_back.ensures
 
 pub returns-in-Some-clause-serves : goal.returns-in-Some-clause-serves
-returns-in-Some-clause-serves c = served_kept c.args.layout c.args.cells.now c.args.literals.now c.requires c.checked-checked.ensures (card_of c.args.yes c.args.ceiling _) _ _ c.card_of-learned.ensures.answered _ c.in-Some.is c.write_back.ensures
+returns-in-Some-clause-serves c = served_kept c.args.layout c.args.cells.now c.args.literals.now c.requires c.checked-checked.ensures (card_of c.args.yes c.args.ceiling _) _ _ c.card_of-learned.ensures.answered _ c.in-Some.is c.write_back.ensures.at
 
 pub returns-in-None-clause-serves : goal.returns-in-None-clause-serves
 returns-in-None-clause-serves c = served_same c.args.layout c.args.cells.now c.args.literals.now c.requires c.checked-checked.ensures (card_of c.args.yes c.args.ceiling _) _ _ c.card_of-learned.ensures.answered c.in-None.is
